@@ -1,6 +1,7 @@
 -- A core with one more live transaction.
 use Rattle.iso_core.proofs.Words.{◌≡◌, ◌∙◌, sym, refl, ap, ℕ, ◌+◌, ◌<◌, ◌≤◌, Bool, true, false, ◌&&◌, ◌==◌, not, List, [], ◌∷◌, ◌++◌, length, map, arith, le-leb, lt-leb, le-ltb, lt-ltb, map-append, AllByRecursion, Mode, LAST, MAX_LIVE, last, same_mode, after_begin, begin_step, World, Live, Place, client, label, unattached, floor, AreApart, IsWorld, MayHave, floor_above, floor_below, all_push, all_weaker, begins, floor_between, at_work, Begun, Kept, bare, IsOf, NotesSince}
 use Rattle.iso_model.specs.declared.core_reply.CoreReply.TheVariants as reply
+use Rattle.iso_core.proofs.Standings.{kept_live}
 use Rattle.iso_core.proofs.Numbers.{log_last}
 
 -- a place that is none is no other's
@@ -37,23 +38,11 @@ pub begins_so : (kept : Kept) (W : World) (mode : Mode) (live : List (ℕ × Beg
 begins_so kept W mode live of may few fresh entered =
     let number : kept.next ≡ W.next = of.keeps.next in
     let at : kept.log.last ≡ last W.history = log_last kept W of.world of.keeps in
-    record {
-      world = (begins W unattached mode of.world may few fresh tt (all_apart W.live)).world;
-      keeps = record {
-        geometry = of.keeps.geometry;
-        half = of.keeps.half;
-        generation = of.keeps.generation;
-        base = of.keeps.base;
-        trim = of.keeps.trim;
-        next = ap (λ (n : ℕ). n + 1) number;
-        log = of.keeps.log;
-        index = of.keeps.index;
-        notes = notes_on W mode kept of.world of.keeps.notes;
-        live = ap (λ (l : List (ℕ × Begun)). map at_work l) entered ∙ map-append at_work kept.live _
-            ∙ (λ i. of.keeps.live i ++ record { number = number i; begin = at i; mode = mode; accesses = []; place = unattached } ∷ [])
-            ∙ sym (map-append bare W.live (begun W mode ∷ []));
-      };
-    }
+    kept_live kept W live (kept.next + 1) (W.next + 1) (W.live ++ begun W mode ∷ []) of (begins W unattached mode of.world may few fresh tt (all_apart W.live)).world
+    (notes_on W mode kept of.world of.keeps.notes) (ap (λ (n : ℕ). n + 1) number)
+    (ap (λ (l : List (ℕ × Begun)). map at_work l) entered ∙ map-append at_work kept.live _
+    ∙ (λ i. of.keeps.live i ++ record { number = number i; begin = at i; mode = mode; accesses = []; place = unattached } ∷ [])
+    ∙ sym (map-append bare W.live (begun W mode ∷ [])))
 
 -- the refusals of a begin, in their order
 module _ (kept : Kept) (W : World) (mode : Mode) (of : IsOf kept W) where

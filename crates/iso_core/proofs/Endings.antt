@@ -1,5 +1,5 @@
 -- How an end goes, step by step.
-use Rattle.iso_core.proofs.Words.{◌≡◌, sym, refl, ap, true, false, Option, Some, None, ℕ, DiskState, Clash, clash, has_write, after_leaving, commit_step, end_step, World, Live, without, Doing, Kept, IsTx, AreOf, IsSettledOf, MayCommit, IsOf, Standing}
+use Rattle.iso_core.proofs.Words.{◌≡◌, sym, refl, ap, true, false, Option, Some, None, ℕ, DiskState, Clash, clash, has_write, after_leaving, commit_step, end_step, World, Live, without, Doing, Kept, IsTx, AreOf, IsSettledOf, MayCommit, IsOf, CoreReply, subst, up}
 use Rattle.iso_model.specs.declared.core_reply.CoreReply.TheVariants as reply
 use Rattle.iso_core.proofs.Standings.{stands_on}
 
@@ -16,10 +16,13 @@ module _ (W : World) (t : Live) where
   unfolding commit_step
   ends_in_conflict c write is = ends_by (Some c) write is
 
--- the core without the transaction
-pub left_core : (d : DiskState) (kept new : Kept) (W : World) (standing : Standing) (t : Live) → AreOf d kept W standing → IsOf new (after_leaving W t) → new.half ≡ kept.half → new.down ≡ kept.down
-    → AreOf d new (after_leaving W t) standing
-left_core d kept new W standing t of is half down_is = stands_on d kept new W standing (without t.number W.live) W.next W.trim of half down_is is
+-- the core without the transaction, where its end takes it out alone
+pub left_so : (d : DiskState) (kept new : Kept) (W : World) (t : Live) {r : CoreReply} → end_step W t ≡ (r, after_leaving W t) → AreOf d kept W up → IsOf new (after_leaving W t) → new.half ≡ kept.half → new.down ≡ kept.down
+    → ((end_step W t).0 ≡ r) × AreOf d new (end_step W t).1 up
+left_so d kept new W t step of is half down_is = (
+  ap (λ (x : CoreReply × World). x.0) step,
+  subst (λ (x : CoreReply × World). AreOf d new x.1 up) (sym step) (stands_on d kept new W up (without t.number W.live) W.next W.trim of half down_is is),
+)
 
 -- a transaction that has a write and no clash may commit
 pub may_commit : (W : World) (tx : ℕ) (t : Live) (work : Doing) → IsTx W tx t → IsSettledOf W t work → has_write t.accesses ≡ true

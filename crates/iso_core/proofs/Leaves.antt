@@ -1,5 +1,6 @@
 -- A core without one of its transactions, and what its transactions began with.
 use Rattle.iso_core.proofs.Words.{◌≡◌, ◌∙◌, sym, refl, ap, ℕ, ◌<◌, ◌≤◌, ◌==◌, not, List, map, Some, IsSome, arith, nat_eq, AllByRecursion, lookup, remove_entry, last, after_leaving, World, Live, floor, without, IsLive, IsWorld, MayHave, all_filter, floor_above, floor_below, all_weaker, floor_between, leaves, at_work, begin_of, Begun, Kept, IsTx, bare, IsOf, NotesSince}
+use Rattle.iso_core.proofs.Standings.{kept_live}
 use Rattle.iso_core.proofs.Transactions.{among, kept_tx, kept_without}
 
 -- what a live transaction began with
@@ -49,19 +50,7 @@ module _ (kept : Kept) (W : World) (tx : ℕ) (t : Live) (of : IsOf kept W) (her
 
   -- what is kept without the transaction is that of the world without it
   pub leaves_so : (live : List (ℕ × Begun)) → live ≡ remove_entry (nat_eq tx) kept.live → IsOf (record kept { live = live }) (after_leaving W t)
-  leaves_so live left = record {
-    world = (leaves W t of.world).world;
-    keeps = record {
-      geometry = of.keeps.geometry;
-      half = of.keeps.half;
-      generation = of.keeps.generation;
-      base = of.keeps.base;
-      trim = of.keeps.trim;
-      next = of.keeps.next;
-      log = of.keeps.log;
-      index = of.keeps.index;
-      notes = notes_left;
-      live = ap (λ (l : List (ℕ × Begun)). map at_work l) left ∙ kept_without tx kept.live W.live of.keeps.live of.world.distinct
-          ∙ ap (λ (n : ℕ). map bare (without n W.live)) (sym here.number);
-    };
-  }
+  leaves_so live left =
+      kept_live kept W live kept.next W.next (without t.number W.live) of (leaves W t of.world).world notes_left of.keeps.next
+      (ap (λ (l : List (ℕ × Begun)). map at_work l) left ∙ kept_without tx kept.live W.live of.keeps.live of.world.distinct
+      ∙ ap (λ (n : ℕ). map bare (without n W.live)) (sym here.number))

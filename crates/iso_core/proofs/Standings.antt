@@ -1,5 +1,5 @@
 -- A core whose images stay, while what it keeps in memory changes.
-use Rattle.iso_core.proofs.Words.{◌≡◌, ◌∙◌, sym, ℕ, ◌+◌, IsIndexOf, NotesSince, half_of_world, log_place, List, false, Result, Ok, Err, IfOk, IfErr, subst, DiskState, IsLawful, WritesNothing, at_end, stays, stays_settled, World, Live, Kept, AreImages, AreOf, IsOf, Standing, up, down}
+use Rattle.iso_core.proofs.Words.{◌≡◌, ◌∙◌, sym, ℕ, ◌+◌, IsIndexOf, NotesSince, Begun, IsWorld, at_work, bare, map, half_of_world, log_place, List, false, Result, Ok, Err, IfOk, IfErr, subst, DiskState, IsLawful, WritesNothing, at_end, stays, stays_settled, World, Live, Kept, AreImages, AreOf, IsOf, Standing, up, down}
 
 pub if_ok : {A E : Type 0} {P Q : A → Type 0} (result : Result A E) → ((x : A) → P x → Q x) → IfOk result P → IfOk result Q
 if_ok (Ok x) more is = more x is
@@ -59,5 +59,24 @@ kept_with kept other W of index notes = record {
     index = index;
     notes = notes;
     live = of.keeps.live;
+  };
+}
+
+-- what is kept where others are live, and the next number is another
+pub kept_live : (kept : Kept) (W : World) (entered : List (ℕ × Begun)) (number next : ℕ) (live : List Live) → IsOf kept W → IsWorld (record W { live = live; next = next })
+    → NotesSince (record W { live = live; next = next }) kept.notes → number ≡ next → map at_work entered ≡ map bare live → IsOf (record kept { live = entered; next = number }) (record W { live = live; next = next })
+kept_live kept W entered number next live of is notes next_is live_is = record {
+  world = is;
+  keeps = record {
+    geometry = of.keeps.geometry;
+    half = of.keeps.half;
+    generation = of.keeps.generation;
+    base = of.keeps.base;
+    trim = of.keeps.trim;
+    next = next_is;
+    log = of.keeps.log;
+    index = of.keeps.index;
+    notes = notes;
+    live = live_is;
   };
 }

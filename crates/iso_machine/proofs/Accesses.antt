@@ -1,5 +1,5 @@
 -- What accesses and marks of one transaction are answered, and its work after them.
-use Rattle.iso_machine.proofs.Words.{◌≡◌, ◌∙◌, sym, refl, ap, subst, ℕ, ◌+◌, ◌<◌, ◌≤◌, ◌==◌, not, IsTrue, take, drop, replicate, slice_index, Bool, true, false, List, [], ◌∷◌, ◌++◌, length, arith, Option, Some, None, nat_le, take-append_seam, nat_tests, DiskState, Access, MarkError, MAX_ACCESSES, Reply, is_block_size, is_outside, mark_fault, marked, marks_fault, access_step, fill_step, get_step, mark_refused, mark_step, marked_step, put_step, read_step, with_access, write_step, get_access, put_access, read_access, shown_to, with_accesses, with_live, write_access, World, Live, Doing, span_at, IsWorkOf, IfTold, SameButShown, IsActive, IsGiven, IsShown, IsWorkedTo}
+use Rattle.iso_machine.proofs.Words.{◌≡◌, ◌∙◌, sym, refl, ap, subst, ℕ, ◌+◌, ◌<◌, ◌≤◌, ◌==◌, not, IsTrue, take, drop, replicate, slice_index, Bool, true, false, List, [], ◌∷◌, ◌++◌, length, arith, Option, Some, None, nat_le, take-append_seam, nat_tests, DiskState, Access, MarkError, MAX_ACCESSES, Reply, is_block_size, is_outside, mark_fault, marked, marks_fault, access_step, fill_step, get_step, mark_refused, mark_step, marked_step, put_step, read_step, with_access, write_step, get_access, put_access, read_access, shown_to, with_accesses, with_live, write_access, World, Live, Doing, span_at, IsWorkOf, IsSameWork, IfTold, SameButShown, IsActive, IsGiven, IsShown, IsWorkedTo}
 use Rattle.iso_model.specs.declared.access.MarkError.TheVariants as mark
 use Rattle.script_model.specs.declared.script.Reply.TheVariants as reply
 
@@ -203,3 +203,16 @@ still_work W t old new ready is work = record {
 
 pub take_front : (n : ℕ) (xs ys : List ℕ) → length xs ≡ n → take n (xs ++ ys) ≡ xs
 take_front n xs ys same = rw (← same) (take-append_seam xs ys)
+
+-- the transaction has the accesses of the work
+pub has_worked : {W : World} {t : Live} {old_work work : Doing} → IsActive W t old_work → IsSameWork old_work work → IsWorkedTo W t (with_accesses W t work.accesses) work
+has_worked active same = record {
+  world = refl;
+  is_work = record {
+    begin = same.begin ∙ active.is_work.begin;
+    mode = same.mode ∙ active.is_work.mode;
+    size = same.size ∙ active.is_work.size;
+    blocks = same.blocks ∙ active.is_work.blocks;
+    accesses = refl;
+  };
+}

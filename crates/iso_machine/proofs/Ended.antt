@@ -3,6 +3,7 @@ use Rattle.iso_machine.proofs.Words.{◌≡◌, ◌∙◌, ◌⊎◌, inl, inr, 
 use Rattle.iso_core.specs.Calls as core
 use Rattle.iso_model.specs.declared.core_error.CoreError.TheVariants as error
 use Rattle.script_model.specs.declared.script.Op.TheVariants as op
+use Rattle.iso_machine.proofs.Quiet.{answers_by, no_reply}
 use Rattle.iso_machine.proofs.Groups.{are_members, filled_is, found_is, geometry_behind, live_behind, looks_is, none_found, stands_looked}
 
 pub step_is : (W : World) (c : ℕ) (texts : List (List ℕ)) → step W c (op.Group texts) ≡ grouped (group_step W texts)
@@ -23,7 +24,7 @@ member_count : (gone : List Attached) → length (map member_of gone) ≡ length
 member_count [] = refl
 member_count (a ∷ gone) = let rest = member_count gone in omega arith
 
-module _ {D : Type 0} (state : D → DiskState) (kernel : Core D) {table : Finder} (live left : List Attached) (W : World) (of : AreOf state kernel table live W) (texts : List (List ℕ)) (answers : List (Option GroupReply)) (ends : List GroupEnd)
+module _ {D : Type 0} {state : D → DiskState} {kernel : Core D} {table : Finder} {live left : List Attached} {W : World} (of : AreOf state kernel table live W) {texts : List (List ℕ)} {answers : List (Option GroupReply)} {ends : List GroupEnd}
     (taken : HasTaken texts live left [] answers [] ends) where
   abbrev V : World
   V = (looks W texts).1
@@ -54,9 +55,9 @@ module _ {D : Type 0} (state : D → DiskState) (kernel : Core D) {table : Finde
       omega (arith, ap length taken.ends, ap length members_are)
 
   -- AFTERWARDS
-  pub behind : (new : Core D) (now : Finder) → AreListed now left → StandsFor state new (group V members).1 up → AreOf state new now left (group_step W texts).1
+  pub behind : {new : Core D} (now : Finder) → AreListed now left → StandsFor state new (group V members).1 up → AreOf state new now left (group_step W texts).1
   unfolding group_step
-  behind new now listed after = record {
+  behind now listed after = record {
     core_of = after;
     live_are = taken.live ∙ ap (left_in texts) of.live_are ∙ sym (live_behind texts W);
     sized = subst (λ (g : Geometry). AllByRecursion (IsSized g) left) (sym (geometry_behind texts W)) (taken.stay_sized W.geometry of.sized);
@@ -66,9 +67,9 @@ module _ {D : Type 0} (state : D → DiskState) (kernel : Core D) {table : Finde
   answers_are : answers ≡ map stand_in found
   answers_are = taken.answers ∙ ap (λ (l : List Live). map stand_in (found_in texts l)) of.live_are ∙ ap (map stand_in) (sym (found_is texts W))
 
-  pub moments_of : (old new : DiskState) → LeavesOnly old new (ShowsEither V (group V members).1) → LeavesOnly old new (ShowsEither W (group_step W texts).1)
+  pub moments_of : {old new : DiskState} → LeavesOnly old new (ShowsEither V (group V members).1) → LeavesOnly old new (ShowsEither W (group_step W texts).1)
   unfolding group_step
-  moments_of old new moments = subst (λ (U : World). LeavesOnly old new (ShowsEither U (group V members).1)) (looks_is texts W) moments
+  moments_of {old = old} {new = new} moments = subst (λ (U : World). LeavesOnly old new (ShowsEither U (group V members).1)) (looks_is texts W) moments
 
   -- NO MEMBER
   no_members : ends ≡ [] → members ≡ []
@@ -88,7 +89,7 @@ module _ {D : Type 0} (state : D → DiskState) (kernel : Core D) {table : Finde
   pub nobody_stands : (now : Finder) → AreListed now left → ends ≡ [] → AreOf state kernel now left V
   nobody_stands now listed none =
       subst (λ (U : World). AreOf state kernel now left U) (ap (λ (x : List (Option GroupReply) × World). x.1) (nobody none))
-      (behind kernel now listed (subst (λ (ms : List Live). StandsFor state kernel (group V ms).1 up) (sym (no_members none)) stands))
+      (behind now listed (subst (λ (ms : List Live). StandsFor state kernel (group V ms).1 up) (sym (no_members none)) stands))
 
   -- THE REPLIES
   pub replies_are : (new : List GroupEnd) → map reply_in new ≡ map Some (group V members).0 → filled answers (map reply_in new) ≡ (group_step W texts).0
@@ -97,27 +98,9 @@ module _ {D : Type 0} (state : D → DiskState) (kernel : Core D) {table : Finde
       ap (filled answers) given ∙ ap (λ (xs : List (Option GroupReply)). filled xs (map Some (group V members).0)) answers_are ∙ filled_is found (group V members).0
 
 -- the disk failed, or memory was wanting
-pub group_fails : {T : Type 0} (stands : World → Type 0) (old new : DiskState) (W : World) (given : Reply × World) (e : CoreError) → (e ≡ error.Disk) ⊎ (e ≡ error.Memory) → LeavesOnly old new (ShowsEither W given.1)
+pub group_fails : {T : Type 0} {stands : World → Type 0} {old new : DiskState} {W : World} {given : Reply × World} (e : CoreError) → (e ≡ error.Disk) ⊎ (e ≡ error.Memory) → LeavesOnly old new (ShowsEither W given.1)
     → core.BlamesDisk {T = T} old.faults new.faults (Err e) → Answers Never stands old new W given (answer_to e)
-group_fails stands old new W given e (inl is) moments cause =
-    subst (λ (x : CoreError). Answers Never stands old new W given (answer_to x)) (sym is) (record {
-      reply = tt;
-      but_shown = tt;
-      told = tt;
-      world = tt;
-      moments = moments;
-      up = λ e. absurd (cc e);
-      cause = record { later = cause.later; failed = λ x. cause.failed (ap Err is); passed = tt; memory = λ x. absurd (cc x) };
-      stopped = λ may. absurd may;
-    })
-group_fails stands old new W given e (inr is) moments cause =
-    subst (λ (x : CoreError). Answers Never stands old new W given (answer_to x)) (sym is) (record {
-      reply = tt;
-      but_shown = tt;
-      told = tt;
-      world = tt;
-      moments = moments;
-      up = λ e. absurd (cc e);
-      cause = record { later = cause.later; failed = λ x. absurd (cc x); passed = tt; memory = λ x. cause.other (λ y. cc (is, y)) };
-      stopped = λ may. absurd may;
-    })
+group_fails e (inl is) moments cause =
+    answers_by (ap answer_to is) (no_reply moments (λ e. absurd (cc e)) (record { later = cause.later; failed = λ x. cause.failed (ap Err is); passed = tt; memory = λ x. absurd (cc x) }) (λ may. absurd may))
+group_fails e (inr is) moments cause =
+    answers_by (ap answer_to is) (no_reply moments (λ e. absurd (cc e)) (record { later = cause.later; failed = λ x. absurd (cc x); passed = tt; memory = λ x. cause.other (λ y. cc (is, y)) }) (λ may. absurd may))

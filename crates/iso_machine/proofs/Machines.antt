@@ -1,10 +1,12 @@
 -- A machine whose transactions change, leave and begin.
-use Rattle.iso_machine.proofs.Words.{◌≡◌, ◌∙◌, sym, refl, ap, subst, ℕ, ◌<◌, Bool, List, [], ◌∷◌, ◌++◌, length, get_or, set, map, Option, Some, None, find, AllByRecursion, remove, map_push, set-get_or, DiskState, Geometry, Mode, Op, last, after_begin, with_live, in_transaction, out_of_transaction, release_step, step, takeover_step, World, Live, Place, attached, held, is_at_client, is_under_label, unattached, with, without, AreDistinct, IsWorld, IsOp, all_push, step_leads, Core, IsAmong, IsTx, IsWorkOf, StandsFor, bare, up, Doing, Attached, IsActive, IsWorkedTo, act_step, AreKnown, AreListed, AreOf, Finder, IsOff, IsSized, IsTrue, is_label, live_of, number_at, number_under}
+use Rattle.iso_machine.proofs.Words.{◌≡◌, ◌∙◌, sym, refl, ap, subst, ℕ, ◌<◌, Bool, List, [], ◌∷◌, ◌++◌, length, get_or, set, map, Option, Some, None, find, AllByRecursion, remove, map_push, set-get_or, DiskState, Geometry, Mode, Op, last, after_begin, with_live, in_transaction, out_of_transaction, release_step, step, takeover_step, World, Live, Place, attached, held, is_at_client, is_under_label, unattached, with, without, AreDistinct, IsWorld, IsOp, all_push, step_leads, Core, IsAmong, IsTx, IsWorkOf, StandsFor, bare, up, Doing, Attached, IsActive, IsWorkedTo, act_step, AreKnown, AreListed, AreOf, Finder, IsOff, IsSized, IsTrue, is_label, live_of, number_at, number_under, HoldsAt, IfSome, IsHere, MatchOption, get, key_of, nat_eq, ◌≢◌}
 use Rattle.script_model.specs.declared.script.Op.TheVariants as op
 use Rattle.iso_machine.proofs.Besides.{stands_besides}
-use Rattle.iso_machine.proofs.Lists.{all_at, all_remove, all_set, among_at, bare_with, with_at, without_at}
+use Rattle.iso_machine.proofs.Lists.{all_at, all_remove, all_set, among_at, bare_with, remove_set, with_at, without_at}
+use Rattle.iso_machine.proofs.Whereabouts.{alone, client_lone, clients_go, is_there}
+use Rattle.iso_machine.specs.declared.attached.Spot.TheVariants as spot
 
-module _ {D : Type 0} (state : D → DiskState) (core new : Core D) {table : Finder} (live : List Attached) (W : World) (of : AreOf state core table live W) where
+module _ {D : Type 0} {state : D → DiskState} {core : Core D} {table : Finder} {live : List Attached} {W : World} (of : AreOf state core table live W) where
   pub distinct : AreDistinct (map live_of live)
   distinct = subst (λ (l : List Live). AreDistinct l) (sym of.live_are) of.core_of.kept_of.world.distinct
 
@@ -38,9 +40,9 @@ module _ {D : Type 0} (state : D → DiskState) (core new : Core D) {table : Fin
     }
 
     -- another work of the same transaction, or another place
-    pub changed : (now : Finder) (b : Attached) → AreListed now (set live i b) → b.tx ≡ (get_or live i d).tx → b.work.value.begin ≡ (get_or live i d).work.value.begin → b.work.value.mode ≡ (get_or live i d).work.value.mode → IsSized W.geometry b
+    pub changed : {new : Core D} (now : Finder) (b : Attached) → AreListed now (set live i b) → b.tx ≡ (get_or live i d).tx → b.work.value.begin ≡ (get_or live i d).work.value.begin → b.work.value.mode ≡ (get_or live i d).work.value.mode → IsSized W.geometry b
         → StandsFor state new W up → IsWorld (with_live W (with (live_of b) W.live)) → AreOf state new now (set live i b) (with_live W (with (live_of b) W.live))
-    changed now b listed tx begin mode sized stands is =
+    changed {new = new} now b listed tx begin mode sized stands is =
         let live_is : map live_of (set live i b) ≡ with (live_of b) W.live =
         sym (with_at live i d b distinct inside tx) ∙ ap (λ (l : List Live). with (live_of b) l) of.live_are in
         record {
@@ -56,9 +58,9 @@ module _ {D : Type 0} (state : D → DiskState) (core new : Core D) {table : Fin
     still : (test : Place → Bool) (work : Doing) → AllByRecursion (IsOff test) live → AllByRecursion (IsOff test) (set live i (record (get_or live i d) { work = record (get_or live i d).work { value = work } }))
     still test work all = all_set (IsOff test) live i (record (get_or live i d) { work = record (get_or live i d).work { value = work } }) all (all_at (IsOff test) live i d all inside)
 
-    pub worked_on : (work : Doing) (given : World) → IsWorkedTo W (live_of (get_or live i d)) given work → StandsFor state new W up → IsWorld given
+    worked_there : {new : Core D} (work : Doing) (given : World) → IsWorkedTo W (live_of (get_or live i d)) given work → StandsFor state new W up → IsWorld given
         → AreOf state new table (set live i (record (get_or live i d) { work = record (get_or live i d).work { value = work } })) given
-    worked_on work given to stands is =
+    worked_there {new = new} work given to stands is =
         let a : Attached = get_or live i d in
         let same : live_of (record a { work = record a.work { value = work } }) ≡ record (live_of a) { accesses = work.accesses } =
         λ j. record { number = a.tx; begin = to.is_work.begin j; mode = to.is_work.mode j; accesses = work.accesses; place = (live_of a).place } in
@@ -70,17 +72,37 @@ module _ {D : Type 0} (state : D → DiskState) (core new : Core D) {table : Fin
           labels = λ text is none. still (is_under_label text) work (of.listed.labels text is none);
         }) refl to.is_work.begin to.is_work.mode (record { size = to.is_work.size; blocks = to.is_work.blocks }) stands (subst (λ (V : World). IsWorld V) world is))
 
-    pub left : (now : Finder) (V : World) → AreListed now (remove live i) → V.live ≡ without (get_or live i d).tx W.live → V.geometry ≡ W.geometry → StandsFor state new V up → AreOf state new now (remove live i) V
-    left now V listed live_is geometry stands = record {
+    pub worked_on : {new : Core D} {b : Attached} → b ≡ get_or live i d → (work : Doing) (given : World) → IsWorkedTo W (live_of b) given work → StandsFor state new W up → IsWorld given
+        → AreOf state new table (set live i (record b { work = record b.work { value = work } })) given
+    worked_on {new = new} same work given to stands is =
+        subst (λ (b : Attached). IsWorkedTo W (live_of b) given work → AreOf state new table (set live i (record b { work = record b.work { value = work } })) given) (sym same)
+        (λ done. worked_there work given done stands is) to
+
+    -- the one of a client leaves
+    listed_without : (client : ℕ) (now : Finder) → attached W client ≡ Some (live_of (get_or live i d)) → ((k : ℕ) → k ≢ client → number_at k now ≡ number_at k table) → now.labels ≡ table.labels → AreListed now (remove live i)
+    listed_without client now here others labels =
+        let e : Attached = record (get_or live i d) { spot = spot.Label [] } in
+        record {
+          clients = clients_go table now live (remove live i) client (λ k all. all_remove (IsOff (is_at_client k)) live i all)
+              (subst (AllByRecursion (IsOff (is_at_client client))) (remove_set live i e)
+              (all_remove (IsOff (is_at_client client)) (set live i e) i
+              (alone (is_at_client client) (client_lone client) live i d e distinct inside (is_there (is_at_client client) W.live (live_of (get_or live i d)) here) refl)))
+              of.listed.clients others;
+          labels = λ text is none. all_remove (IsOff (is_under_label text)) live i (of.listed.labels text is (ap (λ l. get nat_eq l (key_of text)) (sym labels) ∙ none));
+        }
+
+    pub left : {new : Core D} {b : Attached} → b ≡ get_or live i d → (client : ℕ) (now : Finder) (V : World) → attached W client ≡ Some (live_of b) → ((k : ℕ) → k ≢ client → number_at k now ≡ number_at k table) → now.labels ≡ table.labels
+        → V.live ≡ without b.tx W.live → V.geometry ≡ W.geometry → StandsFor state new V up → AreOf state new now (remove live i) V
+    left same client now V here others labels live_is geometry stands = record {
       core_of = stands;
-      live_are = sym (without_at live i d distinct inside) ∙ ap (λ (l : List Live). without (get_or live i d).tx l) of.live_are ∙ sym live_is;
+      live_are = sym (without_at live i d distinct inside) ∙ ap (λ (l : List Live). without (get_or live i d).tx l) of.live_are ∙ ap (λ (b : Attached). without b.tx W.live) (sym same) ∙ sym live_is;
       sized = subst (λ (g : Geometry). AllByRecursion (IsSized g) (remove live i)) (sym geometry) (all_remove (IsSized W.geometry) live i of.sized);
-      listed = listed;
+      listed = listed_without client now (here ∙ ap (λ (b : Attached). Some (live_of b)) same) others labels;
     }
 
-  pub begun : (now : Finder) (b : Attached) (place : Place) (mode : Mode) → AreListed now (live ++ b ∷ []) → live_of b ≡ record { number = W.next; begin = last W.history; mode = mode; accesses = []; place = place } → IsSized W.geometry b
+  pub begun : {new : Core D} (now : Finder) (b : Attached) (place : Place) (mode : Mode) → AreListed now (live ++ b ∷ []) → live_of b ≡ record { number = W.next; begin = last W.history; mode = mode; accesses = []; place = place } → IsSized W.geometry b
       → StandsFor state new (after_begin W unattached mode) up → IsWorld (after_begin W place mode) → AreOf state new now (live ++ b ∷ []) (after_begin W place mode)
-  begun now b place mode listed is sized stands world = record {
+  begun {new = new} now b place mode listed is sized stands world = record {
     core_of = stands_besides state new (after_begin W unattached mode) (after_begin W place mode).live stands world
         (map_push bare W.live (record { number = W.next; begin = last W.history; mode = mode; accesses = []; place = place })
         ∙ sym (map_push bare W.live (record { number = W.next; begin = last W.history; mode = mode; accesses = []; place = unattached })));
@@ -89,20 +111,28 @@ module _ {D : Type 0} (state : D → DiskState) (core new : Core D) {table : Fin
     listed = listed;
   }
 
-  pub same : StandsFor state new W up → AreOf state new table live W
+  pub same : {new : Core D} → StandsFor state new W up → AreOf state new table live W
   same stands = record { core_of = stands; live_are = of.live_are; sized = of.sized; listed = of.listed }
 
   -- who is attached to a client
-  pub attached_none : (client : ℕ) (list : List Attached) → list ≡ live → find (λ t. is_at_client client t.place) (map live_of list) ≡ None → attached W client ≡ None
+  attached_none : (client : ℕ) (list : List Attached) → list ≡ live → find (λ t. is_at_client client t.place) (map live_of list) ≡ None → attached W client ≡ None
   attached_none client list same is =
       ap (λ (l : List Live). find (λ t. is_at_client client t.place) l) (sym of.live_are)
       ∙ ap (λ (l : List Attached). find (λ t. is_at_client client t.place) (map live_of l)) (sym same) ∙ is
 
-  pub attached_some : (client : ℕ) (list : List Attached) (i : ℕ) (d : Attached) → list ≡ live → find (λ t. is_at_client client t.place) (map live_of list) ≡ Some (live_of (get_or list i d))
+  attached_some : (client : ℕ) (list : List Attached) (i : ℕ) (d : Attached) → list ≡ live → find (λ t. is_at_client client t.place) (map live_of list) ≡ Some (live_of (get_or list i d))
       → attached W client ≡ Some (live_of (get_or live i d))
   attached_some client list i d same is =
       ap (λ (l : List Live). find (λ t. is_at_client client t.place) l) (sym of.live_are)
       ∙ ap (λ (l : List Attached). find (λ t. is_at_client client t.place) (map live_of l)) (sym same) ∙ is ∙ ap (λ (l : List Attached). Some (live_of (get_or l i d))) same
+
+  pub place_here : (client : ℕ) (list : List Attached) (r : Option ℕ) → list ≡ live
+      → MatchOption r (find (λ t. is_at_client client t.place) (map live_of list) ≡ None) (λ i. (i < length list) × HoldsAt (λ a. find (λ t. is_at_client client t.place) (map live_of list) ≡ Some (live_of a)) list i)
+      → IfSome r (λ i. i < length live) × MatchOption r (attached W client ≡ None) (HoldsAt (IsHere W client) live)
+  place_here client list None same is = (tt, attached_none client list same is)
+  place_here client list (Some i) same is =
+      let inside : i < length live = subst (λ (l : List Attached). i < length l) same is.0 in
+      (inside, λ d. record { here = attached_some client list i d same (is.1 d); tx = is_tx i d inside; active = is_active i d inside })
 
   -- who is under a label
   pub held_none : (text : List ℕ) (list : List Attached) → list ≡ live → find (λ t. is_under_label text t.place) (map live_of list) ≡ None → held W text ≡ None
@@ -115,6 +145,12 @@ module _ {D : Type 0} (state : D → DiskState) (core new : Core D) {table : Fin
   held_some text list i d same is =
       ap (λ (l : List Live). find (λ t. is_under_label text t.place) l) (sym of.live_are)
       ∙ ap (λ (l : List Attached). find (λ t. is_under_label text t.place) (map live_of l)) (sym same) ∙ is ∙ ap (λ (l : List Attached). Some (live_of (get_or l i d))) same
+
+-- the one at the place of a client's, and its work
+pub at_place : (W : World) (client : ℕ) (live : List Attached) (i : ℕ) {d : Attached} {work : Doing} → HoldsAt (IsHere W client) live i → d ≡ get_or live i d → work ≡ d.work.value → IsHere W client d × IsActive W (live_of d) work
+at_place W client live i {d = d} here is_at value =
+    let h : IsHere W client d = subst (IsHere W client) (sym is_at) (here d) in
+    (h, subst (IsActive W (live_of d)) (sym value) h.active)
 
 -- an access leads to a sound world
 pub act_leads : (W : World) (c : ℕ) (t : Live) (o : Op) → IsWorld W → IsOp o → attached W c ≡ Some t → IsWorld (act_step W t o).1

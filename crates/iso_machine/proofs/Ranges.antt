@@ -1,5 +1,5 @@
 -- What own writes make of a range of a block hangs on that range alone.
-use Rattle.iso_machine.proofs.Words.{◌≡◌, ◌≢◌, ◌∙◌, inl, inr, sym, refl, ap, subst, ℕ, zero, suc, ◌+◌, ◌-◌, ◌<◌, ◌≤◌, Bool, true, false, IsSome, cond, List, [], ◌∷◌, length, take, drop, get_or, replicate, arith, Option, Some, None, ForSome, cases_eq, get_or-replicate, Access, Span, Array, byte_at, covered, merged, put, is_write, own, History, array_at, block_at, shown_to, World, Live, IsWorld, at_range, same_range, array_shape, length-block_access, length-block_own, other_block, written_block}
+use Rattle.iso_machine.proofs.Words.{◌≡◌, ◌∙◌, inl, inr, sym, refl, ap, subst, ℕ, zero, suc, ◌+◌, ◌-◌, ◌<◌, ◌≤◌, Bool, true, false, IsSome, cond, List, [], ◌∷◌, length, take, drop, get_or, replicate, arith, Option, Some, None, ForSome, cases_eq, get_or-replicate, Access, Span, Array, byte_at, covered, merged, put, is_write, own, array_at, block_at, shown_to, World, Live, IsWorld, at_range, same_range, array_shape, length-block_access, length-block_own, other_block, written_block}
 
 merged_byte : (spans : List Span) (p k : ℕ) (xs ys new : List ℕ) → k < length xs → k < length ys → get_or xs k 0 ≡ get_or ys k 0 → get_or (merged spans p xs new) k 0 ≡ get_or (merged spans p ys new) k 0
 merged_byte spans p k [] ys new below inside same = absurd (omega (arith, below))

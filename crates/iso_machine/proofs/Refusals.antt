@@ -5,6 +5,7 @@ use Rattle.iso_model.specs.declared.core_reply.CoreReply.TheVariants as reply
 use Rattle.script_model.specs.declared.stop.Stop.TheVariants as stop
 use Rattle.iso_core.specs.Calls as core
 use Rattle.iso_machine.proofs.Accesses.{same_but_shown}
+use Rattle.iso_machine.proofs.Quiet.{no_reply}
 
 -- a reply that stands for an error of a core
 abbrev pub IsRefusal : CoreReply → Type 0
@@ -27,7 +28,7 @@ pub record Refused (stands : World → Type 0) (old new : DiskState) (W : World)
   pub moments : LeavesOnly old new (ShowsEither W given.1)
   pub cause : core.BlamesDisk {T = Unit {0}} old.faults new.faults (Err e)
 
-module _ (goes_on : Stop → Type 0) (stands : World → Type 0) (old new : DiskState) (W : World) (given : CoreReply × World) (fails : goes_on stop.Disk → stands W) where
+module _ {goes_on : Stop → Type 0} {stands : World → Type 0} {old new : DiskState} {W : World} {given : CoreReply × World} (fails : goes_on stop.Disk → stands W) where
   replied : (e : CoreError) (r : CoreReply) → Refused stands old new W given e → Some r ≡ core.refusal_of e → e ≢ error.Disk → r ≡ given.0 → IsRefusal r → Answers goes_on stands old new W (as_step given) (Ok (as_reply r))
   replied e r of some other is refusal = record {
     reply = λ told. ap as_reply is;
@@ -47,26 +48,10 @@ module _ (goes_on : Stop → Type 0) (stands : World → Type 0) (old new : Disk
       go error.Down of (inl is) = absurd (cc is)
       go error.Down of (inr (inl is)) = absurd (cc is)
       go error.Down of (inr (inr is)) = absurd (cc is)
-      go error.Disk of is = record {
-        reply = tt;
-        but_shown = tt;
-        told = tt;
-        world = tt;
-        moments = of.moments;
-        up = λ e. absurd (cc e);
-        cause = record { later = of.cause.later; failed = λ e. of.cause.failed refl; passed = tt; memory = λ e. absurd (cc e) };
-        stopped = fails;
-      }
-      go error.Memory of is = record {
-        reply = tt;
-        but_shown = tt;
-        told = tt;
-        world = tt;
-        moments = of.moments;
-        up = λ e. absurd (cc e);
-        cause = record { later = of.cause.later; failed = λ e. absurd (cc e); passed = tt; memory = λ e. of.cause.other (λ e. cc e) };
-        stopped = λ may. of.same (λ e. cc e);
-      }
+      go error.Disk of is =
+          no_reply of.moments (λ e. absurd (cc e)) (record { later = of.cause.later; failed = λ e. of.cause.failed refl; passed = tt; memory = λ e. absurd (cc e) }) fails
+      go error.Memory of is =
+          no_reply of.moments (λ e. absurd (cc e)) (record { later = of.cause.later; failed = λ e. absurd (cc e); passed = tt; memory = λ e. of.cause.other (λ e. cc e) }) (λ may. of.same (λ e. cc e))
       go error.TooManyTx of (inl is) = absurd (cc is)
       go error.TooManyTx of (inr (inl is)) = absurd (cc is)
       go error.TooManyTx of (inr (inr is)) = replied error.TooManyTx reply.TooManyTx of refl (λ e. cc e) (cc is) tt
@@ -89,9 +74,9 @@ not_disk r e (inr some) disk = absurd (none_is_not_some (ap core.refusal_of (sym
     none_is_not_some is = cc is
 
 -- a call that is refused, and leaves the disk as it was
-pub refused_still : (goes_on : Stop → Type 0) (stands : World → Type 0) (d : DiskState) → IsLawful d → (W : World) → ((c : List ℕ) → d.now c → Shows c W.geometry W.history (last W.history)) → (given : CoreReply × World) (e : CoreError)
+pub refused_still : {goes_on : Stop → Type 0} {stands : World → Type 0} {d : DiskState} → IsLawful d → {W : World} → ((c : List ℕ) → d.now c → Shows c W.geometry W.history (last W.history)) → {given : CoreReply × World} (e : CoreError)
     → Refuses given.0 e → KeepsRefused W given → stands W → Answers goes_on stands d d W (as_step given) (answer_to e)
-refused_still goes_on stands d laws W here given e is keeps same = refused goes_on stands d d W given (λ may. same) e (record {
+refused_still laws {W = W} here {given = given} e is keeps same = refused (λ may. same) e (record {
   is = inr is;
   keeps = keeps;
   same = λ other. same;
@@ -101,8 +86,8 @@ refused_still goes_on stands d laws W here given e is keeps same = refused goes_
 })
 
 -- an error is none of what the call answers otherwise
-pub blames : {T : Type 0} (before now : ℕ) (e : CoreError) → core.BlamesDisk {T = T} before now (Err e) → core.BlamesDisk {T = Unit {0}} before now (Err e)
-blames before now e cause = record { later = cause.later; failed = λ disk. cause.failed (ap Err (cc disk)); passed = tt; other = cause.other }
+pub blames : {T : Type 0} {before now : ℕ} (e : CoreError) → core.BlamesDisk {T = T} before now (Err e) → core.BlamesDisk {T = Unit {0}} before now (Err e)
+blames e cause = record { later = cause.later; failed = λ disk. cause.failed (ap Err (cc disk)); passed = tt; other = cause.other }
 
 -- of two answers, each of which leaves the world where it is a refusal
 pub keeps_either : (W : World) (test : Bool) (x y : CoreReply × World) → KeepsRefused W x → KeepsRefused W y → KeepsRefused W (cond test x y)

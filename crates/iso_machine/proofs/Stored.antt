@@ -4,7 +4,7 @@ use Rattle.std.specs.Prelude.{IsSome}
 use Rattle.std.proofs.lemmas.Bool.{eq-eqb, ne_eqb}
 use Rattle.script_model.specs.declared.script.Reply.TheVariants as reply
 use Rattle.store_calls.specs.Calls.{placed}
-use Rattle.iso_machine.proofs.Accesses.{refused}
+use Rattle.iso_machine.proofs.Accesses.{has_worked, refused}
 
 no_store : (W : World) (t : Live) (blocks : ℕ) (result : Reply × World) → blocks ≡ 0 → in_store W t blocks result ≡ (reply.NoStore, W)
 no_store W t blocks result e = let none : (blocks == 0) ≡ true = eq-eqb blocks 0 e in rw none refl
@@ -81,16 +81,7 @@ module _ {D : Type 0} (state : D → DiskState) (core : Core D) (tx : ℕ) (old 
         record {
           reply = λ told. sym (ap (λ (x : Reply × World). x.0) (given told));
           world = with_accesses W t new.accesses;
-          worked = record {
-            world = refl;
-            is_work = record {
-              begin = same.begin ∙ active.is_work.begin;
-              mode = same.mode ∙ active.is_work.mode;
-              size = same.size ∙ active.is_work.size;
-              blocks = same.blocks ∙ active.is_work.blocks;
-              accesses = refl;
-            };
-          };
+          worked = has_worked active same;
           told = λ told. ap (λ (l : List Access). with_accesses W t l) made ∙ sym (ap (λ (x : Reply × World). x.1) (given told));
         }
 

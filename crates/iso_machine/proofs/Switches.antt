@@ -8,9 +8,9 @@ use Rattle.iso_machine.proofs.Machines.{same}
 use Rattle.iso_machine.proofs.Refusals.{IsRefusal, KeepsRefused, blames, refused}
 
 -- the transactions stay
-pub switched : {D : Type 0} (state : D → DiskState) (core new : Core D) {table : Finder} (live : List Attached) (W : World) (form : ℕ) → AreOf state core table live W → StandsFor state new (after_switch W form) up
+pub switched : {D : Type 0} {state : D → DiskState} {core new : Core D} {table : Finder} {live : List Attached} {W : World} (form : ℕ) → AreOf state core table live W → StandsFor state new (after_switch W form) up
     → AreOf state new table live (after_switch W form)
-switched state core new live W form of stands = record {
+switched {live = live} {W = W} form of stands = record {
   core_of = stands;
   live_are = of.live_are;
   sized = all_weaker (IsSized W.geometry) (IsSized (after_switch W form).geometry) (λ a is. record { size = is.size; blocks = is.blocks }) live of.sized;
@@ -44,17 +44,17 @@ worn_still old new (error.Worn at) still some = still (λ e. cc e) (λ e. cc e)
 worn_still old new error.ModeFixed still some = still (λ e. cc e) (λ e. cc e)
 
 -- a switch that is refused
-pub switch_refused : {D : Type 0} (state : D → DiskState) (core new : Core D) {table : Finder} (live : List Attached) (W : World) (form : ℕ) (answer : CoreReply) (e : CoreError) → AreOf state core table live W
+pub switch_refused : {D : Type 0} {state : D → DiskState} {core new : Core D} {table : Finder} {live : List Attached} {W : World} (form : ℕ) (answer : CoreReply) (e : CoreError) → AreOf state core table live W
     → (IsRefusal answer → ⊥) → (e ≡ error.Disk) ⊎ Refuses (switch_step W form answer).0 e → (e ≢ error.Disk → StandsFor state new W up)
     → (e ≢ error.Disk → e ≢ error.Memory → disk_of new ≡ disk_of core) → LeavesOnly (state (disk_of core)) (state (disk_of new)) (ShowsLast W)
     → BlamesDisk {T = ℕ} (state (disk_of core)).faults (state (disk_of new)).faults (Err e)
     → Answers Wanting (AreOf state new table live) (state (disk_of core)) (state (disk_of new)) W (as_step (switch_step W form answer)) (answer_to e)
-switch_refused state core new {table = table} live W form answer e of none is stands still moments cause =
-    refused Wanting (AreOf state new table live) (state (disk_of core)) (state (disk_of new)) W (switch_step W form answer) (λ may. absurd (cc may)) e (record {
+switch_refused {state = state} {core = core} {new = new} {W = W} form answer e of none is stands still moments cause =
+    refused (λ may. absurd (cc may)) e (record {
       is = is;
       keeps = keeps_switch W form answer none;
-      same = λ other. same state core new live W of (stands other);
+      same = λ other. same of (stands other);
       told = λ some told. subst (λ d. IsSome (state d).contents) (sym (worn_still (disk_of core) (disk_of new) e still some)) told;
       moments = weakened moments (λ image shown. inl shown);
-      cause = blames (state (disk_of core)).faults (state (disk_of new)).faults e cause;
+      cause = blames e cause;
     })

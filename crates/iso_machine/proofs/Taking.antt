@@ -95,7 +95,7 @@ on_both (Ok x) text texts all live mid left answers more new ends further new_en
 on_both (Err e) text texts all live mid left answers more new ends further new_ends are first second = tt
 
 -- where nothing was taken before
-pub from_none : (texts : List (List ℕ)) (live left : List Attached) (answers new : List (Option GroupReply)) (ends new_ends : List GroupEnd) → answers ≡ [] → ends ≡ [] → HasTaken texts live left answers new ends new_ends
+pub from_none : {texts : List (List ℕ)} {live left : List Attached} {answers new : List (Option GroupReply)} {ends new_ends : List GroupEnd} → answers ≡ [] → ends ≡ [] → HasTaken texts live left answers new ends new_ends
     → HasTaken texts live left [] new [] new_ends
-from_none texts live left answers new ends new_ends no_answers no_ends taken =
-    subst (λ (xs : List (Option GroupReply)). HasTaken texts live left xs new [] new_ends) no_answers (subst (λ (es : List GroupEnd). HasTaken texts live left answers new es new_ends) no_ends taken)
+from_none {texts = texts} {live = live} {left = left} {new = new} {new_ends = new_ends} no_answers no_ends taken =
+    rw (no_answers, no_ends) at taken

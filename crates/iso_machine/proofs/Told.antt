@@ -2,13 +2,14 @@
 use Rattle.iso_machine.proofs.Words.{◌≡◌, ◌∙◌, sym, refl, ap, subst, inl, inr, ⊎_elim, ◌==◌, Bool, true, false, cond, ℕ, List, Result, Ok, Err, IfOk, IsErrOf, Option, DiskState, WritesNothing, stays, Op, Reply, is_serial, last, Shows, in_store, World, Live, Doing, Stop, BlamesDisk, IsActive, IsWorkedTo, with_accesses, map, IsSameWork, without_accesses, Answers, AnswersTold, is_empty_scan, store_blocks, IsStored, called_of, store_act}
 use Rattle.std.specs.Prelude.{IsSome}
 use Rattle.script_model.specs.declared.script.Reply.TheVariants as reply
+use Rattle.iso_machine.proofs.Accesses.{has_worked}
 use Rattle.iso_machine.proofs.Lists.{accesses_apart}
 use Rattle.script_model.specs.declared.stop.Stop.TheVariants as stop
 
 -- an answer that is known in any case
-pub told_so : (goes_on known : Stop → Type 0) (stands : World → Type 0) (old new : DiskState) (W : World) (given : Reply × World) (plain : Type 0) (result : Result Reply Stop) → ((why : Stop) → goes_on why → known why)
+pub told_so : {goes_on known : Stop → Type 0} {stands : World → Type 0} {old new : DiskState} {W : World} {given : Reply × World} {plain : Type 0} (result : Result Reply Stop) → ((why : Stop) → goes_on why → known why)
     → Answers known stands old new W given result → AnswersTold goes_on stands old new W given plain result
-told_so goes_on known stands old new W given plain (Ok r) on is = record {
+told_so {given = given} (Ok r) on is = record {
   reply = is.reply;
   but_shown = λ call. is.but_shown;
   told = is.told;
@@ -18,7 +19,7 @@ told_so goes_on known stands old new W given plain (Ok r) on is = record {
   cause = is.cause;
   stopped = tt;
 }
-told_so goes_on known stands old new W given plain (Err e) on is = record {
+told_so {W = W} (Err e) on is = record {
   reply = tt;
   but_shown = λ call. tt;
   told = tt;
@@ -29,10 +30,16 @@ told_so goes_on known stands old new W given plain (Err e) on is = record {
   stopped = λ may. record { world = W; is = is.stopped (on e may); same = record { live = refl; rest = refl }; whole = λ call. refl };
 }
 
+-- the same answer, where what is given is written in another way
+pub told_as : {goes_on : Stop → Type 0} {stands : World → Type 0} {old new : DiskState} {W : World} {given other : Reply × World} {plain : Type 0} {result : Result Reply Stop} → given ≡ other
+    → AnswersTold goes_on stands old new W given plain result → AnswersTold goes_on stands old new W other plain result
+told_as {goes_on = goes_on} {stands = stands} {old = old} {new = new} {W = W} {plain = plain} {result = result} is answer =
+    subst (λ (g : Reply × World). AnswersTold goes_on stands old new W g plain result) is answer
+
 -- what holds of any call holds of one that is not plain
-pub never_plain : (goes_on known : Stop → Type 0) (stands : World → Type 0) (old new : DiskState) (W : World) (given : Reply × World) (plain : Type 0) (result : Result Reply Stop) → (plain → ⊥) → ((why : Stop) → goes_on why → known why)
+pub never_plain : {goes_on known : Stop → Type 0} {stands : World → Type 0} {old new : DiskState} {W : World} {given : Reply × World} {plain : Type 0} (result : Result Reply Stop) → (plain → ⊥) → ((why : Stop) → goes_on why → known why)
     → AnswersTold known stands old new W given ⊥ result → AnswersTold goes_on stands old new W given plain result
-never_plain goes_on known stands old new W given plain (Ok r) never on is = record {
+never_plain (Ok r) never on is = record {
   reply = is.reply;
   but_shown = λ call. absurd (never call);
   told = is.told;
@@ -48,7 +55,7 @@ never_plain goes_on known stands old new W given plain (Ok r) never on is = reco
   cause = is.cause;
   stopped = tt;
 }
-never_plain goes_on known stands old new W given plain (Err e) never on is = record {
+never_plain (Err e) never on is = record {
   reply = tt;
   but_shown = λ call. tt;
   told = tt;
@@ -81,22 +88,9 @@ store_keeps W t op = elim (is_empty_scan op) as (λ b. let x : Reply × World = 
 ]
 
 -- a call of a store on one transaction
-module _ (goes_on : Stop → Type 0) (stands : World → Type 0) (old new : DiskState) (W : World) (t : Live) (old_work work : Doing) (given : Reply × World) (history : given.1.history ≡ W.history) (geometry : given.1.geometry ≡ W.geometry)
+module _ {goes_on : Stop → Type 0} {stands : World → Type 0} {old new : DiskState} {W : World} {t : Live} {old_work work : Doing} {given : Reply × World} (history : given.1.history ≡ W.history) (geometry : given.1.geometry ≡ W.geometry)
     (here : (c : List ℕ) → old.now c → Shows c W.geometry W.history (last W.history)) (still : WritesNothing old new)
     (active : IsActive W t old_work) (same : IsSameWork old_work work) where
-  -- the transaction has the accesses of the work
-  worked : IsWorkedTo W t (with_accesses W t work.accesses) work
-  worked = record {
-    world = refl;
-    is_work = record {
-      begin = same.begin ∙ active.is_work.begin;
-      mode = same.mode ∙ active.is_work.mode;
-      size = same.size ∙ active.is_work.size;
-      blocks = same.blocks ∙ active.is_work.blocks;
-      accesses = refl;
-    };
-  }
-
   pub stored_so : (result : Result Reply Stop) → IfOk result (IsStored old W t given work)
       → ((V : World) → IsWorkedTo W t V work → stands V) → ¬ IsErrOf result stop.Down → BlamesDisk old.faults new.faults result → AnswersTold goes_on stands old new W given ⊥ result
   stored_so (Ok r) is world not_down cause = record {
@@ -125,7 +119,7 @@ module _ (goes_on : Stop → Type 0) (stands : World → Type 0) (old new : Disk
     cause = cause;
     stopped = λ may. record {
       world = with_accesses W t work.accesses;
-      is = world (with_accesses W t work.accesses) worked;
+      is = world (with_accesses W t work.accesses) (has_worked active same);
       same = record { live = accesses_apart t (record t { accesses = work.accesses }) W.live refl ∙ ap (map without_accesses) active.here; rest = refl };
       whole = λ call. absurd call;
     };

@@ -1,13 +1,13 @@
 -- The words that the proofs of this crate cite from elsewhere.
 pub use Rattle.std.proofs.Common.{Bool, Err, IfErr, IfOk, IsErrOf, IsSome, IsTrue, List, None, Ok, OnErr, OnOk, Option, Result, Some, ap, append-nil, append_assoc, arith, bytes_eq, cond, drop, eq-eqb, false, filter, find, get_or, if◌then◌else◌, inl, inr, length, map, nat_eq, nat_le, nat_lt, ne_eqb, not, option_map, refl, replicate, set, slice_index, slice_index_or, subst, suc, sym, take, true, zero, ℕ, [], ⊎_elim, ◌&&◌, ◌++◌, ◌+◌, ◌-◌, ◌<◌, ◌==◌, ◌∙◌, ◌∷◌, ◌≡◌, ◌≢◌, ◌≤◌, ◌⊎◌}
 pub use Rattle.std.proofs.Math.Seq.{take-append_seam}
-pub use Rattle.std.proofs.lemmas.Bool.{and_parts, both_ways, cases_Bool, cases_eq, eqb-true, false≢true}
+pub use Rattle.std.proofs.lemmas.Bool.{and_parts, both_ways, cases_eq, eqb-true, false≢true}
 pub use Rattle.std.proofs.lemmas.Bool.Decides.{nat_tests}
 pub use Rattle.std.proofs.lemmas.List.{drop-take, get_or-replicate, get_or_default, map-append, map_push, set-get_or, with_items_is}
 pub use Rattle.std.proofs.lemmas.Option.{same_Some}
 pub use Rattle.std.proofs.lemmas.Slice.Eq.{bytes_eq-Decides}
-pub use Rattle.std.specs.List.{AllByRecursion, remove}
-pub use Rattle.std.specs.Option.{ForSome, MatchOption}
+pub use Rattle.std.specs.List.{AllByRecursion, HoldsAt, remove}
+pub use Rattle.std.specs.Option.{ForSome, IfSome, MatchOption}
 pub use Rattle.conflict_rule.specs.Decision.{up_to}
 pub use Rattle.core_blocks.proofs.Arrays.{array_shown, guest_begins}
 pub use Rattle.core_blocks.specs.Guests.{Counts, IsSameWork, Seen, tx_of}
@@ -23,7 +23,6 @@ pub use Rattle.iso_core.specs.Standing.{up}
 pub use Rattle.iso_core.specs.declared.answers.Stat.{Stat}
 pub use Rattle.iso_core.specs.declared.core_itself.Core.{Core}
 pub use Rattle.iso_core.specs.declared.group_end.GroupEnd.{GroupEnd}
-pub use Rattle.iso_core.specs.declared.group_end.TheConstants.{MAX_GROUP}
 pub use Rattle.iso_disk.proofs.Moments.{started, stays, weakened}
 pub use Rattle.iso_disk.specs.Disk.{DiskState, IsLawful, LeavesOnly, StaysTold, WritesNothing}
 pub use Rattle.iso_model.proofs.Bytes.{length-block_access, length-block_own, other_block, written_block}
@@ -65,7 +64,7 @@ pub use Rattle.iso_model.specs.declared.access.Span.{Span}
 pub use Rattle.iso_model.specs.declared.core_error.CoreError.{CoreError}
 pub use Rattle.iso_model.specs.declared.core_reply.CoreReply.{CoreReply}
 pub use Rattle.iso_model.specs.declared.limits.TheConstants.{LAST, MAX_ACCESSES, MAX_LIVE}
-pub use Rattle.script_model.proofs.Looks.{found_are_live, held_live, look_leads, looks_geometry, looks_lead}
+pub use Rattle.script_model.proofs.Looks.{held_live, look_leads, looks_geometry, looks_lead}
 pub use Rattle.script_model.proofs.Steps.{step_leads}
 pub use Rattle.script_model.specs.CoreReplies.{as_reply, as_step}
 pub use Rattle.script_model.specs.Operations.{IsOp}
@@ -73,10 +72,9 @@ pub use Rattle.script_model.specs.Step.{access_step, array_of, grouped, in_store
 unfoldable pub use Rattle.script_model.specs.Step.{file_delete_step, file_move_step, file_new_step, file_read_step, file_write_step, fill_step, get_step, hash_delete_step, hash_get_step, hash_put_step, mark_step, numbers, put_step, read_step, step, store_step, tree_delete_step, tree_get_step, tree_put_step, tree_scan_step, write_step}
 pub use Rattle.script_model.specs.declared.script.Op.{Op}
 pub use Rattle.script_model.specs.declared.script.Reply.{Reply}
-pub use Rattle.script_model.specs.declared.script.TheConstants.{MAX_LABELS}
 pub use Rattle.script_model.specs.declared.stop.Stop.{Stop}
 pub use Rattle.script_runner.specs.Counts.{BlamesDisk}
-pub use Rattle.script_runner.specs.Stopped.{GoesOn, SameButAccesses, StandsStill, without_accesses}
+pub use Rattle.script_runner.specs.Stopped.{GoesOn, without_accesses}
 pub use Rattle.script_runner.specs.Told.{IfTold, IsPlain, SameButShown}
 pub use Rattle.store_calls.proofs.Areas.{store_areas_are, store_areas_fit}
 pub use Rattle.store_calls.specs.Calls.{AreStoreAreas, HasCalled, Stops, is_empty_scan, store_areas, store_blocks, store_ended}
@@ -86,7 +84,7 @@ pub use Rattle.iso_fs.specs.Ends.{areas_of}
 pub use Rattle.tx_blocks.specs.Tx.{Device, Tx}
 pub use Rattle.tx_table.specs.Work.{Doing, span_at}
 pub use Rattle.indexmap.specs.IndexMap.{get}
-pub use Rattle.iso_machine.specs.Accessing.{IsActive, IsGiven, IsShown, IsWorkedTo, act_step}
+pub use Rattle.iso_machine.specs.Accessing.{IsActive, IsGiven, IsHere, IsShown, IsWorkedTo, act_step}
 pub use Rattle.iso_machine.specs.Answering.{Always, Answers, AnswersTold, Never, Wanting, answer_to}
 pub use Rattle.iso_machine.specs.Grouping.{HasTaken, filled, found_in, left_in, member_of, stand_in, under, without_found}
 pub use Rattle.iso_machine.specs.Shown.{shows}

@@ -1,5 +1,5 @@
 -- What an access or a mark of one transaction is answered, and what its work is then.
-use Rattle.std.specs.Prelude.{◌≡◌, Result, Ok, Err}
+use Rattle.std.specs.Prelude.{◌≡◌, ℕ, Result, Some, Ok, Err}
 use Rattle.iso_disk.specs.Disk.{DiskState}
 use Rattle.script_model.specs.declared.script.Op.{Op}
 use Rattle.script_model.specs.declared.script.Op.TheVariants.{Put, Read, Get, Write, Fill, Mark}
@@ -8,12 +8,14 @@ use Rattle.script_model.specs.declared.script.Reply.TheVariants as reply
 use Rattle.iso_model.specs.declared.memory.Memory.{Memory}
 use Rattle.script_model.specs.Step.{fill_step, get_step, mark_step, put_step, read_step, write_step}
 use Rattle.iso_model.specs.Step.{with_accesses}
-use Rattle.iso_model.specs.World.{World, Live, with}
+use Rattle.iso_model.specs.World.{World, Live, attached, with}
 use Rattle.tx_table.specs.Work.{Doing}
-use Rattle.iso_core.specs.Calls.{IsWorkOf}
+use Rattle.iso_core.specs.Calls.{IsTx, IsWorkOf}
 use Rattle.script_model.specs.declared.stop.Stop.{Stop}
 use Rattle.script_model.specs.declared.stop.Stop.TheVariants as stop
 use Rattle.script_runner.specs.Told.{IfTold, SameButShown}
+use Rattle.iso_machine.specs.declared.attached.Attached.{Attached}
+use Rattle.iso_machine.specs.Standing.{live_of}
 
 -- an access or a mark of the transaction
 abbrev pub act_step : World → Live → Op → Reply × World
@@ -29,6 +31,12 @@ act_step W t op = (reply.NotInTx, W)
 pub record IsActive (W : World) (t : Live) (work : Doing) : Type 0 where
   pub is_work : IsWorkOf W t work
   pub here : with t W.live ≡ W.live
+
+-- it is the transaction of the client, live in the world with what its work has
+pub record IsHere (W : World) (client : ℕ) (a : Attached) : Type 0 where
+  pub here : attached W client ≡ Some (live_of a)
+  pub tx : IsTx W a.tx (live_of a)
+  pub active : IsActive W (live_of a) a.work.value
 
 -- the world that is given is the one in which the transaction has the accesses of the work
 pub record IsWorkedTo (W : World) (t : Live) (given : World) (work : Doing) : Type 0 where

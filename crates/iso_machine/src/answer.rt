@@ -6,7 +6,6 @@ ghost use Rattle.iso_model.specs.World.{World, attached};
 ghost use Rattle.script_model.specs.Operations.{IsOp};
 
 use crate::acting::act;
-use crate::attached::index_at_client;
 use crate::machine::Machine;
 use crate::storing::store;
 use iso_disk::Disk;
@@ -27,7 +26,7 @@ impl<D: Disk> Machine<D> {
         ensures { (W : World) → IsMachineOf D.state self.old W → IsOp op.now
             → Answers Always (IsMachineOf D.state self.new) (D.state (disk_of (core_of self.old))) (D.state (disk_of (core_of self.new))) W (in_transaction W (attached W client) (λ t. act_step W t op.now)) result }
     {
-        let Some(i) = index_at_client(self.finder.at_client(client), &self.live, client) else {
+        let Some(i) = self.place_at(client) else {
             return Ok(Reply::NotInTx);
         };
         let attached = &mut self.live[i];
@@ -74,7 +73,7 @@ impl<D: Disk> Machine<D> {
         ensures { (W : World) → IsMachineOf D.state self.old W
             → AnswersTold Always (IsMachineOf D.state self.new) (D.state (disk_of (core_of self.old))) (D.state (disk_of (core_of self.new))) W (in_transaction W (attached W client) (λ t. store_act W t op.now)) ⊥ result }
     {
-        let Some(i) = index_at_client(self.finder.at_client(client), &self.live, client) else {
+        let Some(i) = self.place_at(client) else {
             return Ok(Reply::NotInTx);
         };
         let attached = &mut self.live[i];

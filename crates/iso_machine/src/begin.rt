@@ -5,7 +5,7 @@ ghost use Rattle.iso_model.specs.Geometry.{is_block_size};
 ghost use Rattle.script_model.specs.Step.{step};
 ghost use Rattle.iso_model.specs.World.{World};
 
-use crate::attached::{Attached, Spot, index_at_client};
+use crate::attached::{Attached, Spot};
 use crate::ending::keep_spare;
 use crate::machine::Machine;
 use crate::refusing::refused;
@@ -44,7 +44,7 @@ impl<D: Disk> Machine<D> {
         ensures { (W : World) → IsMachineOf D.state self.old W
             → Answers Always (IsMachineOf D.state self.new) (D.state (disk_of (core_of self.old))) (D.state (disk_of (core_of self.new))) W (step W client (Begin mode)) result }
     {
-        if let Some(_) = index_at_client(self.finder.at_client(client), &self.live, client) {
+        if let Some(_) = self.place_at(client) {
             return Ok(Reply::InTx);
         }
         if let Err(_) = self.live.reserve(1) {

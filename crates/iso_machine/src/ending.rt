@@ -11,7 +11,6 @@ ghost use Rattle.iso_core.specs.Core.{StandsFor, disk_of};
 ghost use Rattle.iso_core.specs.Standing.{up};
 ghost use Rattle.iso_model.specs.Between.{ShowsEither};
 
-use crate::attached::index_at_client;
 use crate::machine::Machine;
 use crate::refusing::refused;
 use conflict_rule::Checked;
@@ -89,7 +88,7 @@ impl<D: Disk> Machine<D> {
         ensures { (W : World) → IsMachineOf D.state self.old W
             → Answers Wanting (IsMachineOf D.state self.new) (D.state (disk_of (core_of self.old))) (D.state (disk_of (core_of self.new))) W (step W client End) result }
     {
-        let Some(i) = index_at_client(self.finder.at_client(client), &self.live, client) else {
+        let Some(i) = self.place_at(client) else {
             return Ok(Reply::NotInTx);
         };
         let attached = &mut self.live[i];
@@ -114,7 +113,7 @@ impl<D: Disk> Machine<D> {
         ensures { (W : World) → IsMachineOf D.state self.old W
             → Answers Always (IsMachineOf D.state self.new) (D.state (disk_of (core_of self.old))) (D.state (disk_of (core_of self.new))) W (step W client Abort) result }
     {
-        let Some(i) = index_at_client(self.finder.at_client(client), &self.live, client) else {
+        let Some(i) = self.place_at(client) else {
             return Ok(Reply::NotInTx);
         };
         let gone = self.live.remove(i);

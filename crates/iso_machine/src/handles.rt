@@ -5,7 +5,7 @@ ghost use Rattle.script_model.specs.Step.{step};
 ghost use Rattle.iso_model.specs.Labels.{is_label};
 ghost use Rattle.iso_model.specs.World.{World};
 
-use crate::attached::{Spot, claim, index_at_client, index_under_label};
+use crate::attached::{Spot, claim, index_under_label};
 use crate::machine::Machine;
 use iso_disk::Disk;
 use iso_model::Label;
@@ -22,7 +22,7 @@ impl<D: Disk> Machine<D> {
         ensures { (W : World) → IsMachineOf D.state self.old W → IsTrue (is_label label.now)
             → Answers Always (IsMachineOf D.state self.new) (D.state (disk_of (core_of self.old))) (D.state (disk_of (core_of self.new))) W (step W client (Release label.now)) result }
     {
-        let Some(i) = index_at_client(self.finder.at_client(client), &self.live, client) else {
+        let Some(i) = self.place_at(client) else {
             return Ok(Reply::NotInTx);
         };
         let tx = self.live[i].tx;
@@ -43,7 +43,7 @@ impl<D: Disk> Machine<D> {
         ensures { (W : World) → IsMachineOf D.state self.old W
             → Answers Always (IsMachineOf D.state self.new) (D.state (disk_of (core_of self.old))) (D.state (disk_of (core_of self.new))) W (step W client (Takeover label.now)) result }
     {
-        if let Some(_) = index_at_client(self.finder.at_client(client), &self.live, client) {
+        if let Some(_) = self.place_at(client) {
             return Ok(Reply::InTx);
         }
         let number = self.finder.take_label(label);

@@ -1,9 +1,10 @@
 // The machine.
-ghost use Rattle.std.specs.Prelude.{◌≡◌, []};
+ghost use Rattle.std.specs.Prelude.{◌≡◌, ◌<◌, [], None, IfSome, MatchOption, length};
+ghost use Rattle.std.specs.List.{HoldsAt};
 ghost use Rattle.iso_model.specs.Step.{with_live};
-ghost use Rattle.iso_model.specs.World.{World};
+ghost use Rattle.iso_model.specs.World.{World, attached};
 
-use crate::attached::Attached;
+use crate::attached::{Attached, index_at_client};
 use crate::finder::Finder;
 use crate::leaving::abort_all;
 use iso_core::{Core, GroupEnd};
@@ -31,6 +32,7 @@ pub struct Machine<D: Disk> {
 impl<D: Disk> Machine<D> {
     ghost use Rattle.iso_core.specs.Core.{StandsFor, disk_of};
     ghost use Rattle.iso_core.specs.Standing.{up};
+    ghost use Rattle.iso_machine.specs.Accessing.{IsHere};
     ghost use Rattle.iso_machine.specs.Standing.{IsMachineOf, core_of};
 
     /// A machine over a core that is up and has no live transaction. It takes no memory.
@@ -47,6 +49,15 @@ impl<D: Disk> Machine<D> {
             ends: Vec::new(alloc),
             buffer: Vec::new(alloc),
         }
+    }
+
+    /// Where in the list the transaction of a client is.
+    pub(crate) fn place_at(&self, client: u8) -> Option<usize>
+        requires { (W : World) × IsMachineOf D.state self.now W }
+        ensures within { IfSome result (λ i. i < length self.now.live.items) }
+        ensures here { (W : World) → IsMachineOf D.state self.now W → MatchOption result (attached W client ≡ None) (HoldsAt (IsHere W client) self.now.live.items) }
+    {
+        index_at_client(self.finder.at_client(client), &self.live, client)
     }
 
     /// The core, once all live transactions are aborted. It takes no memory, and makes no call of the disk.

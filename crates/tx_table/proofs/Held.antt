@@ -1,10 +1,10 @@
 -- Patches in their slots: which block has which, and what clearing leaves.
-use Rattle.tx_table.proofs.Words.{◌≡◌, ◌≢◌, ◌∙◌, sym, ap, ℕ, ◌<◌, ◌≤◌, Bool, true, false, ◌==◌, ◌||◌, ◌&&◌, List, [], ◌∷◌, refl, inl, inr, length, get_or, arith, Option, None, replicate, cases_lt, length-replicate, AllByRecursion, has_patch, patch_at, AreBlankFrom, RisesFrom, entries_of}
+use Rattle.tx_table.proofs.Words.{◌≡◌, ◌≢◌, ◌∙◌, sym, ap, ℕ, ◌<◌, ◌≤◌, Bool, true, false, ◌==◌, ◌||◌, ◌&&◌, List, [], ◌∷◌, refl, inl, inr, length, get_or, arith, Option, None, replicate, cases_lt, length-replicate, AllByRecursion, has_patch, patch_at, AreBlankFrom, AreSlots, RisesFrom, entries_of}
 use Rattle.tx_table.proofs.Blocks.{found_at, found_none}
-use Rattle.tx_table.proofs.Slots.{all_from, all_there, entry_is, key_at, length-entries, rises_entries}
+use Rattle.tx_table.proofs.Slots.{all_from, all_there, entry_is, key_at, length-entries, rises_entries, slot_below}
 
 -- the block of a place has the patch in its slot
-pub held_at : (size b s i : ℕ) (slots : List (List (Option ℕ))) (order : List (ℕ × ℕ)) → RisesFrom 0 order → i < length order → get_or order i (b, s) ≡ (b, s)
+held_at : (size b s i : ℕ) (slots : List (List (Option ℕ))) (order : List (ℕ × ℕ)) → RisesFrom 0 order → i < length order → get_or order i (b, s) ≡ (b, s)
     → (has_patch b (entries_of [] slots order) ≡ true) × (patch_at size b (entries_of [] slots order) ≡ get_or slots s [])
 held_at size b s i slots order rises lt at =
     let es = entries_of [] slots order in
@@ -12,6 +12,31 @@ held_at size b s i slots order rises lt at =
     let inside : i < length es = omega (arith, length-entries {A = List (Option ℕ)} [] slots order) in
     let found = found_at 0 size b i es (b, []) (rises_entries [] slots 0 order rises) inside (ap (λ (x : ℕ × List (Option ℕ)). x.0) here) in
     (found.0, found.1 ∙ ap (λ (x : ℕ × List (Option ℕ)). x.1) here)
+
+-- the slot of a block that has one
+pub record HasSlot (block slot : ℕ) (slots : List (List (Option ℕ))) (order : List (ℕ × ℕ)) : Type 0 where
+  pub place : ℕ
+  pub within : place < length order
+  pub at : get_or order place (block, slot) ≡ (block, slot)
+  pub below : slot < length order
+  pub inside : slot < length slots
+  pub held : has_patch block (entries_of [] slots order) ≡ true
+  pub patch : (size : ℕ) → patch_at size block (entries_of [] slots order) ≡ get_or slots slot []
+
+pub has_slot : (block slot : ℕ) (slots : List (List (Option ℕ))) (order seen : List (ℕ × ℕ)) → seen ≡ order → RisesFrom 0 order → AreSlots (length order) order → length order ≤ length slots
+    → (i : ℕ) × (i < length seen) × (get_or seen i (block, slot) ≡ (block, slot)) → HasSlot block slot slots order
+has_slot block slot slots order seen same rises are within in_seen =
+    let found = rw same at in_seen in
+    let below : slot < length order = slot_below (length order) found.0 block slot order are found.1 found.2 in
+    record {
+      place = found.0;
+      within = found.1;
+      at = found.2;
+      below = below;
+      inside = omega (arith, below, within);
+      held = (held_at 0 block slot found.0 slots order rises found.1 found.2).0;
+      patch = λ size. (held_at size block slot found.0 slots order rises found.1 found.2).1;
+    }
 
 -- the block of no place has none
 pub held_none : (size b : ℕ) (slots : List (List (Option ℕ))) (order : List (ℕ × ℕ)) → ((k : ℕ) → (d : ℕ × ℕ) → k < length order → (get_or order k d).0 ≢ b)

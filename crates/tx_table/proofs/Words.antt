@@ -1,5 +1,5 @@
 -- The words that the proofs of this crate cite from elsewhere.
-pub use Rattle.std.proofs.Common.{Bool, Err, IsFalse, IsTrue, List, None, Ok, Option, Result, Some, ap, arith, bytes_eq, cond, drop, false, flat_map, get_or, get_or-set_other, get_or-set_same, inl, inr, is_ok, is_some, length, length-append, length-drop, length-set, ltb, map, min, nat_eq, nat_le, nat_lt, ne_eqb, refl, replicate, rules, set, slice_get, slice_index, subst, suc, sym, take, true, vec_capacity, vec_len, zero, ℕ, [], ◌&&◌, ◌++◌, ◌+◌, ◌-◌, ◌<◌, ◌==◌, ◌||◌, ◌∙◌, ◌∷◌, ◌≡◌, ◌≢◌, ◌≤◌, ◌⊎◌}
+pub use Rattle.std.proofs.Common.{Bool, Err, IsFalse, IsTrue, List, None, Ok, Option, Result, Some, ap, arith, bytes_eq, cond, drop, false, flat_map, get_or, get_or-set_other, get_or-set_same, inl, inr, is_ok, is_some, length, length-append, length-drop, length-set, ltb, map, nat_eq, nat_le, nat_lt, ne_eqb, refl, replicate, rules, set, slice_index, subst, suc, sym, take, true, vec_capacity, vec_len, zero, ℕ, [], ◌&&◌, ◌++◌, ◌+◌, ◌-◌, ◌<◌, ◌==◌, ◌||◌, ◌∙◌, ◌∷◌, ◌≡◌, ◌≢◌, ◌≤◌, ◌⊎◌}
 pub use Rattle.std.proofs.Math.Bool.{or-false}
 pub use Rattle.std.proofs.Math.Nat.{min-eq_left}
 pub use Rattle.std.proofs.lemmas.Bool.{both_ways, cases_eq, cases_lt, ltb-false, ltb-true}
@@ -8,6 +8,7 @@ pub use Rattle.std.proofs.lemmas.List.{get_or-drop, get_or_default, length-repli
 pub use Rattle.std.proofs.lemmas.List.Elements.{All-append}
 pub use Rattle.std.proofs.lemmas.List.Folds.{list_any-append, list_any_more}
 pub use Rattle.std.proofs.lemmas.List.Sorted.{All-permutation, IsPartitionPoint-from_clause, IsPartitionedBy-ltb, list_any-IsPermutation}
+pub use Rattle.std.specs.List.Sorted.{IsPartitionPoint}
 pub use Rattle.std.proofs.lemmas.Slice.Eq.{bytes_eq-Decides}
 pub use Rattle.std.specs.List.{All, AllByRecursion, list_any, range_with_len}
 pub use Rattle.std.specs.Map.{lookup, remove_entry}

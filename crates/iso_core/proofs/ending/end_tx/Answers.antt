@@ -1,6 +1,7 @@
-use Rattle.iso_core.proofs.Words.{◌≡◌, ◌∙◌, ◌⊎◌, sym, ap, subst, IfOk, IfErr, None, true, false, CoreReply, has_write, end_step, World, LeavesOnly, Disk, Refuses, reply_of, AreOf, up, ShowsEither}
-use Rattle.iso_core.proofs.Endings.{ends_by, ends_in_conflict, ends_read_only, left_core, may_commit}
+use Rattle.iso_core.proofs.Words.{◌≡◌, ◌∙◌, ◌⊎◌, sym, ap, subst, IfOk, IfErr, None, true, clash, commit_step, CoreReply, has_write, end_step, World, Live, LeavesOnly, Disk, Refuses, reply_of, AreOf, IsCheckedOf, IsTx, IsWorkOf, MayCommit, up, ShowsEither}
+use Rattle.iso_core.proofs.Endings.{ends_by, ends_in_conflict, ends_read_only, left_so, may_commit}
 use Rattle.iso_core.proofs.Moments.{stays_shown}
+use Rattle.iso_core.proofs.ending.end_tx.Given as given
 use Rattle.iso_core.proofs.ending.end_tx.Goals as goal
 
 pub leave-requires : goal.leave-requires
@@ -10,13 +11,8 @@ leave-requires g c =
 
 pub returns-then-not-has_write-clause-ended : goal.returns-then-not-has_write-clause-ended
 returns-then-not-has_write-clause-ended g c W t of here is_work is =
-    let d = g.D.Disk.state c.args.disk.now in
-    let none : has_write t.accesses ≡ false = ap has_write (sym is_work.accesses) ∙ sym c.has_write.ensures ∙ c.if-not-has_write.true in
-    let step = ends_read_only W t none in (
-      ap (λ (x : CoreReply × World). x.0) step,
-      subst (λ (V : World). AreOf d c.leave.new.kept V up) (sym (ap (λ (x : CoreReply × World). x.1) step))
-          (left_core d c.args.kept.now c.leave.new.kept W up t of (c.leave.ensures.left W t of.kept_of here) c.leave.ensures.half c.leave.ensures.down),
-    )
+    left_so (g.D.Disk.state c.args.disk.now) c.args.kept.now c.leave.new.kept W t (ends_read_only W t (ap has_write (sym is_work.accesses) ∙ sym c.has_write.ensures ∙ c.if-not-has_write.true))
+    of (c.leave.ensures.left W t of.kept_of here) c.leave.ensures.half c.leave.ensures.down
 
 pub returns-then-not-has_write-clause-moments : goal.returns-then-not-has_write-clause-moments
 returns-then-not-has_write-clause-moments g c W t of here is_work is =
@@ -33,13 +29,9 @@ leave-requires-in-Some g c =
 
 pub returns-in-Some-clause-ended : goal.returns-in-Some-clause-ended
 returns-in-Some-clause-ended g c W t of here is_work is =
-    let d = g.D.Disk.state c.args.disk.now in
     let write : has_write t.accesses ≡ true = ap has_write (sym is_work.accesses) ∙ sym c.has_write.ensures ∙ c.if-not-has_write.false in
-    let step = ends_in_conflict W t c.in-Some.clash write (sym c.in-Some.is ∙ c.in-Ok.ensures.clash W t of.kept_of here is_work is) in (
-      ap (λ (x : CoreReply × World). x.0) step,
-      subst (λ (V : World). AreOf d c.leave-in-Some.new.kept V up) (sym (ap (λ (x : CoreReply × World). x.1) step))
-          (left_core d c.args.kept.now c.leave-in-Some.new.kept W up t of (c.leave-in-Some.ensures.left W t of.kept_of here) c.leave-in-Some.ensures.half c.leave-in-Some.ensures.down),
-    )
+    left_so (g.D.Disk.state c.args.disk.now) c.args.kept.now c.leave-in-Some.new.kept W t (ends_in_conflict W t c.in-Some.clash write (sym c.in-Some.is ∙ c.in-Ok.ensures.clash W t of.kept_of here is_work is))
+    of (c.leave-in-Some.ensures.left W t of.kept_of here) c.leave-in-Some.ensures.half c.leave-in-Some.ensures.down
 
 pub returns-in-Some-clause-moments : goal.returns-in-Some-clause-moments
 returns-in-Some-clause-moments g c W t of here is_work is =
@@ -51,35 +43,36 @@ commit-requires g c =
     let write : has_write t.accesses ≡ true = ap has_write (sym is_work.accesses) ∙ sym c.has_write.ensures ∙ c.if-not-has_write.false in
     (W, t, of, may_commit W c.args.tx t c.decide_end.new.work here (c.in-Ok.ensures.settled W t is_work) write (sym c.in_default.is ∙ c.in-Ok.ensures.clash W t of.kept_of here is_work is))
 
+-- it may commit, and the model's end is that commit
+module _ (g : given.Over) (c : goal.After-commit g) (W : World) (t : Live) (of : AreOf (g.D.Disk.state c.args.disk.now) c.args.kept.now W up) (here : IsTx W c.args.tx t) (is_work : IsWorkOf W t c.args.work.now)
+    (is : IsCheckedOf W t c.args.checked.now) where
+  write : has_write t.accesses ≡ true
+  write = ap has_write (sym is_work.accesses) ∙ sym c.has_write.ensures ∙ c.if-not-has_write.false
+
+  none : None ≡ clash W.geometry W.history t.mode t.begin t.accesses
+  none = sym c.in_default.is ∙ c.in-Ok.ensures.clash W t of.kept_of here is_work is
+
+  may : MayCommit W c.args.tx t c.decide_end.new.work
+  may = may_commit W c.args.tx t c.decide_end.new.work here (c.in-Ok.ensures.settled W t is_work) write none
+
+  step : commit_step W t None ≡ end_step W t
+  step = sym (ends_by W t None write none)
+
 pub returns-clause-ended : goal.returns-clause-ended
 returns-clause-ended g c W t of here is_work is =
-    let write : has_write t.accesses ≡ true = ap has_write (sym is_work.accesses) ∙ sym c.has_write.ensures ∙ c.if-not-has_write.false in
-    let none = sym c.in_default.is ∙ c.in-Ok.ensures.clash W t of.kept_of here is_work is in
-    let may = may_commit W c.args.tx t c.decide_end.new.work here (c.in-Ok.ensures.settled W t is_work) write none in
-    let step = ends_by W t None write none in
-    subst (λ (x : CoreReply × World). IfOk c.commit.result (λ r. (x.0 ≡ reply_of r) × AreOf (g.D.Disk.state c.commit.new.disk) c.commit.new.kept x.1 up)) (sym step) (c.commit.ensures.ended W t of may)
+    subst (λ (x : CoreReply × World). IfOk c.commit.result (λ r. (x.0 ≡ reply_of r) × AreOf (g.D.Disk.state c.commit.new.disk) c.commit.new.kept x.1 up)) (step g c W t of here is_work is)
+    (c.commit.ensures.ended W t of (may g c W t of here is_work is))
 
 pub returns-clause-refused : goal.returns-clause-refused
 returns-clause-refused g c W t of here is_work is =
-    let write : has_write t.accesses ≡ true = ap has_write (sym is_work.accesses) ∙ sym c.has_write.ensures ∙ c.if-not-has_write.false in
-    let none = sym c.in_default.is ∙ c.in-Ok.ensures.clash W t of.kept_of here is_work is in
-    let may = may_commit W c.args.tx t c.decide_end.new.work here (c.in-Ok.ensures.settled W t is_work) write none in
-    let step = ends_by W t None write none in
-    subst (λ (x : CoreReply × World). IfErr c.commit.result (λ e. (e ≡ Disk) ⊎ Refuses x.0 e)) (sym step) (c.commit.ensures.refused W t of may)
+    subst (λ (x : CoreReply × World). IfErr c.commit.result (λ e. (e ≡ Disk) ⊎ Refuses x.0 e)) (step g c W t of here is_work is) (c.commit.ensures.refused W t of (may g c W t of here is_work is))
 
 pub returns-clause-lost : goal.returns-clause-lost
 returns-clause-lost g c W t of here is_work is failed =
-    let write : has_write t.accesses ≡ true = ap has_write (sym is_work.accesses) ∙ sym c.has_write.ensures ∙ c.if-not-has_write.false in
-    let none = sym c.in_default.is ∙ c.in-Ok.ensures.clash W t of.kept_of here is_work is in
-    let may = may_commit W c.args.tx t c.decide_end.new.work here (c.in-Ok.ensures.settled W t is_work) write none in
-    let step = ends_by W t None write none in
-    let lost = c.commit.ensures.lost W t of may failed in
-    (ap (λ (x : CoreReply × World). x.0) step ∙ lost.0, lost.1)
+    let lost = c.commit.ensures.lost W t of (may g c W t of here is_work is) failed in
+    (ap (λ (x : CoreReply × World). x.0) (sym (step g c W t of here is_work is)) ∙ lost.0, lost.1)
 
 pub returns-clause-moments : goal.returns-clause-moments
 returns-clause-moments g c W t of here is_work is =
-    let write : has_write t.accesses ≡ true = ap has_write (sym is_work.accesses) ∙ sym c.has_write.ensures ∙ c.if-not-has_write.false in
-    let none = sym c.in_default.is ∙ c.in-Ok.ensures.clash W t of.kept_of here is_work is in
-    let may = may_commit W c.args.tx t c.decide_end.new.work here (c.in-Ok.ensures.settled W t is_work) write none in
-    let step = ends_by W t None write none in
-    subst (λ (x : CoreReply × World). LeavesOnly (g.D.Disk.state c.args.disk.now) (g.D.Disk.state c.commit.new.disk) (ShowsEither W x.1)) (sym step) (c.commit.ensures.moments W t of may)
+    subst (λ (x : CoreReply × World). LeavesOnly (g.D.Disk.state c.args.disk.now) (g.D.Disk.state c.commit.new.disk) (ShowsEither W x.1)) (step g c W t of here is_work is)
+    (c.commit.ensures.moments W t of (may g c W t of here is_work is))

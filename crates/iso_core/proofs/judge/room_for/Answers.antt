@@ -1,27 +1,32 @@
-use Rattle.iso_core.proofs.Words.{◌≡◌, ◌≢◌, ◌∙◌, sym, refl, ap, ℕ, ◌+◌, ◌-◌, ◌<◌, ◌≤◌, List, length, arith, length_push, LAST, last, need, World, used, ahead, member_reply}
+use Rattle.iso_core.proofs.Words.{◌≡◌, ◌≢◌, ◌∙◌, sym, refl, ap, ℕ, ◌+◌, ◌-◌, ◌<◌, ◌≤◌, [], ◌∷◌, List, length, arith, length_push, LAST, last, need, World, Live, Commit, used, ahead, member_reply, AreNextRecords, IsAhead, IsOf, MayCommit, written_of}
 use Rattle.iso_model.specs.declared.access.GroupReply.TheVariants as member
 use Rattle.iso_core.proofs.Committing.{buffer_on, next_world}
 use Rattle.iso_core.proofs.Judging.{commits_as, fits_ahead, free_ahead, full_so, number_ahead, worn_so}
 use Rattle.iso_core.proofs.Moments.{record_needs}
 use Rattle.iso_core.proofs.judge.room_for.Goals as goal
+use Rattle.iso_core.proofs.judge.room_for.Goals.{After-len, After-len-2}
+
+-- the number of the last commit before it
+number : (c : After-len) (W : World) (more : List Commit) → IsOf c.args.kept.now W → IsAhead W more c.args.plan.now → c.last.result + c.len.result ≡ last (ahead W more).history
+number c W more of is = number_ahead c.args.kept.now W more c.args.plan.now of is c.last.result c.len.result c.last.ensures (c.len.ensures ∙ c.args.plan.now.staged.ok.0)
 
 pub overflow_add-last : goal.overflow_add-last
 overflow_add-last c =
     let (W, more, tx, t, of, is, may) = c.requires in
-    let all = number_ahead c.args.kept.now W more c.args.plan.now of is c.last.result c.len.result c.last.ensures (c.len.ensures ∙ c.args.plan.now.staged.ok.0) in
+    let all = number (goal.at.overflow_add-last c).After-len W more of is in
     let most : last (ahead W more).history ≤ LAST = is.world.numbers in
     omega (arith, all, most)
 
 pub returns-then-last-ge-LAST-clause-answer : goal.returns-then-last-ge-LAST-clause-answer
 returns-then-last-ge-LAST-clause-answer c W more tx t of is may =
-    let all = number_ahead c.args.kept.now W more c.args.plan.now of is c.last.result c.len.result c.last.ensures (c.len.ensures ∙ c.args.plan.now.staged.ok.0) in
+    let all = number (goal.at.returns-then-last-ge-LAST-clause-answer c).After-len W more of is in
     let most : last (ahead W more).history ≤ LAST = is.world.numbers in
     worn_so (ahead W more) tx t c.args.work.now is.world may (omega (arith, all, most, c.if-last-ge-LAST.true))
 
 pub spell_as-requires : goal.spell_as-requires
 spell_as-requires c =
     let (W, more, tx, t, of, is, may) = c.requires in
-    let all = number_ahead c.args.kept.now W more c.args.plan.now of is c.last.result c.len.result c.last.ensures (c.len.ensures ∙ c.args.plan.now.staged.ok.0) in
+    let all = number (goal.at.spell_as-requires c).After-len W more of is in
     (W, ahead W more, tx, t, of, refl, is.world, may, omega (arith, all), omega (arith, all, c.if-last-ge-LAST.false))
 
 pub overflow_sub-free : goal.overflow_sub-free
@@ -30,43 +35,48 @@ overflow_sub-free c =
     let fits = fits_ahead c.spell_as.new.kept W more c.args.plan.now (buffer_on c.args.kept.now W c.spell_as.new.kept of c.spell_as.ensures.same) is in
     omega (arith, fits, c.from.ensures, c.free.ensures, c.len-2.ensures, c.args.plan.now.bytes.ok.0)
 
+-- the record is spelled, and what it needs and what is free are the model's
+module _ (c : After-len-2) (W : World) (more : List Commit) (tx : ℕ) (t : Live) (of : IsOf c.args.kept.now W) (is : IsAhead W more c.args.plan.now) (may : MayCommit (ahead W more) tx t c.args.work.now) where
+  all : c.last.result + c.len.result ≡ last (ahead W more).history
+  all = number_ahead c.args.kept.now W more c.args.plan.now of is c.last.result c.len.result c.last.ensures (c.len.ensures ∙ c.args.plan.now.staged.ok.0)
+
+  fresh : last (ahead W more).history < LAST
+  fresh = omega (arith, all, c.if-last-ge-LAST.false)
+
+  next : AreNextRecords (ahead W more) (written_of (ahead W more) t ∷ []) c.spell_as.new.kept.buffer.records
+  next = c.in_ok-spell_as.ensures.next W (ahead W more) tx t of refl is.world may (omega (arith, all)) fresh
+
+  needs : length c.with_closed_gate.result.now ≡ need (ahead W more) t
+  needs = ap (λ (l : List ℕ). length l) c.with_closed_gate.ensures ∙ length_push c.spell_as.new.kept.buffer.records 0 ∙ record_needs (ahead W more) t c.spell_as.new.kept.buffer.records next
+
+  left : c.from.result - c.len-2.result ≡ (ahead W more).geometry.log - used (ahead W more)
+  left =
+      let free = free_ahead c.spell_as.new.kept W more c.args.plan.now (buffer_on c.args.kept.now W c.spell_as.new.kept of c.spell_as.ensures.same) is in
+      omega (arith, free, c.from.ensures, c.free.ensures, c.len-2.ensures, c.args.plan.now.bytes.ok.0)
+
 pub returns-then-free-need-clause-answer : goal.returns-then-free-need-clause-answer
 returns-then-free-need-clause-answer c W more tx t of is may =
-    let U : World = ahead W more in
-    let all = number_ahead c.args.kept.now W more c.args.plan.now of is c.last.result c.len.result c.last.ensures (c.len.ensures ∙ c.args.plan.now.staged.ok.0) in
-    let fresh : last U.history < LAST = omega (arith, all, c.if-last-ge-LAST.false) in
-    let next = c.in_ok-spell_as.ensures.next W U tx t of refl is.world may (omega (arith, all)) fresh in
-    let count : length c.with_closed_gate.result.now ≡ length c.spell_as.new.kept.buffer.records + 1 = ap (λ (l : List ℕ). length l) c.with_closed_gate.ensures ∙ length_push c.spell_as.new.kept.buffer.records 0 in
-    let left = free_ahead c.spell_as.new.kept W more c.args.plan.now (buffer_on c.args.kept.now W c.spell_as.new.kept of c.spell_as.ensures.same) is in
-    full_so U tx t c.args.work.now is.world may _ _ (λ e. absurd (omega (arith, fresh, e))) (count ∙ record_needs U t c.spell_as.new.kept.buffer.records next)
-    (omega (arith, left, c.from.ensures, c.free.ensures, c.len-2.ensures, c.args.plan.now.bytes.ok.0)) (omega (arith, c.if-free-need.true))
+    let s = (goal.at.returns-then-free-need-clause-answer c).After-len-2 in
+    let low = fresh s W more tx t of is may in
+    full_so (ahead W more) tx t c.args.work.now is.world may _ _ (λ e. absurd (omega (arith, low, e))) (needs s W more tx t of is may) (left s W more tx t of is may) (omega (arith, c.if-free-need.true))
 
 pub returns-clause-answer : goal.returns-clause-answer
 returns-clause-answer c W more tx t of is may =
-    let U : World = ahead W more in
-    let all = number_ahead c.args.kept.now W more c.args.plan.now of is c.last.result c.len.result c.last.ensures (c.len.ensures ∙ c.args.plan.now.staged.ok.0) in
-    let fresh : last U.history < LAST = omega (arith, all, c.if-last-ge-LAST.false) in
-    let next = c.in_ok-spell_as.ensures.next W U tx t of refl is.world may (omega (arith, all)) fresh in
-    let count : length c.with_closed_gate.result.now ≡ length c.spell_as.new.kept.buffer.records + 1 = ap (λ (l : List ℕ). length l) c.with_closed_gate.ensures ∙ length_push c.spell_as.new.kept.buffer.records 0 in
-    let needs = record_needs U t c.spell_as.new.kept.buffer.records next in
-    let left = free_ahead c.spell_as.new.kept W more c.args.plan.now (buffer_on c.args.kept.now W c.spell_as.new.kept of c.spell_as.ensures.same) is in
-    let fits : need U t ≤ U.geometry.log - used U = omega (arith, left, count, needs, c.from.ensures, c.free.ensures, c.len-2.ensures, c.args.plan.now.bytes.ok.0, c.if-free-need.false) in
-    ap (λ (n : ℕ). member.Committed (n + 1)) all ∙ ap member_reply (sym (commits_as U tx t c.args.work.now is.world may (λ e. absurd (omega (arith, fresh, e))) fits))
+    let s = (goal.at.returns-clause-answer c).After-len-2 in
+    let low = fresh s W more tx t of is may in
+    ap (λ (n : ℕ). member.Committed (n + 1)) (all s W more tx t of is may)
+    ∙ ap member_reply (sym (commits_as (ahead W more) tx t c.args.work.now is.world may (λ e. absurd (omega (arith, low, e))) (omega (arith, needs s W more tx t of is may, left s W more tx t of is may, c.if-free-need.false))))
 
 pub returns-clause-next : goal.returns-clause-next
 returns-clause-next c W more tx t of is may =
+    let s = (goal.at.returns-clause-next c).After-len-2 in
     let U : World = ahead W more in
-    let all = number_ahead c.args.kept.now W more c.args.plan.now of is c.last.result c.len.result c.last.ensures (c.len.ensures ∙ c.args.plan.now.staged.ok.0) in
-    let fresh : last U.history < LAST = omega (arith, all, c.if-last-ge-LAST.false) in
-    let next = c.in_ok-spell_as.ensures.next W U tx t of refl is.world may (omega (arith, all)) fresh in
-    let count : length c.with_closed_gate.result.now ≡ length c.spell_as.new.kept.buffer.records + 1 = ap (λ (l : List ℕ). length l) c.with_closed_gate.ensures ∙ length_push c.spell_as.new.kept.buffer.records 0 in
-    let needs = record_needs U t c.spell_as.new.kept.buffer.records next in
-    let left = free_ahead c.spell_as.new.kept W more c.args.plan.now (buffer_on c.args.kept.now W c.spell_as.new.kept of c.spell_as.ensures.same) is in
-    let fits : need U t ≤ U.geometry.log - used U = omega (arith, left, count, needs, c.from.ensures, c.free.ensures, c.len-2.ensures, c.args.plan.now.bytes.ok.0, c.if-free-need.false) in
-    let unworn : last U.history ≢ LAST = λ e. absurd (omega (arith, fresh, e)) in
+    let low = fresh s W more tx t of is may in
+    let fits : need U t ≤ U.geometry.log - used U = omega (arith, needs s W more tx t of is may, left s W more tx t of is may, c.if-free-need.false) in
+    let unworn : last U.history ≢ LAST = λ e. absurd (omega (arith, low, e)) in
     record {
       answer = commits_as U tx t c.args.work.now is.world may unworn fits;
       world = next_world U tx t c.args.work.now is.world may unworn fits;
-      next = next;
+      next = next s W more tx t of is may;
       parts = c.in_ok-spell_as.ensures.parts W U tx t of refl is.world may;
     }

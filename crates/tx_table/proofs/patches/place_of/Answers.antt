@@ -1,20 +1,15 @@
 -- Blocks that rise are parted by the test on the block.
-use Rattle.tx_table.proofs.Words.{ℕ, arith, rules, ltb, ltb-true, ltb-false, IsPartitionPoint-from_clause, IsPartitionedBy-ltb}
+use Rattle.tx_table.proofs.Words.{◌≡◌, ℕ, true, false, arith, rules, ltb, ltb-true, ltb-false, IsPartitionPoint, IsPartitionPoint-from_clause, IsPartitionedBy-ltb}
 use Rattle.tx_table.proofs.Blocks.{in_order}
 use Rattle.tx_table.proofs.patches.place_of.Goals as goal
 
+point : (c : goal.After-partition_point) → IsPartitionPoint (λ e. ltb e.0 c.args.block ≡ true) (λ e. ltb e.0 c.args.block ≡ false) c.args.order.now c.partition_point.result
+point c =
+    IsPartitionPoint-from_clause (λ (e : ℕ × ℕ). ltb e.0 c.args.block) _ _ c.partition_point.ensures.partitioned
+    (IsPartitionedBy-ltb (λ (e : ℕ × ℕ). e.0) c.args.order.now c.args.block (λ i j d le lt. in_order 0 i j c.args.order.now d c.requires le lt)) (λ a r q h. search rules)
+
 pub returns-clause-before : goal.returns-clause-before
-returns-clause-before c k lt d =
-    let es = c.args.order.now in
-    let parted = IsPartitionedBy-ltb (λ (e : ℕ × ℕ). e.0) es c.args.block (λ i j d le lt'. in_order 0 i j es d c.requires le lt') in
-    let point = IsPartitionPoint-from_clause (λ (e : ℕ × ℕ). ltb e.0 c.args.block) _ _ c.partition_point.ensures.partitioned parted
-    (λ a r q h. search rules) in
-    ltb-true _ _ (point.0 k d (omega arith) lt)
+returns-clause-before c k lt d = ltb-true _ _ ((point c).0 k d (omega arith) lt)
 
 pub returns-clause-after : goal.returns-clause-after
-returns-clause-after c k le lt d =
-    let es = c.args.order.now in
-    let parted = IsPartitionedBy-ltb (λ (e : ℕ × ℕ). e.0) es c.args.block (λ i j d le lt'. in_order 0 i j es d c.requires le lt') in
-    let point = IsPartitionPoint-from_clause (λ (e : ℕ × ℕ). ltb e.0 c.args.block) _ _ c.partition_point.ensures.partitioned parted
-    (λ a r q h. search rules) in
-    ltb-false _ _ (point.1 k d le lt)
+returns-clause-after c k le lt d = ltb-false _ _ ((point c).1 k d le lt)

@@ -1,7 +1,7 @@
-use Rattle.iso_machine.proofs.Words.{◌≡◌, ◌∙◌, ◌⊎◌, inl, inr, sym, refl, ap, subst, ℕ, List, Ok, Op, Reply, hash_delete_step, hash_get_step, hash_put_step, in_transaction, numbers, step, store_step, tree_put_step, tree_get_step, tree_delete_step, tree_scan_step, file_new_step, file_write_step, file_read_step, file_move_step, file_delete_step, World, attached, IsOp, disk_of, act_step, Always, Answers, AnswersTold, Never, Wanting, GoesOn, shows, AreOf, store_act, IsPlain}
+use Rattle.iso_machine.proofs.Words.{◌≡◌, ◌∙◌, ◌⊎◌, inl, inr, sym, refl, ap, subst, ℕ, List, Ok, Op, Reply, hash_delete_step, hash_get_step, hash_put_step, in_transaction, numbers, step, store_step, tree_put_step, tree_get_step, tree_delete_step, tree_scan_step, file_new_step, file_write_step, file_read_step, file_move_step, file_delete_step, World, attached, IsOp, disk_of, act_step, Always, GoesOn, store_act, IsPlain}
 use Rattle.script_model.specs.declared.script.Op.TheVariants as op
-use Rattle.iso_machine.proofs.Quiet.{quiet}
-use Rattle.iso_machine.proofs.Told.{never_plain, told_so}
+use Rattle.iso_machine.proofs.Quiet.{answers_as, stays_with}
+use Rattle.iso_machine.proofs.Told.{never_plain, told_as, told_so}
 use Rattle.iso_machine.proofs.machine.Machine.answer.Goals as goal
 
 trim_is : (W : World) (c : ℕ) → step W 1 op.Trim ≡ step W c op.Trim
@@ -17,38 +17,25 @@ access_is : (W : World) (c : ℕ) (o : Op) → ((b : ℕ) × (f : ℕ) × (x : L
     ⊎ ((b : ℕ) × (x : List ℕ) × (o ≡ op.Write b x)) ⊎ ((b : ℕ) × (x : List ℕ) × (o ≡ op.Fill b x)) ⊎ ((f : ℕ) × (n : ℕ) × (o ≡ op.Mark f n))
     → in_transaction W (attached W c) (λ t. act_step W t o) ≡ step W c o
 unfolding step
-access_is W c o (inl (b, f, x, is)) = subst (λ (p : Op). in_transaction W (attached W c) (λ t. act_step W t p) ≡ step W c p) (sym is) refl
-access_is W c o (inr (inl (b, is))) = subst (λ (p : Op). in_transaction W (attached W c) (λ t. act_step W t p) ≡ step W c p) (sym is) refl
-access_is W c o (inr (inr (inl (b, f, n, is)))) = subst (λ (p : Op). in_transaction W (attached W c) (λ t. act_step W t p) ≡ step W c p) (sym is) refl
-access_is W c o (inr (inr (inr (inl (b, x, is))))) = subst (λ (p : Op). in_transaction W (attached W c) (λ t. act_step W t p) ≡ step W c p) (sym is) refl
-access_is W c o (inr (inr (inr (inr (inl (b, x, is)))))) = subst (λ (p : Op). in_transaction W (attached W c) (λ t. act_step W t p) ≡ step W c p) (sym is) refl
-access_is W c o (inr (inr (inr (inr (inr (f, n, is)))))) = subst (λ (p : Op). in_transaction W (attached W c) (λ t. act_step W t p) ≡ step W c p) (sym is) refl
+access_is W c o (inl (b, f, x, is)) = rw is refl
+access_is W c o (inr (inl (b, is))) = rw is refl
+access_is W c o (inr (inr (inl (b, f, n, is)))) = rw is refl
+access_is W c o (inr (inr (inr (inl (b, x, is))))) = rw is refl
+access_is W c o (inr (inr (inr (inr (inl (b, x, is)))))) = rw is refl
+access_is W c o (inr (inr (inr (inr (inr (f, n, is)))))) = rw is refl
 
 pub returns-in-Put : goal.returns-in-Put
 returns-in-Put g c W of isop =
-    let m = c.args.self.now in
-    let n = c.access.new.self in
-    let state = g.D.Disk.state in
-    told_so (GoesOn c.args.op.now) Always (AreOf state n.core n.finder n.live.items) (state (disk_of m.core)) (state (disk_of n.core)) W (step W c.args.client c.args.op.now) (IsPlain c.args.op.now) c.access.result (λ why may. tt)
-    (subst (λ (given : Reply × World). Answers Always (AreOf state n.core n.finder n.live.items) (state (disk_of m.core)) (state (disk_of n.core)) W given c.access.result)
-    (access_is W c.args.client c.args.op.now c.in-Put.is) (c.access.ensures W of isop))
+    told_so c.access.result (λ why may. tt) (answers_as (access_is W c.args.client c.args.op.now c.in-Put.is) (c.access.ensures W of isop))
 
 pub returns-in-Trim : goal.returns-in-Trim
 returns-in-Trim g c W of isop =
-    let m = c.args.self.now in
-    let n = c.trim.new.self in
-    let state = g.D.Disk.state in
-    told_so (GoesOn c.args.op.now) Always (AreOf state n.core n.finder n.live.items) (state (disk_of m.core)) (state (disk_of n.core)) W (step W c.args.client c.args.op.now) (IsPlain c.args.op.now) c.trim.result (λ why may. tt)
-    (subst (λ (given : Reply × World). Answers Always (AreOf state n.core n.finder n.live.items) (state (disk_of m.core)) (state (disk_of n.core)) W given c.trim.result)
-    (trim_is W c.args.client ∙ ap (λ (o : Op). step W c.args.client o) (sym c.in-Trim.is)) (c.trim.ensures W of))
+    told_so c.trim.result (λ why may. tt) (answers_as (trim_is W c.args.client ∙ sym (ap (λ (o : Op). step W c.args.client o) c.in-Trim.is)) (c.trim.ensures W of))
 
 pub returns-in-Stat : goal.returns-in-Stat
 returns-in-Stat g c W of isop =
-    let m = c.args.self.now in
-    let state = g.D.Disk.state in
-    told_so (GoesOn c.args.op.now) Always (AreOf state m.core m.finder m.live.items) (state (disk_of m.core)) (state (disk_of m.core)) W (step W c.args.client c.args.op.now) (IsPlain c.args.op.now) (Ok c.stat.result) (λ why may. tt)
-    (quiet Always (AreOf state m.core m.finder m.live.items) (state (disk_of m.core)) (g.met.D.Disk.lawful (disk_of m.core)) W (shows state m.core W of.core_of)
-    (step W c.args.client c.args.op.now) c.stat.result W
+    told_so {known = Always} (Ok c.stat.result) (λ why may. tt)
+    (stays_with (g.met.D.Disk.lawful (disk_of c.args.self.now.core)) of refl
     (ap (λ (o : Op). step W c.args.client o) c.in-Stat.is ∙ stat_is W c.args.client ∙ ap (λ (r : Reply). (r, W)) (sym (c.stat.ensures W of))) of)
 
 compact_is : (W : World) (c : ℕ) → step W 1 op.Compact ≡ step W c op.Compact
@@ -61,21 +48,11 @@ upgrade_is W c = refl
 
 pub returns-in-Compact : goal.returns-in-Compact
 returns-in-Compact g c W of isop =
-    let m = c.args.self.now in
-    let n = c.compact.new.self in
-    let state = g.D.Disk.state in
-    told_so (GoesOn c.args.op.now) Wanting (AreOf state n.core n.finder n.live.items) (state (disk_of m.core)) (state (disk_of n.core)) W (step W c.args.client c.args.op.now) (IsPlain c.args.op.now) c.compact.result (λ why may. subst (λ (o : Op). GoesOn o why) c.in-Compact.is may)
-    (subst (λ (given : Reply × World). Answers Wanting (AreOf state n.core n.finder n.live.items) (state (disk_of m.core)) (state (disk_of n.core)) W given c.compact.result)
-    (compact_is W c.args.client ∙ ap (λ (o : Op). step W c.args.client o) (sym c.in-Compact.is)) (c.compact.ensures W of))
+    told_so c.compact.result (λ why may. subst (λ (o : Op). GoesOn o why) c.in-Compact.is may) (answers_as (compact_is W c.args.client ∙ sym (ap (λ (o : Op). step W c.args.client o) c.in-Compact.is)) (c.compact.ensures W of))
 
 pub returns-in-Upgrade : goal.returns-in-Upgrade
 returns-in-Upgrade g c W of isop =
-    let m = c.args.self.now in
-    let n = c.upgrade.new.self in
-    let state = g.D.Disk.state in
-    told_so (GoesOn c.args.op.now) Wanting (AreOf state n.core n.finder n.live.items) (state (disk_of m.core)) (state (disk_of n.core)) W (step W c.args.client c.args.op.now) (IsPlain c.args.op.now) c.upgrade.result (λ why may. subst (λ (o : Op). GoesOn o why) c.in-Upgrade.is may)
-    (subst (λ (given : Reply × World). Answers Wanting (AreOf state n.core n.finder n.live.items) (state (disk_of m.core)) (state (disk_of n.core)) W given c.upgrade.result)
-    (upgrade_is W c.args.client ∙ ap (λ (o : Op). step W c.args.client o) (sym c.in-Upgrade.is)) (c.upgrade.ensures W of))
+    told_so c.upgrade.result (λ why may. subst (λ (o : Op). GoesOn o why) c.in-Upgrade.is may) (answers_as (upgrade_is W c.args.client ∙ sym (ap (λ (o : Op). step W c.args.client o) c.in-Upgrade.is)) (c.upgrade.ensures W of))
 
 await_is : (W : World) (c : ℕ) (text : List ℕ) → step W c (op.Takeover text) ≡ step W c (op.Await text)
 unfolding step
@@ -87,44 +64,23 @@ takeover_or_await W c text o (inr is) = await_is W c text ∙ ap (λ (p : Op). s
 
 pub returns-in-Takeover : goal.returns-in-Takeover
 returns-in-Takeover g c W of isop =
-    let m = c.args.self.now in
-    let n = c.takeover.new.self in
-    let state = g.D.Disk.state in
-    told_so (GoesOn c.args.op.now) Always (AreOf state n.core n.finder n.live.items) (state (disk_of m.core)) (state (disk_of n.core)) W (step W c.args.client c.args.op.now) (IsPlain c.args.op.now) c.takeover.result (λ why may. tt)
-    (subst (λ (given : Reply × World). Answers Always (AreOf state n.core n.finder n.live.items) (state (disk_of m.core)) (state (disk_of n.core)) W given c.takeover.result)
-    (takeover_or_await W c.args.client c.in-Takeover.label c.args.op.now c.in-Takeover.is) (c.takeover.ensures W of))
+    told_so c.takeover.result (λ why may. tt) (answers_as (takeover_or_await W c.args.client c.in-Takeover.label c.args.op.now c.in-Takeover.is) (c.takeover.ensures W of))
 
 pub returns-in-Abort : goal.returns-in-Abort
 returns-in-Abort g c W of isop =
-    let m = c.args.self.now in
-    let n = c.abort.new.self in
-    let state = g.D.Disk.state in
-    told_so (GoesOn c.args.op.now) Always (AreOf state n.core n.finder n.live.items) (state (disk_of m.core)) (state (disk_of n.core)) W (step W c.args.client c.args.op.now) (IsPlain c.args.op.now) c.abort.result (λ why may. tt)
-    (subst (λ (o : Op). Answers Always (AreOf state n.core n.finder n.live.items) (state (disk_of m.core)) (state (disk_of n.core)) W (step W c.args.client o) c.abort.result) (sym c.in-Abort.is) (c.abort.ensures W of))
+    told_so c.abort.result (λ why may. tt) (answers_as (sym (ap (λ (o : Op). step W c.args.client o) c.in-Abort.is)) (c.abort.ensures W of))
 
 pub returns-in-End : goal.returns-in-End
 returns-in-End g c W of isop =
-    let m = c.args.self.now in
-    let n = c.end.new.self in
-    let state = g.D.Disk.state in
-    told_so (GoesOn c.args.op.now) Wanting (AreOf state n.core n.finder n.live.items) (state (disk_of m.core)) (state (disk_of n.core)) W (step W c.args.client c.args.op.now) (IsPlain c.args.op.now) c.end.result (λ why may. subst (λ (o : Op). GoesOn o why) c.in-End.is may)
-    (subst (λ (o : Op). Answers Wanting (AreOf state n.core n.finder n.live.items) (state (disk_of m.core)) (state (disk_of n.core)) W (step W c.args.client o) c.end.result) (sym c.in-End.is) (c.end.ensures W of))
+    told_so c.end.result (λ why may. subst (λ (o : Op). GoesOn o why) c.in-End.is may) (answers_as (sym (ap (λ (o : Op). step W c.args.client o) c.in-End.is)) (c.end.ensures W of))
 
 pub returns-in-Begin : goal.returns-in-Begin
 returns-in-Begin g c W of isop =
-    let m = c.args.self.now in
-    let n = c.begin.new.self in
-    let state = g.D.Disk.state in
-    told_so (GoesOn c.args.op.now) Always (AreOf state n.core n.finder n.live.items) (state (disk_of m.core)) (state (disk_of n.core)) W (step W c.args.client c.args.op.now) (IsPlain c.args.op.now) c.begin.result (λ why may. tt)
-    (subst (λ (o : Op). Answers Always (AreOf state n.core n.finder n.live.items) (state (disk_of m.core)) (state (disk_of n.core)) W (step W c.args.client o) c.begin.result) (sym c.in-Begin.is) (c.begin.ensures W of))
+    told_so c.begin.result (λ why may. tt) (answers_as (sym (ap (λ (o : Op). step W c.args.client o) c.in-Begin.is)) (c.begin.ensures W of))
 
 pub returns-in-Release : goal.returns-in-Release
 returns-in-Release g c W of isop =
-    let m = c.args.self.now in
-    let n = c.release.new.self in
-    let state = g.D.Disk.state in
-    told_so (GoesOn c.args.op.now) Always (AreOf state n.core n.finder n.live.items) (state (disk_of m.core)) (state (disk_of n.core)) W (step W c.args.client c.args.op.now) (IsPlain c.args.op.now) c.release.result (λ why may. tt)
-    (subst (λ (o : Op). Answers Always (AreOf state n.core n.finder n.live.items) (state (disk_of m.core)) (state (disk_of n.core)) W (step W c.args.client o) c.release.result) (sym c.in-Release.is) (c.release.ensures W of (subst (λ (o : Op). IsOp o) c.in-Release.is isop)))
+    told_so c.release.result (λ why may. tt) (answers_as (sym (ap (λ (o : Op). step W c.args.client o) c.in-Release.is)) (c.release.ensures W of (subst IsOp c.in-Release.is isop)))
 
 -- an operation on a store
 abbrev IsStoreOp : Op → Type 0
@@ -137,42 +93,37 @@ IsStoreOp o =
 
 store_is : (W : World) (c : ℕ) (o : Op) → IsStoreOp o → in_transaction W (attached W c) (λ t. store_act W t o) ≡ step W c o
 unfolding step hash_put_step hash_get_step hash_delete_step tree_put_step tree_get_step tree_delete_step tree_scan_step file_new_step file_write_step file_read_step file_move_step file_delete_step store_step
-store_is W c o (inl (k, v, is)) = subst (λ (p : Op). in_transaction W (attached W c) (λ t. store_act W t p) ≡ step W c p) (sym is) refl
-store_is W c o (inr (inl (k, is))) = subst (λ (p : Op). in_transaction W (attached W c) (λ t. store_act W t p) ≡ step W c p) (sym is) refl
-store_is W c o (inr (inr (inl (k, is)))) = subst (λ (p : Op). in_transaction W (attached W c) (λ t. store_act W t p) ≡ step W c p) (sym is) refl
-store_is W c o (inr (inr (inr (inl (k, v, is))))) = subst (λ (p : Op). in_transaction W (attached W c) (λ t. store_act W t p) ≡ step W c p) (sym is) refl
-store_is W c o (inr (inr (inr (inr (inl (k, is)))))) = subst (λ (p : Op). in_transaction W (attached W c) (λ t. store_act W t p) ≡ step W c p) (sym is) refl
-store_is W c o (inr (inr (inr (inr (inr (inl (k, is))))))) = subst (λ (p : Op). in_transaction W (attached W c) (λ t. store_act W t p) ≡ step W c p) (sym is) refl
-store_is W c o (inr (inr (inr (inr (inr (inr (inl (f, u, m, is)))))))) = subst (λ (p : Op). in_transaction W (attached W c) (λ t. store_act W t p) ≡ step W c p) (sym is) refl
-store_is W c o (inr (inr (inr (inr (inr (inr (inr (inl (n, is))))))))) = subst (λ (p : Op). in_transaction W (attached W c) (λ t. store_act W t p) ≡ step W c p) (sym is) refl
-store_is W c o (inr (inr (inr (inr (inr (inr (inr (inr (inl (n, f, x, is)))))))))) = subst (λ (p : Op). in_transaction W (attached W c) (λ t. store_act W t p) ≡ step W c p) (sym is) refl
-store_is W c o (inr (inr (inr (inr (inr (inr (inr (inr (inr (inl (n, f, l, is))))))))))) = subst (λ (p : Op). in_transaction W (attached W c) (λ t. store_act W t p) ≡ step W c p) (sym is) refl
-store_is W c o (inr (inr (inr (inr (inr (inr (inr (inr (inr (inr (inl (f, u, is)))))))))))) = subst (λ (p : Op). in_transaction W (attached W c) (λ t. store_act W t p) ≡ step W c p) (sym is) refl
-store_is W c o (inr (inr (inr (inr (inr (inr (inr (inr (inr (inr (inr (n, is)))))))))))) = subst (λ (p : Op). in_transaction W (attached W c) (λ t. store_act W t p) ≡ step W c p) (sym is) refl
+store_is W c o (inl (k, v, is)) = rw is refl
+store_is W c o (inr (inl (k, is))) = rw is refl
+store_is W c o (inr (inr (inl (k, is)))) = rw is refl
+store_is W c o (inr (inr (inr (inl (k, v, is))))) = rw is refl
+store_is W c o (inr (inr (inr (inr (inl (k, is)))))) = rw is refl
+store_is W c o (inr (inr (inr (inr (inr (inl (k, is))))))) = rw is refl
+store_is W c o (inr (inr (inr (inr (inr (inr (inl (f, u, m, is)))))))) = rw is refl
+store_is W c o (inr (inr (inr (inr (inr (inr (inr (inl (n, is))))))))) = rw is refl
+store_is W c o (inr (inr (inr (inr (inr (inr (inr (inr (inl (n, f, x, is)))))))))) = rw is refl
+store_is W c o (inr (inr (inr (inr (inr (inr (inr (inr (inr (inl (n, f, l, is))))))))))) = rw is refl
+store_is W c o (inr (inr (inr (inr (inr (inr (inr (inr (inr (inr (inl (f, u, is)))))))))))) = rw is refl
+store_is W c o (inr (inr (inr (inr (inr (inr (inr (inr (inr (inr (inr (n, is)))))))))))) = rw is refl
 
 store_not_plain : (o : Op) → IsStoreOp o → IsPlain o → ⊥
-store_not_plain o (inl (k, v, is)) plain = subst (λ (p : Op). IsPlain p) is plain
-store_not_plain o (inr (inl (k, is))) plain = subst (λ (p : Op). IsPlain p) is plain
-store_not_plain o (inr (inr (inl (k, is)))) plain = subst (λ (p : Op). IsPlain p) is plain
-store_not_plain o (inr (inr (inr (inl (k, v, is))))) plain = subst (λ (p : Op). IsPlain p) is plain
-store_not_plain o (inr (inr (inr (inr (inl (k, is)))))) plain = subst (λ (p : Op). IsPlain p) is plain
-store_not_plain o (inr (inr (inr (inr (inr (inl (k, is))))))) plain = subst (λ (p : Op). IsPlain p) is plain
-store_not_plain o (inr (inr (inr (inr (inr (inr (inl (f, u, m, is)))))))) plain = subst (λ (p : Op). IsPlain p) is plain
-store_not_plain o (inr (inr (inr (inr (inr (inr (inr (inl (n, is))))))))) plain = subst (λ (p : Op). IsPlain p) is plain
-store_not_plain o (inr (inr (inr (inr (inr (inr (inr (inr (inl (n, f, x, is)))))))))) plain = subst (λ (p : Op). IsPlain p) is plain
-store_not_plain o (inr (inr (inr (inr (inr (inr (inr (inr (inr (inl (n, f, l, is))))))))))) plain = subst (λ (p : Op). IsPlain p) is plain
-store_not_plain o (inr (inr (inr (inr (inr (inr (inr (inr (inr (inr (inl (f, u, is)))))))))))) plain = subst (λ (p : Op). IsPlain p) is plain
-store_not_plain o (inr (inr (inr (inr (inr (inr (inr (inr (inr (inr (inr (n, is)))))))))))) plain = subst (λ (p : Op). IsPlain p) is plain
+store_not_plain o (inl (k, v, is)) plain = rw is at plain
+store_not_plain o (inr (inl (k, is))) plain = rw is at plain
+store_not_plain o (inr (inr (inl (k, is)))) plain = rw is at plain
+store_not_plain o (inr (inr (inr (inl (k, v, is))))) plain = rw is at plain
+store_not_plain o (inr (inr (inr (inr (inl (k, is)))))) plain = rw is at plain
+store_not_plain o (inr (inr (inr (inr (inr (inl (k, is))))))) plain = rw is at plain
+store_not_plain o (inr (inr (inr (inr (inr (inr (inl (f, u, m, is)))))))) plain = rw is at plain
+store_not_plain o (inr (inr (inr (inr (inr (inr (inr (inl (n, is))))))))) plain = rw is at plain
+store_not_plain o (inr (inr (inr (inr (inr (inr (inr (inr (inl (n, f, x, is)))))))))) plain = rw is at plain
+store_not_plain o (inr (inr (inr (inr (inr (inr (inr (inr (inr (inl (n, f, l, is))))))))))) plain = rw is at plain
+store_not_plain o (inr (inr (inr (inr (inr (inr (inr (inr (inr (inr (inl (f, u, is)))))))))))) plain = rw is at plain
+store_not_plain o (inr (inr (inr (inr (inr (inr (inr (inr (inr (inr (inr (n, is)))))))))))) plain = rw is at plain
 
 pub returns-in-HashPut : goal.returns-in-HashPut
 returns-in-HashPut g c W of isop =
-    let m = c.args.self.now in
-    let n = c.stored.new.self in
-    let state = g.D.Disk.state in
-    never_plain (GoesOn c.args.op.now) Always (AreOf state n.core n.finder n.live.items) (state (disk_of m.core)) (state (disk_of n.core)) W (step W c.args.client c.args.op.now) (IsPlain c.args.op.now) c.stored.result
-    (store_not_plain c.args.op.now c.in-HashPut.is) (λ why may. tt)
-    (subst (λ (given : Reply × World). AnswersTold Always (AreOf state n.core n.finder n.live.items) (state (disk_of m.core)) (state (disk_of n.core)) W given ⊥ c.stored.result)
-    (store_is W c.args.client c.args.op.now c.in-HashPut.is) (c.stored.ensures W of))
+    never_plain c.stored.result (store_not_plain c.args.op.now c.in-HashPut.is) (λ why may. tt)
+    (told_as (store_is W c.args.client c.args.op.now c.in-HashPut.is) (c.stored.ensures W of))
 
 -- a group
 pub group-requires-clause-op : goal.group-requires-clause-op
@@ -181,9 +132,5 @@ group-requires-clause-op g c =
 
 pub returns-in-Group : goal.returns-in-Group
 returns-in-Group g c W of isop =
-    let m = c.args.self.now in
-    let n = c.group.new.self in
-    let state = g.D.Disk.state in
-    told_so (GoesOn c.args.op.now) Never (AreOf state n.core n.finder n.live.items) (state (disk_of m.core)) (state (disk_of n.core)) W (step W c.args.client c.args.op.now) (IsPlain c.args.op.now) c.group.result (λ why may. subst (λ (o : Op). GoesOn o why) c.in-Group.is may)
-    (subst (λ (given : Reply × World). Answers Never (AreOf state n.core n.finder n.live.items) (state (disk_of m.core)) (state (disk_of n.core)) W given c.group.result)
-    (ap (λ (labels : List (List ℕ)). step W c.args.client (op.Group labels)) c.as_slice.ensures ∙ ap (λ (o : Op). step W c.args.client o) (sym c.in-Group.is)) (c.group.ensures W of))
+    told_so c.group.result (λ why may. subst (λ (o : Op). GoesOn o why) c.in-Group.is may)
+    (answers_as (ap (λ (labels : List (List ℕ)). step W c.args.client (op.Group labels)) c.as_slice.ensures ∙ sym (ap (λ (o : Op). step W c.args.client o) c.in-Group.is)) (c.group.ensures W of))

@@ -1,68 +1,45 @@
-use Rattle.iso_machine.proofs.Words.{◌≡◌, ◌∙◌, sym, refl, ap, subst, all_push, AreListed, IsOff, is_under_label, key_of, nat_eq, arith, List, [], ◌∷◌, ◌++◌, Some, None, Ok, Result, get_or, IsTrue, Geometry, CoreReply, Reply, is_block_size, last, after_begin, begin_step, mode_named, as_step, step, World, client, unattached, IsWorld, step_leads, Core, Refuses, disk_of, up, Doing, Stop, Attached, Answers, Always, answer_to, shows, AreOf, IsSized, live_of, get}
+use Rattle.iso_machine.proofs.Words.{◌≡◌, ◌∙◌, sym, refl, ap, subst, all_push, AreListed, IsOff, is_under_label, key_of, nat_eq, List, [], ◌∷◌, ◌++◌, Some, None, get_or, IsTrue, Geometry, CoreReply, Reply, is_block_size, last, after_begin, begin_step, mode_named, as_step, step, World, client, unattached, IsWorld, step_leads, Core, Refuses, Answers, Always, answer_to, disk_of, up, Doing, Attached, shows, AreOf, IsSized, live_of, get}
 use Rattle.iso_model.specs.declared.core_reply.CoreReply.TheVariants as core
 use Rattle.script_model.specs.declared.script.Op.TheVariants as op
 use Rattle.script_model.specs.declared.script.Reply.TheVariants as reply
 use Rattle.iso_machine.specs.declared.attached.Spot.TheVariants as spot
 use Rattle.iso_machine.proofs.Begins.{began_at, begin_is, begin_keeps, begins_alike, has_begun, valid_block}
 use Rattle.iso_machine.proofs.Lists.{pick}
-use Rattle.iso_machine.proofs.Machines.{attached_none, attached_some, begun, known, nobody_at}
-use Rattle.iso_machine.proofs.Quiet.{quiet, quiet_memory}
+use Rattle.iso_machine.proofs.Machines.{begun}
+use Rattle.iso_machine.proofs.Quiet.{answers_as, answers_by, stays_with, wants_memory}
 use Rattle.iso_machine.proofs.Refusals.{refused_still}
 use Rattle.iso_machine.proofs.Whereabouts.{clients_come}
 use Rattle.iso_machine.proofs.machine.Machine.begin.Goals as goal
 
-pub index_at_client-requires-clause-distinct : goal.index_at_client-requires-clause-distinct
-index_at_client-requires-clause-distinct g c =
-    let (W, of) = c.requires in
-    (known g.D.Disk.state c.args.self.now.core c.args.self.now.core c.args.self.now.live.items W of c.deref.result.now c.deref.ensures.value).distinct
-
-pub index_at_client-requires-clause-nobody : goal.index_at_client-requires-clause-nobody
-index_at_client-requires-clause-nobody g c =
-    let (W, of) = c.requires in
-    nobody_at g.D.Disk.state c.args.self.now.core c.args.self.now.core c.args.self.now.live.items W of c.deref.result.now c.args.client c.at_client.result c.deref.ensures.value (omega (arith, c.ranges.client.fits)) c.at_client.ensures
-
 pub returns-in-Some : goal.returns-in-Some
 returns-in-Some g c W of =
     let m = c.args.self.now in
-    let state = g.D.Disk.state in
-    let d = pick c.deref.result.now c.in-Some.field-0 c.in-Some.ensures.0 in
-    quiet Always (AreOf state m.core m.finder m.live.items) (state (disk_of m.core)) (g.met.D.Disk.lawful (disk_of m.core)) W (shows state m.core W of.core_of)
-    (step W c.args.client (op.Begin c.args.mode)) reply.InTx W
-    (begin_is W c.args.client c.args.mode (Some (live_of (get_or m.live.items c.in-Some.field-0 d)))
-    (attached_some state m.core m.core m.live.items W of c.args.client c.deref.result.now c.in-Some.field-0 d c.deref.ensures.value (c.in-Some.ensures.1 d))) of
+    let d = pick m.live.items c.in-Some.field-0 c.in-Some.ensures.within in
+    stays_with (g.met.D.Disk.lawful (disk_of m.core)) of refl (begin_is W c.args.client c.args.mode (Some (live_of (get_or m.live.items c.in-Some.field-0 d))) (c.in-Some.ensures.here W of d).here) of
 
 pub returns-in-Err : goal.returns-in-Err
 returns-in-Err g c W of =
     let m = c.args.self.now in
-    let state = g.D.Disk.state in
-    quiet_memory Always (AreOf state m.core m.finder c.reserve.new.self.items) (state (disk_of m.core)) (g.met.D.Disk.lawful (disk_of m.core)) W (shows state m.core W of.core_of)
-    (step W c.args.client (op.Begin c.args.mode)) (λ may. subst (λ (l : List Attached). AreOf state m.core m.finder l W) (sym c.in-Err.ensures.items) of)
+    wants_memory (g.met.D.Disk.lawful (disk_of m.core)) of refl (λ may. subst (λ (l : List Attached). AreOf g.D.Disk.state m.core m.finder l W) (sym c.in-Err.ensures.items) of)
 
 pub returns-in-Err-take_work : goal.returns-in-Err-take_work
 returns-in-Err-take_work g c W of =
     let m = c.args.self.now in
-    let state = g.D.Disk.state in
-    quiet_memory Always (AreOf state m.core m.finder c.reserve.new.self.items) (state (disk_of m.core)) (g.met.D.Disk.lawful (disk_of m.core)) W (shows state m.core W of.core_of)
-    (step W c.args.client (op.Begin c.args.mode)) (λ may. subst (λ (l : List Attached). AreOf state m.core m.finder l W) (sym c.reserve.ensures.items) of)
+    wants_memory (g.met.D.Disk.lawful (disk_of m.core)) of refl (λ may. subst (λ (l : List Attached). AreOf g.D.Disk.state m.core m.finder l W) (sym c.reserve.ensures.items) of)
 
 pub returns-in-Err-begin : goal.returns-in-Err-begin
 returns-in-Err-begin g c W of =
     let m = c.args.self.now in
-    let state = g.D.Disk.state in
-    let live = c.reserve.new.self.items in
     let mode = mode_named W c.args.mode in
     let e = c.in-Err-begin.error in
-    let says : step W c.args.client (op.Begin c.args.mode) ≡ as_step (begin_step W (client c.args.client) mode) =
-    begin_is W c.args.client c.args.mode None (attached_none state m.core m.core m.live.items W of c.args.client c.deref.result.now c.deref.ensures.value c.in_default.ensures) in
+    let state = g.D.Disk.state in
+    let live = c.reserve.new.self.items in
     let still : AreOf state m.core m.finder live W = subst (λ (l : List Attached). AreOf state m.core m.finder l W) (sym c.reserve.ensures.items) of in
     let refuses : Refuses (begin_step W (client c.args.client) mode).0 e =
     subst (λ (r : CoreReply). Refuses r e) (begins_alike W unattached (client c.args.client) mode) (c.in-Err-begin.ensures.refused W of.core_of) in
-    let answer : Answers Always (AreOf state m.core m.finder live) (state (disk_of m.core)) (state (disk_of m.core)) W (as_step (begin_step W (client c.args.client) mode)) (answer_to e) =
-    refused_still Always (AreOf state m.core m.finder live) (state (disk_of m.core)) (g.met.D.Disk.lawful (disk_of m.core)) W (shows state m.core W of.core_of)
-    (begin_step W (client c.args.client) mode) e refuses (begin_keeps W (client c.args.client) mode) still in
-    subst (λ (r : Result Reply Stop). Answers Always (AreOf state c.begin.new.self m.finder live) (state (disk_of m.core)) (state (disk_of c.begin.new.self)) W (step W c.args.client (op.Begin c.args.mode)) r) (sym c.refused.ensures)
-    (subst (λ (k : Core g.row.D.Denot). Answers Always (AreOf state k m.finder live) (state (disk_of m.core)) (state (disk_of k)) W (step W c.args.client (op.Begin c.args.mode)) (answer_to e)) (sym c.in-Err-begin.ensures.kept)
-    (subst (λ (given : Reply × World). Answers Always (AreOf state m.core m.finder live) (state (disk_of m.core)) (state (disk_of m.core)) W given (answer_to e)) (sym says) answer))
+    answers_by c.refused.ensures (answers_as (sym (begin_is W c.args.client c.args.mode None (c.in_default.ensures.here W of)))
+    (subst (λ (k : Core g.row.D.Denot). Answers Always (AreOf state k m.finder live) (state (disk_of m.core)) (state (disk_of k)) W (as_step (begin_step W (client c.args.client) mode)) (answer_to e)) (sym c.in-Err-begin.ensures.kept)
+    (refused_still (g.met.D.Disk.lawful (disk_of m.core)) (shows state m.core W of.core_of) e refuses (begin_keeps W (client c.args.client) mode) still)))
 
 pub take_work-requires : goal.take_work-requires
 take_work-requires g c =
@@ -73,7 +50,6 @@ take_work-requires g c =
 pub returns : goal.returns
 returns g c W of =
     let m = c.args.self.now in
-    let state = g.D.Disk.state in
     let mode = mode_named W c.args.mode in
     let place = client c.args.client in
     let at = c.in-Ok-begin.begun.at in
@@ -82,8 +58,7 @@ returns g c W of =
     let geometry : c.geometry-geometry.result ≡ W.geometry = c.geometry-geometry.ensures W up of.core_of in
     let began : (begin_step W place mode).0 ≡ core.Began at = begins_alike W place unattached mode ∙ is.2 in
     let says : step W c.args.client (op.Begin c.args.mode) ≡ (reply.Began at, after_begin W place mode) =
-    begin_is W c.args.client c.args.mode None (attached_none state m.core m.core m.live.items W of c.args.client c.deref.result.now c.deref.ensures.value c.in_default.ensures)
-    ∙ ap as_step (has_begun W place mode at began) in
+    begin_is W c.args.client c.args.mode None (c.in_default.ensures.here W of) ∙ ap as_step (has_begun W place mode at began) in
     let world : IsWorld (after_begin W place mode) =
     subst (λ (given : Reply × World). IsWorld given.1) says (step_leads W c.args.client (op.Begin c.args.mode) of.core_of.kept_of.world tt).world in
     let begin : c.restart.new.self.begin ≡ last W.history = ap (λ (w : Doing). w.begin) c.restart.ensures ∙ began_at W place mode at began in
@@ -100,10 +75,6 @@ returns g c W of =
           c.set_client.ensures.own c.set_client.ensures.others;
       labels = λ text is none. all_push (IsOff (is_under_label text)) m.live.items b (of.listed.labels text is (ap (λ l. get nat_eq l (key_of text)) (sym c.set_client.ensures.labels) ∙ none)) refl;
     } in
-    let after : AreOf state c.begin.new.self c.set_client.new.self (m.live.items ++ b ∷ []) (after_begin W place mode) = begun state m.core c.begin.new.self m.live.items W of c.set_client.new.self b place mode listed live_is sized is.3 world in
     let items : c.push_reserved.new.self.items ≡ m.live.items ++ b ∷ [] = c.push_reserved.ensures.items ∙ ap (λ (l : List Attached). l ++ b ∷ []) c.reserve.ensures.items in
-    let now : AreOf state c.begin.new.self c.set_client.new.self c.push_reserved.new.self.items (after_begin W place mode) =
-    subst (λ (l : List Attached). AreOf state c.begin.new.self c.set_client.new.self l (after_begin W place mode)) (sym items) after in
-    subst (λ (disk : g.row.D.Denot). Answers Always (AreOf state c.begin.new.self c.set_client.new.self c.push_reserved.new.self.items) (state (disk_of m.core)) (state disk) W (step W c.args.client (op.Begin c.args.mode)) (Ok (reply.Began at))) (sym c.begin.ensures.disk)
-    (quiet Always (AreOf state c.begin.new.self c.set_client.new.self c.push_reserved.new.self.items) (state (disk_of m.core)) (g.met.D.Disk.lawful (disk_of m.core)) W (shows state m.core W of.core_of)
-    (step W c.args.client (op.Begin c.args.mode)) (reply.Began at) (after_begin W place mode) says now)
+    stays_with (g.met.D.Disk.lawful (disk_of m.core)) of c.begin.ensures.disk says
+    (subst (λ (l : List Attached). AreOf g.D.Disk.state c.begin.new.self c.set_client.new.self l (after_begin W place mode)) (sym items) (begun of c.set_client.new.self b place mode listed live_is sized is.3 world))

@@ -5,16 +5,22 @@ use Rattle.tx_table.proofs.Held.{blank_sizes, cleared_slots, has_entries}
 use Rattle.tx_table.proofs.Slots.{blank_at}
 use Rattle.tx_table.proofs.patches.Patches.clear.Goals as goal
 
+blank : (c : goal.After-clear_slots) → AreBlankFrom c.self.inside.size 0 c.clear_slots.new.slots.items
+blank c =
+    let n : c.len.result ≡ length c.self.inside.order.items = c.len.ensures ∙ c.self.inside.order.ok.0 in
+    cleared_slots c.self.inside.size (length c.self.inside.order.items) c.self.inside.slots.items c.clear_slots.new.slots.items c.self.invariant.3 c.clear_slots.ensures.len
+    (λ k lt. c.clear_slots.ensures.cleared k (omega (arith, n))) (λ k le. c.clear_slots.ensures.kept k (omega (arith, n))) c.self.invariant.5 c.self.invariant.6
+
 pub invariant_of-self : goal.invariant_of-self
-invariant_of-self c =
-    let order = c.self.inside.order.items in
-    let slots = c.self.inside.slots.items in
-    let new = c.clear_slots.new.slots.items in
-    let size = c.self.inside.size in
-    let n : c.len.result ≡ length order = c.len.ensures ∙ c.self.inside.order.ok.0 in
-    let blank : AreBlankFrom size 0 new = cleared_slots size (length order) slots new c.self.invariant.3 c.clear_slots.ensures.len
-    (λ k lt. c.clear_slots.ensures.cleared k (omega (arith, n))) (λ k le. c.clear_slots.ensures.kept k (omega (arith, n))) c.self.invariant.5 c.self.invariant.6 in
-    (c.self.invariant.0, c.self.invariant.1, c.self.invariant.2, omega (arith, c.self.invariant.3, c.clear_slots.ensures.len), omega (arith, c.self.invariant.4, c.clear_slots.ensures.len), blank_sizes size new blank, λ k le lt. blank k (omega arith) lt)
+invariant_of-self c = (
+  c.self.invariant.0,
+  c.self.invariant.1,
+  c.self.invariant.2,
+  omega (arith, c.self.invariant.3, c.clear_slots.ensures.len),
+  omega (arith, c.self.invariant.4, c.clear_slots.ensures.len),
+  blank_sizes c.self.inside.size c.clear_slots.new.slots.items (blank c),
+  λ k le lt. blank c k (omega arith) lt,
+)
 
 pub returns-clause-kept : goal.returns-clause-kept
 returns-clause-kept c b =
@@ -23,14 +29,9 @@ returns-clause-kept c b =
 pub returns-clause-values : goal.returns-clause-values
 returns-clause-values c b =
     let order = c.self.inside.order.items in
-    let slots = c.self.inside.slots.items in
     let new = c.clear_slots.new.slots.items in
-    let size = c.self.inside.size in
-    let same : size ≡ c.args.self.now.size = ap (λ (h : Held). h.size) c.self.view_is in
-    let n : c.len.result ≡ length order = c.len.ensures ∙ c.self.inside.order.ok.0 in
-    let blank : AreBlankFrom size 0 new = cleared_slots size (length order) slots new c.self.invariant.3 c.clear_slots.ensures.len
-    (λ k lt. c.clear_slots.ensures.cleared k (omega (arith, n))) (λ k le. c.clear_slots.ensures.kept k (omega (arith, n))) c.self.invariant.5 c.self.invariant.6 in
-    let all : (k : ℕ) → k < length order → get_or new k [] ≡ replicate c.args.self.now.size None =
-    λ k lt. blank k (omega arith) (omega (arith, c.self.invariant.3, c.clear_slots.ensures.len)) ∙ ap (λ (m : ℕ). replicate m None) same in
-    all_blank c.args.self.now.size b (entries_of [] new order)
-    (λ k x lt. blank_at [] (replicate c.args.self.now.size None) new (length order) order c.self.invariant.2 all k x lt)
+    let size = c.args.self.now.size in
+    let same : c.self.inside.size ≡ size = ap (λ (h : Held). h.size) c.self.view_is in
+    let all : (k : ℕ) → k < length order → get_or new k [] ≡ replicate size None =
+    λ k lt. blank c k (omega arith) (omega (arith, c.self.invariant.3, c.clear_slots.ensures.len)) ∙ ap (λ (m : ℕ). replicate m None) same in
+    all_blank size b (entries_of [] new order) (λ k x lt. blank_at [] (replicate size None) new (length order) order c.self.invariant.2 all k x lt)

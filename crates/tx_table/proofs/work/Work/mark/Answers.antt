@@ -18,6 +18,26 @@ returns-then-index-ge-MAX_SPANS-clause-err c fault is =
     full_fault size c.args.off c.args.len i rows d c.if-len-eq0.false fits last all.0 full in
     (sym (ap (λ (w : Doing). mark_fault w.size c.args.off c.args.len w.accesses) c.self.view_is) ∙ found ∙ fault_of TooManyMarks fault is, refl)
 
+-- the last row has room for a mark that is within its block
+module _ (c : goal.After-self-3-1) where
+  abbrev rows : List Row
+  rows = c.self.inside.rows.items
+
+  abbrev at : ℕ
+  at = c.len-end.result - 1
+
+  last : at + 1 ≡ length rows
+  last = omega (arith, c.len-end.ensures, c.self.inside.rows.ok.0, c.if-end-eq0.false)
+
+  all : IsRow c.self.inside.size (get_or rows at c.index_mut.result.now) × ((get_or rows at c.index_mut.result.now).block < c.self.inside.blocks)
+  all = row_there (λ r. IsRow c.self.inside.size r × (r.block < c.self.inside.blocks)) at rows c.index_mut.result.now c.self.invariant.2 (omega (arith, last))
+
+  less : (get_or rows at c.index_mut.result.now).count < 8
+  less = subst (λ (r : Row). r.count < 8) (c.index.ensures ∙ get_or_default rows at c.index.result.now c.index_mut.result.now (omega (arith, last))) c.if-index-ge-MAX_SPANS.false
+
+  fits : c.args.off + c.args.len ≤ c.self.inside.size
+  fits = omega (arith, c.if-from-self.false, c.from.ensures, c.from-else-len-eq0.ensures)
+
 pub invariant_of-self : goal.invariant_of-self
 invariant_of-self c =
     let rows = c.self.inside.rows.items in
@@ -28,17 +48,15 @@ invariant_of-self c =
     let row = c.add.new.self in
     let old = c.self.inside.patches in
     let new = c.reopen_patches-self-inside.new.patches in
-    let last : i + 1 ≡ length rows = omega (arith, c.len-end.ensures, c.self.inside.rows.ok.0, c.if-end-eq0.false) in
-    let all = row_there (λ r. IsRow size r × (r.block < blocks)) i rows d c.self.invariant.2 (omega (arith, last)) in
+    let is_last = last c in
     let here : d ≡ get_or rows i d = c.index_mut.ensures.value in
-    let first : c.index.result.now ≡ d = c.index.ensures ∙ get_or_default rows i c.index.result.now d (omega (arith, last)) ∙ sym here in
-    let less : d.count < 8 = subst (λ (r : Row). r.count < 8) first c.if-index-ge-MAX_SPANS.false in
-    let fits : c.args.off + c.args.len ≤ size = omega (arith, c.if-from-self.false, c.from.ensures, c.from-else-len-eq0.ensures) in
-    let span : IsSpan size (span_at c.args.off c.args.len) = record { some = omega (arith, c.if-len-eq0.false); fits = fits } in
-    let is_row : IsRow size row = marked_row size d row (span_at c.args.off c.args.len) (subst (IsRow size) (sym here) all.0) c.add.ensures.access c.add.ensures.count less span in
+    let few : d.count < 8 = subst (λ (r : Row). r.count < 8) (sym here) (less c) in
+    let within = fits c in
+    let span : IsSpan size (span_at c.args.off c.args.len) = record { some = omega (arith, c.if-len-eq0.false); fits = within } in
+    let is_row : IsRow size row = marked_row size d row (span_at c.args.off c.args.len) (subst (IsRow size) (sym here) (all c).0) c.add.ensures.access c.add.ensures.count few span in
     let same_block : row.block ≡ d.block = ap (λ (a : Access). a.block) c.add.ensures.access in
     let same_kind' : row.kind ≡ d.kind = ap (λ (a : Access). a.kind) c.add.ensures.access in
-    let block : row.block < blocks = subst (λ (n : ℕ). n < blocks) (sym (same_block ∙ ap (λ (r : Row). r.block) here)) all.1 in
+    let block : row.block < blocks = subst (λ (n : ℕ). n < blocks) (sym (same_block ∙ ap (λ (r : Row). r.block) here)) (all c).1 in
     let long : length (set rows i row) ≡ length rows = length-set rows i row in
     let held : old.size ≡ size = c.self.invariant.1 in
     let effects : AreEffects size (take c.reopen_patches-self-inside.result (map access_of rows)) new.entries =
@@ -47,8 +65,8 @@ invariant_of-self c =
       c.self.invariant.0,
       c.reopen_patches-self-inside.ensures.size ∙ held,
       all_set (λ r. IsRow size r × (r.block < blocks)) i rows row c.self.invariant.2 (is_row, block),
-      omega (arith, long, last, c.reopen_patches-self-inside.ensures.few),
-      omega (arith, long, last, c.reopen_touched-self-inside.ensures.few),
+      omega (arith, long, is_last, c.reopen_patches-self-inside.ensures.few),
+      omega (arith, long, is_last, c.reopen_touched-self-inside.ensures.few),
       subst (λ (l : List Access). AreEffects size l new.entries) (sym (take_set c.reopen_patches-self-inside.result i rows row c.reopen_patches-self-inside.ensures.few)) effects,
       have_set i rows row d new.entries (same_kind' ∙ ap (λ (r : Row). r.kind) here) (same_block ∙ ap (λ (r : Row). r.block) here) have,
       subst (λ (l : List Access). AreTouched size blocks Read l c.reopen_touched-self-inside.new.reads) (sym (take_set c.reopen_touched-self-inside.result i rows row c.reopen_touched-self-inside.ensures.few))
@@ -73,20 +91,16 @@ returns-clause-ok c =
     let d = c.index_mut.result.now in
     let row = c.add.new.self in
     let span : Span = span_at c.args.off c.args.len in
-    let last : i + 1 ≡ length rows = omega (arith, c.len-end.ensures, c.self.inside.rows.ok.0, c.if-end-eq0.false) in
-    let all = row_there (λ r. IsRow size r × (r.block < c.self.inside.blocks)) i rows d c.self.invariant.2 (omega (arith, last)) in
+    let is_last = last c in
     let here : d ≡ get_or rows i d = c.index_mut.ensures.value in
-    let first : c.index.result.now ≡ get_or rows i d = c.index.ensures ∙ get_or_default rows i c.index.result.now d (omega (arith, last)) in
-    let less : (get_or rows i d).count < 8 = subst (λ (r : Row). r.count < 8) first c.if-index-ge-MAX_SPANS.false in
-    let fits : c.args.off + c.args.len ≤ size = omega (arith, c.if-from-self.false, c.from.ensures, c.from-else-len-eq0.ensures) in
-    let none : mark_fault size c.args.off c.args.len (map access_of rows) ≡ None = no_fault size c.args.off c.args.len i rows d c.if-len-eq0.false fits last all.0 less in
+    let none : mark_fault size c.args.off c.args.len (map access_of rows) ≡ None = no_fault size c.args.off c.args.len i rows d c.if-len-eq0.false (fits c) is_last (all c).0 (less c) in
     let access : access_of row ≡ record (access_of (get_or rows i d)) { spans = (access_of (get_or rows i d)).spans ++ span ∷ [] } =
     c.add.ensures.access ∙ ap (λ (r : Row). record (access_of r) { spans = (access_of r).spans ++ span ∷ [] }) here in
     let changed : map access_of (set rows i row) ≡ marked span c.args.self.now.accesses =
-    marked_set i rows row d span last access ∙ ap (λ (w : Doing). marked span w.accesses) c.self.view_is in
+    marked_set i rows row d span is_last access ∙ ap (λ (w : Doing). marked span w.accesses) c.self.view_is in
     let long : length (set rows i row) ≡ length rows = length-set rows i row in
     let open_now : (c.reopen_patches-self-inside.result == length (set rows i row)) ≡ false =
-    ne_eqb c.reopen_patches-self-inside.result (length (set rows i row)) (λ same. omega (arith, same, long, last, c.reopen_patches-self-inside.ensures.few)) in (
+    ne_eqb c.reopen_patches-self-inside.result (length (set rows i row)) (λ same. omega (arith, same, long, is_last, c.reopen_patches-self-inside.ensures.few)) in (
       sym (ap (λ (w : Doing). mark_fault w.size c.args.off c.args.len w.accesses) c.self.view_is) ∙ none,
       λ j. record {
         begin = (c.self.view_is j).begin;
