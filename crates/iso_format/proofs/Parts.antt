@@ -73,13 +73,6 @@ body_bound (x ∷ more) h =
     let size : g.blocks * (g.block + 1) ≤ 16384 * (g.block + 1) = mul-le-mul_right (g.block + 1) b.blocks in
     omega (arith, fits, size, b.block)
 
--- the length of the body as far as one more of its parts
-pub body_more : (parts : List Run) (i : ℕ) (d : Run) → LieInAnImage parts → i < length parts →
-    body_length (take i parts) + (8 + length (get_or parts i d).bytes) < 2 ^ 30
-body_more parts i d h lt =
-    let part = sum_by_more_le (λ (run : Run). 8 + length run.bytes) parts i d lt in
-    omega (arith, part, body_bound parts h)
-
 -- there are not more parts than bytes
 pub count_bound : (parts : List Run) → length parts ≤ body_length parts
 count_bound [] = omega arith

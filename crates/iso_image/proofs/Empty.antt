@@ -23,9 +23,6 @@ blocks_zero size (suc n) m fits =
     λ i. first i ∷ rest i
 
 module _ (g : Geometry) where
-  zeros_size : ℕ
-  zeros_size = image_size g - 96
-
   front : empty_image g ≡ superblock 1 g ++ (half_header 1 1 1 0 ++ replicate (image_size g - 96) 0)
   front = append_assoc (superblock 1 g) (half_header 1 1 1 0) (replicate (image_size g - 96) 0)
 

@@ -2,7 +2,7 @@
 use Rattle.iso_log.proofs.Words.{◌≡◌, ◌<◌, ◌≤◌, ◌+◌, ◌-◌, ◌^◌, ℕ, List, [], ◌∷◌, ◌++◌, Some, Result, Ok, Err, IsErrOf, length, take, drop, get_or, sym, ◌∙◌, ap, arith, subst, length-append, length-drop, get_or-take, get_or-drop, length-take-le, take-take, nil_from_length, Geometry, kind_of, spell, FormatError, Short, offset_of, test_number, BeginsWith, fault_of, record_window, recorded, window_front, fault_front, short_head, short_body, OpenError, damaged, told_first, kind_again, form_1, LogError, LogFull, Disk, Memory, Damaged, Extent, next_place, IsDamaged, IsFound, IsNextRecord, IsTaken, IsTestBefore, StandAt}
 use Rattle.iso_refusal.specs.declared.open_error.OpenError.TheVariants as refused
 use Rattle.iso_log.proofs.Counts.{spell_gate, window_is}
-use Rattle.iso_log.proofs.Offsets.{fault_below, test_from, test_upto}
+use Rattle.iso_log.proofs.Offsets.{fault_below, test_among}
 
 -- ---- bytes that stand in an image
 
@@ -59,7 +59,7 @@ test_before {T = T} place end fault e is before at cause same =
     let said : refused.Damaged at cause ≡ refused.Damaged (place + offset_of fault) (test_number fault) = place_is {T = T} place fault e is at cause same in
     let at_is : at ≡ place + offset_of fault = cc said in
     let cause_is : cause ≡ test_number fault = cc said in
-    record { inside = omega (arith, at_is, before); first = omega (arith, cause_is, test_from fault); last = omega (arith, cause_is, test_upto fault) }
+    record { inside = omega (arith, at_is, before); first = omega (arith, cause_is, (test_among fault).0); last = omega (arith, cause_is, (test_among fault).1) }
 
 -- ---- the record
 

@@ -59,22 +59,12 @@ fault_below g n bytes e long fails =
     fails in
     omega (arith, below, long)
 
-pub test_from : (e : FormatError) → 1 ≤ test_number e
-test_from (Short at) = omega arith
-test_from (Kind at) = omega arith
-test_from (NotZero at) = omega arith
-test_from (Count at) = omega arith
-test_from (Order at) = omega arith
-test_from (Range at) = omega arith
-test_from (Length at) = omega arith
-test_from (Number at) = omega arith
-
-pub test_upto : (e : FormatError) → test_number e ≤ 8
-test_upto (Short at) = omega arith
-test_upto (Kind at) = omega arith
-test_upto (NotZero at) = omega arith
-test_upto (Count at) = omega arith
-test_upto (Order at) = omega arith
-test_upto (Range at) = omega arith
-test_upto (Length at) = omega arith
-test_upto (Number at) = omega arith
+pub test_among : (e : FormatError) → (1 ≤ test_number e) × (test_number e ≤ 8)
+test_among (Short at) = (omega arith, omega arith)
+test_among (Kind at) = (omega arith, omega arith)
+test_among (NotZero at) = (omega arith, omega arith)
+test_among (Count at) = (omega arith, omega arith)
+test_among (Order at) = (omega arith, omega arith)
+test_among (Range at) = (omega arith, omega arith)
+test_among (Length at) = (omega arith, omega arith)
+test_among (Number at) = (omega arith, omega arith)

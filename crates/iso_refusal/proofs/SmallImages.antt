@@ -1,6 +1,6 @@
 -- A small image and its changes: blocks of 64 bytes, 4 of them, a log of 256 bytes, serial.
-use Rattle.iso_refusal.proofs.Words.{[], ◌∷◌, ◌++◌, take, replicate, codes}
-use Rattle.std.specs.Prelude.{ℕ, ◌+◌, List, length, drop}
+use Rattle.iso_refusal.proofs.Words.{[], ◌∷◌, ◌++◌, map, take, replicate, codes, OpenError, Opened, opened, refusal}
+use Rattle.std.specs.Prelude.{◌≡◌, ℕ, ◌+◌, List, Option, Some, length, drop, option_map}
 
 -- as it is made
 unfoldable pub blank : List ℕ
@@ -25,3 +25,11 @@ put_record =
 unfoldable pub one_commit : List ℕ
 unfolding blank
 one_commit = with_piece 352 put_record blank
+
+-- what each of these images is refused for
+abbrev pub AreRefused : List (List ℕ × Option OpenError) → Type 0
+AreRefused rows = map (λ row. refusal row.0) rows ≡ map (λ row. row.1) rows
+
+-- what is seen of the history that each of them opens to
+abbrev pub OpenTo : {A : Type 0} → (Opened → A) → List (List ℕ × A) → Type 0
+OpenTo see rows = map (λ row. option_map see (opened row.0)) rows ≡ map (λ row. Some row.1) rows

@@ -305,14 +305,6 @@ module _ {X E : Type 0} (stands : X → List E → Type 0) (hands : E → Option
   pub has_slot : (t : ℕ) (v : View E) (m' : Sat X E) → Turned stands hands takes_back t v m' → (o : Option X) × (m'.1 ≡ (0, o) ∷ rest m'.1)
   has_slot t v m' c = (Some c.value, c.slot_is ∙ ap (λ (q : List (ℕ × Option X)). (0, Some c.value) ∷ q) (sym (ap rest c.slot_is)))
 
-  -- the value that the exchange finds
-  pub slot_has : (t : ℕ) (v : View E) (m' : Sat X E) (o : Option X) (c : Turned stands hands takes_back t v m') → m'.1 ≡ (0, o) ∷ rest m'.1 → o ≡ Some c.value
-  slot_has t v m' o c is = ap (slot_or o) (sym is ∙ c.slot_is)
-    where
-      slot_or : Option X → List (ℕ × Option X) → Option X
-      slot_or o [] = o
-      slot_or o (x ∷ xs) = x.1
-
   pub has_turn : (t : ℕ) (v : View E) (m' m'' : Sat X E) → Turned stands hands takes_back t v m' → m'' ≡ (m'.0, (0, None) ∷ rest m'.1) → IsPlaced v → IsAtTurn m'' t
   has_turn t v m' m'' c is placed =
       let there : m'' ≡ (turns t c.list v, (0, None) ∷ []) = is ∙ (λ i. (c.view_is i, (0, None) ∷ rest (c.slot_is i))) in (
