@@ -8,10 +8,6 @@ returns-then-free-need-clause-run g c =
     few_run c.args.area c.requires.area c.args.path.now c.args.map.now c.full_row-full.result c.need_of-need.result c.free_blocks-free.result c.full_row-full.ensures.value c.need_of-need.ensures
     c.region_of-region.result.size (ap (λ (r : Region). r.size) c.region_of-region.ensures) c.free_blocks-free.ensures c.args.key.now c.args.value.now (g.T.TxBlocks.state c.args.tx.now) c.if-free-need.true
 
-pub look_nodes-requires-clause-path : goal.look_nodes-requires-clause-path
-look_nodes-requires-clause-path g c =
-    subst (AreInside c.args.area) (sym c.written-rows.ensures) (all_taken (λ (p : ℕ × ℕ). p.0 < c.args.area.blocks) (suc c.full_row-full.result) c.args.path.now c.requires.path)
-
 pub look_nodes-requires-clause-usable : goal.look_nodes-requires-clause-usable
 look_nodes-requires-clause-usable g c =
     shown_taken c.args.area (g.T.TxBlocks.state c.args.tx.now) (suc c.full_row-full.result) c.written-rows.result.now c.args.path.now c.written-rows.ensures c.requires.usable
