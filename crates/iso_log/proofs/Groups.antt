@@ -98,11 +98,18 @@ module _ (g : Geometry) (x : Half) (more : List Written) (bytes : List ℕ) (ima
 
 -- ---- a run of calls that appends
 
-module _ (old new : DiskState) (laws : IsLawful old) (log : Extent) (bytes : List ℕ) (gate : ℕ) (gate_same : gate ≡ next_place log) (inside : log.place + log.room ≤ old.size) (short : log.used + length bytes ≤ log.room) where
+module _ {old : DiskState} (laws : IsLawful old) (a log : Extent) (same : a ≡ log) (bytes : List ℕ) (n : ℕ) (n_is : n ≡ a.used) (inside : log.place + log.room ≤ old.size)
+    (free : ℕ) (kept : a.used ≤ a.room) (free_is : free ≡ a.room - a.used) (enough : length bytes ≤ free) where
+  gate_same : a.place + n ≡ next_place log
+  gate_same = gate_is a log same n n_is
+
+  short : log.used + length bytes ≤ log.room
+  short = short_is a log same free (length bytes) kept free_is enough
+
   each_fits : (c : List ℕ) → old.now c → log.place + log.room ≤ length c
   each_fits c image = omega (arith, length-image laws c image, inside)
 
-  module _ (run : LeavesOnly old new (AppendingFrom gate bytes old.now)) where
+  module _ {new : DiskState} (run : LeavesOnly old new (AppendingFrom (a.place + n) bytes old.now)) where
     here : LeavesOnly old new (AppendingFrom (next_place log) bytes old.now)
     here = subst (λ (n : ℕ). LeavesOnly old new (AppendingFrom n bytes old.now)) gate_same run
 
@@ -116,7 +123,7 @@ module _ (old new : DiskState) (laws : IsLawful old) (log : Extent) (bytes : Lis
         weakened here (λ c from. held_moment g x more bytes old.now (subst (λ (e : Extent). IsNext e g more bytes) is next) (subst (λ (e : Extent). e.used + length bytes ≤ e.room) is short) held c
         (subst (λ (e : Extent). AppendingFrom (next_place e) bytes old.now c) is from))
 
-  module _ (whole : (c : List ℕ) → new.now c → AppendedTo gate bytes old.now c) where
+  module _ (new : DiskState) (whole : (c : List ℕ) → new.now c → AppendedTo (a.place + n) bytes old.now c) where
     there : (c : List ℕ) → new.now c → AppendedTo (next_place log) bytes old.now c
     there c image = subst (λ (n : ℕ). AppendedTo n bytes old.now c) gate_same (whole c image)
 

@@ -1,5 +1,5 @@
 -- A text, and a line behind it.
-use Rattle.iso_top.proofs.Words.{inl, inr, ◌+◌, ℕ, List, ◌++◌, length, take, length-append, sym, ◌∙◌, ap, subst, arith, take-append-add, take-append-le, append_known, Rose, SinkState, CountsStand, Wrote, append_known-append, Printed, SinkFailed, WasCut}
+use Rattle.iso_top.proofs.Words.{inl, inr, ◌+◌, ℕ, List, ◌++◌, length, take, length-append, sym, ◌∙◌, ap, subst, arith, take-append-add, append_known, Rose, SinkState, CountsStand, Wrote, append_known-append, Printed, SinkFailed}
 
 wrote_both : (a b c : SinkState) (xs ys : List ℕ) → Wrote a b xs → Wrote b c ys → Wrote a c (xs ++ ys)
 wrote_both a b c xs ys first second = second ∙ ap (λ known. append_known known ys) first ∙ append_known-append a.written xs ys
@@ -22,18 +22,5 @@ behind_whole a b c text line wrote stand (inr cut) =
         count = length text + cut.front.count;
         short = omega (arith, length-append text line);
         wrote = subst (Wrote a c) (sym (take-append-add text line cut.front.count)) (wrote_both a b c text (take cut.front.count line) wrote cut.front.wrote);
-      };
-    })
-
--- the text was not put whole
-pub behind_cut : (a b : SinkState) (text line : List ℕ) → WasCut a b text → Printed a b (text ++ line)
-behind_cut a b text line cut =
-    let short = cut.front.short in
-    inr (record {
-      failed = cut.failed;
-      front = record {
-        count = cut.front.count;
-        short = omega (arith, length-append text line);
-        wrote = subst (Wrote a b) (sym (take-append-le cut.front.count text line (omega arith))) cut.front.wrote;
       };
     })

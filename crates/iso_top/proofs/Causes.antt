@@ -144,15 +144,6 @@ module _ {D : Type 0} (state : D → DiskState) (name : List ℕ) (status : ℕ)
       go (inl (parts, told, printed)) = put parts printed
       go (inr (none, is, printed)) = quiet status (state disk_old) (state disk_new) input_old input_new output_old output_new (inr (inr (inr is)))
 
-  pub met_causes : (task : Task) → HasMet state task name status disk_old disk_new input_old input_new output_old output_new → Caused
-  met_causes task (inl (e, is, not)) = unbegun (made_geometry task) e is not
-  met_causes (New g) (inr (e, is, a)) = answered (Some g) e is a
-  met_causes Run (inr (e, is, a)) = answered None e is a
-  met_causes Par (inr (inl (e, is, r))) = ran_none e is r
-  met_causes Par (inr (inr r)) = ran_clients r
-  met_causes Recover (inr r) = recovered r
-  met_causes (Bench seed count) (inr b) = benched seed count b
-
   -- nothing to blame
   module _ (disk_stands : ¬ Rose (state disk_old).faults (state disk_new).faults) (input_stands : ¬ Rose input_old.faults input_new.faults) (output_stands : ¬ SinkFailed output_old output_new) where
     abbrev Ends : Type 0

@@ -1,5 +1,5 @@
 -- Bytes of a stretch, and the first of them that was not seen.
-use Rattle.mv_index.proofs.Words.{◌≡◌, inl, inr, ◌∙◌, sym, ap, ℕ, zero, suc, ◌+◌, ◌-◌, ◌<◌, ◌≤◌, Bool, true, false, ◌&&◌, ◌||◌, nat_le, nat_lt, arith, list_any, range_with_len, le-leb, lt-leb, cases_lt, and-false, or-true, in_bytes}
+use Rattle.mv_index.proofs.Words.{◌≡◌, inl, inr, ◌∙◌, sym, ap, ℕ, zero, suc, ◌+◌, ◌-◌, ◌<◌, ◌≤◌, Bool, true, false, ◌&&◌, ◌||◌, nat_le, nat_lt, arith, list_any, range_with_len, le-leb, lt-leb, cases_lt, and-false, nat_tests, or-true, in_bytes}
 
 pub in_is : (off len p : ℕ) → off ≤ p → p < off + len → in_bytes off len p ≡ true
 in_is off len p from to = λ i. le-leb off p from i && le-leb (suc p) (off + len) to i
@@ -11,16 +11,7 @@ pub in_over : (off len p : ℕ) → off + len ≤ p → in_bytes off len p ≡ f
 in_over off len p le = ap (λ (b : Bool). nat_le off p && b) (lt-leb (suc p) (off + len) (omega (arith, le))) ∙ and-false (nat_le off p)
 
 pub in_split : (off at stop p : ℕ) → off ≤ at → at ≤ stop → in_bytes off (stop - off) p ≡ (in_bytes at (stop - at) p || in_bytes off (at - off) p)
-in_split off at stop p first second = elim (cases_lt p off) [
-  | inl lt ↦ in_under off (stop - off) p lt ∙ sym (λ i. in_under at (stop - at) p (omega (arith, lt)) i || in_under off (at - off) p lt i)
-  | inr from ↦ elim (cases_lt p at) [
-    | inl lt ↦ in_is off (stop - off) p from (omega (arith, lt)) ∙ sym ((λ i. in_under at (stop - at) p lt i || in_is off (at - off) p from (omega (arith, lt)) i))
-    | inr over ↦ elim (cases_lt p stop) [
-      | inl lt ↦ in_is off (stop - off) p from (omega (arith, lt)) ∙ sym (ap (λ (b : Bool). b || in_bytes off (at - off) p) (in_is at (stop - at) p over (omega (arith, lt))))
-      | inr past ↦ in_over off (stop - off) p (omega (arith, past)) ∙ sym (λ i. in_over at (stop - at) p (omega (arith, past)) i || in_over off (at - off) p (omega (arith, over)) i)
-    ]
-  ]
-]
+in_split off at stop p first second = grind (arith, nat_tests)
 
 -- whether a test holds of one of the numbers, by the first of which it holds
 pub any_from : (f : ℕ → Bool) (a n first : ℕ) → a ≤ first → first ≤ a + n → ((k : ℕ) → a ≤ k → k < first → f k ≡ false) → (first < a + n → f first ≡ true) → nat_lt first (a + n) ≡ list_any f (range_with_len a n)
@@ -40,9 +31,6 @@ any_from f a (suc n) first from to none found = elim (cases_lt a first) [
 pub widened : (off first end p : ℕ) (seen : Bool) → off ≤ first → (off ≤ p → p < first → seen ≡ true) → ((nat_le first p && nat_lt p end) || seen) ≡ ((nat_le off p && nat_lt p end) || seen)
 widened off first end p true le done = or-true (nat_le first p && nat_lt p end) ∙ sym (or-true (nat_le off p && nat_lt p end))
 widened off first end p false le done = elim (cases_lt p first) [
-  | inl before ↦ elim (cases_lt p off) [
-    | inl under ↦ ap (λ (b : Bool). (b && nat_lt p end) || false) (lt-leb first p before ∙ sym (lt-leb off p under))
-    | inr from ↦ absurd (cc (done from before))
-  ]
-  | inr from ↦ (let more : off ≤ p = omega arith in ap (λ (b : Bool). (b && nat_lt p end) || false) (le-leb first p from ∙ sym (le-leb off p more)))
+  | inl before ↦ (let out : p < off = elim (cases_lt p off) [ inl under ↦ under | inr from ↦ absurd (cc (done from before)) ] in grind (arith, nat_tests))
+  | inr from ↦ grind (arith, nat_tests)
 ]
