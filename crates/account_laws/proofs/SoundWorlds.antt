@@ -58,25 +58,13 @@ may_end_all S [] is loose may = tt
 may_end_all S (m ∷ members) is loose may = (may_end S.world m.number m.accesses is (loose_is m.number S loose.0).0 may.0, may_end_all S members is loose.1 may.1)
 
 sound_fault : (S : State) (c : Call) (now : ℕ) → IsWorld S.world → IsWorld (after_fault S c now).world
-sound_fault S (call.Begin named) now is = is
-sound_fault S (call.Fetch n block) now is = is
 sound_fault S (call.End n accesses) now is = (leaves S.world (tx_of S.world n accesses) is).world
 sound_fault S (call.EndGroup members) now is = (leaves_all (txs_of S.world members) S.world is).world
-sound_fault S call.Trim now is = is
-sound_fault S call.Compact now is = is
-sound_fault S call.Upgrade now is = is
-sound_fault S (call.Post n text accesses) now is = is
-sound_fault S (call.Recent n) now is = is
+sound_fault S x now is = is
 
 sound_refusal : (S : State) (c : Call) (why : Cause) → IsWorld S.world → IsWorld (after_refusal S c why).world
-sound_refusal S c cause.Down is = is
-sound_refusal S c cause.TooManyTx is = is
-sound_refusal S c (cause.LogFull need free) is = is
 sound_refusal S c (cause.Disk before now) is = sound_fault S c now is
-sound_refusal S c cause.Memory is = is
-sound_refusal S c cause.Worn is = is
-sound_refusal S c cause.ModeFixed is = is
-sound_refusal S c cause.LabelTaken is = is
+sound_refusal S c why is = is
 
 pub sound_next : (S : State) (e : Entry) → IsWorld S.world → Fits S e → IsWorld (after S e).world
 sound_next S (entry.Begin n at mode) is fits =

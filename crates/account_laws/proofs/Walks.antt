@@ -41,10 +41,7 @@ begin_of S n accesses is live may = (may_end S.world n accesses is live may).beg
 
 begins_by : (W : World) (t : Live) (r : GroupReply) (rest : List Commit) → t.begin ≤ last W.history → AllByRecursion (λ c. c.begin ≤ last W.history) rest → AllByRecursion (λ c. c.begin ≤ last W.history) (made_by t r ++ rest)
 begins_by W t (member.Committed k) rest one all = (one, all)
-begins_by W t member.ReadOnly rest one all = all
-begins_by W t (member.Conflict c) rest one all = all
-begins_by W t (member.Full need free) rest one all = all
-begins_by W t member.Worn rest one all = all
+begins_by W t x rest one all = all
 
 begins_all : (W : World) (txs : List Live) (replies : List GroupReply) → AllByRecursion (IsLive W) txs → AllByRecursion (λ c. c.begin ≤ last W.history) (commits_made txs replies)
 begins_all W [] replies live = tt
@@ -119,14 +116,8 @@ goes_fault S (call.Post n label accesses) was now is fits = absurd (may_of S (ca
 goes_fault S (call.Recent n) was now is fits = absurd (may_of S (call.Recent n) (cause.Disk was now) fits).0
 
 goes_refusal : (S : State) (c : Call) (why : Cause) → IsWorld S.world → Fits S (entry.Refused c why) → Goes S (entry.Refused c why)
-goes_refusal S c cause.Down is fits = inl refl
-goes_refusal S c cause.TooManyTx is fits = inl refl
-goes_refusal S c (cause.LogFull need free) is fits = inl refl
 goes_refusal S c (cause.Disk was now) is fits = goes_fault S c was now is fits
-goes_refusal S c cause.Memory is fits = inl refl
-goes_refusal S c cause.Worn is fits = inl refl
-goes_refusal S c cause.ModeFixed is fits = inl refl
-goes_refusal S c cause.LabelTaken is fits = inl refl
+goes_refusal S c why is fits = inl refl
 
 goes_end : (S : State) (n : ℕ) (accesses : List Access) (r : EndReply) → IsWorld S.world → Fits S (entry.End n accesses r) → Goes S (entry.End n accesses r)
 goes_end S n accesses (Committed k) is fits =

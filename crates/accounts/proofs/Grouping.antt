@@ -12,10 +12,7 @@ use Rattle.accounts.proofs.Covering.{IsQuiet, covers_both, covers_none, covers_o
 
 made_well : (P : Commit → Type 0) (t : Live) (r : GroupReply) (rest : List Commit) → P (Rattle.iso_model.specs.Step.commit_from t) → AllByRecursion P rest → AllByRecursion P (made_by t r ++ rest)
 made_well P t (member.Committed k) rest here all = (here, all)
-made_well P t member.ReadOnly rest here all = all
-made_well P t (member.Conflict c) rest here all = all
-made_well P t (member.Full need free) rest here all = all
-made_well P t member.Worn rest here all = all
+made_well P t x rest here all = all
 
 -- the commits of members are such where each member's is
 lost_well : (P : Commit → Type 0) (W : World) (members : List Member) (replies : List GroupReply) → AllByRecursion (λ m. P (commit_at W m.number m.accesses)) members → AllByRecursion P (commits_made (txs_of W members) replies)
@@ -33,13 +30,8 @@ aborts_quiet [] = tt
 aborts_quiet (t ∷ txs) = ((λ W. refl), aborts_quiet txs)
 
 after_quiet : {D O : Type 0} (e : CoreError) (txs : List (Tx D O)) → AllByRecursion IsQuiet (aborts_after e txs)
-after_quiet error.Down txs = aborts_quiet txs
-after_quiet error.TooManyTx txs = aborts_quiet txs
-after_quiet (error.LogFull need free) txs = aborts_quiet txs
 after_quiet error.Disk txs = tt
-after_quiet error.Memory txs = aborts_quiet txs
-after_quiet (error.Worn at) txs = aborts_quiet txs
-after_quiet error.ModeFixed txs = aborts_quiet txs
+after_quiet e txs = aborts_quiet txs
 
 many_members : {D O : Type 0} (txs : List (Tx D O)) → length (members_in txs) ≡ length txs
 many_members [] = refl

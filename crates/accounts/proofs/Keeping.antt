@@ -32,13 +32,8 @@ end_well accounts A before n accesses (Conflict c) fine tells = tt
 
 refused_well : (accounts : Accounts) (A : Start) (before : List Entry) (n : ℕ) (accesses : List Access) (was now : ℕ) (e : CoreError) → Fine accounts A before n accesses → A.tells ≡ true
     → IsOfAccountsAt accounts A before (entry.Refused (call.End n accesses) (cause_of was now e))
-refused_well accounts A before n accesses was now error.Down fine tells = tt
-refused_well accounts A before n accesses was now error.TooManyTx fine tells = tt
-refused_well accounts A before n accesses was now (error.LogFull need free) fine tells = tt
 refused_well accounts A before n accesses was now error.Disk fine tells = (fine tells, tt)
-refused_well accounts A before n accesses was now error.Memory fine tells = tt
-refused_well accounts A before n accesses was now (error.Worn at) fine tells = tt
-refused_well accounts A before n accesses was now error.ModeFixed fine tells = tt
+refused_well accounts A before n accesses was now e fine tells = tt
 
 fetches_quiet : (n : ℕ) (fs : List (ℕ × List ℕ)) (refused : Option (ℕ × Cause)) → AllByRecursion IsQuiet (fetches n fs ++ refusals n refused)
 fetches_quiet n [] None = tt

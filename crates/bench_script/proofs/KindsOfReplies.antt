@@ -47,41 +47,11 @@ grouped_starts (Some member.Worn ∷ answers) = refl
 -- what its text begins with is the kind of a reply
 kind_by_text : (reply : Reply) → by_tests (starts (codes "ok comm") (reply_text reply)) (starts (codes "c") (reply_text reply)) ≡ kind_of reply
 unfolding reply_text
-kind_by_text Done = refl
-kind_by_text (Began n) = refl
 kind_by_text (Shown bytes) = ap (λ t. by_tests t false) (shown_starts bytes)
-kind_by_text (Committed n) = refl
-kind_by_text ReadOnly = refl
-kind_by_text (Conflict c) = refl
 kind_by_text (Grouped answers) = ap (λ t. by_tests t false) (grouped_starts answers)
-kind_by_text (Trimmed n) = refl
-kind_by_text (Compacted n) = refl
-kind_by_text (Upgraded n) = refl
-kind_by_text (Numbers last base trim live used versions) = refl
 kind_by_text (Found bytes) = ap (λ t. by_tests t false) (found_starts bytes)
 kind_by_text (Pairs pairs) = ap (λ t. by_tests t false) (pairs_starts pairs)
-kind_by_text Missing = refl
-kind_by_text NoStore = refl
-kind_by_text StoreMode = refl
-kind_by_text BadKey = refl
-kind_by_text BadValue = refl
-kind_by_text BadName = refl
-kind_by_text Exists = refl
-kind_by_text (Broken block) = refl
-kind_by_text (NoBlocks need free) = refl
-kind_by_text InTx = refl
-kind_by_text NotInTx = refl
-kind_by_text ModeFixed = refl
-kind_by_text BadBlock = refl
-kind_by_text BadRange = refl
-kind_by_text NoAccess = refl
-kind_by_text TooManyMarks = refl
-kind_by_text TooManyAccesses = refl
-kind_by_text NoHandle = refl
-kind_by_text LabelTaken = refl
-kind_by_text TooManyTx = refl
-kind_by_text Worn = refl
-kind_by_text (LogFull need free) = refl
+kind_by_text x = refl
 
 -- the kind that the tests of a text tell
 pub tested : (text : List ℕ) (commit conflict : Bool) → commit ≡ starts (codes "ok comm") text → conflict ≡ starts (codes "c") text

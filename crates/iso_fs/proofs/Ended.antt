@@ -99,12 +99,8 @@ done_so t v writes before now r later passed = record { cause = tt; unwritten = 
 
 -- a call of the tree store was refused, which may make more than one write
 pub unwritten_tree : (late : Bool) (t v : Tx) (e : StoreError) → runs.IsUnwritten t v 66 e → IsUnwritten late t v (fs.Store e)
-unwritten_tree late t v store.BadKey is = λ other. is (inr (λ x. cc))
-unwritten_tree late t v store.BadValue is = λ other. is (inr (λ x. cc))
-unwritten_tree late t v (store.NoBlocks need free) is = λ other. is (inr (λ x. cc))
-unwritten_tree late t v (store.Broken block) is = λ other. is (inr (λ x. cc))
 unwritten_tree late t v (store.Tx e) is = λ other. absurd (false≢true (sym other))
-unwritten_tree late t v store.Memory is = λ other. is (inr (λ x. cc))
+unwritten_tree late t v e is = λ other. is (inr (λ x. cc))
 
 -- a call that ran to Ok is local where its program is
 pub call_local : {X M : Type 0} (Well : Array → Type 0) (map_of : Array → M) (op : M → X × M) (p : Call X) (t u : Tx) (result : Result X FsError) → HasRun p t u result

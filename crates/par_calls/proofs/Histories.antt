@@ -52,14 +52,8 @@ fault_is g U (call.Post n label accesses) k is = is
 fault_is g U (call.Recent n) k is = is
 
 refusal_is : (g : Geometry) (U : State) (c : Call) (why : Cause) → IsHistory g U.world.history → IsHistory g (after_refusal U c why).world.history
-refusal_is g U c cause.Down is = is
 refusal_is g U c (cause.Disk before now) is = fault_is g U c now is
-refusal_is g U c cause.TooManyTx is = is
-refusal_is g U c (cause.LogFull wanted free) is = is
-refusal_is g U c cause.Memory is = is
-refusal_is g U c cause.Worn is = is
-refusal_is g U c cause.ModeFixed is = is
-refusal_is g U c cause.LabelTaken is = is
+refusal_is g U c why is = is
 
 history_next : (g : Geometry) (U : State) (e : Entry) → HasNumbers g U → Fits U e → IsHistory g U.world.history → IsHistory g (after U e).world.history
 history_next g U (entry.Begin n at mode) has fits is = is

@@ -127,27 +127,7 @@ module _ (g : Geometry) (tells : Bool) where
   starts op.Stat es r own' d = inl (no_stats es r own' d)
   starts op.Compact es r own' d = inl (no_compacts es r own' d)
   starts op.Upgrade es r own' d = inl (no_upgrades es r own' d)
-  starts (op.Put block off bytes) es r own' d = inl d.2
-  starts (op.Read block) es r own' d = inl d.2
-  starts (op.Get block off len) es r own' d = inl d.2
-  starts (op.Write block bytes) es r own' d = inl d.2
-  starts (op.Fill block bytes) es r own' d = inl d.2
-  starts (op.Mark off len) es r own' d = inl d.2
-  starts op.End es r own' d = inl d.2
-  starts op.Abort es r own' d = inl d.2
-  starts (op.Release label) es r own' d = inl d.2
-  starts (op.HashPut key value) es r own' d = inl d.2
-  starts (op.HashGet key) es r own' d = inl d.2
-  starts (op.HashDelete key) es r own' d = inl d.2
-  starts (op.TreePut key value) es r own' d = inl d.2
-  starts (op.TreeGet key) es r own' d = inl d.2
-  starts (op.TreeDelete key) es r own' d = inl d.2
-  starts (op.TreeScan from to most) es r own' d = inl d.2
-  starts (op.FileNew name) es r own' d = inl d.2
-  starts (op.FileWrite name off bytes) es r own' d = inl d.2
-  starts (op.FileRead name off len) es r own' d = inl d.2
-  starts (op.FileMove from to) es r own' d = inl d.2
-  starts (op.FileDelete name) es r own' d = inl d.2
+  starts x es r own' d = inl d.2
 
   pub without_tx : (x : Op) (es : List Entry) (r : Reply) (own' : Option Own) → Did g tells None x es (Ok r) own' → Starts es own'
   without_tx x es r own' (inl d) = starts x es r own' d

@@ -16,13 +16,7 @@ aborted own made (t ∷ ones) = (tt, aborted own (made ++ entry.Abort t.number �
 
 aborted_after : (why : Cause) (own : Option Own) (made : List Entry) (ones : List Own) → AreOfOwn own made (aborts_after why ones)
 aborted_after (cause.Disk before now) own made ones = tt
-aborted_after cause.Down own made ones = aborted own made ones
-aborted_after cause.TooManyTx own made ones = aborted own made ones
-aborted_after (cause.LogFull need free) own made ones = aborted own made ones
-aborted_after cause.Memory own made ones = aborted own made ones
-aborted_after cause.Worn own made ones = aborted own made ones
-aborted_after cause.ModeFixed own made ones = aborted own made ones
-aborted_after cause.LabelTaken own made ones = aborted own made ones
+aborted_after why own made ones = aborted own made ones
 
 -- what looks found, in order
 pub found_append : (xs ys : List Entry) → found_in (xs ++ ys) ≡ found_in xs ++ found_in ys
@@ -164,27 +158,6 @@ module _ (g : Geometry) (tells : Bool) (r : Result Reply Stop) where
   does None op.Stat es own' d = stats None es own' d
   does None op.Compact es own' d = compacts None es own' d
   does None op.Upgrade es own' d = upgrades None es own' d
-  does None (op.Put block off bytes) es own' d = none_of None [] es d.0
-  does None (op.Read block) es own' d = none_of None [] es d.0
-  does None (op.Get block off len) es own' d = none_of None [] es d.0
-  does None (op.Write block bytes) es own' d = none_of None [] es d.0
-  does None (op.Fill block bytes) es own' d = none_of None [] es d.0
-  does None (op.Mark off len) es own' d = none_of None [] es d.0
-  does None op.End es own' d = none_of None [] es d.0
-  does None op.Abort es own' d = none_of None [] es d.0
-  does None (op.Release label) es own' d = none_of None [] es d.0
-  does None (op.HashPut key value) es own' d = none_of None [] es d.0
-  does None (op.HashGet key) es own' d = none_of None [] es d.0
-  does None (op.HashDelete key) es own' d = none_of None [] es d.0
-  does None (op.TreePut key value) es own' d = none_of None [] es d.0
-  does None (op.TreeGet key) es own' d = none_of None [] es d.0
-  does None (op.TreeDelete key) es own' d = none_of None [] es d.0
-  does None (op.TreeScan from to most) es own' d = none_of None [] es d.0
-  does None (op.FileNew name) es own' d = none_of None [] es d.0
-  does None (op.FileWrite name off bytes) es own' d = none_of None [] es d.0
-  does None (op.FileRead name off len) es own' d = none_of None [] es d.0
-  does None (op.FileMove from to) es own' d = none_of None [] es d.0
-  does None (op.FileDelete name) es own' d = none_of None [] es d.0
   does (Some t) (op.Begin named) es own' d = none_of (Some t) [] es d.0
   does (Some t) (op.Takeover label) es own' d = none_of (Some t) [] es d.0
   does (Some t) (op.Await label) es own' d = none_of (Some t) [] es d.0
@@ -214,6 +187,7 @@ module _ (g : Geometry) (tells : Bool) (r : Result Reply Stop) where
   does (Some t) (op.FileRead name off len) es own' d = stored _ t (op.FileRead name off len) es own' d
   does (Some t) (op.FileMove from to) es own' d = stored _ t (op.FileMove from to) es own' d
   does (Some t) (op.FileDelete name) es own' d = stored _ t (op.FileDelete name) es own' d
+  does None x es own' d = none_of None [] es d.0
 
   pub of_own : (own : Option Own) (x : Op) (es : List Entry) (own' : Option Own) → Did g tells own x es r own' → AreOfOwn own [] es
   of_own own x es own' (inl d) = does own x es own' d

@@ -144,9 +144,7 @@ module _ (S : SecondStore) (lawful : IsSecond S) (second : SecondGoes S) (g : Ge
           (is_told U.world.history (commit_at U.world x.number x.accesses) m
           (told_of U t m x.number x.accesses held.0 kept (ap (λ (z : Member). z.number) head) (ap (λ (z : Member). z.accesses) head) loose.0 some more))
       by member.ReadOnly is kept = tt
-      by (member.Conflict c) is kept = tt
-      by (member.Full need free) is kept = tt
-      by member.Worn is kept = tt
+      by x is kept = tt
 
   -- WITHOUT A WRITE
   by_map : (told : Told S) (parts : MixedParts (image_hash g) (second_store S g)) (A : Array) → calls_in (firsts parts) ≡ told.hash.calls → answers_in (firsts parts) ≡ told.hash.answers
@@ -205,6 +203,4 @@ module _ (S : SecondStore) (lawful : IsSecond S) (second : SecondGoes S) (g : Ge
           (λ kept. is_read (begin_array U.world x.number) x.accesses (commit_at U.world x.number x.accesses).mode m
           (told_of U t m x.number x.accesses held.0 kept (ap (λ (z : Member). z.number) head) (ap (λ (z : Member). z.accesses) head) loose.0 some more))
       by (member.Committed k) is = tt
-      by (member.Conflict c) is = tt
-      by (member.Full need free) is = tt
-      by member.Worn is = tt
+      by x is = tt

@@ -26,41 +26,16 @@ of_new n (u ∷ live) t is none = by (u.number == n) none (of_new n live t is)
 -- whether the device tells its bytes stays
 tells_fault : (U : State) (c : Call) (k : ℕ) → (after_fault U c k).tells ≡ U.tells
 tells_fault U (call.Begin named) k = refl
-tells_fault U (call.Fetch n block) k = refl
-tells_fault U (call.End n accesses) k = refl
-tells_fault U (call.EndGroup members) k = refl
-tells_fault U call.Trim k = refl
-tells_fault U call.Compact k = refl
-tells_fault U call.Upgrade k = refl
-tells_fault U (call.Post n label accesses) k = refl
-tells_fault U (call.Recent n) k = refl
+tells_fault U x k = refl
 
 tells_refused : (U : State) (c : Call) (why : Cause) → (after_refusal U c why).tells ≡ U.tells
-tells_refused U c cause.Down = refl
 tells_refused U c (cause.Disk before now) = tells_fault U c now
-tells_refused U c cause.TooManyTx = refl
-tells_refused U c (cause.LogFull wanted free) = refl
-tells_refused U c cause.Memory = refl
-tells_refused U c cause.Worn = refl
-tells_refused U c cause.ModeFixed = refl
-tells_refused U c cause.LabelTaken = refl
+tells_refused U c why = refl
 
 pub tells_after : (U : State) (e : Entry) → (after U e).tells ≡ U.tells
-tells_after U (entry.Begin n at mode) = refl
-tells_after U (entry.Fetch n block bytes) = refl
-tells_after U (entry.End n accesses answered) = refl
-tells_after U (entry.EndGroup ends) = refl
-tells_after U (entry.Abort n) = refl
-tells_after U (entry.Trim n) = refl
-tells_after U (entry.Compact n) = refl
-tells_after U (entry.Upgrade n) = refl
-tells_after U (entry.Stat numbers) = refl
-tells_after U (entry.Post n label accesses) = refl
-tells_after U (entry.Look label found) = refl
-tells_after U (entry.Sweep None) = refl
 tells_after U (entry.Sweep (Some n)) = refl
-tells_after U (entry.Recent n upto) = refl
 tells_after U (entry.Refused x why) = tells_refused U x why
+tells_after U e = refl
 
 -- what an entry tells of the transactions that its look found
 abbrev new_found : (S : SecondStore) → Entry → Notes S → List (Told S)
@@ -69,19 +44,7 @@ new_found S e N = []
 
 of_same : (S : SecondStore) (c d : ℕ) (e : Entry) (N : Notes S) → (after_entry S c e N).of d ≡ N.of d
 of_same S c d (entry.Begin n at mode) N = refl
-of_same S c d (entry.Fetch n block bytes) N = refl
-of_same S c d (entry.End n accesses answered) N = refl
-of_same S c d (entry.EndGroup ends) N = refl
-of_same S c d (entry.Abort n) N = refl
-of_same S c d (entry.Trim n) N = refl
-of_same S c d (entry.Compact n) N = refl
-of_same S c d (entry.Upgrade n) N = refl
-of_same S c d (entry.Stat numbers) N = refl
-of_same S c d (entry.Post n label accesses) N = refl
-of_same S c d (entry.Look label found) N = refl
-of_same S c d (entry.Sweep found) N = refl
-of_same S c d (entry.Recent n upto) N = refl
-of_same S c d (entry.Refused x why) N = refl
+of_same S c d e N = refl
 
 put_here : {X : Type 0} (c d : ℕ) (x : X) (f : ℕ → X) → (c == d) ≡ true → put_at c x f d ≡ x
 put_here c d x f same = ap (λ b. cond b x (f d)) (eq-eqb d c (sym (eqb-true c d same)))
@@ -90,36 +53,13 @@ put_there : {X : Type 0} (c d : ℕ) (x : X) (f : ℕ → X) → (c == d) ≡ fa
 put_there c d x f differ = ap (λ b. cond b x (f d)) (swapped c d differ)
 
 found_here : (S : SecondStore) (c d : ℕ) (e : Entry) (N : Notes S) → (c == d) ≡ true → (after_entry S c e N).found d ≡ N.found d ++ new_found S e N
-found_here S c d (entry.Begin n at mode) N same = sym (append-nil (N.found d))
-found_here S c d (entry.Fetch n block bytes) N same = sym (append-nil (N.found d))
-found_here S c d (entry.End n accesses answered) N same = sym (append-nil (N.found d))
-found_here S c d (entry.EndGroup ends) N same = sym (append-nil (N.found d))
-found_here S c d (entry.Abort n) N same = sym (append-nil (N.found d))
-found_here S c d (entry.Trim n) N same = sym (append-nil (N.found d))
-found_here S c d (entry.Compact n) N same = sym (append-nil (N.found d))
-found_here S c d (entry.Upgrade n) N same = sym (append-nil (N.found d))
-found_here S c d (entry.Stat numbers) N same = sym (append-nil (N.found d))
-found_here S c d (entry.Post n label accesses) N same = sym (append-nil (N.found d))
 found_here S c d (entry.Look label found) N same = put_here c d (N.found c ++ if_some (lookup (bytes_eq label) N.posted)) N.found same ∙ ap (λ k. N.found k ++ if_some (lookup (bytes_eq label) N.posted)) (eqb-true c d same)
 found_here S c d (entry.Sweep found) N same = sym (append-nil (N.found d))
-found_here S c d (entry.Recent n upto) N same = sym (append-nil (N.found d))
-found_here S c d (entry.Refused x why) N same = sym (append-nil (N.found d))
+found_here S c d e N same = sym (append-nil (N.found d))
 
 found_there : (S : SecondStore) (c d : ℕ) (e : Entry) (N : Notes S) → (c == d) ≡ false → (after_entry S c e N).found d ≡ N.found d
-found_there S c d (entry.Begin n at mode) N differ = refl
-found_there S c d (entry.Fetch n block bytes) N differ = refl
-found_there S c d (entry.End n accesses answered) N differ = refl
-found_there S c d (entry.EndGroup ends) N differ = refl
-found_there S c d (entry.Abort n) N differ = refl
-found_there S c d (entry.Trim n) N differ = refl
-found_there S c d (entry.Compact n) N differ = refl
-found_there S c d (entry.Upgrade n) N differ = refl
-found_there S c d (entry.Stat numbers) N differ = refl
-found_there S c d (entry.Post n label accesses) N differ = refl
 found_there S c d (entry.Look label found) N differ = put_there c d (N.found c ++ if_some (lookup (bytes_eq label) N.posted)) N.found differ
-found_there S c d (entry.Sweep found) N differ = refl
-found_there S c d (entry.Recent n upto) N differ = refl
-found_there S c d (entry.Refused x why) N differ = refl
+found_there S c d e N differ = refl
 
 module _ (S : SecondStore) (lawful : IsSecond S) (second : SecondGoes S) (g : Geometry) (valid : IsTrue (is_valid g)) (H : History) (shapes : (n : ℕ) → HasShape g (array_at H n)) (tells : Bool) (all : tells ≡ true) where
   -- a client at a place of the trace: its transaction, the entries that its line has made, and what is told of these
@@ -305,20 +245,8 @@ module _ (S : SecondStore) (lawful : IsSecond S) (second : SecondGoes S) (g : Ge
   arrays_of U t (e ∷ made) tell = (one e tell.0, arrays_of U t made tell.1)
     where
       one : (e : Entry) → Tells S g H U (Some t) e → IsOfArray (array_at H t.begin) e
-      one (entry.Begin n at mode) is = tt
       one (entry.Fetch n block bytes) is = is
-      one (entry.End n accesses answered) is = tt
-      one (entry.EndGroup ends) is = tt
-      one (entry.Abort n) is = tt
-      one (entry.Trim n) is = tt
-      one (entry.Compact n) is = tt
-      one (entry.Upgrade n) is = tt
-      one (entry.Stat numbers) is = tt
-      one (entry.Post n label accesses) is = tt
-      one (entry.Look label found) is = tt
-      one (entry.Sweep found) is = tt
-      one (entry.Recent n upto) is = tt
-      one (entry.Refused x why) is = tt
+      one e is = tt
 
   -- what is told after a line is true
   line_held : (U : State) (s : Step) (own : Option Own) (made : List Entry) (told : Told S) (found : List (Told S)) → IsOp s.line.1.op → OptionHeld S g H U own told → AllHeld S g H U (found_in made) found

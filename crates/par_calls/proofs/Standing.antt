@@ -18,14 +18,8 @@ known_on U V p f is =
 
 -- an entry that is no post, look or sweep leaves the labels
 pub refusal_keeps : (U : State) (c : Call) (why : Cause) → (after_refusal U c why).rack ≡ U.rack
-refusal_keeps U c cause.Down = refl
 refusal_keeps U c (cause.Disk before now) = fault_keeps U c now
-refusal_keeps U c cause.TooManyTx = refl
-refusal_keeps U c (cause.LogFull wanted free) = refl
-refusal_keeps U c cause.Memory = refl
-refusal_keeps U c cause.Worn = refl
-refusal_keeps U c cause.ModeFixed = refl
-refusal_keeps U c cause.LabelTaken = refl
+refusal_keeps U c why = refl
 
 module _ (S : SecondStore) (g : Geometry) (H : History) where
   -- a transaction of which this is told, at a place of the list that leads to the history H
@@ -85,18 +79,7 @@ module _ (S : SecondStore) (g : Geometry) (H : History) where
     tells_on own (entry.Begin n at mode) is =
         (known_on U V (record { number = n; begin = at; mode = mode; accesses = [] }) f is.0, (let below = is.1 in omega (arith, below, longer)))
     tells_on own (entry.Fetch n block bytes) is = is
-    tells_on own (entry.End n accesses answered) is = tt
-    tells_on own (entry.EndGroup ends) is = tt
-    tells_on own (entry.Abort n) is = tt
-    tells_on own (entry.Trim n) is = tt
-    tells_on own (entry.Compact n) is = tt
-    tells_on own (entry.Upgrade n) is = tt
-    tells_on own (entry.Stat numbers) is = tt
-    tells_on own (entry.Post n label accesses) is = tt
-    tells_on own (entry.Look label found) is = tt
-    tells_on own (entry.Sweep found) is = tt
-    tells_on own (entry.Recent n upto) is = tt
-    tells_on own (entry.Refused c why) is = tt
+    tells_on own e is = tt
 
     pub all_tell_on : (own : Option Own) (es : List Entry) → AllByRecursion (Tells U own) es → AllByRecursion (Tells V own) es
     all_tell_on own [] all = tt

@@ -12,34 +12,7 @@ use Rattle.par_calls.proofs.Sound.{IsGood, as_first, second_form, sound}
 -- where the stores are is the same in an image of another form
 areas_same : (g : Geometry) (x : Op) → store_areas (second_form g) x ≡ store_areas g x
 areas_same g (op.HashPut key value) = refl
-areas_same g (op.HashGet key) = refl
-areas_same g (op.HashDelete key) = refl
-areas_same g (op.TreePut key value) = refl
-areas_same g (op.TreeGet key) = refl
-areas_same g (op.TreeDelete key) = refl
-areas_same g (op.TreeScan from to most) = refl
-areas_same g (op.FileNew name) = refl
-areas_same g (op.FileWrite name off bytes) = refl
-areas_same g (op.FileRead name off len) = refl
-areas_same g (op.FileMove from to) = refl
-areas_same g (op.FileDelete name) = refl
-areas_same g (op.Begin mode) = refl
-areas_same g op.End = refl
-areas_same g op.Abort = refl
-areas_same g (op.Put block off bytes) = refl
-areas_same g (op.Read block) = refl
-areas_same g (op.Get block off len) = refl
-areas_same g (op.Write block bytes) = refl
-areas_same g (op.Fill block bytes) = refl
-areas_same g (op.Mark off len) = refl
-areas_same g (op.Release label) = refl
-areas_same g (op.Takeover label) = refl
-areas_same g (op.Await label) = refl
-areas_same g (op.Group labels) = refl
-areas_same g op.Trim = refl
-areas_same g op.Stat = refl
-areas_same g op.Compact = refl
-areas_same g op.Upgrade = refl
+areas_same g x = refl
 
 -- bytes that were fetched are those of the array
 abbrev pub IsOfArray : Array → Entry → Type 0

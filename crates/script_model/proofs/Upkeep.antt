@@ -22,31 +22,7 @@ keeps W client Trim is = record { live = refl; history = refl }
 keeps W client Stat is = record { live = refl; history = refl }
 keeps W client Compact is = switch_keeps W _ _
 keeps W client Upgrade is = switch_keeps W _ _
-keeps W client (Begin mode) is = absurd is
-keeps W client End is = absurd is
-keeps W client Abort is = absurd is
-keeps W client (Put block off bytes) is = absurd is
-keeps W client (Read block) is = absurd is
-keeps W client (Get block off len) is = absurd is
-keeps W client (Write block bytes) is = absurd is
-keeps W client (Fill block bytes) is = absurd is
-keeps W client (Mark off len) is = absurd is
-keeps W client (HashPut key value) is = absurd is
-keeps W client (HashGet key) is = absurd is
-keeps W client (HashDelete key) is = absurd is
-keeps W client (TreePut key value) is = absurd is
-keeps W client (TreeGet key) is = absurd is
-keeps W client (TreeDelete key) is = absurd is
-keeps W client (TreeScan from to most) is = absurd is
-keeps W client (FileNew name) is = absurd is
-keeps W client (FileWrite name off bytes) is = absurd is
-keeps W client (FileRead name off len) is = absurd is
-keeps W client (FileMove from to) is = absurd is
-keeps W client (FileDelete name) is = absurd is
-keeps W client (Release text) is = absurd is
-keeps W client (Takeover text) is = absurd is
-keeps W client (Await text) is = absurd is
-keeps W client (Group texts) is = absurd is
+keeps W client x is = absurd is
 
 pub live_kept : (W : World) (client : ℕ) (op : Op) → IsUpkeep op → (step W client op).1.live ≡ W.live
 live_kept W client op is = (keeps W client op is).live

@@ -87,9 +87,7 @@ fill_tells W t block bytes = access_tells W t block _ reply.Done _ refl
 
 marked_tells : (W : World) (t : Live) (span : Span) (fault : Option MarkError) → Tells (marked_step W t span fault)
 marked_tells W t span (Some mark.BadRange) = other _ _ refl
-marked_tells W t span (Some mark.NoAccess) = other _ _ refl
-marked_tells W t span (Some mark.TooManyMarks) = other _ _ refl
-marked_tells W t span None = other _ _ refl
+marked_tells W t span x = other _ _ refl
 
 mark_tells : (W : World) (t : Live) (off len : ℕ) → Tells (mark_step W t off len)
 unfolding mark_step
@@ -127,11 +125,7 @@ call_tells W t program refusal answer refused none =
 
 refused_tells : (e : StoreError) → tells_some (store_refusal e) ≡ false
 refused_tells store.BadKey = refl
-refused_tells store.BadValue = refl
-refused_tells (store.NoBlocks need free) = refl
-refused_tells (store.Broken block) = refl
-refused_tells (store.Tx error) = refl
-refused_tells store.Memory = refl
+refused_tells e = refl
 
 file_refused_tells : (e : FsError) → tells_some (file_refusal e) ≡ false
 file_refused_tells fs.BadName = refl

@@ -75,21 +75,15 @@ met_end i mid j bytes gave met = record {
 -- a line ends the run
 halt_count : (halt : Halt) (before now : ℕ) → now ≡ before → SourceCount (end_of halt) before now
 halt_count (halt.BadLine line) before now same = same
-halt_count halt.Disk before now same = same
-halt_count halt.Output before now same = same
-halt_count halt.Memory before now same = same
+halt_count h before now same = same
 
 halt_undone : (halt : Halt) → end_of halt ≡ end.Done → ⊥
 halt_undone (halt.BadLine line) e = cc
-halt_undone halt.Disk e = cc
-halt_undone halt.Output e = cc
-halt_undone halt.Memory e = cc
+halt_undone h e = cc
 
 halt_uninput : (halt : Halt) → end_of halt ≡ end.Input → ⊥
 halt_uninput (halt.BadLine line) e = cc
-halt_uninput halt.Disk e = cc
-halt_uninput halt.Output e = cc
-halt_uninput halt.Memory e = cc
+halt_uninput h e = cc
 
 module _ {stands : World → Type 0} {d e : DiskState} {k l : SinkState} (i j : SourceState) (W : World) (bytes : List ℕ) (gave : Gave i j bytes) (few : length bytes ≤ MAX_INPUT) where
   -- a line among the bytes taken ends the run

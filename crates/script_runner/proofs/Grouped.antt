@@ -16,10 +16,7 @@ within n m (k ∷ numbers) follow (inr later) = let rest = within n k numbers fo
 -- as many commits are made as are told
 made_count : (t : Live) (answer : GroupReply) (replies : List GroupReply) → length (numbers_told (answer ∷ replies)) ≡ length (made_by t answer) + length (numbers_told replies)
 made_count t (member.Committed number) replies = omega arith
-made_count t member.ReadOnly replies = omega arith
-made_count t (member.Conflict clash) replies = omega arith
-made_count t (member.Full need free) replies = omega arith
-made_count t member.Worn replies = omega arith
+made_count t x replies = omega arith
 
 decided_count : (W : World) (members : List Live) → 0 < W.history.first → last (decided W members).1.history ≡ last W.history + length (numbers_told (decided W members).0)
 decided_count W [] first = omega arith
@@ -45,10 +42,7 @@ told_first n answer replies is = subst (λ (a : GroupReply). IsOneOf n (numbers_
 
 told_later : (n : ℕ) (answer : GroupReply) (replies : List GroupReply) → IsOneOf n (numbers_told replies) → IsOneOf n (numbers_told (answer ∷ replies))
 told_later n (member.Committed number) replies one = inr one
-told_later n member.ReadOnly replies one = one
-told_later n (member.Conflict clash) replies one = one
-told_later n (member.Full need free) replies one = one
-told_later n member.Worn replies one = one
+told_later n x replies one = one
 
 told_to_labels : (n : ℕ) (found : List (Option Live)) (replies : List GroupReply) → IsAmongGrouped n (label_replies found replies) → IsOneOf n (numbers_told replies)
 told_to_labels n [] replies told = absurd told

@@ -16,11 +16,7 @@ wrote_nothing k mid l first one two = subst (λ (xs : List ℕ). Wrote k l xs) (
 
 pub replied_on : (end : RunEnd) (k mid l : SinkState) (first next : List ℕ) → Wrote k mid first → Replied end mid l [] next → Replied end k l first next
 replied_on Output k mid l first next one two = record { count = two.count; short = two.short; wrote = wrote_on k mid l first (take two.count next) one two.wrote }
-replied_on Done k mid l first next one two = wrote_nothing k mid l first one two
-replied_on (Bad line) k mid l first next one two = wrote_nothing k mid l first one two
-replied_on Disk k mid l first next one two = wrote_nothing k mid l first one two
-replied_on Input k mid l first next one two = wrote_nothing k mid l first one two
-replied_on Memory k mid l first next one two = wrote_nothing k mid l first one two
+replied_on x k mid l first next one two = wrote_nothing k mid l first one two
 
 -- an end that no line brings: neither the disk nor the sink failed
 abbrev pub IsQuiet : RunEnd → Type 0
@@ -29,29 +25,19 @@ IsQuiet Output = ⊥
 IsQuiet end = Unit {0}
 
 pub quiet_replies : (end : RunEnd) (k l : SinkState) (text next : List ℕ) → IsQuiet end → Wrote k l text → Replied end k l text next
-quiet_replies Done k l text next quiet wrote = wrote
-quiet_replies (Bad line) k l text next quiet wrote = wrote
-quiet_replies Input k l text next quiet wrote = wrote
-quiet_replies Memory k l text next quiet wrote = wrote
 quiet_replies Disk k l text next quiet wrote = absurd quiet
 quiet_replies Output k l text next quiet wrote = absurd quiet
+quiet_replies x k l text next quiet wrote = wrote
 
 -- what holds where the sink ended the run
 cut_on : (end : RunEnd) (P Q : Type 0) → (P → Q) → IfCut end P → IfCut end Q
 cut_on Output P Q on cut = on cut
-cut_on Done P Q on cut = tt
-cut_on (Bad line) P Q on cut = tt
-cut_on Disk P Q on cut = tt
-cut_on Input P Q on cut = tt
-cut_on Memory P Q on cut = tt
+cut_on x P Q on cut = tt
 
 quiet_cut : (end : RunEnd) (P : Type 0) → IsQuiet end → IfCut end P
-quiet_cut Done P quiet = tt
-quiet_cut (Bad line) P quiet = tt
-quiet_cut Input P quiet = tt
-quiet_cut Memory P quiet = tt
 quiet_cut Disk P quiet = absurd quiet
 quiet_cut Output P quiet = absurd quiet
+quiet_cut x P quiet = tt
 
 -- the text of one reply that was made
 pub made_is : (number : ℕ) (said : Line) (answer : Reply) (given set : List ℕ) → given ≡ set → set ≡ reply_line said.client answer → given ≡ text_of ((number, said) ∷ []) (answer ∷ [])

@@ -170,35 +170,22 @@ disk_on end before mid now same count = subst (λ n. DiskCount end n now) same c
 sink_on : (end : RunEnd) (k mid l : SinkState) → CountsStand k mid → SinkCounts end mid l → SinkCounts end k l
 sink_on Output k mid l same (inl failed) = inl (subst (λ n. Rose n l.faults) same.faults failed.0, failed.1 ∙ same.refusals)
 sink_on Output k mid l same (inr refused) = inr (subst (λ n. Rose n l.refusals) same.refusals refused.0, refused.1 ∙ same.faults)
-sink_on Done k mid l same counts = counts_on k mid l same counts
-sink_on (Bad line) k mid l same counts = counts_on k mid l same counts
-sink_on Disk k mid l same counts = counts_on k mid l same counts
-sink_on Input k mid l same counts = counts_on k mid l same counts
-sink_on Memory k mid l same counts = counts_on k mid l same counts
+sink_on x k mid l same counts = counts_on k mid l same counts
 
 quiet_disk : (end : RunEnd) (before now : ℕ) → IsQuiet end → now ≡ before → DiskCount end before now
-quiet_disk Done before now quiet same = same
-quiet_disk (Bad line) before now quiet same = same
-quiet_disk Input before now quiet same = same
-quiet_disk Memory before now quiet same = same
 quiet_disk Disk before now quiet same = absurd quiet
 quiet_disk Output before now quiet same = absurd quiet
+quiet_disk x before now quiet same = same
 
 quiet_sink : (end : RunEnd) (k l : SinkState) → IsQuiet end → CountsStand k l → SinkCounts end k l
-quiet_sink Done k l quiet same = same
-quiet_sink (Bad line) k l quiet same = same
-quiet_sink Input k l quiet same = same
-quiet_sink Memory k l quiet same = same
 quiet_sink Disk k l quiet same = absurd quiet
 quiet_sink Output k l quiet same = absurd quiet
+quiet_sink x k l quiet same = same
 
 if_up : (end : RunEnd) (P : Type 0) → P → IfUp end P
-if_up Done P is = is
-if_up (Bad line) P is = is
-if_up Input P is = is
 if_up Memory P is = tt
 if_up Disk P is = tt
-if_up Output P is = is
+if_up x P is = is
 
 -- a run between two others
 after_on : (W : World) (xs ys : List (ℕ × Line)) → IsWorld W → AreLines xs → AreLines ys → LeadsTo (after W xs) (after W (xs ++ ys))

@@ -5,35 +5,11 @@ use Rattle.script_text.proofs.Numerals.{IsWord, decimal_digits, decimal_word, he
 use Rattle.script_text.proofs.Spaces.{AreWords, spaced_printable, spaced_says, words_of-spaced}
 
 name_word : (op : Op) → IsWord (name_of op)
-name_word (Begin mode) = record { some = omega arith; bytes = refl }
-name_word End = record { some = omega arith; bytes = refl }
-name_word Abort = record { some = omega arith; bytes = refl }
 name_word (Put block off bytes) = record { some = omega arith; bytes = refl }
-name_word (Read block) = record { some = omega arith; bytes = refl }
-name_word (Get block off len) = record { some = omega arith; bytes = refl }
 name_word (Write block bytes) = record { some = omega arith; bytes = refl }
 name_word (Fill block bytes) = record { some = omega arith; bytes = refl }
-name_word (Mark off len) = record { some = omega arith; bytes = refl }
-name_word (Release label) = record { some = omega arith; bytes = refl }
-name_word (Takeover label) = record { some = omega arith; bytes = refl }
-name_word (Await label) = record { some = omega arith; bytes = refl }
-name_word (Group labels) = record { some = omega arith; bytes = refl }
-name_word Trim = record { some = omega arith; bytes = refl }
-name_word Stat = record { some = omega arith; bytes = refl }
-name_word Compact = record { some = omega arith; bytes = refl }
-name_word Upgrade = record { some = omega arith; bytes = refl }
-name_word (HashPut key value) = record { some = omega arith; bytes = refl }
-name_word (HashGet key) = record { some = omega arith; bytes = refl }
-name_word (HashDelete key) = record { some = omega arith; bytes = refl }
-name_word (TreePut key value) = record { some = omega arith; bytes = refl }
-name_word (TreeGet key) = record { some = omega arith; bytes = refl }
-name_word (TreeDelete key) = record { some = omega arith; bytes = refl }
-name_word (TreeScan from to most) = record { some = omega arith; bytes = refl }
-name_word (FileNew name) = record { some = omega arith; bytes = refl }
 name_word (FileWrite name off bytes) = record { some = omega arith; bytes = refl }
-name_word (FileRead name off len) = record { some = omega arith; bytes = refl }
-name_word (FileMove from to) = record { some = omega arith; bytes = refl }
-name_word (FileDelete name) = record { some = omega arith; bytes = refl }
+name_word x = record { some = omega arith; bytes = refl }
 
 dashed_word : (bytes : List ℕ) → AreBytes bytes → IsWord (dashed bytes)
 dashed_word [] are = record { some = omega arith; bytes = refl }
@@ -44,11 +20,8 @@ label_words [] are = tt
 label_words (label ∷ labels) are = (label_word label are.0, label_words labels are.1)
 
 arguments_words : (op : Op) → IsSayable op → AreWords (arguments_of op)
-arguments_words (Begin None) can = tt
 arguments_words (Begin (Some Serial)) can = (record { some = omega arith; bytes = refl }, tt)
 arguments_words (Begin (Some Snapshot)) can = (record { some = omega arith; bytes = refl }, tt)
-arguments_words End can = tt
-arguments_words Abort can = tt
 arguments_words (Put block off bytes) can = (decimal_word block can.0, (decimal_word off can.1, (hex_word bytes can.2, tt)))
 arguments_words (Read block) can = (decimal_word block can, tt)
 arguments_words (Get block off len) can = (decimal_word block can.0, (decimal_word off can.1, (decimal_word len can.2, tt)))
@@ -59,10 +32,6 @@ arguments_words (Release label) can = (label_word label can, tt)
 arguments_words (Takeover label) can = (label_word label can, tt)
 arguments_words (Await label) can = (label_word label can, tt)
 arguments_words (Group labels) can = label_words labels can.2
-arguments_words Trim can = tt
-arguments_words Stat can = tt
-arguments_words Compact can = tt
-arguments_words Upgrade can = tt
 arguments_words (HashPut key value) can = (dashed_word key can.0, (dashed_word value can.1, tt))
 arguments_words (HashGet key) can = (dashed_word key can, tt)
 arguments_words (HashDelete key) can = (dashed_word key can, tt)
@@ -75,6 +44,7 @@ arguments_words (FileWrite name off bytes) can = (dashed_word name can.0, (decim
 arguments_words (FileRead name off len) can = (dashed_word name can.0, (decimal_word off can.1, (decimal_word len can.2, tt)))
 arguments_words (FileMove from to) can = (dashed_word from can.0, (dashed_word to can.1, tt))
 arguments_words (FileDelete name) can = (dashed_word name can, tt)
+arguments_words x can = tt
 
 line_are_words : (line : Line) → IsLine line → AreWords (line_words line)
 line_are_words line is = (decimal_word line.client (omega (arith, is.last)), (name_word line.op, arguments_words line.op is.op))
@@ -145,11 +115,8 @@ file_read_printed name off len first small short =
 
 pub operation_of-printed : (op : Op) → IsSayable op → operation_of (name_of op) (arguments_of op) ≡ Ok op
 unfolding operation_of other_operation store_operation tree_operation file_operation
-operation_of-printed (Begin None) can = refl
 operation_of-printed (Begin (Some Serial)) can = refl
 operation_of-printed (Begin (Some Snapshot)) can = refl
-operation_of-printed End can = refl
-operation_of-printed Abort can = refl
 operation_of-printed (Put block off bytes) can = put_printed block off bytes can.0 can.1 can.2
 operation_of-printed (Read block) can = one_printed Read block can
 operation_of-printed (Get block off len) can = three_printed Get block off len can.0 can.1 can.2
@@ -160,10 +127,6 @@ operation_of-printed (Release label) can = label_printed Release label can
 operation_of-printed (Takeover label) can = label_printed Takeover label can
 operation_of-printed (Await label) can = label_printed Await label can
 operation_of-printed (Group labels) can = group_printed labels can.0 can.1 can.2
-operation_of-printed Trim can = refl
-operation_of-printed Stat can = refl
-operation_of-printed Compact can = refl
-operation_of-printed Upgrade can = refl
 operation_of-printed (HashPut key value) can = value_printed HashPut key value can.0 can.1
 operation_of-printed (HashGet key) can = key_printed HashGet key can
 operation_of-printed (HashDelete key) can = key_printed HashDelete key can
@@ -176,6 +139,7 @@ operation_of-printed (FileWrite name off bytes) can = file_written_printed name 
 operation_of-printed (FileRead name off len) can = file_read_printed name off len can.0 can.1 can.2
 operation_of-printed (FileMove from to) can = value_printed FileMove from to can.0 can.1
 operation_of-printed (FileDelete name) can = key_printed FileDelete name can
+operation_of-printed x can = refl
 
 client_fits : (c : ℕ) → 1 ≤ c → c ≤ 64 → client_in_range (Some c) ≡ Ok c
 client_fits c first last = grind arith

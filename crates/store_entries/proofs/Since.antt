@@ -114,10 +114,7 @@ all_made s t W H (e ∷ ends) of =
 
     by_reply : (r : GroupReply) → e.reply ≡ r → AllByRecursion (IsOf s t H) rest → AllByRecursion (IsOf s t H) (made_by tx r ++ rest)
     by_reply (member.Committed m) is all = (of [] ends e.number m e.accesses (λ i. record e { reply = is i } ∷ ends), all)
-    by_reply member.ReadOnly is all = all
-    by_reply (member.Conflict c) is all = all
-    by_reply (member.Full wanted free) is all = all
-    by_reply member.Worn is all = all
+    by_reply x is all = all
 
 module _ (s t : MapStore) (n : ℕ) where
   -- the history and the live transactions of a state are such
@@ -132,25 +129,13 @@ module _ (s t : MapStore) (n : ℕ) where
   by_end S k accesses (Conflict c) live of by = by_without s t n k S.world.history S.world.live by
 
   by_fault : (S : State) (c : Call) (now : ℕ) → IsByAt S → IsByAt (after_fault S c now)
-  by_fault S (call.Begin named) now by = by
-  by_fault S (call.Fetch k block) now by = by
   by_fault S (call.End k accesses) now by = by_without s t n k S.world.history S.world.live by
   by_fault S (call.EndGroup members) now by = by_left s t n S.world (txs_of S.world members) by
-  by_fault S call.Trim now by = by
-  by_fault S call.Compact now by = by
-  by_fault S call.Upgrade now by = by
-  by_fault S (call.Post k label accesses) now by = by
-  by_fault S (call.Recent k) now by = by
+  by_fault S x now by = by
 
   by_refusal : (S : State) (c : Call) (why : Cause) → IsByAt S → IsByAt (after_refusal S c why)
-  by_refusal S c cause.Down by = by
-  by_refusal S c cause.TooManyTx by = by
-  by_refusal S c (cause.LogFull need free) by = by
   by_refusal S c (cause.Disk before now) by = by_fault S c now by
-  by_refusal S c cause.Memory by = by
-  by_refusal S c cause.Worn by = by
-  by_refusal S c cause.ModeFixed by = by
-  by_refusal S c cause.LabelTaken by = by
+  by_refusal S c why by = by
 
   -- after a group whose commits are such
   by_group : (S : State) (ends : List MemberEnd) → AllByRecursion (IsOf s t S.world.history) (lost_commits S.world (members_of ends)) → IsByAt S → IsByAt (after S (entry.EndGroup ends))

@@ -42,11 +42,7 @@ pub record IsRefusal (r : Reply) : Type 0 where
 
 pub store_refused : (e : StoreError) → IsRefusal (store_refusal e)
 store_refused store.BadKey = record { put = refl; get = refl; del = refl; scan = refl }
-store_refused store.BadValue = record { put = refl; get = refl; del = refl; scan = refl }
-store_refused (store.NoBlocks need free) = record { put = refl; get = refl; del = refl; scan = refl }
-store_refused (store.Broken block) = record { put = refl; get = refl; del = refl; scan = refl }
-store_refused (store.Tx e) = record { put = refl; get = refl; del = refl; scan = refl }
-store_refused store.Memory = record { put = refl; get = refl; del = refl; scan = refl }
+store_refused e = record { put = refl; get = refl; del = refl; scan = refl }
 
 -- the answers
 pub got_told : (r : Option (List ℕ)) → get_answer (found_reply r) ≡ Some (Got r)

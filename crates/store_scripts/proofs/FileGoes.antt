@@ -17,15 +17,10 @@ record IsRefusal (r : Reply) : Type 0 where
   pub there : there_answer r ≡ None
 
 file_refused : (e : FsError) → IsRefusal (file_refusal e)
-file_refused fs.BadName = record { make = refl; read = refl; there = refl }
-file_refused fs.BadRange = record { make = refl; read = refl; there = refl }
-file_refused fs.Exists = record { make = refl; read = refl; there = refl }
-file_refused (fs.Store store.BadKey) = record { make = refl; read = refl; there = refl }
-file_refused (fs.Store store.BadValue) = record { make = refl; read = refl; there = refl }
 file_refused (fs.Store (store.NoBlocks need free)) = record { make = refl; read = refl; there = refl }
 file_refused (fs.Store (store.Broken block)) = record { make = refl; read = refl; there = refl }
 file_refused (fs.Store (store.Tx e)) = record { make = refl; read = refl; there = refl }
-file_refused (fs.Store store.Memory) = record { make = refl; read = refl; there = refl }
+file_refused e = record { make = refl; read = refl; there = refl }
 
 pub read_told : (r : Option (List ℕ)) → read_answer (found_reply r) ≡ Some (WasRead r)
 read_told None = refl

@@ -65,30 +65,12 @@ group_next texts W =
     ap (λ (x : List GroupReply × World). x.1.next) (group_is V members) ∙ left_next members (decided V members).1 ∙ decided_next members V ∙ looks_next texts W
 
 member_commit : (r : CoreReply) (k : ℕ) → member_reply r ≡ member.Committed k → r ≡ core.Committed k
-member_commit core.Done k is = cc
-member_commit (core.Began number) k is = cc
 member_commit (core.Committed number) k is = let same : number ≡ k = cc in ap core.Committed same
-member_commit core.ReadOnly k is = cc
-member_commit (core.Conflict clash) k is = cc
-member_commit (core.Compacted number) k is = cc
-member_commit (core.Upgraded number) k is = cc
-member_commit core.ModeFixed k is = cc
-member_commit core.TooManyTx k is = cc
-member_commit core.Worn k is = cc
-member_commit (core.LogFull need free) k is = cc
+member_commit x k is = cc
 
 core_commit : (r : CoreReply) (k : ℕ) → as_reply r ≡ reply.Committed k → member_reply r ≡ member.Committed k
-core_commit core.Done k is = cc
-core_commit (core.Began number) k is = cc
 core_commit (core.Committed number) k is = let same : number ≡ k = cc in ap member.Committed same
-core_commit core.ReadOnly k is = cc
-core_commit (core.Conflict clash) k is = cc
-core_commit (core.Compacted number) k is = cc
-core_commit (core.Upgraded number) k is = cc
-core_commit core.ModeFixed k is = cc
-core_commit core.TooManyTx k is = cc
-core_commit core.Worn k is = cc
-core_commit (core.LogFull need free) k is = cc
+core_commit x k is = cc
 
 module _ (S : SecondStore) (lawful : IsSecond S) where
   -- what is told of a transaction stays true where the history is longer
@@ -117,15 +99,7 @@ module _ (S : SecondStore) (lawful : IsSecond S) where
     member_goes : (notes : Notes S) (next : ℕ) (t : Live) (r : CoreReply) (V : World) → GoesTo notes next V → GoesTo notes next (after_member t (r, V))
     member_goes notes next t (core.LogFull need free) V to = leaving notes next V t to
     member_goes notes next t core.Worn V to = leaving notes next V t to
-    member_goes notes next t core.Done V to = to
-    member_goes notes next t (core.Began number) V to = to
-    member_goes notes next t (core.Committed number) V to = to
-    member_goes notes next t core.ReadOnly V to = to
-    member_goes notes next t (core.Conflict clash) V to = to
-    member_goes notes next t (core.Compacted number) V to = to
-    member_goes notes next t (core.Upgraded number) V to = to
-    member_goes notes next t core.ModeFixed V to = to
-    member_goes notes next t core.TooManyTx V to = to
+    member_goes notes next t x V to = to
 
     member_noted : (W : World) (notes : Notes S) (is : IsNoted S Q n W notes) (t : Live) → IsLive W t → IsKept S Q n W.geometry W.history notes t
         → ((k : ℕ) → member_reply (end_step W t).0 ≡ member.Committed k → Q → IsTrue (notes t.number).kept) → IsNoted S Q n (after_member t (end_step W t)) notes

@@ -28,28 +28,7 @@ no_mark (TreePut key value) r over count calls = refl
 no_mark (TreeGet key) r over count calls = refl
 no_mark (TreeDelete key) r over count calls = refl
 no_mark (TreeScan from to most) r over count calls = refl
-no_mark (Begin mode) r over count calls = absurd calls
-no_mark End r over count calls = absurd calls
-no_mark Abort r over count calls = absurd calls
-no_mark (Put block off bytes) r over count calls = absurd calls
-no_mark (Read block) r over count calls = absurd calls
-no_mark (Get block off len) r over count calls = absurd calls
-no_mark (Write block bytes) r over count calls = absurd calls
-no_mark (Fill block bytes) r over count calls = absurd calls
-no_mark (Mark off len) r over count calls = absurd calls
-no_mark (Release text) r over count calls = absurd calls
-no_mark (Takeover text) r over count calls = absurd calls
-no_mark (Await text) r over count calls = absurd calls
-no_mark (Group texts) r over count calls = absurd calls
-no_mark Trim r over count calls = absurd calls
-no_mark Stat r over count calls = absurd calls
-no_mark Compact r over count calls = absurd calls
-no_mark Upgrade r over count calls = absurd calls
-no_mark (FileNew name) r over count calls = absurd calls
-no_mark (FileWrite name off bytes) r over count calls = absurd calls
-no_mark (FileRead name off len) r over count calls = absurd calls
-no_mark (FileMove from to) r over count calls = absurd calls
-no_mark (FileDelete name) r over count calls = absurd calls
+no_mark x r over count calls = absurd calls
 
 both_pass : (k x y : Bool) → x ≡ true → y ≡ true → (k && x && y) ≡ k
 both_pass true true true one two = refl
@@ -178,28 +157,7 @@ module _ (S : SecondStore) (lawful : IsSecond S) where
     step_passes (TreeGet key) calls = spares_in W c (TreeGet key) (attached W c) (λ u. tree_get_step W u key) t found (tree_get_passes key)
     step_passes (TreeDelete key) calls = spares_in W c (TreeDelete key) (attached W c) (λ u. tree_delete_step W u key) t found (tree_delete_passes key)
     step_passes (TreeScan from to most) calls = spares_in W c (TreeScan from to most) (attached W c) (λ u. tree_scan_step W u from to most) t found (tree_scan_passes from to most)
-    step_passes (Begin mode) calls = absurd calls
-    step_passes End calls = absurd calls
-    step_passes Abort calls = absurd calls
-    step_passes (Put block off bytes) calls = absurd calls
-    step_passes (Read block) calls = absurd calls
-    step_passes (Get block off len) calls = absurd calls
-    step_passes (Write block bytes) calls = absurd calls
-    step_passes (Fill block bytes) calls = absurd calls
-    step_passes (Mark off len) calls = absurd calls
-    step_passes (Release text) calls = absurd calls
-    step_passes (Takeover text) calls = absurd calls
-    step_passes (Await text) calls = absurd calls
-    step_passes (Group texts) calls = absurd calls
-    step_passes Trim calls = absurd calls
-    step_passes Stat calls = absurd calls
-    step_passes Compact calls = absurd calls
-    step_passes Upgrade calls = absurd calls
-    step_passes (FileNew name) calls = absurd calls
-    step_passes (FileWrite name off bytes) calls = absurd calls
-    step_passes (FileRead name off len) calls = absurd calls
-    step_passes (FileMove from to) calls = absurd calls
-    step_passes (FileDelete name) calls = absurd calls
+    step_passes x calls = absurd calls
 
     read_passes : (name : List ℕ) (off len : ℕ) → list_all (spares_stores S W.geometry) (drop (length t.accesses) (accesses_or_none (attached (step W c (FileRead name off len)).1 c))) ≡ true
     unfolding step file_read_step
