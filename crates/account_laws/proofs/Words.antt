@@ -1,11 +1,11 @@
 -- The words that the proofs of this crate cite from elsewhere.
-pub use Rattle.std.proofs.Common.{Bool, Equal, Greater, IfSome, IsTrue, Less, List, None, Option, Ordering, Some, T, ap, append_assoc, arith, cond, false, inl, inr, is_eq, is_lt, length, length-append, nat_le, nat_lt, not, refl, slice_get, subst, suc, sym, true, zero, ℕ, [], ◌&&◌, ◌++◌, ◌+◌, ◌-◌, ◌<◌, ◌==◌, ◌∙◌, ◌∷◌, ◌≡◌, ◌≢◌, ◌≤◌, ◌⊎◌}
-pub use Rattle.std.proofs.lemmas.Bool.{and_parts, cases_lt}
+pub use Rattle.std.proofs.Common.{Bool, Equal, Greater, IfSome, Less, List, None, Option, Ordering, Some, T, ap, append_assoc, arith, cond, false, inl, inr, is_eq, is_lt, length, length-append, nat_le, nat_lt, not, refl, slice_get, subst, suc, sym, true, zero, ℕ, [], ◌&&◌, ◌++◌, ◌+◌, ◌-◌, ◌<◌, ◌==◌, ◌∙◌, ◌∷◌, ◌≡◌, ◌≢◌, ◌≤◌, ◌⊎◌}
+pub use Rattle.std.proofs.lemmas.Bool.{cases_lt}
 pub use Rattle.std.proofs.lemmas.Cmp.{nat_list_cmp_total}
 pub use Rattle.std.proofs.lemmas.List.{append-nil}
 pub use Rattle.std.proofs.lemmas.List.Sums.{sum_by-cons}
 pub use Rattle.std.specs.Cmp.Lexicographic.{slice_cmp}
-pub use Rattle.std.specs.FinMap.{empty, entries, entries-insert, entries_sorted, get, get-empty, get-entries, get-insert, insert, len, len-empty, len-entries}
+pub use Rattle.std.specs.FinMap.{empty, entries, entries-insert, entries_sorted, get, get-empty, get-entries, get-insert, insert, len-empty, len-entries}
 pub use Rattle.std.specs.FinMap.Entries.{below_all, by_order, find, is_sorted, put}
 pub use Rattle.std.specs.List.{AllByRecursion, sum_by}
 pub use Rattle.std.specs.Ordering.{eq_by_cmp, nat_cmp}
@@ -47,7 +47,7 @@ pub use Rattle.iso_shared.specs.declared.entry.Member.{Member}
 pub use Rattle.iso_shared.specs.declared.entry.MemberEnd.{MemberEnd}
 pub use Rattle.store_laws.proofs.TwoStores.{both_commits}
 pub use Rattle.store_laws.specs.Both.{AreMixed, BothInOrder, IsByBoth, IsOfBoth, firsts}
-pub use Rattle.store_laws.specs.Calls.{Get, Got, KeyCall, Put, StoreAnswer, WasPut, key_act}
+pub use Rattle.store_laws.specs.Calls.{Get, Got, KeyCall, Put, StoreAnswer, WasPut}
 pub use Rattle.store_laws.specs.Parts.{answers_in, calls_in, run}
 pub use Rattle.store_model.specs.HashRegion.{Pairs}
 pub use Rattle.store_scripts.proofs.Blocks.{hash_blocks, tree_blocks}
@@ -59,5 +59,5 @@ pub use Rattle.store_entries.proofs.Listed.{stores_answer_at}
 pub use Rattle.store_entries.proofs.Since.{live_is}
 pub use Rattle.store_entries.specs.InOrder.{AreCallsInOrderAt, CommitsAreByCalls, StoresAreWell, commit_at, commits_as, world_at}
 pub use Rattle.account_laws.specs.Lists.{AreOfAccounts, IsOfAccountsAt, KeepsSumAt, KeepsSumIn, KeepsSumSince, OpensWithSum, commits_by}
-pub use Rattle.account_laws.specs.Sums.{Accounts, AreOpen, HasFirst, KeepsSum, amount, amount_in, sum_of, total}
+pub use Rattle.account_laws.specs.Sums.{Accounts, HasFirst, KeepsSum, amount, amount_in, sum_of, total}
 pub use Rattle.account_laws.specs.Transactions.{CommitsAccounts, IsOfAccounts, IsOpening, IsTransfer, opening_answers, opening_calls}

@@ -1,5 +1,5 @@
 -- The words that the proofs of this crate cite from elsewhere.
-pub use Rattle.std.proofs.Common.{Bool, Err, IfSome, IsTrue, List, None, Ok, Option, Result, Some, ap, append-nil, append_assoc, arith, cond, eq-eqb, eqb-true, false, inl, inr, length, length-append, lt_of_le_of_lt, map, option_map, refl, subst, suc, sym, true, zero, ℕ, [], ◌++◌, ◌+◌, ◌-◌, ◌<◌, ◌==◌, ◌∙◌, ◌∷◌, ◌≡◌, ◌≢◌, ◌≤◌, ◌⊎◌}
+pub use Rattle.std.proofs.Common.{Bool, Err, IfSome, List, None, Ok, Option, Result, Some, ap, append-nil, append_assoc, arith, cond, eq-eqb, eqb-true, false, inl, inr, length, length-append, lt_of_le_of_lt, option_map, refl, subst, suc, sym, true, zero, ℕ, [], ◌++◌, ◌+◌, ◌-◌, ◌<◌, ◌==◌, ◌∙◌, ◌∷◌, ◌≡◌, ◌≢◌, ◌≤◌, ◌⊎◌}
 pub use Rattle.std.proofs.lemmas.Bool.{cases_lt}
 pub use Rattle.std.proofs.lemmas.List.{ext_get_or}
 pub use Rattle.std.proofs.lemmas.Nat.{from_be_bytes-to_be_bytes_8}
@@ -34,7 +34,6 @@ pub use Rattle.store_laws.proofs.BothGrowth.{first_called}
 pub use Rattle.store_laws.proofs.KeyCalls.{got_local, put_local}
 pub use Rattle.store_laws.proofs.Programs.{spare_where_apart}
 pub use Rattle.store_laws.specs.Both.{AreMixed, First, firsts}
-pub use Rattle.store_laws.specs.BothStores.{StorePart}
 pub use Rattle.store_laws.specs.Calls.{Get, Got, KeyCall, Put, StoreAnswer, WasPut, key_act}
 pub use Rattle.store_laws.specs.Growing.{IsMadeOfBoth}
 pub use Rattle.store_laws.specs.Hash.{hash_store}
@@ -95,5 +94,5 @@ pub use Rattle.iso_disk.specs.Disk.{DiskState}
 pub use Rattle.accounts.specs.Ends.{BeginsWithSum, SumStays}
 pub use Rattle.accounts.specs.Jobs.{planned}
 pub use Rattle.accounts.specs.Kept.{AreGiven, Covers, HasStore, IsFilled, IsGiven, IsHeld, IsKept, IsReady, IsWhole, OfCalls, OwnFilled, Stays, given_units}
-pub use Rattle.accounts.specs.Made.{Adds, Does, Further, IsPut, IsTaken, IsTakenFor, SameBlocks, calls_of, opening_of}
+pub use Rattle.accounts.specs.Made.{Adds, Does, IsPut, IsTaken, IsTakenFor, SameBlocks, calls_of, opening_of}
 pub use Rattle.accounts.specs.declared.account.Account.{Account}

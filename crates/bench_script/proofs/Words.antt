@@ -56,7 +56,7 @@ pub use Rattle.script_runner.proofs.Feeds.{no_feed-cons, no_feed-nil}
 pub use Rattle.script_runner.proofs.Fronts.{script-line}
 pub use Rattle.script_runner.specs.Replies.{AreSameButShown, text_of}
 pub use Rattle.script_runner.specs.Run.{HasNoFeed}
-pub use Rattle.script_runner.specs.Told.{ArePlain, IsPlain, SameButShown}
+pub use Rattle.script_runner.specs.Told.{ArePlain, SameButShown}
 pub use Rattle.script_text.proofs.Numerals.{IsWord, decimal_word, hex_word}
 pub use Rattle.script_text.proofs.Readings.{parse-printed}
 pub use Rattle.script_text.proofs.Spaces.{AreWords, spaced_printable}

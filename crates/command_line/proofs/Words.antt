@@ -21,7 +21,6 @@ unfoldable pub use Rattle.iso_model.specs.Geometry.{is_valid}
 pub use Rattle.iso_model.specs.Labels.{is_digit}
 pub use Rattle.iso_model.specs.declared.access.Geometry.{Geometry}
 pub use Rattle.iso_model.specs.declared.access.Mode.{Mode}
-pub use Rattle.iso_model.specs.declared.access.Mode.TheVariants.{Serial, Snapshot}
 pub use Rattle.script_model.specs.Text.{is_decimal, mode_of, value_of}
 unfoldable pub use Rattle.script_model.specs.Text.{number_of, words_of}
 pub use Rattle.script_text.proofs.WordLemmas.{is_decimal-by_all}

@@ -1,5 +1,5 @@
 -- The words that the proofs of this crate cite from elsewhere.
-pub use Rattle.std.proofs.Common.{Err, List, None, Ok, OnOk, Option, Result, Some, ap, arith, false, inl, length, map, option_map, refl, subst, suc, sym, unwrap_or, ℕ, [], ◌*◌, ◌++◌, ◌+◌, ◌<◌, ◌∙◌, ◌∷◌, ◌≡◌, ◌≤◌}
+pub use Rattle.std.proofs.Common.{Err, List, None, Ok, OnOk, Option, Result, Some, ap, arith, false, inl, length, map, option_map, refl, subst, sym, unwrap_or, ℕ, [], ◌*◌, ◌++◌, ◌+◌, ◌<◌, ◌∙◌, ◌∷◌, ◌≡◌, ◌≤◌}
 pub use Rattle.std.proofs.lemmas.List.{ext_get_or, length_push}
 pub use Rattle.std.proofs.lemmas.List.FromFn.{get_or-map-range_with_len, length-map-range_with_len}
 pub use Rattle.std.specs.List.{range_with_len}
@@ -30,7 +30,6 @@ pub use Rattle.iso_model.specs.World.{Live, World}
 pub use Rattle.iso_model.specs.declared.access.Access.{Access}
 pub use Rattle.iso_model.specs.declared.access.Geometry.{Geometry}
 pub use Rattle.iso_model.specs.declared.access.MarkError.{MarkError}
-pub use Rattle.iso_model.specs.declared.access.Span.{Span}
 pub use Rattle.mv_index.specs.Shown.{byte_in}
 pub use Rattle.mv_index.specs.Versions.{upto, versions_in}
 pub use Rattle.mv_index.specs.declared.version.Version.{Version}

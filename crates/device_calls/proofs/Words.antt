@@ -1,5 +1,5 @@
 -- The words that the proofs of this crate cite from elsewhere.
-pub use Rattle.std.proofs.Common.{Bool, Err, IfErr, IfSome, None, Ok, OnErr, Option, Result, Some, ap, arith, false, refl, subst, sym, ℕ, ◌+◌, ◌∙◌, ◌≡◌, ◌≢◌, ◌≤◌, ◌⊎◌}
+pub use Rattle.std.proofs.Common.{Bool, Err, IfErr, IfSome, Ok, OnErr, Option, Result, Some, ap, arith, false, refl, subst, sym, ℕ, ◌∙◌, ◌≡◌}
 pub use Rattle.iso_core.specs.contracts.core_itself.Core.{the_row}
 pub use Rattle.iso_disk.specs.declared.disk.Disk.{Ghosts}
 pub use Rattle.iso_model.proofs.Bounds.{limits}

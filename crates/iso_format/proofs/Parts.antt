@@ -1,5 +1,5 @@
 -- The record of parts that lie in an image is short.
-use Rattle.iso_format.proofs.Words.{◌≡◌, ℕ, zero, suc, take, ◌+◌, ◌*◌, ◌^◌, ◌<◌, ◌≤◌, ◌==◌, inl, inr, List, [], ◌∷◌, length, get_or, flat_map, IsTrue, nat_le, arith, refl, mul-le-mul_right, leb-true, eqb-true, or_cases, and_parts, length-append, sum_by-cons, sum_by_more_le, list_any, list_all, Geometry, Run, record_length, is_valid, is_block_size, IsRun, AreRuns, ComesAfter, body_length, part, spell, LieInAnImage}
+use Rattle.iso_format.proofs.Words.{◌≡◌, ℕ, zero, suc, ◌+◌, ◌*◌, ◌^◌, ◌<◌, ◌≤◌, ◌==◌, inl, inr, List, [], ◌∷◌, length, get_or, flat_map, IsTrue, nat_le, arith, refl, mul-le-mul_right, leb-true, eqb-true, or_cases, and_parts, length-append, sum_by-cons, list_any, list_all, Geometry, Run, record_length, is_valid, is_block_size, IsRun, AreRuns, ComesAfter, body_length, part, spell, LieInAnImage}
 
 is_le : (a b : ℕ) → IsTrue (nat_le a b) → a ≤ b
 is_le a b h = leb-true a b h

@@ -1,6 +1,6 @@
 -- The words that the proofs of this crate cite from elsewhere.
 pub use Rattle.std.proofs.Common.{Bool, Err, IfOk, IsTrue, List, None, Ok, Option, Result, Some, ap, append_assoc, arith, cond, drop, eq-eqb, false, get_or, inl, inr, length, length-append, map, nat_le, ne_eqb, not, option_map, refl, replicate, set, subst, suc, sym, take, true, zero, ℕ, [], ◌%◌, ◌&&◌, ◌*◌, ◌++◌, ◌+◌, ◌-◌, ◌/◌, ◌<◌, ◌==◌, ◌^◌, ◌||◌, ◌↔◌, ◌∙◌, ◌∷◌, ◌≡◌, ◌≢◌, ◌≤◌, ◌⊎◌}
-pub use Rattle.std.proofs.Math.Nat.{add-mul-div_right, div-eq_of_lt, div-lt_iff_lt-mul, div-mul-le_self, mod-lt, mul-le-mul_right}
+pub use Rattle.std.proofs.Math.Nat.{div-eq_of_lt, div-lt_iff_lt-mul, div-mul-le_self, mod-lt, mul-le-mul_right}
 pub use Rattle.std.proofs.Math.Seq.{take-set-lt}
 pub use Rattle.std.proofs.lemmas.Bool.{and_from, and_parts, both_ways, cases_Bool, cases_eq, cases_lt, false≢true, leb-true, ltb-true, or_left, or_right}
 pub use Rattle.std.proofs.lemmas.Bool.Decides.{nat_tests}
@@ -12,7 +12,7 @@ pub use Rattle.std.proofs.lemmas.Slice.Eq.{bytes_eq-Decides}
 pub use Rattle.std.specs.Cmp.Lexicographic.{nat_list_cmp_total, slice_cmp}
 pub use Rattle.std.specs.FinMap.{entries, get, get-entries, get-from_entries, get-insert, get-remove, insert, nat_cmp-IsAntisymmetric, remove, same_map, slice_cmp-IsAntisymmetric}
 pub use Rattle.std.specs.Int.{from_be_bytes, to_be_bytes, w32}
-pub use Rattle.std.specs.List.{AllByRecursion, filter, flat_map, list_all, range_with_len}
+pub use Rattle.std.specs.List.{filter, flat_map, list_all, range_with_len}
 pub use Rattle.std.specs.Option.{ForSome}
 pub use Rattle.std.specs.Ordering.{eq_by_cmp, nat_cmp}
 pub use Rattle.std.specs.Prelude.{IfErr, OnOk, is_some, nat_lt, slice_index}
@@ -44,7 +44,7 @@ pub use Rattle.iso_tree.proofs.Scanning.{then_assoc}
 pub use Rattle.iso_tree.proofs.Taking.{AreTaken, taken_are, up_apart}
 pub use Rattle.iso_tree.proofs.TreeBlocks.{map_new, region_new}
 pub use Rattle.iso_tree.proofs.TreeWrites.{del_program_stores, put_program_stores}
-pub use Rattle.iso_tree.specs.FirstBlock.{Up, first_access}
+pub use Rattle.iso_tree.specs.FirstBlock.{Up}
 pub use Rattle.iso_tree.specs.Rows.{AreBlocks}
 pub use Rattle.iso_tree.specs.Walks.{TakesNoBlocks}
 pub use Rattle.store_model.proofs.Laying.{length-laid_at}
@@ -76,9 +76,9 @@ pub use Rattle.tx_blocks.proofs.Outcomes.{outcome_whole}
 pub use Rattle.tx_blocks.proofs.Parts.{cut_from, ends_from, read_join, stopped_from}
 pub use Rattle.tx_blocks.proofs.Programs.{AreWhole, IsCorrect, accesses_then, answer_then, local_from, own_reads, reads_append, whole_reads}
 pub use Rattle.tx_blocks.proofs.Progress.{HasAccess, IsAt, at_join, at_look, at_look_whole, at_start, at_store, at_then, own_append, ran_at, stopped_at, stopped_then, whole_run}
-pub use Rattle.tx_blocks.proofs.Refusals.{cause_earlier, cause_since, cut_at_look, cut_at_store, cut_then, later_same, later_than, read_blocks, read_more, read_none, read_same, read_size, store_cause}
+pub use Rattle.tx_blocks.proofs.Refusals.{cause_earlier, cause_since, cut_at_look, cut_at_store, cut_then, later_same, later_than, read_more, read_none, read_same, store_cause}
 pub use Rattle.tx_blocks.proofs.Storing.{kept_outside}
 pub use Rattle.tx_blocks.specs.Runs.{AreBytesOf, HasEnded, HasRead, IsCause, IsLocalCall, IsStoreCause, Passed, Ran}
 pub use Rattle.tx_blocks.specs.Tx.{Device, IsLater, IsTx, Tx, room_of, with_accesses}
-pub use Rattle.iso_fs.specs.Ends.{ExistsWhere, FsBehaves, HasAnswered, HasArea, HasRun, IsFsCause, IsOfTx, IsPart, IsUnwritten, areas_of, may_follow}
-pub use Rattle.iso_fs.specs.Finds.{ArePlaces, Found, drop_name, find_program, found_as, found_file, got_as, on_found, with_dropped, with_taken}
+pub use Rattle.iso_fs.specs.Ends.{ExistsWhere, FsBehaves, HasAnswered, HasArea, HasRun, IsFsCause, IsPart, IsUnwritten, areas_of, may_follow}
+pub use Rattle.iso_fs.specs.Finds.{ArePlaces, Found, drop_name, find_program, found_file, on_found, with_dropped, with_taken}

@@ -10,7 +10,6 @@ pub use Rattle.std.specs.Int.{from_be_bytes, to_be_bytes, w32, w64}
 pub use Rattle.std.specs.List.{slice_range}
 pub use Rattle.std.specs.Option.{ForSome, IfSome}
 pub use Rattle.commit_gate.specs.Gate.{HasBody, IsClosed}
-pub use Rattle.iso_disk.proofs.Bytes.{torn_same}
 pub use Rattle.iso_disk.proofs.Images.{length-contents, length-image}
 pub use Rattle.iso_disk.proofs.Moments.{at_end, joined, joined_unwritten, weakened}
 pub use Rattle.iso_disk.specs.Disk.{DiskState, IsLawful, LeavesOnly, TornFrom, spliced}

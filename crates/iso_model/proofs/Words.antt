@@ -11,7 +11,6 @@ pub use Rattle.std.proofs.lemmas.List.Sums.{sum_by-append, sum_by-cons, sum_by-t
 pub use Rattle.std.proofs.lemmas.Nat.{from_be_bytes-to_be_bytes_2, from_be_bytes-to_be_bytes_4, from_be_bytes-to_be_bytes_8}
 pub use Rattle.std.proofs.lemmas.Option.{IfSome_then, none-some, same_Some}
 pub use Rattle.std.proofs.lemmas.Slice.Eq.{bytes_eq-Decides}
-pub use Rattle.std.specs.Fmt.{digits}
 pub use Rattle.std.specs.Int.{from_be_bytes, to_be_bytes, w16, w32, w64}
 pub use Rattle.std.specs.List.{AllByRecursion, flat_map, list_all, list_any, range_with_len}
 pub use Rattle.std.specs.Prelude.{codes, slice_index_or}

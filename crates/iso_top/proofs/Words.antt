@@ -1,12 +1,11 @@
 -- The words that the proofs of this crate cite from elsewhere.
 pub use Rattle.std.proofs.Common.{Bool, Err, IfOk, IfSome, IsErrOf, IsSome, IsTrue, List, None, Ok, Option, Result, Some, ap, append-nil, arith, cond, false, filter, inl, inr, length, length-append, refl, subst, suc, sym, take, true, ℕ, [], ⊎_elim, ◌*◌, ◌++◌, ◌+◌, ◌-◌, ◌==◌, ◌||◌, ◌∙◌, ◌∷◌, ◌≡◌, ◌≢◌, ◌≤◌, ◌⊎◌}
 pub use Rattle.std.proofs.Math.Seq.{take-append-add}
-pub use Rattle.std.proofs.lemmas.List.{take-append-le}
 pub use Rattle.std.proofs.lemmas.Option.{same_Some}
 pub use Rattle.std.specs.Io.KnownBytes.{append_known}
 pub use Rattle.std.specs.List.{AllByRecursion, list_any}
 pub use Rattle.std.specs.Option.{ForSome}
-pub use Rattle.std.specs.Prelude.{codes, option_map, replicate}
+pub use Rattle.std.specs.Prelude.{codes, option_map}
 pub use Rattle.array_digest.specs.declared.digest.DigestError.{DigestError}
 pub use Rattle.bench_script.specs.Ends.{DigestedState, DrawnState, digested_state, drawn_state}
 pub use Rattle.bench_script.specs.Rounds.{one_places}

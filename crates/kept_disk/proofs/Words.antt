@@ -3,9 +3,9 @@ pub use Rattle.std.proofs.Common.{Bool, List, None, Option, Some, ap, arith, con
 pub use Rattle.std.proofs.Math.Nat.{mod-add-div, mod-lt}
 pub use Rattle.std.proofs.Math.Seq.{take-add, take-length}
 pub use Rattle.std.proofs.lemmas.Bool.{cases_eq, cases_lt, ne_eqb}
-pub use Rattle.std.proofs.lemmas.List.{drop-append-le, drop-drop, drop-take, drop_all, get_or-set_other, get_or-set_same, length-append, length-set, length-take, length-take-le, set-get_or, take-append-le, take-take, take_all, take_at, take_min}
+pub use Rattle.std.proofs.lemmas.List.{drop-append-le, drop-drop, drop-take, drop_all, get_or-set_other, get_or-set_same, length-set, length-take, length-take-le, take-append-le, take-take, take_all, take_at, take_min}
 pub use Rattle.std.proofs.lemmas.List.Sums.{sum_by-set}
-pub use Rattle.std.proofs.lemmas.Option.{same_Some, slice_get-get_or, slice_get_within}
+pub use Rattle.std.proofs.lemmas.Option.{same_Some}
 pub use Rattle.std.proofs.lemmas.Result.{on_ok_weaker}
 pub use Rattle.std.proofs.lemmas.Slice.{put_mid-paste}
 pub use Rattle.std.specs.List.{slice_get}
@@ -14,5 +14,5 @@ pub use Rattle.iso_disk.proofs.Bytes.{drop-torn, length-spliced, slice-torn, spl
 pub use Rattle.iso_disk.proofs.Images.{length-contents}
 pub use Rattle.iso_disk.specs.Disk.{DiskState, Elapses, Torn, spliced}
 pub use borrow.Rule.Slice.PartMut.{put_mid}
-pub use Rattle.kept_disk.specs.Pages.{AreLaid, Covers, HasPage, HoldsNone, HoldsRange, IsHeld, Stand, from_of, page_of}
+pub use Rattle.kept_disk.specs.Pages.{AreLaid, Covers, HasPage, HoldsRange, IsHeld, Stand, from_of, page_of}
 pub use Rattle.kept_disk.specs.declared.pages.Pages.{Pages}

@@ -78,7 +78,7 @@ pub use Rattle.store_scripts.proofs.TreeGoes.{tree_goes}
 pub use Rattle.store_scripts.specs.Answers.{Answered}
 pub use Rattle.store_scripts.specs.Kept.{IsToldOf, ToldByMap, ToldInOrder}
 pub use Rattle.store_scripts.specs.Stores.{SecondStore, image_hash, second_store, the_files, the_tree}
-pub use Rattle.store_scripts.specs.Told.{Notes, Told, noted, nothing_told, spares_calls, spares_stores, told_by, told_more}
+pub use Rattle.store_scripts.specs.Told.{Notes, Told, nothing_told, spares_calls, spares_stores, told_by, told_more}
 pub use Rattle.turn_lock.specs.Lists.{RisesFrom}
 pub use Rattle.tx_blocks.proofs.Progress.{own_append}
 pub use Rattle.par_calls.specs.InOrder.{CallsAnswer, CommitsInOrder, CommitsKeep, EachBare, EachCommit, LinesTellCalls, OfCommits, OfReads, ReadsByMap, WhereBare, WhereCommitted}

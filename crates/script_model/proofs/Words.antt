@@ -1,5 +1,5 @@
 -- The words that the proofs of this crate cite from elsewhere.
-pub use Rattle.std.proofs.Common.{Bool, Err, IfSome, IsSome, IsTrue, List, Ok, Option, Result, ap, arith, cond, drop, false, filter, inl, inr, length, nat_le, nat_lt, not, ok_or, slice_index, subst, suc, sym, take, true, zero, ℕ, ◌%◌, ◌&&◌, ◌+◌, ◌/◌, ◌<◌, ◌==◌, ◌^◌, ◌||◌, ◌∙◌, ◌≢◌, ◌≤◌, ◌⊎◌}
+pub use Rattle.std.proofs.Common.{Bool, Err, IsSome, IsTrue, List, Ok, Option, Result, ap, arith, cond, drop, false, filter, inl, inr, length, nat_le, nat_lt, not, ok_or, slice_index, subst, suc, take, true, zero, ℕ, ◌%◌, ◌&&◌, ◌+◌, ◌/◌, ◌<◌, ◌==◌, ◌^◌, ◌||◌, ◌∙◌, ◌≢◌, ◌≤◌, ◌⊎◌}
 pub use Rattle.std.proofs.Math.Nat.{div-lt_iff_lt-mul, div-mul-le_self, mod-lt}
 pub use Rattle.std.proofs.lemmas.Bool.{and_parts, cases_lt, eqb-false, eqb-true, le-leb, leb-false, leb-true, lt-ltb, ltb-false, ltb-true, not-false, or_parts}
 pub use Rattle.std.proofs.lemmas.Bool.Decides.{nat_tests}
@@ -24,7 +24,6 @@ pub use Rattle.iso_model.proofs.Recorded.{array_shape, own_shape, put_values}
 pub use Rattle.iso_model.proofs.Worlds.{accesses_are, all_append, chosen, leads_on, leaves, live_at, live_on, places, stays, switch_leads, trim_leads}
 pub use Rattle.iso_model.specs.Array.{Array, zeros}
 unfoldable pub use Rattle.iso_model.specs.Array.{put}
-pub use Rattle.iso_model.specs.Conflict.{first_from}
 unfoldable pub use Rattle.iso_model.specs.Conflict.{clash}
 unfoldable pub use Rattle.iso_model.specs.Effect.{runs}
 pub use Rattle.iso_model.specs.Geometry.{is_serial, is_valid}
@@ -37,8 +36,8 @@ pub use Rattle.iso_model.specs.Premises.{AreBytes, HasShape, IsAccess, IsSpan, b
 pub use Rattle.iso_model.specs.Step.{after_leaving, after_switch, get_access, mode_named, placed, put_access, read_access, shown_to, write_access}
 unfoldable pub use Rattle.iso_model.specs.Step.{begin_step, commit_step, end_step, switch_step}
 unfoldable pub use Rattle.iso_model.specs.Versions.{versions}
-pub use Rattle.iso_model.specs.World.{Live, Place, World, attached, client, empty_history, floor, fresh, held, is_under_label, label, unattached, with}
-pub use Rattle.iso_model.specs.Worlds.{AreApart, IsLive, IsPlace, IsWorld, LeadsTo}
+pub use Rattle.iso_model.specs.World.{Live, Place, World, attached, client, empty_history, floor, fresh, held, is_under_label, label, unattached}
+pub use Rattle.iso_model.specs.Worlds.{AreApart, IsLive, IsWorld, LeadsTo}
 pub use Rattle.iso_model.specs.declared.access.Access.{Access}
 pub use Rattle.iso_model.specs.declared.access.Geometry.{Geometry}
 pub use Rattle.iso_model.specs.declared.access.MarkError.{MarkError}
@@ -68,7 +67,6 @@ unfoldable pub use Rattle.store_model.specs.TreeCalls.{scan_program}
 pub use Rattle.store_model.specs.TreeNodes.{cell_of, is_child, is_head}
 unfoldable pub use Rattle.store_model.specs.TreeNodes.{is_node}
 pub use Rattle.store_model.specs.declared.files.FileAreas.{FileAreas}
-pub use Rattle.store_model.specs.declared.files.FsError.{FsError}
 pub use Rattle.store_model.specs.declared.stores.Area.{Area}
 pub use Rattle.store_model.specs.declared.stores.StoreError.{StoreError}
 pub use Rattle.store_model.specs.declared.stores.StoreError.TheVariants.{BadKey, Broken, NoBlocks}

@@ -85,4 +85,4 @@ pub use Rattle.script_runner.specs.Run.{Acknowledges, Answered, AreFirst, AreLin
 pub use Rattle.script_runner.specs.Told.{ArePlain, IfTold, IsPlain, SameButShown, StandsSo}
 pub use Rattle.script_runner.specs.declared.run_end.Halt.{Halt}
 pub use Rattle.script_runner.specs.declared.run_end.RunEnd.{RunEnd}
-pub use Rattle.script_runner.specs.declared.run_end.RunEnd.TheVariants.{BadLine as Bad, Disk, Done, Input, Memory, Output}
+pub use Rattle.script_runner.specs.declared.run_end.RunEnd.TheVariants.{Disk, Done, Memory, Output}

@@ -29,7 +29,7 @@ pub use Rattle.script_model.specs.Text.{before_piece, dashed, digit_of, hex_digi
 unfoldable pub use Rattle.script_model.specs.Text.{hex_of, label_text, number_of, reply_text, words_of}
 pub use Rattle.script_model.specs.declared.script.Line.{Line}
 pub use Rattle.script_model.specs.declared.script.Op.{Op}
-pub use Rattle.script_model.specs.declared.script.Op.TheVariants.{Abort, Await, Begin, Compact, End, FileDelete, FileMove, FileNew, FileRead, FileWrite, Fill, Get, Group, HashDelete, HashGet, HashPut, Mark, Put, Read, Release, Stat, Takeover, TreeDelete, TreeGet, TreePut, TreeScan, Trim, Upgrade, Write}
+pub use Rattle.script_model.specs.declared.script.Op.TheVariants.{Await, Begin, FileDelete, FileMove, FileNew, FileRead, FileWrite, Fill, Get, Group, HashDelete, HashGet, HashPut, Mark, Put, Read, Release, Takeover, TreeDelete, TreeGet, TreePut, TreeScan, Write}
 pub use Rattle.script_model.specs.declared.script.Parsed.{Parsed}
 pub use Rattle.script_model.specs.declared.script.Parsed.TheVariants.{Line as Says}
 pub use Rattle.script_model.specs.declared.script.Reply.{Reply}

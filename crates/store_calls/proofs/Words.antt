@@ -23,12 +23,10 @@ pub use Rattle.store_model.specs.HashCalls.{del_program, get_program, is_key, pu
 pub use Rattle.store_model.specs.Stores.{Done, Program, outcome}
 pub use Rattle.store_model.specs.TreeCalls.{Scanned, scan_below, with_head}
 unfoldable pub use Rattle.store_model.specs.TreeCalls.{scan_program}
-pub use Rattle.store_model.specs.declared.files.FileAreas.{FileAreas}
 pub use Rattle.store_model.specs.declared.files.FsError.{FsError}
-pub use Rattle.store_model.specs.declared.files.FsRegion.{FsRegion}
 pub use Rattle.store_model.specs.declared.stores.Area.{Area}
 pub use Rattle.store_model.specs.declared.stores.StoreError.{StoreError}
 pub use Rattle.store_model.specs.declared.stores.StoreError.TheVariants.{BadKey}
 pub use Rattle.tx_blocks.specs.Runs.{Began, Ends, HasEnded, IsStoreCause, Passed, Ran, WantsMemory, area_of}
 pub use Rattle.tx_blocks.specs.Tx.{Device, Tx, room_of, with_accesses}
-pub use Rattle.store_calls.specs.Calls.{AreStoreAreas, HasCalled, Stops, file_refusal_of, filed, placed, refusal_of, replied, store_areas, store_blocks, stored}
+pub use Rattle.store_calls.specs.Calls.{AreStoreAreas, HasCalled, Stops, file_refusal_of, filed, refusal_of, replied, store_areas, store_blocks, stored}

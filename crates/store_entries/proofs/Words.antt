@@ -13,7 +13,7 @@ pub use Rattle.iso_model.specs.Effect.{has_write, own}
 pub use Rattle.iso_model.specs.Group.{ahead, decided, leave_all, made_by, member_reply}
 pub use Rattle.iso_model.specs.History.{History, array_at, last, with_commits}
 pub use Rattle.iso_model.specs.Premises.{appended}
-pub use Rattle.iso_model.specs.Step.{after_commit, after_leaving, commit_from, need}
+pub use Rattle.iso_model.specs.Step.{after_commit, after_leaving, need}
 unfoldable pub use Rattle.iso_model.specs.Step.{commit_step, end_step}
 pub use Rattle.iso_model.specs.World.{Live, World, used, without}
 pub use Rattle.iso_model.specs.Worlds.{Extends, IsWorld}

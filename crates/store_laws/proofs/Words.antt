@@ -9,7 +9,7 @@ pub use Rattle.std.proofs.lemmas.Slice.Eq.{bytes_eq-Decides}
 pub use Rattle.std.specs.Cmp.Lexicographic.{nat_list_cmp_total, slice_cmp}
 pub use Rattle.std.specs.FinMap.{empty, entries, entries-insert, from_entries, get, get-empty, get-insert, insert, nat_cmp-IsAntisymmetric, same_map, slice_cmp-IsAntisymmetric}
 pub use Rattle.std.specs.Int.{bit_at, from_be_bytes, w32}
-pub use Rattle.std.specs.List.{AllByRecursion, filter, flat_map, list_all, range_with_len}
+pub use Rattle.std.specs.List.{filter, flat_map, list_all, range_with_len}
 pub use Rattle.std.specs.Ordering.{nat_cmp}
 pub use Rattle.std.specs.Prelude.{nat_lt}
 pub use Rattle.iso_hash.proofs.Chains.{head_of, next_in}
@@ -34,7 +34,6 @@ pub use Rattle.iso_model.specs.declared.access.Kind.TheVariants.{Read, Write}
 pub use Rattle.iso_model.specs.declared.access.Mode.{Mode}
 pub use Rattle.iso_model.specs.declared.access.Mode.TheVariants.{Serial, Snapshot}
 pub use Rattle.iso_model.specs.declared.access.Span.{Span}
-pub use Rattle.iso_tree.proofs.Facts.{child_below, head_parts}
 pub use Rattle.iso_tree.proofs.Frames.{piece_zero}
 pub use Rattle.iso_tree.proofs.Gets.{get_reads}
 pub use Rattle.iso_tree.proofs.Ranges.{all_append}
@@ -47,22 +46,22 @@ pub use Rattle.store_model.proofs.HashAccesses.{first_below, hash_area_is}
 pub use Rattle.store_model.proofs.TreeAccesses.{tree_area_is}
 pub use Rattle.store_model.specs.Areas.{hash_area, tree_area}
 pub use Rattle.store_model.specs.Areas.{in_area}
-pub use Rattle.store_model.specs.Cells.{are_key_parts, cell_count, cell_with, is_part, is_unused, is_zero, key_mark, keys_end, keys_mark, unused_cell, value_mark, value_part, word_at}
+pub use Rattle.store_model.specs.Cells.{are_key_parts, cell_count, cell_with, is_part, is_unused, is_zero, key_mark, keys_end, keys_mark, unused_cell, value_mark, word_at}
 pub use Rattle.store_model.specs.FileCalls.{Call, at_file, create_at, create_new, create_op, goes_on, in_tree, is_many, read_op, read_program, remove_file, remove_op, remove_writes, rename_found, rename_free, rename_op, with_new, write_op, write_pieces, write_sized, write_to}
 unfoldable pub use Rattle.store_model.specs.FileCalls.{create_program, remove_program, rename_program, write_program}
 pub use Rattle.store_model.specs.FileNodes.{blocks_for, bytes_of, data_count, entries_of, entry_at, is_file, is_handed, is_number, most_bytes, number_of}
 pub use Rattle.store_model.specs.FileRegion.{AreFileAreas, AreFileRegions, Uses, content, files, number_at}
 pub use Rattle.store_model.specs.FreeMap.{bit_place, free_count, lowest_free, map_bit}
-pub use Rattle.store_model.specs.HashCalls.{AtBroken, AtCell, AtEnd, Walked, at_cell, del_at, got, is_key, is_spent, is_value, put_at, put_new, spare_in, spot_in, walk_from}
+pub use Rattle.store_model.specs.HashCalls.{AtBroken, AtCell, AtEnd, Walked, at_cell, del_at, got, is_key, is_spent, put_at, put_new, spare_in, spot_in, walk_from}
 unfoldable pub use Rattle.store_model.specs.HashCalls.{del_program, get_program, put_program, walk}
 pub use Rattle.store_model.specs.HashRegion.{AreLinked, IsHashArea, IsHashRegion, IsIn, IsOverflow, Pairs, Stands, bucket_of, bucket_pairs, buckets, chain, chain_from, del_op, get_op, last_position, next_of, pairs_from, put_op, view_of}
 unfoldable pub use Rattle.store_model.specs.HashRegion.{hash_map, is_linked}
 pub use Rattle.store_model.specs.Stores.{Agree, AreReads, Done, IsLocal, Look, LookWhole, Program, Reserve, SameShape, Store, accesses_of, answer_of, bytes_in, depends, further_bytes, look_access, store_access, then_do}
-pub use Rattle.store_model.specs.TreeCalls.{AtLeaf, Climb, Descent, climb, climb_on, del_below, descend, first_write, free_list, full_row, look_again, placed, put_below_root, put_writes, scan_program, store_nodes, with_head, with_map}
-pub use Rattle.store_model.specs.TreeNodes.{Cell, cell_of, child_of, child_part, count_of, head_mark, is_child, is_head, is_node, used_cells}
+pub use Rattle.store_model.specs.TreeCalls.{free_list, scan_program}
+pub use Rattle.store_model.specs.TreeNodes.{head_mark, is_head}
 pub use Rattle.store_model.specs.TreeRegion.{IsTreeArea, IsTreeRegion, cells_in, is_within, level_of, root_of, scan_op, tree_nodes}
 unfoldable pub use Rattle.store_model.specs.TreeRegion.{tree_map}
-pub use Rattle.store_model.specs.Trees.{IsApart, fit, halves, nodes_in, pairs_in, tree_at}
+pub use Rattle.store_model.specs.Trees.{IsApart, nodes_in, pairs_in, tree_at}
 pub use Rattle.store_model.specs.declared.files.FileAreas.{FileAreas}
 pub use Rattle.store_model.specs.declared.stores.Area.{Area}
 pub use Rattle.store_model.specs.declared.stores.Region.{Region}

@@ -1,5 +1,5 @@
 -- The calls of the file store, each as a program of calls of the tree store and of its own reads and writes.
-use Rattle.std.specs.Prelude.{ℕ, zero, suc, ◌+◌, ◌-◌, ◌*◌, ◌/◌, ◌%◌, Bool, true, false, ◌&&◌, ◌==◌, cond, List, [], ◌∷◌, ◌++◌, Option, Some, None, Result, Ok, Err, nat_le, nat_lt, is_some, length, slice_index, take, drop, map}
+use Rattle.std.specs.Prelude.{ℕ, zero, suc, ◌+◌, ◌-◌, ◌/◌, ◌%◌, Bool, true, false, ◌&&◌, cond, List, [], ◌∷◌, ◌++◌, Option, Some, None, Result, Ok, Err, nat_le, nat_lt, is_some, length, slice_index, take, drop, map}
 use Rattle.std.specs.FinMap.{get, insert, remove}
 use Rattle.std.specs.Int.{w32, to_be_bytes}
 use Rattle.iso_model.specs.declared.access.Span.{Span}

@@ -1,5 +1,5 @@
 -- The bytes of a file block, which names the data blocks of a file.
-use Rattle.std.specs.Prelude.{ℕ, ◌+◌, ◌-◌, ◌*◌, ◌/◌, ◌%◌, Bool, ◌&&◌, ◌==◌, cond, List, [], ◌∷◌, ◌++◌, slice_index, nat_le, nat_lt, drop, length, map, replicate}
+use Rattle.std.specs.Prelude.{ℕ, ◌+◌, ◌-◌, ◌*◌, ◌/◌, ◌%◌, Bool, ◌&&◌, ◌==◌, cond, List, ◌∷◌, ◌++◌, slice_index, nat_le, nat_lt, drop, length, map, replicate}
 use Rattle.std.specs.List.{list_all, flat_map, range_with_len}
 use Rattle.std.specs.Int.{w32, to_be_bytes, from_be_bytes}
 use Rattle.iso_model.specs.declared.access.Span.{Span}

@@ -108,8 +108,8 @@ pub use Rattle.iso_fs.proofs.FileReads.{read_local, read_reads}
 pub use Rattle.iso_fs.proofs.RemoveCalls.{remove_local}
 pub use Rattle.iso_fs.proofs.RenameCalls.{rename_local}
 pub use Rattle.iso_fs.proofs.WriteWhole.{write_local}
-pub use Rattle.store_scripts.specs.Answers.{Answered, CallsStore, OfHash, OfSecond, answered, del_answer, file_answered, get_answer, make_answer, put_answer, read_answer, scan_answer, there_answer}
+pub use Rattle.store_scripts.specs.Answers.{Answered, CallsStore, OfHash, OfSecond, answered, del_answer, get_answer, make_answer, put_answer, read_answer, scan_answer, there_answer}
 pub use Rattle.store_scripts.specs.InOrder.{AnswersWith, FilesAnswer, StoresAnswer}
 pub use Rattle.store_scripts.specs.Kept.{BeginsWell, IsToldOf, ToldByMap, ToldInOrder}
-pub use Rattle.store_scripts.specs.Stores.{IfAny, SecondStore, image_files, image_hash, image_tree, pairs_if_any, second_store, the_files, the_tree}
+pub use Rattle.store_scripts.specs.Stores.{IfAny, SecondStore, image_hash, pairs_if_any, second_store, the_files, the_tree}
 pub use Rattle.store_scripts.specs.Told.{CommitKeeps, CommitsKeep, EndsAs, IsEndedAs, Notes, Told, accesses_or_none, no_notes, noted, notes_after, nothing_told, spares_calls, spares_stores, told_by, told_more, with_call}
