@@ -126,4 +126,3 @@ reads_after t u v before mid now (Err e) read later passed is = record {
   passed = tt;
   is_open = tt;
 }
-

@@ -25,4 +25,3 @@ place_goes_on key keys j i n p below so not =
     let same : i + 1 - 1 ≡ i = omega arith in
     ap (λ (m : ℕ). place_from key keys m (i + 1) (n - (i + 1))) same
     ∙ sym (place_step key keys j i n below ∙ ap (λ t. cond t j (place_from key keys i (i + 1) (n - (i + 1)))) not) ∙ so
-

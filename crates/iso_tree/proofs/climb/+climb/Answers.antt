@@ -82,14 +82,12 @@ climb-requires g t c κs within =
     let shorter : length c.args.path.now ≡ suc (length c.in-Some.rest.now) = ap length c.in-Some.ensures.some in
     let least : length c.args.path.now ≤ 255 = let l = c.requires.level in omega arith in
     let short : length c.row_key-separator.result.now ≤ 28 = omega (arith, ap length k_is, key_fits a.size b c.place_in-place.result new (subst (λ (x : List ℕ). are_key_parts a.size (take (keys_end a.size) x) ≡ true) (sym c.piece-bytes.ensures.value) usable.parts) c.requires.new_key c.place_in-place.ensures.most ((c.in-Some.count + 1) / 2) (let few = usable.few in omega arith)) in
-    (omega (arith, shorter, c.decreases), (search rules, (c.requires.area, (c.requires.block_size, (after.size ∙ c.requires.size, (omega (arith, c.requires.fits, after.blocks), (after.is_open ∙ c.requires.is_open,
-    (short, (ap length c.child_part-new_part.ensures, (omega (arith, shorter, c.requires.level),
-    (rest_inside a c.args.key.now c.args.level new c.args.below c.in-Some.block c.in-Some.count c.args.i c.in-Some.rest.now c.args.path.now c.args.nodes.now c.args.news.now c.in-Some.ensures.some c.requires.usable c.requires.path,
-    ((path_room c.args.area.size c.args.i (length c.args.nodes.now) c.in-Some.block c.in-Some.count c.in-Some.rest.now c.args.path.now c.in-Some.ensures.some c.requires.nodes).1,
-    (c.requires.short, (rest_usable a c.args.key.now c.args.level new c.args.below c.in-Some.block c.in-Some.count c.args.i c.in-Some.rest.now c.args.path.now c.args.nodes.now c.args.news.now c.in-Some.ensures.some c.requires.usable,
-    (more_inside a c.args.key.now c.args.level new c.args.below c.in-Some.block c.in-Some.count c.args.i c.in-Some.rest.now c.args.path.now c.args.nodes.now c.args.news.now c.in-Some.ensures.some c.requires.usable full r c.in-Some-first_new-2.more.now c.in-Some-first_new-2.ensures.some c.place_in-place.result row2 two c.requires.news,
-    (rest_enough a c.args.key.now c.args.level new c.args.below c.in-Some.block c.in-Some.count c.args.i c.in-Some.rest.now c.args.path.now c.args.nodes.now c.args.news.now c.in-Some.ensures.some c.requires.usable full r c.in-Some-first_new-2.more.now c.in-Some-first_new-2.ensures.some c.place_in-place.result row2 two c.requires.enough,
-    (omega (arith, ap length writes, c.requires.room, after.room), c.store_halves.auto.into ∙ c.requires.into)))))))))))))))))
+    let inside = rest_inside a c.args.key.now c.args.level new c.args.below c.in-Some.block c.in-Some.count c.args.i c.in-Some.rest.now c.args.path.now c.args.nodes.now c.args.news.now c.in-Some.ensures.some c.requires.usable c.requires.path in
+    let space = (path_room c.args.area.size c.args.i (length c.args.nodes.now) c.in-Some.block c.in-Some.count c.in-Some.rest.now c.args.path.now c.in-Some.ensures.some c.requires.nodes).1 in
+    let others = rest_usable a c.args.key.now c.args.level new c.args.below c.in-Some.block c.in-Some.count c.args.i c.in-Some.rest.now c.args.path.now c.args.nodes.now c.args.news.now c.in-Some.ensures.some c.requires.usable in
+    let more = more_inside a c.args.key.now c.args.level new c.args.below c.in-Some.block c.in-Some.count c.args.i c.in-Some.rest.now c.args.path.now c.args.nodes.now c.args.news.now c.in-Some.ensures.some c.requires.usable full r c.in-Some-first_new-2.more.now c.in-Some-first_new-2.ensures.some c.place_in-place.result row2 two c.requires.news in
+    let enough = rest_enough a c.args.key.now c.args.level new c.args.below c.in-Some.block c.in-Some.count c.args.i c.in-Some.rest.now c.args.path.now c.args.nodes.now c.args.news.now c.in-Some.ensures.some c.requires.usable full r c.in-Some-first_new-2.more.now c.in-Some-first_new-2.ensures.some c.place_in-place.result row2 two c.requires.enough in
+    (omega (arith, shorter, c.decreases), (search rules, (c.requires.area, (c.requires.block_size, (after.size ∙ c.requires.size, (omega (arith, c.requires.fits, after.blocks), (after.is_open ∙ c.requires.is_open, (short, (ap length c.child_part-new_part.ensures, (omega (arith, shorter, c.requires.level), (inside, (space, (c.requires.short, (others, (more, (enough, (omega (arith, ap length writes, c.requires.room, after.room), c.store_halves.auto.into ∙ c.requires.into)))))))))))))))))
 
 pub returns-clause-run : goal.returns-clause-run
 returns-clause-run g t c =
