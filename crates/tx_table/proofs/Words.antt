@@ -4,7 +4,7 @@ pub use Rattle.std.proofs.Math.Bool.{or-false}
 pub use Rattle.std.proofs.Math.Nat.{min-eq_left}
 pub use Rattle.std.proofs.lemmas.Bool.{both_ways, cases_eq, cases_lt, ltb-false, ltb-true}
 pub use Rattle.std.proofs.lemmas.Grind.{common_steps}
-pub use Rattle.std.proofs.lemmas.List.{get_or-drop, get_or_default, length-replicate, take-append-drop, take-map, take_all}
+pub use Rattle.std.proofs.lemmas.List.{get_or-drop, get_or_default, length-map, length-replicate, length_push, map_push, take-append-drop, take-append-le, take-map, take_all}
 pub use Rattle.std.proofs.lemmas.List.Elements.{All-append}
 pub use Rattle.std.proofs.lemmas.List.Folds.{list_any-append, list_any_more}
 pub use Rattle.std.proofs.lemmas.List.Sorted.{All-permutation, IsPartitionPoint-from_clause, IsPartitionedBy-ltb, list_any-IsPermutation}
@@ -17,6 +17,7 @@ pub use Rattle.byte_marks.specs.Marks.{has}
 pub use Rattle.byte_marks.specs.Touched.{AreTouched, touches}
 pub use Rattle.byte_marks.specs.declared.extent.Extent.{Extent}
 pub use Rattle.indexmap.proofs.CallerLemmas.{insert_entry-new}
+pub use Rattle.iso_model.proofs.Growth.{all_push}
 pub use Rattle.iso_model.proofs.Labels.{key_tells}
 pub use Rattle.iso_model.specs.Array.{Array, covered, in_span}
 pub use Rattle.iso_model.specs.Effect.{block_runs, covers, effect_at, effects_from, has_write, is_write, or_else, own, runs_from, same_kind}
