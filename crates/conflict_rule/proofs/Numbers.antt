@@ -1,5 +1,5 @@
 -- Notes whose numbers rise.
-use Rattle.conflict_rule.proofs.Words.{◌≡◌, ◌≢◌, ◌∙◌, refl, sym, ap, subst, ℕ, zero, suc, ◌+◌, ◌<◌, ◌≤◌, Bool, true, false, ◌==◌, cond, nat_lt, inl, inr, List, [], ◌∷◌, ◌++◌, length, get_or, take, drop, arith, ne_eqb, Option, Some, None, leb, cases_eq, cases_lt, lt-ltb, le-ltb, common_steps, nat_tests, Extent, Note, above, note_of, RisesFrom}
+use Rattle.conflict_rule.proofs.Words.{◌≡◌, ◌≢◌, ◌∙◌, refl, sym, ap, subst, ℕ, zero, suc, ◌+◌, ◌<◌, ◌≤◌, Bool, true, false, ◌==◌, cond, nat_lt, inl, inr, List, [], ◌∷◌, ◌++◌, length, get_or, take, drop, arith, ne_eqb, Option, Some, None, cases_eq, cases_lt, lt-ltb, le-ltb, common_steps, Extent, Note, above, note_of, RisesFrom}
 
 -- they rise from any earlier number on too
 pub rises_earlier : (f g : ℕ) (notes : List Note) → f ≤ g → RisesFrom g notes → RisesFrom f notes
@@ -96,12 +96,6 @@ note_above n number (x ∷ notes) lt = elim (cases_lt n x.0) [
       let other : (x.0 == number) ≡ false = ne_eqb x.0 number (λ e. omega arith) in
       rw (here, other) (note_above n number notes lt))
 ]
-
-pub from_leb : (a b : ℕ) → leb a b ≡ true → a ≤ b
-from_leb a b is = grind (arith, nat_tests)
-
-pub from_not_leb : (a b : ℕ) → leb a b ≡ false → b < a
-from_not_leb a b is = grind (arith, nat_tests)
 
 -- either way they rise
 pub rises_either : (t : Bool) (xs ys zs : List Note) → zs ≡ cond t xs ys → RisesFrom 0 xs → RisesFrom 0 ys → RisesFrom 0 zs

@@ -8,7 +8,8 @@ all_dropped P zero xs all = all
 all_dropped P (suc n) [] all = all
 all_dropped P (suc n) (x ∷ xs) all = all_dropped P n xs all.1
 
-numbers_from : (g : Geometry) (m : ℕ) (notes : List Note) (commits : List Commit) → AreNotes g m notes commits → (k : ℕ) (d : Note) → k < length notes → (slice_index_or notes k d).0 + 1 ≤ m + length commits
+-- notes of so many commits have such numbers
+pub numbers_from : (g : Geometry) (m : ℕ) (notes : List Note) (commits : List Commit) → AreNotes g m notes commits → (k : ℕ) (d : Note) → k < length notes → (slice_index_or notes k d).0 + 1 ≤ m + length commits
 numbers_from g m [] commits are k d below = absurd (omega arith)
 numbers_from g m (note ∷ notes) [] are k d below = absurd are
 numbers_from g m (note ∷ notes) (c ∷ commits) are zero d below = omega (arith, are.0)

@@ -1,5 +1,5 @@
 -- A member of a group, after those before it.
-use Rattle.iso_core.proofs.Words.{◌≡◌, ◌≢◌, ◌∙◌, sym, refl, ap, ℕ, zero, suc, ◌+◌, ◌-◌, ◌<◌, ◌≤◌, Bool, true, false, cond, List, [], ◌∷◌, ◌++◌, length, map, take, drop, arith, subst, None, Option, sum_by, append-nil, slice_index_or, Result, Ok, Err, OnOk, transport, AllByRecursion, append_assoc, length-append, take-append-le, take_all, drop-append-le, drop_all, drop-take, map-append, length-map, sum_by-append, sum_by-cons, AreTouched, AreNotes, AreNotesAfter, Bytes, IsAsked, up_to, Note, above, notes_appended, notes_rise, all_above, LieInAnImage, records-append, Access, Clash, Commit, Geometry, Read, Write, Mode, Run, LAST, CoreReply, clash, clash_from, first_after, has_write, record_length, runs, History, last, Written, kind_of, records, spell, written, AreAccesses, commit_step, end_step, need, commit_from, World, Live, logged_commits, used, IsWorld, limits, are_runs, length-records, sum_by-map, commit_is_record, runs_where_write, Doing, PartSpan, GroupReply, GroupEnd, Kept, Plan, Staged, IsCheckedOf, IsTx, AreNextRecords, IsSettledOf, MayCommit, written_of, ahead, decided, made_by, member_reply, with_first, IsOf, AreEach, AreStaged, HasPlanned, IfCommits, IsAhead, IsNextStaged, IsReady, all_parts, is_commit, parts_of, stays_ahead}
+use Rattle.iso_core.proofs.Words.{◌≡◌, ◌≢◌, ◌∙◌, sym, refl, ap, ℕ, suc, ◌+◌, ◌-◌, ◌<◌, ◌≤◌, Bool, true, false, cond, List, [], ◌∷◌, ◌++◌, length, map, take, drop, arith, subst, None, Option, sum_by, append-nil, transport, AllByRecursion, append_assoc, length-append, take-append-le, take_all, drop-append-le, drop_all, drop-take, map-append, length-map, sum_by-append, sum_by-cons, AreTouched, AreNotes, AreNotesAfter, Bytes, IsAsked, up_to, Note, above, notes_appended, notes_rise, all_above, LieInAnImage, records-append, Access, Clash, Commit, Geometry, Read, Write, Mode, Run, LAST, CoreReply, clash, clash_from, first_after, has_write, record_length, runs, History, last, Written, kind_of, records, spell, written, AreAccesses, commit_step, end_step, need, commit_from, World, Live, logged_commits, used, IsWorld, limits, are_runs, length-records, sum_by-map, commit_is_record, runs_where_write, Doing, PartSpan, GroupReply, GroupEnd, Kept, Plan, Staged, IsCheckedOf, IsTx, AreNextRecords, IsSettledOf, MayCommit, written_of, ahead, decided, made_by, member_reply, with_first, IsOf, AreEach, AreStaged, HasPlanned, IfCommits, IsAhead, IsNextStaged, IsReady, all_parts, is_commit, parts_of, stays_ahead}
 use Rattle.iso_model.specs.declared.core_reply.CoreReply.TheVariants as reply
 use Rattle.iso_model.specs.declared.access.GroupReply.TheVariants as member
 use Rattle.iso_core.proofs.Decides.{asked}
@@ -217,15 +217,6 @@ module _ (kept : Kept) (W : World) (more : List Commit) (plan : Plan) (of : IsOf
         parts = parts ∙ (λ i. is.parts i ++ next.parts i) ∙ sym (parts_push W.geometry more (commit_from t));
       }
 
--- the notes so far have lower numbers
-pub numbers_before : (g : Geometry) (m : ℕ) (notes : List Note) (commits : List Commit) → AreNotes g m notes commits → (k : ℕ) (d : Note) → k < length notes → (slice_index_or notes k d).0 + 1 ≤ m + length commits
-numbers_before g m [] commits are k d below = absurd (omega arith)
-numbers_before g m (note ∷ notes) [] are k d below = absurd are
-numbers_before g m (note ∷ notes) (c ∷ commits) are zero d below = omega (arith, are.0)
-numbers_before g m (note ∷ notes) (c ∷ commits) are (suc k) d below =
-    let low = numbers_before g (m + 1) notes commits are.2 k d (omega arith) in
-    omega (arith, low)
-
 -- a work of a member is one of the world with the commits ahead
 pub settled_ahead : (W : World) (more : List Commit) (t : Live) (work : Doing) → IsSettledOf W t work → IsSettledOf (ahead W more) t work
 settled_ahead W more t work s = record {
@@ -272,10 +263,6 @@ makes_one t member.ReadOnly is = cc is
 makes_one t (member.Conflict c) is = cc is
 makes_one t (member.Full needs free) is = cc is
 makes_one t member.Worn is = cc is
-
-pub on_ok : {A E P Q : Type 0} (r : Result A E) → (P → Q) → OnOk r P → OnOk r Q
-on_ok (Ok x) f p = f p
-on_ok (Err e) f p = p
 
 -- the first of the members, and the others
 pub record FirstReady (W : World) (m : GroupEnd) (rest : List GroupEnd) (members : List Live) : Type 0 where

@@ -17,7 +17,6 @@ pub mod Endings
 pub mod Fetches
 pub mod Openings
 pub mod Switches
-pub mod Refills
 pub mod Plans
 pub mod Judging
 pub mod Staging

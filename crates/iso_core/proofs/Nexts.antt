@@ -3,9 +3,9 @@ use Rattle.iso_core.proofs.Words.{◌≡◌, ◌∙◌, sym, ap, ℕ, ◌+◌, �
 use Rattle.std.proofs.Common.{length-append}
 use Rattle.iso_core.proofs.Numbers.{last_is, log_last}
 
-pub next_is : (kept : Kept) (W : World) (more : List Written) → IsOf kept W → AreNextRecords W more kept.buffer.records → (bytes : List ℕ) → bytes ≡ kept.buffer.records ++ 0 ∷ []
-    → IsNext kept.log W.geometry more bytes
-next_is kept W more of next bytes is =
+-- records that follow what is kept, with a closed gate behind them
+pub next_all : (kept : Kept) (W : World) (more : List Written) (all : List ℕ) → IsOf kept W → AreNextRecords W more all → (bytes : List ℕ) → bytes ≡ all ++ 0 ∷ [] → IsNext kept.log W.geometry more bytes
+next_all kept W more all of next bytes is =
     let number : kept.log.last ≡ last W.history = log_last kept W of.world of.keeps in
     record {
       some = next.some;

@@ -1,5 +1,5 @@
 -- Memory for the commits of a plan.
-use Rattle.iso_core.proofs.Words.{◌≡◌, ◌∙◌, inl, inr, nat_lt, sym, refl, ap, ℕ, ◌+◌, ◌^◌, ◌<◌, ◌≤◌, ◌==◌, cond, List, [], ◌∷◌, ◌++◌, length, sum_by, arith, AllByRecursion, cases_lt, le-ltb, lt-ltb, length-append, length-map, sum_by-IsPermutation, sum_by-cons, Commit, Geometry, Run, record_length, runs, written, limits, are_runs, World, used, IsWorld, BlockVersions, PartSpan, HasRoom, part_of, parts_in, parts_below, Plan, ahead, IsAhead, all_parts, parts_of}
+use Rattle.iso_core.proofs.Words.{◌≡◌, ◌∙◌, inl, inr, nat_lt, sym, refl, ap, ℕ, ◌+◌, ◌^◌, ◌<◌, ◌≤◌, ◌==◌, cond, List, [], ◌∷◌, length, sum_by, arith, AllByRecursion, cases_lt, le-ltb, lt-ltb, length-append, length-map, sum_by-IsPermutation, sum_by-cons, Commit, Geometry, Run, record_length, runs, written, limits, are_runs, World, used, IsWorld, BlockVersions, PartSpan, HasRoom, part_of, parts_in, parts_below, Plan, ahead, IsAhead, all_parts, parts_of, all_append}
 use Rattle.std.specs.List.Sorted.{IsPermutation}
 use Rattle.iso_core.proofs.Judging.{used_ahead}
 
@@ -9,14 +9,10 @@ room_sorted xs ys index same room b =
     let count : parts_in b ys ≡ parts_in b xs = sum_by-IsPermutation (λ (part : PartSpan). cond (part.block == b) 1 0) xs ys same in
     omega (arith, count, room b)
 
-all_both : {X : Type 0} (P : X → Type 0) (xs ys : List X) → AllByRecursion P xs → AllByRecursion P ys → AllByRecursion P (xs ++ ys)
-all_both P [] ys first second = second
-all_both P (x ∷ xs) ys first second = (first.0, all_both P xs ys first.1 second)
-
 -- the parts of all records lie in the array
 pub all_below : (g : Geometry) (commits : List Commit) → AllByRecursion (λ (part : PartSpan). part.block < g.blocks) (all_parts g commits)
 all_below g [] = tt
-all_below g (c ∷ commits) = all_both (λ (part : PartSpan). part.block < g.blocks) (parts_of g c) (all_parts g commits) (parts_below g (runs g c.accesses) (are_runs g c.accesses)) (all_below g commits)
+all_below g (c ∷ commits) = all_append (λ (part : PartSpan). part.block < g.blocks) (parts_of g c) (all_parts g commits) (parts_below g (runs g c.accesses) (are_runs g c.accesses)) (all_below g commits)
 
 few_runs : (rs : List Run) → length rs ≤ sum_by (λ (run : Run). 8 + length run.bytes) rs
 few_runs [] = omega arith

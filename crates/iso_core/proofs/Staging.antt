@@ -1,10 +1,10 @@
 -- The commits of a plan are taken in, and their transactions leave.
-use Rattle.iso_core.proofs.Words.{Bool, true, false, IsSome, nat_eq, remove_entry, begin_of, Begun, leave_all, ◌≡◌, ◌≢◌, ◌∙◌, inl, inr, sym, refl, ap, ℕ, ◌+◌, ◌-◌, ◌<◌, ◌≤◌, ◌==◌, cond, List, [], ◌∷◌, ◌++◌, length, map, take, drop, arith, subst, eq-eqb, ne_eqb, Result, OnOk, transport, AllByRecursion, cases_eq, append_assoc, length-append, length_push, take-append-le, take_all, drop-append-le, drop_all, map-append, length-map, sum_by-append, AreNotes, AreNotesAfter, Held, Note, RisesFrom, above, dropped_after, notes_rise, HasLog, Half, MayFollow, half_of_world, last_told, next_gate, told_bytes, with_records, Commit, Geometry, first_after, record_length, log_place, all_own, array_at, last, IsRecord, Written, records, written, after_leaving, World, Live, floor, without, IsWorld, floor_above, floor_below, length-records, floor_between, IsIndexOf, BlockVersions, PartSpan, HasRoom, HasTaken, MayTake, parts_in, index_more, may_take, GroupEnd, Kept, Plan, Staged, IsAmong, AreNextRecords, ahead, IsOf, IsMember, AreEach, IsGrownWith, IsReady, MayTakeAll, all_parts, parts_of, HasTold, IsNext, DiskState, held_log, AreOf, up, LAST, LogExtent, extent_of}
+use Rattle.iso_core.proofs.Words.{Bool, true, false, IsSome, nat_eq, remove_entry, begin_of, Begun, leave_all, ◌≡◌, ◌≢◌, ◌∙◌, inl, inr, sym, refl, ap, ℕ, ◌+◌, ◌-◌, ◌<◌, ◌≤◌, ◌==◌, cond, List, [], ◌∷◌, ◌++◌, length, map, take, drop, arith, subst, eq-eqb, ne_eqb, Result, OnOk, transport, AllByRecursion, cases_eq, append_assoc, length-append, length_push, take-append-le, take_all, drop-append-le, drop_all, map-append, length-map, sum_by-append, AreNotes, AreNotesAfter, Held, Note, RisesFrom, above, dropped_after, notes_rise, HasLog, Half, MayFollow, half_of_world, last_told, next_gate, told_bytes, with_records, Commit, Geometry, first_after, record_length, log_place, all_own, array_at, last, IsRecord, Written, written, after_leaving, World, Live, floor, without, IsWorld, floor_above, floor_below, length-records, floor_between, IsIndexOf, BlockVersions, PartSpan, HasRoom, HasTaken, MayTake, parts_in, index_more, may_take, GroupEnd, Kept, Plan, Staged, IsAmong, ahead, IsOf, IsMember, AreEach, IsGrownWith, IsReady, MayTakeAll, all_parts, parts_of, HasTold, DiskState, held_log, AreOf, up, LogExtent, extent_of, on_ok_weaker}
 use Rattle.std.proofs.lemmas.List.{length-drop}
 use Rattle.iso_core.proofs.Commits.{held_records}
 use Rattle.iso_core.proofs.Leaves.{is_live, leaves_so}
-use Rattle.iso_core.proofs.Judging.{on_ok, staged_count}
-use Rattle.iso_core.proofs.Numbers.{last_is, log_last}
+use Rattle.iso_core.proofs.Judging.{staged_count}
+use Rattle.iso_core.proofs.Numbers.{last_is}
 use Rattle.iso_core.proofs.Standings.{kept_with}
 
 -- parts of both lists
@@ -293,17 +293,6 @@ pub none_staged : (g : Geometry) (x : Half) (t at : ℕ) (commits : List Commit)
 none_staged g x t at [] number gate parts index may = refl
 none_staged g x t at (c ∷ commits) number gate parts index may = absurd may.are
 
--- records that follow what is kept, with a closed gate behind them
-pub next_all : (kept : Kept) (W : World) (more : List Written) (all : List ℕ) → IsOf kept W → AreNextRecords W more all → (bytes : List ℕ) → bytes ≡ all ++ 0 ∷ [] → IsNext kept.log W.geometry more bytes
-next_all kept W more all of next bytes is =
-    let number : kept.log.last ≡ last W.history = log_last kept W of.world of.keeps in
-    record {
-      some = next.some;
-      each = next.each;
-      numbers = subst (λ (n : ℕ). n + length more ≤ LAST) (sym number) next.numbers;
-      bytes_are = is ∙ (λ i. next.bytes_are i ++ 0 ∷ []) ∙ ap (λ (n : ℕ). records W.geometry (n + 1) more ++ 0 ∷ []) (sym number);
-    }
-
 -- the log of the images of a core
 pub told_so : (d : DiskState) (kept : Kept) (W : World) → AreOf d kept W up → HasTold kept.log W.geometry (W.base + 1) (half_of_world W kept.half).told d.now
 told_so d kept W of =
@@ -328,7 +317,7 @@ notes_dropped kept W notes to of to_is is = kept_with kept (record kept { notes 
 pub ready_more : {A E : Type 0} (r : Result A E) (W : World) (m n : GroupEnd) (rest others : List GroupEnd) (members : List Live) → ((t : Live) → IsMember W m t → IsReady W n t)
     → ((ts : List Live) → AreEach (IsMember W) rest ts → OnOk r (AreEach (IsReady W) others ts)) → AreEach (IsMember W) (m ∷ rest) members → OnOk r (AreEach (IsReady W) (n ∷ others) members)
 ready_more r W m n rest others [] first more each = absurd each
-ready_more r W m n rest others (t ∷ members) first more each = on_ok r (λ all. (first t each.0, each.1, all)) (more members each.2)
+ready_more r W m n rest others (t ∷ members) first more each = on_ok_weaker r (λ all. (first t each.0, each.1, all)) (more members each.2)
 
 pub none_member : (W : World) (members : List Live) → AreEach (IsMember W) [] members → AreEach (IsReady W) [] members
 none_member W [] each = tt

@@ -1,13 +1,9 @@
 -- A core whose images stay, while what it keeps in memory changes.
-use Rattle.iso_core.proofs.Words.{◌≡◌, ◌∙◌, sym, ℕ, ◌+◌, IsIndexOf, NotesSince, Begun, IsWorld, at_work, bare, map, half_of_world, log_place, List, false, Result, Ok, Err, IfOk, IfErr, subst, DiskState, IsLawful, WritesNothing, at_end, stays, stays_settled, World, Live, Kept, AreImages, AreOf, IsOf, Standing, up, down}
+use Rattle.iso_core.proofs.Words.{◌≡◌, ◌∙◌, sym, ℕ, ◌+◌, IsIndexOf, NotesSince, Begun, IsWorld, at_work, bare, map, half_of_world, log_place, List, false, Result, Ok, Err, IfOk, subst, DiskState, IsLawful, WritesNothing, at_end, stays, stays_settled, World, Live, Kept, AreImages, AreOf, IsOf, Standing, up, down}
 
 pub if_ok : {A E : Type 0} {P Q : A → Type 0} (result : Result A E) → ((x : A) → P x → Q x) → IfOk result P → IfOk result Q
 if_ok (Ok x) more is = more x is
 if_ok (Err e) more is = is
-
-pub if_err : {A E : Type 0} {P Q : E → Type 0} (result : Result A E) → ((e : E) → P e → Q e) → IfErr result P → IfErr result Q
-if_err (Ok x) more is = is
-if_err (Err e) more is = more e is
 
 -- the images do not hang on the transactions and the trim number
 images_stay : (standing : Standing) (d : DiskState) (half : ℕ) (W : World) (live : List Live) (next trim : ℕ)

@@ -40,7 +40,7 @@ pub use Rattle.iso_model.proofs.Growth.{all_push, all_weaker}
 pub use Rattle.iso_model.proofs.Maximal.{are_runs}
 pub use Rattle.iso_model.proofs.Opened.{length-records, sum_by-map}
 pub use Rattle.iso_model.proofs.Recorded.{array_shape}
-pub use Rattle.iso_model.proofs.Worlds.{begins, commit_is_record, commits, floor_between, leaves, may_have, switch_leads, trim_leads}
+pub use Rattle.iso_model.proofs.Worlds.{all_append, begins, commit_is_record, commits, floor_between, leaves, may_have, switch_leads, trim_leads}
 pub use Rattle.iso_model.proofs.Written.{runs_where_write}
 pub use Rattle.iso_model.specs.Array.{Array}
 pub use Rattle.iso_model.specs.Between.{ShowsEither, ShowsLast}

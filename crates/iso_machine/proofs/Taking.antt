@@ -1,5 +1,5 @@
 -- Transactions that are taken out of the list of live ones for a group.
-use Rattle.iso_machine.proofs.Words.{◌≡◌, ◌∙◌, sym, refl, ap, subst, ℕ, ◌<◌, List, [], ◌∷◌, ◌++◌, length, get_or, map, arith, Option, Some, None, Result, Ok, Err, OnOk, append-nil, append_assoc, map-append, not, ◌==◌, AllByRecursion, remove, distinct_filter, Geometry, GroupReply, found_ones, Live, AreDistinct, GroupEnd, Attached, IsSized, live_of, HasTaken, found_in, left_in, member_of, stand_in, under, without_found}
+use Rattle.iso_machine.proofs.Words.{◌≡◌, ◌∙◌, sym, refl, ap, subst, ℕ, ◌<◌, List, [], ◌∷◌, ◌++◌, length, get_or, map, arith, Option, Some, None, Result, Ok, Err, OnOk, append-nil, append_assoc, map-append, not, ◌==◌, AllByRecursion, remove, distinct_filter, GroupReply, found_ones, Live, AreDistinct, GroupEnd, Attached, IsSized, live_of, HasTaken, found_in, left_in, member_of, stand_in, under, without_found, all_append}
 use Rattle.iso_model.specs.declared.access.GroupReply.TheVariants as member
 use Rattle.iso_machine.proofs.Lists.{all_at, all_remove, without_at}
 
@@ -82,12 +82,8 @@ both_taken text texts all live mid left answers more new ends further new_ends a
           ∙ ap (λ (xs : List Live). found_ones (o ∷ []) ++ xs) (second.members ∙ ap (λ (l : List Live). found_ones (found_in texts l)) first.live)
           ∙ sym (first_of o (found_in texts (without_found L o)));
       stay_sized = λ g all. second.stay_sized g (first.stay_sized g all);
-      gone_sized = λ g all. both_sized g first.gone second.gone (first.gone_sized g all) (second.gone_sized g (first.stay_sized g all));
+      gone_sized = λ g all. all_append (IsSized g) first.gone second.gone (first.gone_sized g all) (second.gone_sized g (first.stay_sized g all));
     })
-  where
-    both_sized : (g : Geometry) (xs ys : List Attached) → AllByRecursion (IsSized g) xs → AllByRecursion (IsSized g) ys → AllByRecursion (IsSized g) (xs ++ ys)
-    both_sized g [] ys one two = two
-    both_sized g (x ∷ xs) ys one two = (one.0, both_sized g xs ys one.1 two)
 
 pub on_both : {A E : Type 0} (r : Result A E) (text : List ℕ) (texts all : List (List ℕ)) (live mid left : List Attached) (answers more new : List (Option GroupReply)) (ends further new_ends : List GroupEnd) → all ≡ text ∷ texts
     → HasTaken (text ∷ []) live mid answers more ends further → OnOk r (HasTaken texts mid left more new further new_ends) → OnOk r (HasTaken all live left answers new ends new_ends)

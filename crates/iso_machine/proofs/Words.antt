@@ -31,7 +31,7 @@ pub use Rattle.iso_model.proofs.Groups.{decided_live, group_is}
 pub use Rattle.iso_model.proofs.Growth.{all_push, all_weaker}
 pub use Rattle.iso_model.proofs.Marked.{marked_last}
 pub use Rattle.iso_model.proofs.Recorded.{array_shape}
-pub use Rattle.iso_model.proofs.Worlds.{accesses_are, live_at}
+pub use Rattle.iso_model.proofs.Worlds.{accesses_are, all_append, live_at}
 pub use Rattle.iso_model.specs.Array.{Array, byte_at, covered, merged}
 unfoldable pub use Rattle.iso_model.specs.Array.{put}
 pub use Rattle.iso_model.specs.Between.{ShowsEither, ShowsLast}

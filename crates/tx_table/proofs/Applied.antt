@@ -9,11 +9,6 @@ rows_more (suc i) (x ∷ rows) d lt =
     let e : suc i + 1 ≡ suc (i + 1) = omega arith in
     rw e (ap (λ (l : List Access). access_of x ∷ l) (rows_more i rows d (omega arith)))
 
-pub row_at : (P : Row → Type 0) (i : ℕ) (rows : List Row) (d : Row) → AllByRecursion P rows → i < length rows → P (get_or rows i d)
-row_at P i [] d all lt = absurd (omega arith)
-row_at P zero (x ∷ rows) d all lt = all.0
-row_at P (suc i) (x ∷ rows) d all lt = row_at P i rows d all.1 (omega arith)
-
 pub patch_of_row : (i : ℕ) (rows : List Row) (d : Row) (entries : List (ℕ × List (Option ℕ))) → HavePatches (map access_of rows) entries → i < length rows
     → IsTrue (is_write (access_of (get_or rows i d))) → has_patch (get_or rows i d).block entries ≡ true
 patch_of_row i [] d entries all lt = absurd (omega arith)

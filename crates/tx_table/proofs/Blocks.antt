@@ -1,5 +1,5 @@
 -- Patches whose blocks rise.
-use Rattle.tx_table.proofs.Words.{◌≡◌, ◌≢◌, ◌∙◌, refl, sym, ap, subst, ℕ, zero, suc, ◌+◌, ◌<◌, ◌≤◌, Bool, true, false, ◌==◌, ◌||◌, cond, inl, inr, List, [], ◌∷◌, ◌++◌, length, get_or, set, take, drop, arith, ne_eqb, Option, None, replicate, both_ways, cases_eq, cases_lt, get_or_default, laid, common_steps, has_patch, patch_at, RisesFrom}
+use Rattle.tx_table.proofs.Words.{◌≡◌, ◌≢◌, ◌∙◌, refl, sym, ap, subst, ℕ, zero, suc, ◌+◌, ◌<◌, ◌≤◌, Bool, true, false, ◌==◌, ◌||◌, cond, inl, inr, List, [], ◌∷◌, ◌++◌, length, get_or, set, take, drop, arith, ne_eqb, Option, None, replicate, both_ways, cases_eq, cases_lt, get_or_default, laid, common_steps, has_patch, patch_at, RisesFrom, or_parts}
 
 pub at_least : {A : Type 0} (f j : ℕ) (es : List (ℕ × A)) (d : ℕ × A) → RisesFrom f es → j < length es → f ≤ (get_or es j d).0
 at_least f j [] d rises lt = absurd (omega arith)
@@ -96,14 +96,10 @@ all_blank size b (x ∷ es) all = elim (cases_eq x.0 b) [
 ]
 
 -- a patch more, of a block that has none
-neither : (s t : Bool) → (s || t) ≡ false → (s ≡ false) × (t ≡ false)
-neither true t none = absurd (cc)
-neither false t none = (refl, none)
-
 none_at : (size b : ℕ) (es : List (ℕ × List (Option ℕ))) → has_patch b es ≡ false → patch_at size b es ≡ replicate size None
 none_at size b [] none = refl
 none_at size b (x ∷ es) none =
-    let parts = neither (x.0 == b) (has_patch b es) none in
+    let parts = or_parts (x.0 == b) (has_patch b es) none in
     rw parts.0 (none_at size b es parts.1)
 
 pub has_insert : (b i : ℕ) (es : List (ℕ × List (Option ℕ))) (e : ℕ × List (Option ℕ)) → has_patch b (take i es ++ e ∷ drop i es) ≡ ((e.0 == b) || has_patch b es)
@@ -129,7 +125,7 @@ patch_insert size b (suc i) [] e none blank = elim (cases_eq e.0 b) [
   | inr other ↦ (let apart : (e.0 == b) ≡ false = ne_eqb e.0 b other in rw apart refl)
 ]
 patch_insert size b (suc i) (x ∷ es) e none blank =
-    ap (λ (l : List (Option ℕ)). cond (x.0 == b) x.1 l) (patch_insert size b i es e (neither (x.0 == e.0) (has_patch e.0 es) none).1 blank)
+    ap (λ (l : List (Option ℕ)). cond (x.0 == b) x.1 l) (patch_insert size b i es e (or_parts (x.0 == e.0) (has_patch e.0 es) none).1 blank)
 
 pub rises_insert : (f i : ℕ) (es : List (ℕ × List (Option ℕ))) (e : ℕ × List (Option ℕ)) → RisesFrom f es → f ≤ e.0
     → ((k : ℕ) → k < i → (get_or es k e).0 < e.0) → ((k : ℕ) → i ≤ k → k < length es → e.0 ≤ (get_or es k e).0) → has_patch e.0 es ≡ false → i ≤ length es
@@ -137,7 +133,7 @@ pub rises_insert : (f i : ℕ) (es : List (ℕ × List (Option ℕ))) (e : ℕ �
 rises_insert f zero [] e rises le before after none within = (le, tt)
 rises_insert f (suc i) [] e rises le before after none within = absurd (omega arith)
 rises_insert f zero (x ∷ es) e rises le before after none within =
-    let apart = (neither (x.0 == e.0) (has_patch e.0 es) none).0 in
+    let apart = (or_parts (x.0 == e.0) (has_patch e.0 es) none).0 in
     let first : e.0 ≤ x.0 = after 0 (omega arith) (omega arith) in
     let next : e.0 + 1 ≤ x.0 = elim (cases_eq x.0 e.0) [
       | inl same ↦ (let here : (x.0 == e.0) ≡ true = grind (arith, common_steps) in absurd (both_ways (x.0 == e.0) apart here))
@@ -148,9 +144,5 @@ rises_insert f (suc i) (x ∷ es) e rises le before after none within =
     let first : x.0 < e.0 = before 0 (omega arith) in (
       rises.0,
       rises_insert (x.0 + 1) i es e rises.1 (omega arith) (λ k lt. before (suc k) (omega arith)) (λ k le' lt. after (suc k) (omega arith) (omega arith))
-          (neither (x.0 == e.0) (has_patch e.0 es) none).1 (omega arith),
+          (or_parts (x.0 == e.0) (has_patch e.0 es) none).1 (omega arith),
     )
-
-pub or_true : (t : Bool) → (t || true) ≡ true
-or_true true = refl
-or_true false = refl

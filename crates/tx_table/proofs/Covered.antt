@@ -1,19 +1,11 @@
 -- The bytes that rows cover.
-use Rattle.tx_table.proofs.Words.{◌≡◌, ◌∙◌, refl, sym, ap, ℕ, zero, suc, ◌+◌, ◌<◌, ◌≤◌, Bool, true, false, ◌==◌, ◌&&◌, ◌||◌, nat_le, nat_lt, List, [], ◌∷◌, ◌++◌, ◌-◌, length, get_or, map, take, drop, arith, length-drop, AllByRecursion, list_any, ltb-true, or-false, get_or_default, get_or-drop, take_all, take-append-drop, take-map, list_any-append, list_any_more, common_steps, Extent, touches, AreTouched, Access, Kind, Span, covered, in_span, covers, has_write, is_write, IsSpan, Row, access_of, IsRow}
+use Rattle.tx_table.proofs.Words.{◌≡◌, ◌∙◌, refl, sym, ap, ℕ, zero, suc, ◌+◌, ◌<◌, ◌≤◌, Bool, true, false, ◌==◌, ◌&&◌, ◌||◌, nat_le, nat_lt, List, [], ◌∷◌, ◌++◌, ◌-◌, length, get_or, map, take, drop, arith, length-drop, AllByRecursion, list_any, ltb-true, or-false, get_or_default, get_or-drop, take_all, take-append-drop, take-map, list_any-append, list_any_more, common_steps, Extent, touches, AreTouched, Access, Kind, Span, covered, in_span, covers, has_write, is_write, IsSpan, Row, access_of, IsRow, and_parts, eqb-true, or-true, or_parts}
 use Rattle.iso_model.specs.Effect as model
 use Rattle.tx_table.proofs.Applied.{rows_more}
 
-both : (s t : Bool) → (s && t) ≡ true → (s ≡ true) × (t ≡ true)
-both true true h = (refl, refl)
-both true false h = absurd (cc)
-both false t h = absurd (cc)
-
-eq_from : (n m : ℕ) → (n == m) ≡ true → n ≡ m
-eq_from n m h = grind (arith, common_steps, h)
-
 -- what a settled work is
 pub settled_is : (n m k : ℕ) → ((n == m) && (k == m)) ≡ true → (n ≡ m) × (k ≡ m)
-settled_is n m k h = let parts = both (n == m) (k == m) h in (eq_from n m parts.0, eq_from k m parts.1)
+settled_is n m k h = let parts = and_parts (n == m) (k == m) h in (eqb-true n m parts.0, eqb-true k m parts.1)
 
 -- a byte of a span stands in the block
 below : (size p : ℕ) (spans : List Span) → AllByRecursion (IsSpan size) spans → list_any (in_span p) spans ≡ true → p < size
@@ -22,7 +14,7 @@ below size p (x ∷ spans) all some = by (in_span p x) refl (λ later. below siz
   where
     by : (t : Bool) → in_span p x ≡ t → (list_any (in_span p) spans ≡ true → p < size) → p < size
     by true is rest =
-        let lt : p < x.off + x.len = ltb-true _ _ (both (nat_le x.off p) (nat_lt p (x.off + x.len)) is).1 in
+        let lt : p < x.off + x.len = ltb-true _ _ (and_parts (nat_le x.off p) (nat_lt p (x.off + x.len)) is).1 in
         omega (arith, lt, all.0.fits)
     by false is rest = rest (let h : (in_span p x || list_any (in_span p) spans) ≡ true = some in rw is at h)
 
@@ -59,7 +51,7 @@ any_more p (suc i) (x ∷ spans) d lt =
 -- a row covers bytes of its block alone, which there is
 covers_inside : (blocks : ℕ) (kind : Kind) (b p : ℕ) (row : Row) → row.block < blocks → covers kind b p (access_of row) ≡ true → nat_lt b blocks ≡ true
 covers_inside blocks kind b p row within there =
-    let same : row.block ≡ b = eq_from row.block b (both (model.same_kind kind row.kind) (row.block == b) (both (model.same_kind kind row.kind && (row.block == b)) (covered (take row.count row.spans) p) there).0).1 in
+    let same : row.block ≡ b = eqb-true row.block b (and_parts (model.same_kind kind row.kind) (row.block == b) (and_parts (model.same_kind kind row.kind && (row.block == b)) (covered (take row.count row.spans) p) there).0).1 in
     let lt' : b < blocks = omega (arith, same, within) in
     grind (arith, common_steps, lt')
 
@@ -180,11 +172,7 @@ touched_rest size blocks kind from (x ∷ xs) order old new lt all same step are
 pub write_there : (i : ℕ) (rows : List Row) (d : Row) → i < length rows → is_write (access_of (get_or rows i d)) ≡ true → has_write (map access_of rows) ≡ true
 write_there i [] d lt write = absurd (omega arith)
 write_there zero (x ∷ rows) d lt write = ap (λ (t : Bool). t || has_write (map access_of rows)) write
-write_there (suc i) (x ∷ rows) d lt write = ap (λ (t : Bool). is_write (access_of x) || t) (write_there i rows d (omega arith) write) ∙ or_true (is_write (access_of x))
-  where
-    or_true : (t : Bool) → (t || true) ≡ true
-    or_true true = refl
-    or_true false = refl
+write_there (suc i) (x ∷ rows) d lt write = ap (λ (t : Bool). is_write (access_of x) || t) (write_there i rows d (omega arith) write) ∙ or-true (is_write (access_of x))
 
 pub no_write_more : (i : ℕ) (rows : List Row) (d : Row) → i < length rows → is_write (access_of (get_or rows i d)) ≡ false
     → has_write (take i (map access_of rows)) ≡ false → has_write (take (i + 1) (map access_of rows)) ≡ false
@@ -192,9 +180,5 @@ no_write_more i [] d lt read none = absurd (omega arith)
 no_write_more zero (x ∷ rows) d lt read none = ap (λ (t : Bool). t || false) read
 no_write_more (suc i) (x ∷ rows) d lt read none =
     let e : suc i + 1 ≡ suc (i + 1) = omega arith in
-    let parts = neither (is_write (access_of x)) (has_write (take i (map access_of rows))) none in
+    let parts = or_parts (is_write (access_of x)) (has_write (take i (map access_of rows))) none in
     rw e (ap (λ (t : Bool). t || has_write (take (i + 1) (map access_of rows))) parts.0 ∙ no_write_more i rows d (omega arith) read parts.1)
-  where
-    neither : (s t : Bool) → (s || t) ≡ false → (s ≡ false) × (t ≡ false)
-    neither true t off = absurd (cc)
-    neither false t off = (refl, off)

@@ -1,5 +1,5 @@
 -- Patches in their slots: which block has which, and what clearing leaves.
-use Rattle.tx_table.proofs.Words.{◌≡◌, ◌≢◌, ◌∙◌, sym, ap, ℕ, ◌<◌, ◌≤◌, Bool, true, false, ◌==◌, ◌||◌, ◌&&◌, List, [], ◌∷◌, refl, inl, inr, length, get_or, arith, Option, None, replicate, cases_lt, length-replicate, AllByRecursion, has_patch, patch_at, AreBlankFrom, AreSlots, RisesFrom, entries_of}
+use Rattle.tx_table.proofs.Words.{◌≡◌, ◌≢◌, ◌∙◌, sym, ap, ℕ, ◌<◌, ◌≤◌, Bool, true, false, ◌==◌, ◌||◌, List, [], ◌∷◌, refl, inl, inr, length, get_or, arith, Option, None, replicate, cases_lt, length-replicate, AllByRecursion, has_patch, patch_at, AreBlankFrom, AreSlots, RisesFrom, entries_of}
 use Rattle.tx_table.proofs.Blocks.{found_at, found_none}
 use Rattle.tx_table.proofs.Slots.{all_from, all_there, entry_is, key_at, length-entries, rises_entries, slot_below}
 
@@ -65,8 +65,3 @@ cleared_slots size n old new within same cleared kept sizes blank k le lt = elim
 pub blank_sizes : (size : ℕ) (slots : List (List (Option ℕ))) → AreBlankFrom size 0 slots → AllByRecursion (λ slot. length slot ≡ size) slots
 blank_sizes size slots blank =
     all_from (λ (slot : List (Option ℕ)). length slot ≡ size) slots [] (λ i lt. ap (length {A = Option ℕ}) (blank i (omega arith) lt) ∙ length-replicate size None)
-
-pub both_true : (s t : Bool) → (s && t) ≡ true → (s ≡ true) × (t ≡ true)
-both_true true true h = (refl, refl)
-both_true true false h = absurd (cc)
-both_true false t h = absurd (cc)

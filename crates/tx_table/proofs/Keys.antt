@@ -1,5 +1,5 @@
 -- What is held under a label stands under its key.
-use Rattle.tx_table.proofs.Words.{◌≡◌, ◌≢◌, ◌∙◌, refl, sym, ap, subst, ℕ, nat_eq, bytes_eq, Bool, true, false, cond, inl, inr, List, [], ◌∷◌, ◌++◌, map, arith, ne_eqb, Option, Some, None, is_some, IsTrue, AllByRecursion, lookup, remove_entry, option_map, both_ways, cases_eq, bytes_eq-Decides, common_steps, is_label, key_of, key_tells, IsKeyed}
+use Rattle.tx_table.proofs.Words.{all_push, map_push, ◌≡◌, ◌≢◌, ◌∙◌, refl, sym, ap, subst, ℕ, nat_eq, bytes_eq, Bool, true, false, cond, inl, inr, List, [], ◌∷◌, ◌++◌, map, arith, ne_eqb, Option, Some, None, is_some, IsTrue, AllByRecursion, lookup, remove_entry, option_map, both_ways, cases_eq, bytes_eq-Decides, common_steps, is_label, key_of, key_tells, IsKeyed}
 
 bytes_self : (xs ys : List ℕ) → xs ≡ ys → bytes_eq xs ys ≡ true
 bytes_self xs ys same = (bytes_eq-Decides xs ys).1 same
@@ -45,14 +45,6 @@ rest_keyed {T} key (e ∷ es) all = elim (nat_eq key e.0) as (λ t. AllByRecursi
   | true ↦ all.1
   | false ↦ (all.0, rest_keyed key es all.1)
 ]
-
-pub more_keyed : {T : Type 0} (es : List (ℕ × (List ℕ × T))) (e : ℕ × (List ℕ × T)) → AllByRecursion IsKeyed es → IsKeyed e → AllByRecursion IsKeyed (es ++ e ∷ [])
-more_keyed [] e all here = (here, tt)
-more_keyed (x ∷ es) e all here = (all.0, more_keyed es e all.1 here)
-
-pub map_more : {T : Type 0} (es : List (ℕ × (List ℕ × T))) (e : ℕ × (List ℕ × T)) → map (λ x. x.1) (es ++ e ∷ []) ≡ map (λ x. x.1) es ++ e.1 ∷ []
-map_more [] e = refl
-map_more {T} (x ∷ es) e = ap (λ (l : List (List ℕ × T)). x.1 ∷ l) (map_more es e)
 
 some_mapped : {A B : Type 0} (f : A → B) (o : Option A) → is_some o ≡ is_some (option_map f o)
 some_mapped f None = refl
@@ -106,8 +98,8 @@ none_from (Some x) found is off = absurd (both_ways found off is)
 pub post_shows : {T : Type 0} (text : List ℕ) (item : T) (key : ℕ) (es new : List (ℕ × (List ℕ × T))) (now : List (List ℕ × T))
     → map (λ e. e.1) es ≡ now → new ≡ es ++ (key, (text, item)) ∷ [] → map (λ e. e.1) new ≡ now ++ (text, item) ∷ []
 post_shows {T} text item key es new now seen more =
-    ap (map (λ (e : ℕ × (List ℕ × T)). e.1)) more ∙ map_more es (key, (text, item)) ∙ ap (λ (l : List (List ℕ × T)). l ++ (text, item) ∷ []) seen
+    ap (map (λ (e : ℕ × (List ℕ × T)). e.1)) more ∙ map_push (λ (e : ℕ × (List ℕ × T)). e.1) es (key, (text, item)) ∙ ap (λ (l : List (List ℕ × T)). l ++ (text, item) ∷ []) seen
 
 pub post_stands : {T : Type 0} (text : List ℕ) (item : T) (key : ℕ) (es new : List (ℕ × (List ℕ × T)))
     → key ≡ key_of text → IsTrue (is_label text) → AllByRecursion IsKeyed es → new ≡ es ++ (key, (text, item)) ∷ [] → AllByRecursion IsKeyed new
-post_stands text item key es new is label all more = subst (AllByRecursion IsKeyed) (sym more) (more_keyed es (key, (text, item)) all (record { key = is; label = label }))
+post_stands text item key es new is label all more = subst (AllByRecursion IsKeyed) (sym more) (all_push IsKeyed es (key, (text, item)) all (record { key = is; label = label }))

@@ -1,32 +1,5 @@
 -- A row more, and another last row.
-use Rattle.tx_table.proofs.Words.{◌≡◌, ◌≢◌, ◌∙◌, refl, sym, ap, subst, ℕ, zero, suc, ◌+◌, ◌<◌, ◌≤◌, true, false, List, [], ◌∷◌, ◌++◌, length, get_or, set, map, take, arith, Option, Some, None, Result, Ok, Err, IsTrue, IsFalse, ◌==◌, nat_le, nat_lt, ne_eqb, common_steps, AllByRecursion, IfSome, Extent, AreTouched, Access, Kind, Read, Write, MarkError, Span, is_write, TooManyMarks, is_outside, mark_fault, marked, marks_fault, AreBytes, HasBytes, IsAccess, IsSpan, Row, AreEffects, has_patch, HavePatches, access_of, AreWithin, IsRow}
-
-pub map_more : (rows : List Row) (row : Row) → map access_of (rows ++ row ∷ []) ≡ map access_of rows ++ access_of row ∷ []
-map_more [] row = refl
-map_more (x ∷ rows) row = ap (λ (l : List Access). access_of x ∷ l) (map_more rows row)
-
-length_more : {A : Type 0} (xs : List A) (x : A) → length (xs ++ x ∷ []) ≡ length xs + 1
-length_more [] x = refl
-length_more (y ∷ xs) x = let rest = length_more xs x in omega (arith, rest)
-
-pub length_rows : (rows : List Row) → length (map access_of rows) ≡ length rows
-length_rows [] = refl
-length_rows (x ∷ rows) = let rest = length_rows rows in omega (arith, rest)
-
-take_before : {A : Type 0} (n : ℕ) (xs : List A) (x : A) → n ≤ length xs → take n (xs ++ x ∷ []) ≡ take n xs
-take_before zero xs x le = refl
-take_before (suc n) [] x le = absurd (omega arith)
-take_before {A} (suc n) (y ∷ xs) x le = ap (λ (l : List A). y ∷ l) (take_before n xs x (omega arith))
-
-pub take_whole : {A : Type 0} (n : ℕ) (xs : List A) → n ≡ length xs → take n xs ≡ xs
-take_whole zero [] is = refl
-take_whole zero (x ∷ xs) is = absurd (omega arith)
-take_whole (suc n) [] is = absurd (omega arith)
-take_whole {A} (suc n) (x ∷ xs) is = ap (λ (l : List A). x ∷ l) (take_whole n xs (omega arith))
-
-all_more : (P : Row → Type 0) (rows : List Row) (row : Row) → AllByRecursion P rows → P row → AllByRecursion P (rows ++ row ∷ [])
-all_more P [] row all here = (here, tt)
-all_more P (x ∷ rows) row all here = (all.0, all_more P rows row all.1 here)
+use Rattle.tx_table.proofs.Words.{all_push, length-map, length_push, map_push, take-append-le, take_all, ◌≡◌, ◌≢◌, ◌∙◌, refl, sym, ap, subst, ℕ, zero, suc, ◌+◌, ◌<◌, ◌≤◌, true, false, List, [], ◌∷◌, ◌++◌, length, get_or, set, map, take, arith, Option, Some, None, Result, Ok, Err, IsTrue, IsFalse, ◌==◌, nat_le, nat_lt, ne_eqb, common_steps, AllByRecursion, IfSome, Extent, AreTouched, Access, Kind, Read, Write, MarkError, Span, is_write, TooManyMarks, is_outside, mark_fault, marked, marks_fault, AreBytes, HasBytes, IsAccess, IsSpan, Row, AreEffects, has_patch, HavePatches, access_of, AreWithin, IsRow}
 
 have_more : (accesses : List Access) (a : Access) (entries : List (ℕ × List (Option ℕ))) → HavePatches accesses entries
     → (IsTrue (is_write a) → IsTrue (has_patch a.block entries)) → HavePatches (accesses ++ a ∷ []) entries
@@ -50,14 +23,14 @@ pub appended : (size blocks applied folded : ℕ) (rows new : List Row) (row : R
     × AreTouched size blocks Read (take folded (map access_of new)) reads × AreTouched size blocks Write (take folded (map access_of new)) writes
     × (length new ≤ 4096)
 appended size blocks applied folded rows new row entries reads writes is done some few all here within effects have held are_read are_written =
-    let more : map access_of new ≡ map access_of rows ++ access_of row ∷ [] = ap (map access_of) is ∙ map_more rows row in
-    let long : length new ≡ length rows + 1 = ap (length {A = Row}) is ∙ length_more rows row in
-    let count = length_rows rows in
+    let more : map access_of new ≡ map access_of rows ++ access_of row ∷ [] = ap (map access_of) is ∙ map_push access_of rows row in
+    let long : length new ≡ length rows + 1 = ap (length {A = Row}) is ∙ length_push rows row in
+    let count = length-map rows access_of in
     let first : take applied (map access_of new) ≡ map access_of rows =
-    ap (take {A = Access} applied) more ∙ take_before applied (map access_of rows) (access_of row) (omega (arith, done, count)) ∙ take_whole applied (map access_of rows) (done ∙ sym count) in
+    ap (take {A = Access} applied) more ∙ take-append-le applied (map access_of rows) (access_of row ∷ []) (omega (arith, done, count)) ∙ take_all applied (map access_of rows) (omega (arith, done, count)) in
     let same : take folded (map access_of new) ≡ take folded (map access_of rows) =
-    ap (take {A = Access} folded) more ∙ take_before folded (map access_of rows) (access_of row) (omega (arith, some, count)) in (
-      subst (λ (l : List Row). AllByRecursion (λ r. IsRow size r × (r.block < blocks)) l) (sym is) (all_more (λ r. IsRow size r × (r.block < blocks)) rows row all (here, within)),
+    ap (take {A = Access} folded) more ∙ take-append-le folded (map access_of rows) (access_of row ∷ []) (omega (arith, some, count)) in (
+      subst (λ (l : List Row). AllByRecursion (λ r. IsRow size r × (r.block < blocks)) l) (sym is) (all_push (λ r. IsRow size r × (r.block < blocks)) rows row all (here, within)),
       omega (arith, long, done),
       omega (arith, long, some),
       subst (λ (l : List Access). AreEffects size l entries) (sym first) effects,
@@ -134,22 +107,13 @@ fault_of_last (suc i) (x ∷ []) d last = absurd (omega arith)
 fault_of_last (suc i) (x ∷ y ∷ rows) d last = fault_of_last i (y ∷ rows) d (omega arith)
 
 -- the row with one mark more
-spans_more : (size : ℕ) (spans : List Span) (span : Span) → AllByRecursion (IsSpan size) spans → IsSpan size span → AllByRecursion (IsSpan size) (spans ++ span ∷ [])
-spans_more size [] span all here = (here, tt)
-spans_more size (x ∷ spans) span all here = (all.0, spans_more size spans span all.1 here)
-
 pub marked_row : (size : ℕ) (row new : Row) (span : Span) → IsRow size row → access_of new ≡ record (access_of row) { spans = (access_of row).spans ++ span ∷ [] }
     → new.count ≡ row.count + 1 → row.count < 8 → IsSpan size span → IsRow size new
 marked_row size row new span is access count few here =
     let P : Access → Type 0 = λ x. AllByRecursion (IsSpan size) x.spans × HasBytes size x × (IsFalse (is_write x) → x.bytes ≡ []) × AreBytes x.bytes × (length x.spans ≡ new.count) in
-    let long = length_more (access_of row).spans span in
-    let there : P (access_of new) = subst P (sym access) (spans_more size (access_of row).spans span is.spans here, is.bytes, is.none, is.values, omega (arith, long, is.marks, count)) in
+    let long = length_push (access_of row).spans span in
+    let there : P (access_of new) = subst P (sym access) (all_push (IsSpan size) (access_of row).spans span is.spans here, is.bytes, is.none, is.values, omega (arith, long, is.marks, count)) in
     record { few = omega (arith, count, few); marks = there.4; spans = there.0; bytes = there.1; none = there.2; values = there.3 }
-
-pub row_there : (P : Row → Type 0) (i : ℕ) (rows : List Row) (d : Row) → AllByRecursion P rows → i < length rows → P (get_or rows i d)
-row_there P i [] d all lt = absurd (omega arith)
-row_there P zero (x ∷ rows) d all lt = all.0
-row_there P (suc i) (x ∷ rows) d all lt = row_there P i rows d all.1 (omega arith)
 
 -- why the last row takes no further mark, or that it does
 not_outside : (size off len : ℕ) → len ≢ 0 → off + len ≤ size → is_outside size off len ≡ false

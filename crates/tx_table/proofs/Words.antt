@@ -1,10 +1,10 @@
 -- The words that the proofs of this crate cite from elsewhere.
 pub use Rattle.std.proofs.Common.{Bool, Err, IsFalse, IsTrue, List, None, Ok, Option, Result, Some, ap, arith, bytes_eq, cond, drop, false, flat_map, get_or, get_or-set_other, get_or-set_same, inl, inr, is_ok, is_some, length, length-append, length-drop, length-set, ltb, map, nat_eq, nat_le, nat_lt, ne_eqb, refl, replicate, rules, set, slice_index, subst, suc, sym, take, true, vec_capacity, vec_len, zero, ℕ, [], ◌&&◌, ◌++◌, ◌+◌, ◌-◌, ◌<◌, ◌==◌, ◌||◌, ◌∙◌, ◌∷◌, ◌≡◌, ◌≢◌, ◌≤◌, ◌⊎◌}
-pub use Rattle.std.proofs.Math.Bool.{or-false}
+pub use Rattle.std.proofs.Math.Bool.{or-false, or-true}
 pub use Rattle.std.proofs.Math.Nat.{min-eq_left}
-pub use Rattle.std.proofs.lemmas.Bool.{both_ways, cases_eq, cases_lt, ltb-false, ltb-true}
+pub use Rattle.std.proofs.lemmas.Bool.{and_parts, both_ways, cases_eq, cases_lt, eqb-true, ltb-false, ltb-true, or_parts}
 pub use Rattle.std.proofs.lemmas.Grind.{common_steps}
-pub use Rattle.std.proofs.lemmas.List.{get_or-drop, get_or_default, length-replicate, take-append-drop, take-map, take_all}
+pub use Rattle.std.proofs.lemmas.List.{get_or-drop, get_or_default, length-map, length-replicate, length_push, map_push, take-append-drop, take-append-le, take-map, take_all}
 pub use Rattle.std.proofs.lemmas.List.Elements.{All-append}
 pub use Rattle.std.proofs.lemmas.List.Folds.{list_any-append, list_any_more}
 pub use Rattle.std.proofs.lemmas.List.Sorted.{All-permutation, IsPartitionPoint-from_clause, IsPartitionedBy-ltb, list_any-IsPermutation}
@@ -17,6 +17,7 @@ pub use Rattle.byte_marks.specs.Marks.{has}
 pub use Rattle.byte_marks.specs.Touched.{AreTouched, touches}
 pub use Rattle.byte_marks.specs.declared.extent.Extent.{Extent}
 pub use Rattle.indexmap.proofs.CallerLemmas.{insert_entry-new}
+pub use Rattle.iso_model.proofs.Growth.{all_push}
 pub use Rattle.iso_model.proofs.Labels.{key_tells}
 pub use Rattle.iso_model.specs.Array.{Array, covered, in_span}
 pub use Rattle.iso_model.specs.Effect.{block_runs, covers, effect_at, effects_from, has_write, is_write, or_else, own, runs_from, same_kind}

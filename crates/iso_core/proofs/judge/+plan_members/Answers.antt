@@ -1,6 +1,6 @@
-use Rattle.iso_core.proofs.Words.{◌≡◌, ap, suc, length, arith, subst, List, ◌++◌, end_step, GroupEnd, ahead, made_by, member_reply, AreEach, IsReady}
+use Rattle.iso_core.proofs.Words.{◌≡◌, ap, suc, length, arith, subst, List, ◌++◌, end_step, GroupEnd, ahead, made_by, member_reply, AreEach, IsReady, on_ok_weaker}
 use Rattle.iso_core.proofs.Committing.{buffer_on}
-use Rattle.iso_core.proofs.Judging.{none_ready, on_ok, parted, planned_more, planned_none}
+use Rattle.iso_core.proofs.Judging.{none_ready, parted, planned_more, planned_none}
 use Rattle.iso_core.proofs.judge.+plan_members.Goals as goal
 
 pub plan_member-requires : goal.plan_member-requires
@@ -32,7 +32,7 @@ returns-in_default-clause-planned t c W more members of is each =
 pub returns-clause-planned : goal.returns-clause-planned
 returns-clause-planned t c W more members of is each =
     let p = parted W c.in-Some.member.now c.in-Some.rest.now members (subst (λ (l : List GroupEnd). AreEach (IsReady W) l members) c.in-Some.ensures.some each) in
-    on_ok c.plan_members.result (planned_more W more p.first p.others members c.plan_members.new.plan c.args.replies.now.items c.plan_member.new.replies.items c.plan_members.new.replies.items p.are
+    on_ok_weaker c.plan_members.result (planned_more W more p.first p.others members c.plan_members.new.plan c.args.replies.now.items c.plan_member.new.replies.items c.plan_members.new.replies.items p.are
     (c.in_ok-plan_member.ensures.replies W more p.first of is p.ready))
     (c.plan_members.ensures.planned W (more ++ made_by p.first (member_reply (end_step (ahead W more) p.first).0)) p.others (buffer_on c.args.kept.now W c.plan_member.new.kept of c.plan_member.ensures.same)
     (c.in_ok-plan_member.ensures.ahead W more p.first of is p.ready) p.each)

@@ -1,4 +1,4 @@
-use Rattle.iso_core.proofs.Words.{◌≡◌, ◌∙◌, sym, ap, true, false, CoreReply, has_write, World, ahead, member_reply}
+use Rattle.iso_core.proofs.Words.{◌≡◌, ◌∙◌, sym, ap, true, false, CoreReply, has_write, World, Live, Commit, List, ahead, member_reply, IsAhead, IsOf, IsReady, MayCommit}
 use Rattle.iso_core.proofs.Endings.{ends_in_conflict, ends_read_only}
 use Rattle.iso_core.proofs.Judging.{may_ahead}
 use Rattle.iso_core.proofs.judge.judge.Goals as goal
@@ -32,14 +32,14 @@ room_for-requires c =
           (sym (c.clash_in.ensures W more c.args.member.now.tx t of is ready.here ready.settled) ∙ c.in_default.is),
     )
 
+-- the member may commit
+may : (c : goal.After-room_for) (W : World) (more : List Commit) (t : Live) → IsOf c.args.kept.now W → IsAhead W more c.args.plan.now → IsReady W c.args.member.now t → MayCommit (ahead W more) c.args.member.now.tx t c.args.member.now.work
+may c W more t of is ready =
+    may_ahead W more c.args.member.now.tx t c.args.member.now.work ready.here ready.settled (ap has_write (sym ready.settled.is_work.accesses) ∙ sym c.has_write.ensures ∙ c.if-not-has_write.false)
+    (sym (c.clash_in.ensures W more c.args.member.now.tx t of is ready.here ready.settled) ∙ c.in_default.is)
+
 pub returns-clause-answer : goal.returns-clause-answer
-returns-clause-answer c W more t of is ready =
-    let write : has_write t.accesses ≡ true = ap has_write (sym ready.settled.is_work.accesses) ∙ sym c.has_write.ensures ∙ c.if-not-has_write.false in
-    c.room_for.ensures.answer W more c.args.member.now.tx t of is (may_ahead W more c.args.member.now.tx t c.args.member.now.work ready.here ready.settled write
-    (sym (c.clash_in.ensures W more c.args.member.now.tx t of is ready.here ready.settled) ∙ c.in_default.is))
+returns-clause-answer c W more t of is ready = c.room_for.ensures.answer W more c.args.member.now.tx t of is (may c W more t of is ready)
 
 pub returns-clause-next : goal.returns-clause-next
-returns-clause-next c W more t of is ready =
-    let write : has_write t.accesses ≡ true = ap has_write (sym ready.settled.is_work.accesses) ∙ sym c.has_write.ensures ∙ c.if-not-has_write.false in
-    c.room_for.ensures.next W more c.args.member.now.tx t of is (may_ahead W more c.args.member.now.tx t c.args.member.now.work ready.here ready.settled write
-    (sym (c.clash_in.ensures W more c.args.member.now.tx t of is ready.here ready.settled) ∙ c.in_default.is))
+returns-clause-next c W more t of is ready = c.room_for.ensures.next W more c.args.member.now.tx t of is (may c W more t of is ready)

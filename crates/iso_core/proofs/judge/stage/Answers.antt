@@ -1,6 +1,7 @@
 use Rattle.iso_core.proofs.Words.{◌∙◌, sym, ap, ℕ, ◌+◌, ◌<◌, ◌≤◌, List, [], ◌∷◌, ◌++◌, arith, subst, All, AreTouched, Bytes, Note, PartSpan, Write, LAST, last, ahead}
 use Rattle.iso_core.proofs.Decides.{touched_by}
-use Rattle.iso_core.proofs.Judging.{last_ahead, number_ahead, numbers_before, staged_more}
+use Rattle.iso_core.proofs.Commits.{numbers_from}
+use Rattle.iso_core.proofs.Judging.{last_ahead, number_ahead, staged_more}
 use Rattle.iso_core.proofs.judge.stage.Goals as goal
 
 pub overflow_add-number : goal.overflow_add-number
@@ -28,7 +29,7 @@ add-requires-clause-number c =
     let all = number_ahead c.args.kept.now W more c.args.plan.now of is c.last.result c.len.result c.last.ensures (c.len.ensures ∙ c.args.plan.now.staged.ok.0) in
     let later = last_ahead W more of.world in
     subst (λ (l : List Note). All (λ note. note.0 < c.last.result + c.len.result + 1) l) (sym c.reserve.ensures.same)
-    (λ k d below. let low = numbers_before W.geometry (last W.history + 1) c.args.plan.now.notes.notes more is.notes k d below in omega (arith, low, all, later))
+    (λ k d below. let low = numbers_from W.geometry (last W.history + 1) c.args.plan.now.notes.notes more is.notes k d below in omega (arith, low, all, later))
 
 pub returns-clause-ahead : goal.returns-clause-ahead
 returns-clause-ahead c W more tx t of is settled next =

@@ -1,8 +1,14 @@
-use Rattle.iso_core.proofs.Words.{◌≡◌, ◌∙◌, ◌⊎◌, inl, ap, arith, ℕ, ◌+◌, List, LeavesOnly, at_end, joined, weakened, Copies, Geometry, Half, HalfPlace, IsHeld, in_form, place_of, refilled, header_place}
-use Rattle.iso_core.proofs.Refills.{inside}
+use Rattle.iso_core.proofs.Words.{◌≡◌, ◌∙◌, ◌⊎◌, inl, ap, arith, ℕ, ◌+◌, List, LeavesOnly, at_end, joined, weakened, Copies, Geometry, Half, HalfPlace, IsHeld, in_form, place_of, refilled, header_place, ◌<◌, AreHalves, end_inside, image_size}
 use Rattle.iso_core.proofs.refill.refill.Given as given
 use Rattle.iso_core.proofs.refill.refill.Goals as goal
 use Rattle.iso_core.proofs.refill.refill.Goals.{After-close_half, After-fill_half, After-open_half}
+
+-- where the other half lies
+inside : (g : Geometry) (from to : HalfPlace) (size : ℕ) → AreHalves g from to → size ≡ image_size g → to.header < size
+inside g from to size are is =
+    let header : to.header ≡ header_place g are.other = ap (λ (p : HalfPlace). p.header) are.to_is in
+    let ends = end_inside g are.half are.other are.both in
+    omega (arith, header, ends, is)
 
 pub close_half-requires-clause-fits : goal.close_half-requires-clause-fits
 close_half-requires-clause-fits g c = inside c.args.plan.now.geometry c.args.from.now c.args.to.now (g.D.Disk.state c.args.disk.now).size c.requires.places c.requires.size

@@ -1,7 +1,7 @@
 -- One row more.
 use Rattle.tx_table.proofs.Words.{◌<◌, sym, subst, Read, Write, Row, IsRow}
 use Rattle.tx_table.proofs.Covered.{touched_more}
-use Rattle.tx_table.proofs.Last.{row_there}
+use Rattle.tx_table.proofs.Slots.{all_there}
 use Rattle.tx_table.proofs.fold.fold_in_turn.Goals as goal
 
 pub loop-at-preserved : goal.loop-at-preserved
@@ -11,7 +11,7 @@ loop-at-preserved c =
     let i = c.loop-at.at in
     let size = c.args.size in
     let blocks = c.args.blocks in
-    let all = row_there (λ r. IsRow size r × (r.block < blocks)) i rows row c.requires.rows c.loop-at-test.true in
+    let all = all_there (λ r. IsRow size r × (r.block < blocks)) i rows row c.requires.rows c.loop-at-test.true in
     let within : row.block < blocks = subst (λ (r : Row). r.block < blocks) (sym c.index-rows-at.is) all.1 in
     record {
       reads = λ before. touched_more size blocks Read i rows row row c.loop-at.reads c.touch.new.reads c.loop-at-test.true c.index-rows-at.is within (c.loop-at.invariant.reads before) c.in_default.ensures.reads;

@@ -1,6 +1,7 @@
 -- One row more.
 use Rattle.tx_table.proofs.Words.{◌≡◌, ◌∙◌, ℕ, ◌+◌, true, false, List, ◌∷◌, [], ◌++◌, ap, sym, subst, length, get_or, take, map, IsTrue, Access, is_write, same_kind, Kind, Write, Row, has_patch, patch_at, AreEffects, Held, access_of, IsRow}
-use Rattle.tx_table.proofs.Applied.{patch_of_row, read_applied, row_at, rows_more, write_applied}
+use Rattle.tx_table.proofs.Applied.{patch_of_row, read_applied, rows_more, write_applied}
+use Rattle.tx_table.proofs.Slots.{all_there}
 use Rattle.tx_table.proofs.rows.apply.Goals as goal
 use Rattle.tx_table.proofs.rows.apply.Goals.{in-Write, in-Read}
 
@@ -19,7 +20,7 @@ pub set-requires-clause-bytes : goal.set-requires-clause-bytes
 set-requires-clause-bytes c =
     let row = c.index-rows-at.result in
     let write : IsTrue (is_write (access_of row)) = ap (λ (k : Kind). same_kind Write k) c.in-Write.is in
-    let fits : IsRow c.args.patches.now.size row = subst (IsRow c.args.patches.now.size) (sym c.index-rows-at.is) (row_at (IsRow c.args.patches.now.size) c.loop-at.at c.args.rows.now row c.requires.rows c.loop-at-test.true) in
+    let fits : IsRow c.args.patches.now.size row = subst (IsRow c.args.patches.now.size) (sym c.index-rows-at.is) (all_there (IsRow c.args.patches.now.size) c.loop-at.at c.args.rows.now row c.requires.rows c.loop-at-test.true) in
     ap (length {A = ℕ}) c.as_slice.ensures.value ∙ fits.bytes write ∙ sym c.loop-at.invariant.size
 
 pub loop-at-preserved : goal.loop-at-preserved
@@ -34,7 +35,7 @@ loop-at-preserved c =
     elim c.match-row.branch [
       | in-Write w ↦
           (let write : is_write (access_of row) ≡ true = ap (λ (k : Kind). same_kind Write k) w.in-Write.is in
-          let fits : IsRow size row = subst (IsRow size) (sym c.index-rows-at.is) (row_at (IsRow size) i rows row c.requires.rows c.loop-at-test.true) in
+          let fits : IsRow size row = subst (IsRow size) (sym c.index-rows-at.is) (all_there (IsRow size) i rows row c.requires.rows c.loop-at-test.true) in
           record {
             size = ap (λ (h : Held). h.size) w.patches-is ∙ w.set.ensures.size ∙ c.loop-at.invariant.size;
             spare = ap (λ (h : Held). h.spare) w.patches-is ∙ w.set.ensures.spare ∙ c.loop-at.invariant.spare;

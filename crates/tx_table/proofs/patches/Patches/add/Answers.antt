@@ -1,7 +1,6 @@
 -- The first of the blank slots, at the place of the block.
-use Rattle.tx_table.proofs.Words.{◌≡◌, ◌∙◌, ℕ, ◌+◌, ◌<◌, ◌≤◌, Bool, ◌||◌, ◌==◌, true, false, List, ◌∷◌, ◌++◌, [], Option, None, ap, sym, subst, arith, length, get_or, take, drop, replicate, nat_lt, vec_capacity, ltb-true, common_steps, has_patch, patch_at, Held, RisesFrom, entries_of, AreSlots}
-use Rattle.tx_table.proofs.Blocks.{has_insert, or_true, patch_insert, rises_insert}
-use Rattle.tx_table.proofs.Held.{both_true}
+use Rattle.tx_table.proofs.Words.{◌≡◌, ◌∙◌, ℕ, ◌+◌, ◌<◌, ◌≤◌, Bool, ◌||◌, ◌==◌, true, false, List, ◌∷◌, ◌++◌, [], Option, None, ap, sym, subst, arith, length, get_or, take, drop, replicate, nat_lt, vec_capacity, ltb-true, common_steps, has_patch, patch_at, Held, RisesFrom, entries_of, AreSlots, and_parts, or-true}
+use Rattle.tx_table.proofs.Blocks.{has_insert, patch_insert, rises_insert}
 use Rattle.tx_table.proofs.Slots.{entries_insert, key_at, length-entries, length_insert, rises_entries, rises_order, slots_insert}
 use Rattle.tx_table.proofs.patches.Patches.add.Goals as goal
 
@@ -29,7 +28,7 @@ module _ (c : goal.After-insert_within) where
 
   spare : length order < length c.self.inside.slots.items
   spare =
-      ltb-true _ _ (both_true (nat_lt (length order) (length c.self.inside.slots.items)) (nat_lt (length order) (vec_capacity c.self.inside.order)) (ap (λ (h : Held). h.spare) c.self.view_is ∙ c.requires.room)).0
+      ltb-true _ _ (and_parts (nat_lt (length order) (length c.self.inside.slots.items)) (nat_lt (length order) (vec_capacity c.self.inside.order)) (ap (λ (h : Held). h.spare) c.self.view_is ∙ c.requires.room)).0
 
   -- the blocks still rise
   rises : RisesFrom 0 more
@@ -71,7 +70,7 @@ returns-clause-held c =
 pub returns-clause-kept : goal.returns-clause-kept
 returns-clause-kept c b held =
     ap (has_patch b) (entries c) ∙ has_insert b c.place_of-place.result (es c) (e c)
-    ∙ ap (λ (t : Bool). (c.args.block == b) || t) (ap (λ (h : Held). has_patch b h.entries) c.self.view_is ∙ held) ∙ or_true (c.args.block == b)
+    ∙ ap (λ (t : Bool). (c.args.block == b) || t) (ap (λ (h : Held). has_patch b h.entries) c.self.view_is ∙ held) ∙ or-true (c.args.block == b)
 
 pub returns-clause-values : goal.returns-clause-values
 returns-clause-values c b =

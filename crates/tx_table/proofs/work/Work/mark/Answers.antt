@@ -1,6 +1,7 @@
 -- The last row has one mark more, and none of what is up to date has the last row.
 use Rattle.tx_table.proofs.Words.{◌≡◌, ◌∙◌, ℕ, ◌+◌, ◌-◌, ◌<◌, ◌≤◌, false, ◌==◌, ◌&&◌, List, ◌∷◌, [], ◌++◌, Some, None, sym, ap, subst, arith, refl, inl, inr, length, get_or, set, map, take, ne_eqb, length-set, vec_capacity, get_or_default, AreTouched, Access, Read, Write, TooManyMarks, Span, mark_fault, marked, IsSpan, Row, AreEffects, HavePatches, access_of, Doing, IsRow, span_at}
-use Rattle.tx_table.proofs.Last.{all_set, fault_of, full_fault, have_kept, have_set, if_some, marked_row, marked_set, no_fault, row_there, take_set}
+use Rattle.tx_table.proofs.Last.{all_set, fault_of, full_fault, have_kept, have_set, if_some, marked_row, marked_set, no_fault, take_set}
+use Rattle.tx_table.proofs.Slots.{all_there}
 use Rattle.tx_table.proofs.work.Work.mark.Goals as goal
 
 pub returns-then-index-ge-MAX_SPANS-clause-err : goal.returns-then-index-ge-MAX_SPANS-clause-err
@@ -10,7 +11,7 @@ returns-then-index-ge-MAX_SPANS-clause-err c fault is =
     let i = c.len-end.result - 1 in
     let d = c.index.result.now in
     let last : i + 1 ≡ length rows = omega (arith, c.len-end.ensures, c.self.inside.rows.ok.0, c.if-end-eq0.false) in
-    let all = row_there (λ r. IsRow size r × (r.block < c.self.inside.blocks)) i rows d c.self.invariant.2 (omega (arith, last)) in
+    let all = all_there (λ r. IsRow size r × (r.block < c.self.inside.blocks)) i rows d c.self.invariant.2 (omega (arith, last)) in
     let here : d ≡ get_or rows i d = c.index.ensures in
     let full : 8 ≤ (get_or rows i d).count = subst (λ (r : Row). 8 ≤ r.count) here c.if-index-ge-MAX_SPANS.true in
     let fits : c.args.off + c.args.len ≤ size = omega (arith, c.if-from-self.false, c.from.ensures, c.from-else-len-eq0.ensures) in
@@ -30,7 +31,7 @@ module _ (c : goal.After-self-3-1) where
   last = omega (arith, c.len-end.ensures, c.self.inside.rows.ok.0, c.if-end-eq0.false)
 
   all : IsRow c.self.inside.size (get_or rows at c.index_mut.result.now) × ((get_or rows at c.index_mut.result.now).block < c.self.inside.blocks)
-  all = row_there (λ r. IsRow c.self.inside.size r × (r.block < c.self.inside.blocks)) at rows c.index_mut.result.now c.self.invariant.2 (omega (arith, last))
+  all = all_there (λ r. IsRow c.self.inside.size r × (r.block < c.self.inside.blocks)) at rows c.index_mut.result.now c.self.invariant.2 (omega (arith, last))
 
   less : (get_or rows at c.index_mut.result.now).count < 8
   less = subst (λ (r : Row). r.count < 8) (c.index.ensures ∙ get_or_default rows at c.index.result.now c.index_mut.result.now (omega (arith, last))) c.if-index-ge-MAX_SPANS.false

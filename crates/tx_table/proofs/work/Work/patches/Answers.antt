@@ -1,7 +1,6 @@
 -- The patches are up to date, so their runs are those of the accesses.
-use Rattle.tx_table.proofs.Words.{◌≡◌, ◌∙◌, sym, ap, subst, List, map, take, length, flat_map, Access, runs, runs_from, AreEffects, RisesFrom, access_of, Doing}
+use Rattle.tx_table.proofs.Words.{arith, length-map, take_all, ◌≡◌, ◌∙◌, sym, ap, subst, List, map, take, length, flat_map, Access, runs, runs_from, AreEffects, RisesFrom, access_of, Doing}
 use Rattle.tx_table.proofs.Covered.{settled_is}
-use Rattle.tx_table.proofs.Last.{length_rows, take_whole}
 use Rattle.tx_table.proofs.Runs.{runs_of_patches}
 use Rattle.tx_table.proofs.work.Work.patches.Goals as goal
 
@@ -13,7 +12,7 @@ returns-clause-runs c g is_size is_blocks =
     let es = c.self.inside.patches.entries in
     let is : c.entries.result ≡ es = c.entries.ensures.is in
     let done = settled_is c.self.inside.applied (length rows) c.self.inside.folded (ap (λ (d : Doing). d.settled) c.self.view_is ∙ c.requires) in
-    let whole : take c.self.inside.applied (map access_of rows) ≡ map access_of rows = take_whole c.self.inside.applied (map access_of rows) (done.0 ∙ sym (length_rows rows)) in
+    let whole : take c.self.inside.applied (map access_of rows) ≡ map access_of rows = take_all c.self.inside.applied (map access_of rows) (omega (arith, done.0, length-map rows access_of)) in
     let are : AreEffects size (map access_of rows) es = subst (λ (l : List Access). AreEffects size l es) whole c.self.invariant.5 in
     ap (flat_map (λ e. runs_from e.0 0 e.1)) is
     ∙ runs_of_patches size blocks rows es g (is_size ∙ sym (ap (λ (d : Doing). d.size) c.self.view_is)) (is_blocks ∙ sym (ap (λ (d : Doing). d.blocks) c.self.view_is))

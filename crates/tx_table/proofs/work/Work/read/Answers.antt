@@ -1,6 +1,6 @@
 -- What is laid over the block are the own writes.
-use Rattle.tx_table.proofs.Words.{◌≡◌, ◌∙◌, ◌⊎◌, ℕ, ◌<◌, ◌≤◌, true, false, sym, ap, subst, arith, refl, List, [], map, take, length, Option, Some, vec_capacity, IfSome, both_ways, Read, is_write, AreBytes, has_patch, HavePatches, IsRow, Access, own, block_at, AreEffects, access_of, Doing}
-use Rattle.tx_table.proofs.Last.{appended, have_kept, length_rows, unmarked_row}
+use Rattle.tx_table.proofs.Words.{length-map, ◌≡◌, ◌∙◌, ◌⊎◌, ℕ, ◌<◌, ◌≤◌, true, false, sym, ap, subst, arith, refl, List, [], map, take, length, Option, Some, vec_capacity, IfSome, both_ways, Read, is_write, AreBytes, has_patch, HavePatches, IsRow, Access, own, block_at, AreEffects, access_of, Doing}
+use Rattle.tx_table.proofs.Last.{appended, have_kept, unmarked_row}
 use Rattle.tx_table.proofs.Applied.{rows_have_bytes, shown_of}
 use Rattle.tx_table.proofs.work.Work.read.Goals as goal
 
@@ -35,7 +35,7 @@ invariant_of-self c =
     let ready : c.self.inside.ready ≡ Some c.args.block = ap (λ (d : Doing). d.ready) c.self.view_is ∙ c.requires.ready in
     let P : ℕ → Type 0 = λ b. (b < blocks) × (length rows < vec_capacity c.self.inside.rows) × (size ≤ vec_capacity c.self.inside.bytes) × ((has_patch b old.entries ≡ true) ⊎ (old.spare ≡ true)) in
     let room : P c.args.block = subst (λ (o : Option ℕ). IfSome o P) ready c.self.invariant.9 in
-    let few : length rows < 4096 = (let h = c.requires.room in let n = length_rows rows in let e : length (map access_of rows) ≡ length c.args.self.now.accesses = ap (λ (d : Doing). length d.accesses) c.self.view_is in omega (arith, h, n, e)) in
+    let few : length rows < 4096 = (let h = c.requires.room in let n = length-map rows access_of in let e : length (map access_of rows) ≡ length c.args.self.now.accesses = ap (λ (d : Doing). length d.accesses) c.self.view_is in omega (arith, h, n, e)) in
     let a : Access = record { kind = Read; block = c.args.block; spans = []; bytes = c.new-bytes.result.items } in
     let access : access_of row ≡ a = c.unmarked.ensures.access in
     let no_write : is_write (access_of row) ≡ false = ap is_write access in

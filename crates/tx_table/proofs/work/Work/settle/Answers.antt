@@ -1,6 +1,6 @@
 -- All rows are applied, and so many of them are in what is touched as the count says.
-use Rattle.tx_table.proofs.Words.{◌≡◌, ◌∙◌, ◌≤◌, sym, subst, arith, inl, inr, List, map, take, length, AreTouched, Access, Read, Write, Row, AreEffects, HavePatches, access_of}
-use Rattle.tx_table.proofs.Last.{have_kept, if_some, length_rows, rows_within, take_whole}
+use Rattle.tx_table.proofs.Words.{length-map, take_all, ◌≡◌, ◌∙◌, ◌≤◌, sym, subst, arith, inl, inr, List, map, take, length, AreTouched, Access, Read, Write, Row, AreEffects, HavePatches, access_of}
+use Rattle.tx_table.proofs.Last.{have_kept, if_some, rows_within}
 use Rattle.tx_table.proofs.work.Work.settle.Goals as goal
 
 pub returns-then-self-len-clause-within : goal.returns-then-self-len-clause-within
@@ -24,7 +24,7 @@ invariant_of-self-2 c =
     let have : HavePatches (map access_of rows) new.entries = have_kept (map access_of rows) old.entries new.entries (λ b h. c.apply.ensures.kept b ∙ h) c.self.invariant.6 in
     let done : c.len-self-inside.result ≡ length rows = c.len-self-inside.ensures ∙ c.self.inside.rows.ok.0 in
     let within : folded ≤ length rows = subst (λ (l : List Row). folded ≤ length l) seen' c.fold-self-inside.ensures.within in
-    let whole : take c.len-self-inside.result (map access_of rows) ≡ map access_of rows = take_whole c.len-self-inside.result (map access_of rows) (done ∙ sym (length_rows rows)) in
+    let whole : take c.len-self-inside.result (map access_of rows) ≡ map access_of rows = take_all c.len-self-inside.result (map access_of rows) (omega (arith, done, length-map rows access_of)) in
     let reads : AreTouched size blocks Read (take folded (map access_of rows)) c.fold-self-inside.new.reads = (let h = c.fold-self-inside.ensures.reads in rw seen' at h) c.self.invariant.7 in
     let writes : AreTouched size blocks Write (take folded (map access_of rows)) c.fold-self-inside.new.writes = (let h = c.fold-self-inside.ensures.writes in rw seen' at h) c.self.invariant.8 in (
       c.self.invariant.0,

@@ -1,6 +1,6 @@
 -- The row with the bytes stands behind the others, and its block has a patch.
-use Rattle.tx_table.proofs.Words.{◌≡◌, ◌∙◌, ◌⊎◌, ℕ, ◌+◌, ◌<◌, ◌≤◌, true, sym, ap, subst, arith, refl, [], map, length, Option, Some, is_ok, vec_capacity, vec_len, IfSome, both_ways, Access, Write, AreBytes, HasBytes, patch_at, AreEffects, has_patch, HavePatches, access_of, Doing, IsRow}
-use Rattle.tx_table.proofs.Last.{appended, have_kept, length_rows, unmarked_row}
+use Rattle.tx_table.proofs.Words.{length-map, ◌≡◌, ◌∙◌, ◌⊎◌, ℕ, ◌+◌, ◌<◌, ◌≤◌, true, sym, ap, subst, arith, refl, [], map, length, Option, Some, is_ok, vec_capacity, vec_len, IfSome, both_ways, Access, Write, AreBytes, HasBytes, patch_at, AreEffects, has_patch, HavePatches, access_of, Doing, IsRow}
+use Rattle.tx_table.proofs.Last.{appended, have_kept, unmarked_row}
 use Rattle.tx_table.proofs.work.Work.write.Goals as goal
 
 pub invariant_of-self : goal.invariant_of-self
@@ -24,7 +24,7 @@ invariant_of-self c =
     let ready : c.self.inside.ready ≡ Some c.args.block = ap (λ (d : Doing). d.ready) c.self.view_is ∙ c.requires.ready in
     let P : ℕ → Type 0 = λ b. (b < blocks) × (length rows < vec_capacity c.self.inside.rows) × (size ≤ vec_capacity c.self.inside.bytes) × ((has_patch b old.entries ≡ true) ⊎ (old.spare ≡ true)) in
     let room : P c.args.block = subst (λ (o : Option ℕ). IfSome o P) ready c.self.invariant.9 in
-    let few : length rows < 4096 = (let h = c.requires.room in let n = length_rows rows in let e : length (map access_of rows) ≡ length c.args.self.now.accesses = ap (λ (d : Doing). length d.accesses) c.self.view_is in omega (arith, h, n, e)) in
+    let few : length rows < 4096 = (let h = c.requires.room in let n = length-map rows access_of in let e : length (map access_of rows) ≡ length c.args.self.now.accesses = ap (λ (d : Doing). length d.accesses) c.self.view_is in omega (arith, h, n, e)) in
     let none : c.replace-kept.result.items ≡ [] = rw c.replace-kept.ensures.value c.self.invariant.11 in
     let capacity : size ≤ vec_capacity c.replace-kept.result = rw c.replace-kept.ensures.value room.2 in
     let long : length c.args.bytes.now ≡ size = c.requires.bytes ∙ sym (ap (λ (d : Doing). d.size) c.self.view_is) in
