@@ -1,5 +1,5 @@
 -- What upkeep leaves as it is.
-use Rattle.script_model.proofs.Words.{ap, ℕ, ◌==◌, true, false, cond, Op, Begin, End, Abort, Put, Read, Get, Write, Fill, Mark, Release, Takeover, Await, Group, Trim, Stat, Compact, Upgrade, HashPut, HashGet, HashDelete, TreePut, TreeGet, TreeDelete, TreeScan, FileNew, FileWrite, FileRead, FileMove, FileDelete, CoreReply, LAST, History, shown_block, step, after_switch, shown_to, switch_step, World, Live, IsUpkeep}
+use Rattle.script_model.proofs.Words.{ap, ℕ, ◌==◌, true, false, cond, Op, Trim, Stat, Compact, Upgrade, CoreReply, LAST, History, shown_block, step, after_switch, shown_to, switch_step, World, Live, IsUpkeep}
 use Rattle.std.proofs.Common.{◌≡◌, refl}
 use Rattle.iso_model.specs.declared.core_reply.CoreReply.TheVariants as reply
 

@@ -1,5 +1,5 @@
 -- The replies of a run, and their text.
-use Rattle.script_runner.proofs.Words.{◌≡◌, ℕ, List, [], ◌∷◌, ◌++◌, inr, take, ap, refl, sym, subst, ◌∙◌, append_assoc, append-nil, append_known, DiskState, SinkState, Wrote, append_known-append, append_known-nil, World, IsWorld, Line, Reply, answers_to, replies, step, reply_line, RunEnd, AreRepliesTo, AreSameButShown, IfCut, IsReplyTo, PutReplies, PutRepliesBy, Replied, text_of, ArePlain, IsPlain, SameButShown, StandsSo, Done, Bad, Disk, Input, Output, Memory}
+use Rattle.script_runner.proofs.Words.{◌≡◌, ℕ, List, [], ◌∷◌, ◌++◌, inr, take, ap, refl, sym, subst, ◌∙◌, append_assoc, append-nil, append_known, DiskState, SinkState, Wrote, append_known-append, append_known-nil, World, IsWorld, Line, Reply, answers_to, replies, step, reply_line, RunEnd, AreRepliesTo, AreSameButShown, IfCut, IsReplyTo, PutReplies, PutRepliesBy, Replied, text_of, ArePlain, IsPlain, SameButShown, StandsSo, Disk, Output}
 
 -- the text of one reply
 pub reply_is : (W : World) (number : ℕ) (said : Line) (answer : Reply) (given set : List ℕ) → given ≡ set → set ≡ reply_line said.client answer

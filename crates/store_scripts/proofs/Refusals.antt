@@ -1,5 +1,5 @@
 -- A refused call of a store leaves whether its transaction keeps to the stores.
-use Rattle.store_scripts.proofs.Words.{◌≡◌, ◌∙◌, sym, refl, ap, subst, ℕ, ◌-◌, ◌==◌, ◌&&◌, ◌||◌, not, Bool, true, false, cond, List, [], ◌∷◌, ◌++◌, length, drop, append-nil, Option, Some, None, Result, Ok, Err, list_all, Access, MAX_ACCESSES, Op, Begin, End, Abort, Put, Read, Get, Write, Fill, Mark, Release, Takeover, Await, Group, Trim, Stat, Compact, Upgrade, HashPut, HashGet, HashDelete, TreePut, TreeGet, TreeDelete, TreeScan, Reply, is_key, array_of, found_reply, hash_delete_step, hash_get_step, hash_put_step, in_store, in_transaction, pairs_reply, removed_reply, step, store_reply, store_step, tree_delete_step, tree_get_step, tree_put_step, tree_scan_step, hash_area, tree_area, with_accesses, is_serial, AreReads, Program, outcome, Live, World, attached, IsWorld, OnKey, Scan, Answered, CallsStore, Notes, OfHash, accesses_or_none, answered, noted, spares_calls, spares_stores, told_by, told_more, OfSecond, SecondStore, second_store, store_refusal, FileNew, FileWrite, FileRead, FileMove, FileDelete, file_read_step, file_refusal, file_blocks, files_area, Call, StoreAnswer, TreeCall, option_map, StoreError, Del, Found, GetKey, Got, PutKey, WasPut, WasThere, in_area, read_program, read_reads}
+use Rattle.store_scripts.proofs.Words.{◌≡◌, ◌∙◌, sym, refl, ap, subst, ℕ, ◌-◌, ◌==◌, ◌&&◌, ◌||◌, not, Bool, true, false, cond, List, [], ◌∷◌, ◌++◌, length, drop, append-nil, Option, Some, None, Result, Ok, Err, list_all, Access, MAX_ACCESSES, Op, End, HashPut, HashGet, HashDelete, TreePut, TreeGet, TreeDelete, TreeScan, Reply, is_key, array_of, found_reply, hash_delete_step, hash_get_step, hash_put_step, in_store, in_transaction, pairs_reply, removed_reply, step, store_reply, store_step, tree_delete_step, tree_get_step, tree_put_step, tree_scan_step, hash_area, tree_area, with_accesses, is_serial, AreReads, Program, outcome, Live, World, attached, IsWorld, OnKey, Scan, Answered, CallsStore, Notes, OfHash, accesses_or_none, answered, noted, spares_calls, spares_stores, told_by, told_more, OfSecond, SecondStore, second_store, store_refusal, FileRead, file_read_step, file_refusal, file_blocks, files_area, Call, StoreAnswer, TreeCall, option_map, StoreError, Del, Found, GetKey, Got, PutKey, WasPut, WasThere, in_area, read_program, read_reads}
 use Rattle.script_model.specs.declared.script.Reply.TheVariants as reply
 use Rattle.store_model.specs.HashCalls as hash
 use Rattle.store_model.specs.TreeCalls as tree
