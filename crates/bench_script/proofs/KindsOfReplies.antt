@@ -1,5 +1,5 @@
 -- Which replies begin as a commit and as a conflict do.
-use Rattle.bench_script.proofs.Words.{◌≡◌, ◌∙◌, sym, refl, ap, ℕ, ◌+◌, ◌/◌, ◌%◌, Bool, true, false, cond, ◌&&◌, nat_eq, List, [], ◌∷◌, take, length, codes, arith, filter, pointwise, Reply, Shown, Committed, ReadOnly, Conflict, Grouped, Found, Pairs, Worn, is_committed, is_conflict, tells_first, label_text, Option, Some, None, GroupReply, digit_of, reply_text, LineKind, kind_of, commits_in, conflicts_in}
+use Rattle.bench_script.proofs.Words.{◌≡◌, ◌∙◌, sym, refl, ap, ℕ, ◌+◌, ◌/◌, ◌%◌, Bool, true, false, cond, ◌&&◌, nat_eq, List, [], ◌∷◌, take, length, codes, arith, filter, pointwise, Reply, Shown, Grouped, Found, Pairs, is_committed, is_conflict, tells_first, label_text, Option, Some, None, GroupReply, digit_of, reply_text, LineKind, kind_of, commits_in, conflicts_in}
 use Rattle.iso_model.specs.declared.access.GroupReply.TheVariants as member
 use Rattle.bench_script.specs.declared.line_kind.LineKind.TheVariants as kind
 

@@ -1,5 +1,5 @@
 -- The words that the proofs of this crate cite from elsewhere.
-pub use Rattle.std.proofs.Common.{Bool, IfSome, List, None, Ok, Option, Some, ap, append_assoc, arith, false, inl, inr, length, map, refl, subst, sym, true, ℕ, [], ◌++◌, ◌+◌, ◌<◌, ◌∙◌, ◌∷◌, ◌≡◌, ◌≤◌, ◌⊎◌}
+pub use Rattle.std.proofs.Common.{List, None, Ok, Option, Some, ap, arith, false, inl, inr, length, map, refl, subst, sym, true, ℕ, [], ◌++◌, ◌+◌, ◌<◌, ◌∙◌, ◌∷◌, ◌≡◌, ◌≤◌, ◌⊎◌}
 pub use Rattle.std.proofs.lemmas.Bool.Decides.{nat_tests}
 pub use Rattle.std.specs.List.{AllByRecursion}
 pub use Rattle.std.specs.Prelude.{is_some, vec_capacity}
@@ -8,7 +8,7 @@ pub use Rattle.iso_model.specs.declared.access.GroupReply.{GroupReply}
 pub use Rattle.iso_model.specs.declared.core_error.CoreError.{CoreError}
 pub use Rattle.iso_shared.specs.Groups.{ArePaired, IsBack, answered, made_in, units_of}
 pub use Rattle.iso_shared.specs.Legal.{IsLegal}
-pub use Rattle.iso_shared.specs.Ports.{IsPort, MadeAll, MadeBoth, doing_of, number_of, port_view, tx_view}
+pub use Rattle.iso_shared.specs.Ports.{IsPort, MadeAll, MadeBoth, number_of, port_view, tx_view}
 pub use Rattle.iso_shared.specs.States.{Start}
 pub use Rattle.iso_shared.specs.Told.{cause_of, members_in}
 pub use Rattle.iso_shared.specs.declared.entry.Entry.{Entry}
@@ -21,4 +21,4 @@ pub use Rattle.handle_pass.proofs.Logs.{next_on, next_prefix, next_same, through
 pub use Rattle.handle_pass.specs.Logs.{AreNext, MovesThrough, Next}
 pub use Rattle.handle_pass.specs.declared.session.Session.{Session}
 pub use mathlib.Core.List.{IsPrefix}
-pub use Rattle.group_commit.specs.Groups.{AreMembers, AreTxs, HasEnded, HasGrouped, HasMade, KnowsAll, aborts_after, aborts_of, count_all, found_in, group_of, marks_of, refused_by, spread, units_all}
+pub use Rattle.group_commit.specs.Groups.{AreMembers, AreTxs, HasEnded, HasMade, KnowsAll, aborts_after, aborts_of, count_all, found_in, group_of, marks_of, refused_by, spread, units_all}

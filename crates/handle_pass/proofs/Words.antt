@@ -33,7 +33,7 @@ pub use Rattle.iso_shared.specs.Ports.{IsSameTx, IsTxOf, MadeBoth, Made as PassM
 pub use Rattle.iso_shared.specs.States.{Start, State, after, after_all, after_fault, after_refusal, after_sweep, opened, state_at}
 pub use Rattle.iso_shared.specs.Told.{cause_of, post_cause, posting_of_tx}
 pub use Rattle.iso_shared.specs.declared.entry.Call.{Call}
-pub use Rattle.iso_shared.specs.declared.entry.Call.TheVariants.{Post as OfPost, Recent as OfRecent}
+pub use Rattle.iso_shared.specs.declared.entry.Call.TheVariants.{Recent as OfRecent}
 pub use Rattle.iso_shared.specs.declared.entry.Cause.{Cause}
 pub use Rattle.iso_shared.specs.declared.entry.Entry.{Entry}
 pub use Rattle.iso_shared.specs.declared.entry.Entry.TheVariants.{Begin, Fetch, Recent, Refused}

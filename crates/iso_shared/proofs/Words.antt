@@ -77,7 +77,7 @@ pub use Rattle.turn_lock.specs.declared.view.View.{View}
 pub use Rattle.tx_table.specs.Work.{AreWithin, Doing}
 pub use Rattle.tx_table.specs.declared.rack.PostError.{PostError}
 pub use mathlib.Core.List.{IsPrefix}
-pub use Rattle.iso_shared.specs.Groups.{ArePaired, IsBack, IsEnd, IsJoined, IsNote, IsNoteOf, IsPartOf, IsTaken, IsWithin, answered, end_of, held_in, made_in, numbers_handed, numbers_in, units_of}
+pub use Rattle.iso_shared.specs.Groups.{ArePaired, IsBack, IsEnd, IsJoined, IsNote, IsNoteOf, IsPartOf, IsTaken, answered, end_of, held_in, made_in, numbers_handed, numbers_in, units_of}
 pub use Rattle.iso_shared.specs.Legal.{Answers, AreLoose, Fits, IsCall, IsGroup, IsLegal, IsOfCore, LegalFrom, MayHaveMade, MayRefuse, MayWantMemory, answer_to, end_answer, ended, ended_by, handed, needed, numbers_at, reply_of, returned, switch_answer, tx_in}
 pub use Rattle.iso_shared.specs.Plain.{CommitsUpTo, IsMemberUpTo, IsReplyUpTo, WasPosted, is_number, takes_out}
 pub use Rattle.iso_shared.specs.Ports.{IsAhead, IsIsolatedAt, IsOwn, IsRecent, IsSameTx, IsTxOf, Made, MadeAll, MadeBoth, TookFew, most_steps, tx_view}
@@ -88,7 +88,7 @@ pub use Rattle.iso_shared.specs.Told.{begin_entry, cause_of, compact_entry, end_
 pub use Rattle.iso_shared.specs.declared.entry.Call.{Call}
 pub use Rattle.iso_shared.specs.declared.entry.Cause.{Cause}
 pub use Rattle.iso_shared.specs.declared.entry.Entry.{Entry}
-pub use Rattle.iso_shared.specs.declared.entry.Entry.TheVariants.{Abort, Sweep}
+pub use Rattle.iso_shared.specs.declared.entry.Entry.TheVariants.{Abort}
 pub use Rattle.iso_shared.specs.declared.entry.Member.{Member}
 pub use Rattle.iso_shared.specs.declared.entry.MemberEnd.{MemberEnd}
 pub use Rattle.iso_shared.specs.declared.entry.Numbers.{Numbers}

@@ -1,5 +1,5 @@
 -- The rules answer a client alone on two arrays alike, where its operation reads the same blocks of both.
-use Rattle.par_calls.proofs.Words.{◌≡◌, ◌∙◌, sym, refl, ap, subst, ℕ, ◌-◌, ◌==◌, ◌&&◌, not, Bool, true, false, cond, nat_le, List, [], ◌∷◌, ◌++◌, length, replicate, slice_index, take, drop, Option, Some, None, Result, eq-eqb, Access, Geometry, MarkError, Span, MAX_ACCESSES, Array, is_serial, is_outside, mark_fault, marked, get_access, put_access, read_access, shown_to, with_accesses, write_access, Live, World, Op, Reply, access_step, array_of, in_store, mark_refused, marked_step, fill_step, get_step, mark_step, put_step, read_step, step, store_step, write_step, Program, outcome, Own, alone, live_of, own_among, SecondStore, Told, told_more, IsSecond, store_reply}
+use Rattle.par_calls.proofs.Words.{◌≡◌, ◌∙◌, sym, refl, ap, ℕ, ◌==◌, ◌&&◌, not, Bool, true, false, cond, nat_le, List, [], ◌∷◌, ◌++◌, length, replicate, slice_index, take, drop, Option, Some, None, eq-eqb, Access, Geometry, MarkError, Span, MAX_ACCESSES, Array, is_serial, is_outside, mark_fault, marked, get_access, put_access, read_access, shown_to, with_accesses, write_access, Live, World, Op, Reply, access_step, in_store, mark_refused, marked_step, fill_step, get_step, mark_step, put_step, read_step, step, write_step, Own, alone, live_of, own_among, SecondStore, Told, told_more, IsSecond}
 use Rattle.script_model.specs.declared.script.Op.TheVariants as op
 use Rattle.script_model.specs.declared.script.Reply.TheVariants as reply
 use Rattle.par_calls.proofs.Sound.{as_first, sound}
@@ -115,13 +115,3 @@ module _ (S : SecondStore) (lawful : IsSecond S) (g : Geometry) (B C : Array) (t
   -- a store that is called
   pub store_in : (x : Op) (blocks : ℕ) (a b : Reply × World) → AreAlike x a b → AreAlike x (in_store here (live_of t) blocks a) (in_store there first blocks b)
   store_in x blocks a b alike = choose x (blocks == 0) _ _ _ _ (stays x reply.NoStore) (choose x (is_serial t.mode) _ _ _ _ alike (stays x reply.StoreMode))
-
-  pub store_alike : {E R : Type 0} (x : Op) (p : Program (Result R E)) (refusal : E → Reply) (said : R → Reply)
-      → outcome (MAX_ACCESSES - length t.accesses) p (array_of here (live_of t)) ≡ outcome (MAX_ACCESSES - length t.accesses) p (array_of there first)
-      → AreAlike x (store_step here (live_of t) p refusal said) (store_step there first p refusal said)
-  unfolding store_step
-  store_alike {E = E} {R = R} x p refusal said same =
-      let ended : List Access × Option (Result R E) → Reply = λ e. store_reply refusal said e.1 in
-      let a = outcome (MAX_ACCESSES - length t.accesses) p (array_of here (live_of t)) in
-      subst (λ (b : List Access × Option (Result R E)). AreAlike x (ended a, with_accesses here (live_of t) (t.accesses ++ a.0)) (ended b, with_accesses there first (t.accesses ++ b.0))) same
-      (grows x (ended a) (ended a) (t.accesses ++ a.0) (same_tell x (ended a)))

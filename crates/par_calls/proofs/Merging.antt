@@ -151,10 +151,6 @@ entries_mine c owners e made = ap (λ b. cond b (e ∷ entries_of c owners made)
 entries_other : (c d : ℕ) (owners : List ℕ) (e : Entry) (made : List Entry) → (d == c) ≡ false → entries_of d (c ∷ owners) (e ∷ made) ≡ entries_of d owners made
 entries_other c d owners e made other = ap (λ b. cond b (e ∷ entries_of d owners made) (entries_of d owners made)) (swapped d c other)
 
-no_owners : (c : ℕ) (owners : List ℕ) → entries_of c owners [] ≡ []
-no_owners c [] = refl
-no_owners c (owner ∷ owners) = refl
-
 among_now : (c : ℕ) (cs : List ℕ) (later : List Event) (V : Dealt) → list_any (λ x. x == c) cs ≡ true → AreAmong cs V → AreAmong cs (now c later V)
 among_now c cs later V has among d none = by (d == c) refl
   where

@@ -45,7 +45,7 @@ pub use Rattle.par_script.specs.Lines.{Aborts, Begins, CallsStore, ClientLines, 
 pub use Rattle.par_script.specs.Told.{FoundSome, entries_of, has_line, lines_of, lines_run}
 pub use Rattle.par_text.specs.declared.part.Part.{Part}
 pub use Rattle.script_model.specs.Operations.{AreLines, IsOp}
-pub use Rattle.script_model.specs.Step.{access_step, array_of, found_reply, in_store, in_transaction, mark_refused, marked_step, pairs_reply, removed_reply, store_reply}
+pub use Rattle.script_model.specs.Step.{access_step, array_of, found_reply, in_store, in_transaction, mark_refused, marked_step, pairs_reply, removed_reply}
 unfoldable pub use Rattle.script_model.specs.Step.{file_delete_step, file_move_step, file_new_step, file_read_step, file_write_step, fill_step, get_step, hash_delete_step, hash_get_step, hash_put_step, mark_step, put_step, read_step, step, store_step, tree_delete_step, tree_get_step, tree_put_step, tree_scan_step, write_step}
 pub use Rattle.script_model.specs.declared.script.Line.{Line}
 pub use Rattle.script_model.specs.declared.script.Op.{Op}

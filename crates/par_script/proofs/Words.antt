@@ -28,7 +28,6 @@ pub use Rattle.iso_shared.specs.declared.entry.Entry.{Entry}
 pub use Rattle.iso_shared.specs.declared.entry.Member.{Member}
 pub use Rattle.iso_shared.specs.declared.entry.MemberEnd.{MemberEnd}
 pub use Rattle.par_text.specs.Output.{commit_by}
-pub use Rattle.par_text.specs.declared.commit_line.CommitLine.{CommitLine}
 unfoldable pub use Rattle.script_model.specs.Step.{file_move_step, file_new_step, file_read_step, get_step, hash_get_step, put_step, read_step, step, store_step}
 pub use Rattle.script_model.specs.declared.script.Line.{Line}
 pub use Rattle.script_model.specs.declared.script.Op.{Op}

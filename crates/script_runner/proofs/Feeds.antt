@@ -34,9 +34,6 @@ before-front b text (piece ∷ more) = refl
 pieces-other : (b : ℕ) (text : List ℕ) → b ≢ 10 → pieces 10 (b ∷ text) ≡ before_piece b (pieces 10 text)
 pieces-other b text other = elim (eqb_tells b 10) [ inl same ↦ absurd (other same.1) | inr test ↦ rw test.0 refl ]
 
-pieces-separator : (text : List ℕ) → pieces 10 (10 ∷ text) ≡ [] ∷ pieces 10 text
-pieces-separator text = refl
-
 pub no_feed-nil : HasNoFeed []
 no_feed-nil there = let lt : there.0 < 0 = there.1 in omega arith
 
