@@ -2,6 +2,7 @@
 use crate::tests_cut::same;
 use iso_memdisk::MemDisk;
 use std::alloc::{AllocError, Global};
+use std::process::Abort;
 use std::test::Fail;
 use top_calls::{RECOVER, RUN, call_on, change, one_put_image, run_image, small_image};
 
@@ -19,91 +20,97 @@ fn is_refused(alloc: Global, image: &[u8], refusal: &[u8]) -> Result<bool, Fail>
     Ok(true)
 }
 
+/// That an image is refused so. Each test that asked it itself would prove what becomes of its image where it is not.
+fn refused(rt: &impl Abort, alloc: Global, image: &[u8], refusal: &[u8]) -> Result<(), Fail> {
+    assert!(rt; is_refused(alloc, image, refusal)?);
+    Ok(())
+}
+
 /// The same of a new image with other bytes in this place.
-fn new_is_refused(alloc: Global, at: usize, bytes: &[u8], refusal: &[u8]) -> Result<bool, Fail> {
+fn refused_when_new(
+    rt: &impl Abort,
+    alloc: Global,
+    at: usize,
+    bytes: &[u8],
+    refusal: &[u8],
+) -> Result<(), Fail> {
     let mut image = small_image(alloc)?;
     change(&mut image, at, bytes);
-    is_refused(alloc, &image, refusal)
+    refused(rt, alloc, &image, refusal)
 }
 
 /// And of one whose record has another byte in this place.
-fn record_is_refused(alloc: Global, at: usize, byte: u8, refusal: &[u8]) -> Result<bool, Fail> {
+fn refused_with_a_record(
+    rt: &impl Abort,
+    alloc: Global,
+    at: usize,
+    byte: u8,
+    refusal: &[u8],
+) -> Result<(), Fail> {
     let mut image = one_put_image(alloc)?;
     change(&mut image, at, &[byte]);
-    is_refused(alloc, &image, refusal)
+    refused(rt, alloc, &image, refusal)
 }
 
 #[test]
 fn an_image_begins_with_its_name(rt: HostRuntime) -> Result<(), Fail> {
-    assert!(rt; new_is_refused(rt.alloc(), 0, &[0x4a], b"! not an Isotope image\n")?);
-    Ok(())
+    refused_when_new(&rt, rt.alloc(), 0, &[0x4a], b"! not an Isotope image\n")
 }
 
 #[test]
 fn a_closed_superblock_is_no_image(rt: HostRuntime) -> Result<(), Fail> {
-    assert!(rt; new_is_refused(rt.alloc(), 63, &[2], b"! not an Isotope image\n")?);
-    Ok(())
+    refused_when_new(&rt, rt.alloc(), 63, &[2], b"! not an Isotope image\n")
 }
 
 #[test]
 fn a_version_is_1(rt: HostRuntime) -> Result<(), Fail> {
-    assert!(rt; new_is_refused(rt.alloc(), 11, &[2], b"! bad geometry field 1\n")?);
-    Ok(())
+    refused_when_new(&rt, rt.alloc(), 11, &[2], b"! bad geometry field 1\n")
 }
 
 #[test]
 fn a_block_size_is_a_power_of_two(rt: HostRuntime) -> Result<(), Fail> {
-    assert!(rt; new_is_refused(rt.alloc(), 15, &[0x41], b"! bad geometry field 2\n")?);
-    Ok(())
+    refused_when_new(&rt, rt.alloc(), 15, &[0x41], b"! bad geometry field 2\n")
 }
 
 #[test]
 fn an_image_has_a_block(rt: HostRuntime) -> Result<(), Fail> {
-    assert!(rt; new_is_refused(rt.alloc(), 19, &[0], b"! bad geometry field 3\n")?);
-    Ok(())
+    refused_when_new(&rt, rt.alloc(), 19, &[0], b"! bad geometry field 3\n")
 }
 
 #[test]
 fn a_log_has_64_bytes(rt: HostRuntime) -> Result<(), Fail> {
-    assert!(rt;
-        new_is_refused(
-            rt.alloc(),
-            20,
-            &[0, 0, 0, 0x3f],
-            b"! bad geometry field 4\n"
-        )?
-    );
-    Ok(())
+    refused_when_new(
+        &rt,
+        rt.alloc(),
+        20,
+        &[0, 0, 0, 0x3f],
+        b"! bad geometry field 4\n",
+    )
 }
 
 #[test]
 fn a_mode_is_0_or_1(rt: HostRuntime) -> Result<(), Fail> {
-    assert!(rt; new_is_refused(rt.alloc(), 24, &[2], b"! bad geometry field 5\n")?);
-    Ok(())
+    refused_when_new(&rt, rt.alloc(), 24, &[2], b"! bad geometry field 5\n")
 }
 
 #[test]
 fn zero_bytes_of_a_superblock_are_zero(rt: HostRuntime) -> Result<(), Fail> {
-    assert!(rt; new_is_refused(rt.alloc(), 36, &[1], b"! bad geometry field 6\n")?);
-    Ok(())
+    refused_when_new(&rt, rt.alloc(), 36, &[1], b"! bad geometry field 6\n")
 }
 
 #[test]
 fn a_region_needs_larger_blocks(rt: HostRuntime) -> Result<(), Fail> {
-    assert!(rt; new_is_refused(rt.alloc(), 31, &[3], b"! bad geometry field 7\n")?);
-    Ok(())
+    refused_when_new(&rt, rt.alloc(), 31, &[3], b"! bad geometry field 7\n")
 }
 
 #[test]
 fn one_half_is_open(rt: HostRuntime) -> Result<(), Fail> {
-    assert!(rt; new_is_refused(rt.alloc(), 64, &[0], b"! no open half\n")?);
-    Ok(())
+    refused_when_new(&rt, rt.alloc(), 64, &[0], b"! no open half\n")
 }
 
 #[test]
 fn a_form_is_1_or_2(rt: HostRuntime) -> Result<(), Fail> {
-    assert!(rt; new_is_refused(rt.alloc(), 65, &[3], b"! unknown form 3\n")?);
-    Ok(())
+    refused_when_new(&rt, rt.alloc(), 65, &[3], b"! unknown form 3\n")
 }
 
 #[test]
@@ -112,14 +119,12 @@ fn the_form_of_the_current_half_is_asked(rt: HostRuntime) -> Result<(), Fail> {
     let mut image = small_image(alloc)?;
     change(&mut image, 608, &[1]);
     change(&mut image, 623, &[2]);
-    assert!(rt; is_refused(alloc, &image, b"! unknown form 0\n")?);
-    Ok(())
+    refused(&rt, rt.alloc(), &image, b"! unknown form 0\n")
 }
 
 #[test]
 fn zero_bytes_of_a_header_are_zero(rt: HostRuntime) -> Result<(), Fail> {
-    assert!(rt; new_is_refused(rt.alloc(), 66, &[1], b"! damaged at 66 cause 3\n")?);
-    Ok(())
+    refused_when_new(&rt, rt.alloc(), 66, &[1], b"! damaged at 66 cause 3\n")
 }
 
 #[test]
@@ -128,68 +133,57 @@ fn zero_bytes_come_before_the_generation(rt: HostRuntime) -> Result<(), Fail> {
     let mut image = small_image(alloc)?;
     change(&mut image, 88, &[1]);
     change(&mut image, 72, &[0x80]);
-    assert!(rt; is_refused(alloc, &image, b"! damaged at 88 cause 3\n")?);
-    Ok(())
+    refused(&rt, rt.alloc(), &image, b"! damaged at 88 cause 3\n")
 }
 
 #[test]
 fn a_generation_is_below_2_to_the_63(rt: HostRuntime) -> Result<(), Fail> {
-    assert!(rt; new_is_refused(rt.alloc(), 72, &[0x80], b"! damaged at 72 cause 8\n")?);
-    Ok(())
+    refused_when_new(&rt, rt.alloc(), 72, &[0x80], b"! damaged at 72 cause 8\n")
 }
 
 #[test]
 fn a_base_number_is_below_2_to_the_63(rt: HostRuntime) -> Result<(), Fail> {
-    assert!(rt; new_is_refused(rt.alloc(), 80, &[0x80], b"! damaged at 80 cause 8\n")?);
-    Ok(())
+    refused_when_new(&rt, rt.alloc(), 80, &[0x80], b"! damaged at 80 cause 8\n")
 }
 
 #[test]
 fn a_record_has_a_kind(rt: HostRuntime) -> Result<(), Fail> {
-    assert!(rt; new_is_refused(rt.alloc(), 352, &[1], b"! damaged at 353 cause 2\n")?);
-    Ok(())
+    refused_when_new(&rt, rt.alloc(), 352, &[1], b"! damaged at 353 cause 2\n")
 }
 
 #[test]
 fn form_1_has_records_of_kind_1(rt: HostRuntime) -> Result<(), Fail> {
-    assert!(rt; record_is_refused(rt.alloc(), 353, 2, b"! damaged at 353 cause 2\n")?);
-    Ok(())
+    refused_with_a_record(&rt, rt.alloc(), 353, 2, b"! damaged at 353 cause 2\n")
 }
 
 #[test]
 fn zero_bytes_of_a_record_are_zero(rt: HostRuntime) -> Result<(), Fail> {
-    assert!(rt; record_is_refused(rt.alloc(), 354, 1, b"! damaged at 354 cause 3\n")?);
-    Ok(())
+    refused_with_a_record(&rt, rt.alloc(), 354, 1, b"! damaged at 354 cause 3\n")
 }
 
 #[test]
 fn a_record_has_a_part(rt: HostRuntime) -> Result<(), Fail> {
-    assert!(rt; record_is_refused(rt.alloc(), 359, 0, b"! damaged at 356 cause 4\n")?);
-    Ok(())
+    refused_with_a_record(&rt, rt.alloc(), 359, 0, b"! damaged at 356 cause 4\n")
 }
 
 #[test]
 fn a_record_ends_in_the_log(rt: HostRuntime) -> Result<(), Fail> {
-    assert!(rt; record_is_refused(rt.alloc(), 363, 0xff, b"! damaged at 360 cause 1\n")?);
-    Ok(())
+    refused_with_a_record(&rt, rt.alloc(), 363, 0xff, b"! damaged at 360 cause 1\n")
 }
 
 #[test]
 fn a_body_ends_with_its_last_part(rt: HostRuntime) -> Result<(), Fail> {
-    assert!(rt; record_is_refused(rt.alloc(), 363, 0x0b, b"! damaged at 382 cause 7\n")?);
-    Ok(())
+    refused_with_a_record(&rt, rt.alloc(), 363, 0x0b, b"! damaged at 382 cause 7\n")
 }
 
 #[test]
 fn a_record_has_the_next_number(rt: HostRuntime) -> Result<(), Fail> {
-    assert!(rt; record_is_refused(rt.alloc(), 371, 2, b"! damaged at 364 cause 8\n")?);
-    Ok(())
+    refused_with_a_record(&rt, rt.alloc(), 371, 2, b"! damaged at 364 cause 8\n")
 }
 
 #[test]
 fn a_part_lies_in_a_block_of_the_image(rt: HostRuntime) -> Result<(), Fail> {
-    assert!(rt; record_is_refused(rt.alloc(), 375, 4, b"! damaged at 372 cause 6\n")?);
-    Ok(())
+    refused_with_a_record(&rt, rt.alloc(), 375, 4, b"! damaged at 372 cause 6\n")
 }
 
 /// A record whose second part is of an earlier block.
@@ -209,14 +203,12 @@ fn with_falling(alloc: Global, gate: u8) -> Result<Vec<u8>, AllocError> {
 #[test]
 fn the_parts_of_a_record_rise(rt: HostRuntime) -> Result<(), Fail> {
     let alloc = rt.alloc();
-    assert!(rt;
-        is_refused(
-            alloc,
-            &with_falling(alloc, 1)?,
-            b"! damaged at 381 cause 5\n"
-        )?
-    );
-    Ok(())
+    refused(
+        &rt,
+        rt.alloc(),
+        &with_falling(alloc, 1)?,
+        b"! damaged at 381 cause 5\n",
+    )
 }
 
 #[test]
@@ -234,18 +226,22 @@ fn nothing_is_asked_behind_a_closed_gate(rt: HostRuntime) -> Result<(), Fail> {
     Ok(())
 }
 
-/// Whether the first bytes of a new image are refused with this text.
-fn front_is_refused(alloc: Global, count: usize, refusal: &[u8]) -> Result<bool, Fail> {
+/// And of the first bytes of a new image.
+fn refused_in_front(
+    rt: &impl Abort,
+    alloc: Global,
+    count: usize,
+    refusal: &[u8],
+) -> Result<(), Fail> {
     let mut image = small_image(alloc)?;
     image.truncate(count);
-    is_refused(alloc, &image, refusal)
+    refused(rt, alloc, &image, refusal)
 }
 
 #[test]
 fn an_image_without_its_last_byte_has_the_wrong_size(rt: HostRuntime) -> Result<(), Fail> {
     let refusal = b"! wrong size want 1152 have 1151\n";
-    assert!(rt; front_is_refused(rt.alloc(), 1151, refusal)?);
-    Ok(())
+    refused_in_front(&rt, rt.alloc(), 1151, refusal)
 }
 
 #[test]
@@ -253,27 +249,28 @@ fn an_image_with_a_byte_more_has_the_wrong_size(rt: HostRuntime) -> Result<(), F
     let alloc = rt.alloc();
     let mut image = small_image(alloc)?;
     image.push(0)?;
-    assert!(rt; is_refused(alloc, &image, b"! wrong size want 1152 have 1153\n")?);
-    Ok(())
+    refused(
+        &rt,
+        rt.alloc(),
+        &image,
+        b"! wrong size want 1152 have 1153\n",
+    )
 }
 
 #[test]
 fn a_superblock_alone_has_the_wrong_size(rt: HostRuntime) -> Result<(), Fail> {
-    assert!(rt; front_is_refused(rt.alloc(), 64, b"! wrong size want 1152 have 64\n")?);
-    Ok(())
+    refused_in_front(&rt, rt.alloc(), 64, b"! wrong size want 1152 have 64\n")
 }
 
 #[test]
 fn less_than_a_superblock_is_no_image(rt: HostRuntime) -> Result<(), Fail> {
-    assert!(rt; front_is_refused(rt.alloc(), 63, b"! not an Isotope image\n")?);
-    assert!(rt; front_is_refused(rt.alloc(), 0, b"! not an Isotope image\n")?);
-    Ok(())
+    refused_in_front(&rt, rt.alloc(), 63, b"! not an Isotope image\n")?;
+    refused_in_front(&rt, rt.alloc(), 0, b"! not an Isotope image\n")
 }
 
 #[test]
 fn zeros_are_no_image(rt: HostRuntime) -> Result<(), Fail> {
     let alloc = rt.alloc();
     let zeros = vec![in alloc; 0; 1152]?;
-    assert!(rt; is_refused(alloc, &zeros, b"! not an Isotope image\n")?);
-    Ok(())
+    refused(&rt, rt.alloc(), &zeros, b"! not an Isotope image\n")
 }

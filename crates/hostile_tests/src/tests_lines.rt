@@ -1,6 +1,7 @@
 // Scripts with a bad line: the line and the cause that are named, and what stands before it.
 use crate::tests_cut::same;
 use std::alloc::{AllocError, Global};
+use std::process::Abort;
 use std::test::Fail;
 use top_calls::{SMALL, call, joined, one_put_image};
 
@@ -14,58 +15,60 @@ fn is_bad(alloc: Global, script: &[u8], last: &[u8]) -> Result<bool, AllocError>
     Ok(outcome.status == 3 && outcome.output.as_slice() == last)
 }
 
+/// That a script is answered so. Each test that asked it itself would prove what becomes of its values where it is not.
+fn bad(rt: &impl Abort, alloc: Global, script: &[u8], last: &[u8]) -> Result<(), Fail> {
+    assert!(rt; is_bad(alloc, script, last)?);
+    Ok(())
+}
+
 #[test]
 fn a_client_is_at_most_64(rt: HostRuntime) -> Result<(), Fail> {
-    assert!(rt; is_bad(rt.alloc(), b"65 begin\n", b"! bad line 1 cause 1\n")?);
-    Ok(())
+    bad(&rt, rt.alloc(), b"65 begin\n", b"! bad line 1 cause 1\n")
 }
 
 #[test]
 fn a_client_has_no_leading_zero(rt: HostRuntime) -> Result<(), Fail> {
-    assert!(rt; is_bad(rt.alloc(), b"01 begin\n", b"! bad line 1 cause 1\n")?);
-    Ok(())
+    bad(&rt, rt.alloc(), b"01 begin\n", b"! bad line 1 cause 1\n")
 }
 
 #[test]
 fn a_line_has_an_operation(rt: HostRuntime) -> Result<(), Fail> {
-    assert!(rt; is_bad(rt.alloc(), b"1\n", b"! bad line 1 cause 2\n")?);
-    Ok(())
+    bad(&rt, rt.alloc(), b"1\n", b"! bad line 1 cause 2\n")
 }
 
 #[test]
 fn an_argument_of_begin_is_a_mode(rt: HostRuntime) -> Result<(), Fail> {
-    assert!(rt; is_bad(rt.alloc(), b"1 begin x\n", b"! bad line 1 cause 10\n")?);
-    Ok(())
+    bad(&rt, rt.alloc(), b"1 begin x\n", b"! bad line 1 cause 10\n")
 }
 
 #[test]
 fn a_number_has_no_leading_zero(rt: HostRuntime) -> Result<(), Fail> {
-    assert!(rt; is_bad(rt.alloc(), b"1 put 00 0 aa\n", b"! bad line 1 cause 4\n")?);
-    Ok(())
+    bad(
+        &rt,
+        rt.alloc(),
+        b"1 put 00 0 aa\n",
+        b"! bad line 1 cause 4\n",
+    )
 }
 
 #[test]
 fn the_first_wrong_argument_is_named(rt: HostRuntime) -> Result<(), Fail> {
-    assert!(rt; is_bad(rt.alloc(), b"1 put x 0 a\n", b"! bad line 1 cause 4\n")?);
-    Ok(())
+    bad(&rt, rt.alloc(), b"1 put x 0 a\n", b"! bad line 1 cause 4\n")
 }
 
 #[test]
 fn hexadecimal_digits_are_even(rt: HostRuntime) -> Result<(), Fail> {
-    assert!(rt; is_bad(rt.alloc(), b"1 put 0 0 a\n", b"! bad line 1 cause 5\n")?);
-    Ok(())
+    bad(&rt, rt.alloc(), b"1 put 0 0 a\n", b"! bad line 1 cause 5\n")
 }
 
 #[test]
 fn a_label_is_in_lower_case(rt: HostRuntime) -> Result<(), Fail> {
-    assert!(rt; is_bad(rt.alloc(), b"1 release A\n", b"! bad line 1 cause 6\n")?);
-    Ok(())
+    bad(&rt, rt.alloc(), b"1 release A\n", b"! bad line 1 cause 6\n")
 }
 
 #[test]
 fn a_tab_is_no_space(rt: HostRuntime) -> Result<(), Fail> {
-    assert!(rt; is_bad(rt.alloc(), b"1\tbegin\n", b"! bad line 1 cause 8\n")?);
-    Ok(())
+    bad(&rt, rt.alloc(), b"1\tbegin\n", b"! bad line 1 cause 8\n")
 }
 
 #[test]
@@ -73,8 +76,7 @@ fn a_line_has_at_most_16384_bytes(rt: HostRuntime) -> Result<(), Fail> {
     let alloc = rt.alloc();
     let mut spaces = vec![in alloc; b' '; 16_385]?;
     spaces.push(b'\n')?;
-    assert!(rt; is_bad(alloc, &spaces, b"! bad line 1 cause 7\n")?);
-    Ok(())
+    bad(&rt, rt.alloc(), &spaces, b"! bad line 1 cause 7\n")
 }
 
 #[test]
@@ -135,8 +137,8 @@ fn a_line_may_have_16384_bytes(rt: HostRuntime) -> Result<(), Fail> {
         let whole = script.clone()?;
         script.push(b' ')?;
         let longer = joined(alloc, &script, b"\n1 jump\n")?;
-        assert!(rt; is_bad(alloc, &script, b"! bad line 1 cause 7\n")?);
-        assert!(rt; is_bad(alloc, &longer, b"! bad line 1 cause 7\n")?);
+        bad(&rt, rt.alloc(), &script, b"! bad line 1 cause 7\n")?;
+        bad(&rt, rt.alloc(), &longer, b"! bad line 1 cause 7\n")?;
         same(&rt, call(alloc, SMALL, &whole)?.status, 0);
     }
     Ok(())
@@ -144,15 +146,18 @@ fn a_line_may_have_16384_bytes(rt: HostRuntime) -> Result<(), Fail> {
 
 #[test]
 fn the_first_bad_line_is_named(rt: HostRuntime) -> Result<(), Fail> {
-    let alloc = rt.alloc();
-    assert!(rt; is_bad(alloc, b"1 begin x\n1 jump\n", b"! bad line 1 cause 10\n")?);
+    bad(
+        &rt,
+        rt.alloc(),
+        b"1 begin x\n1 jump\n",
+        b"! bad line 1 cause 10\n",
+    )?;
     let replies = b"1 ok begin 0\n! bad line 2 cause 2\n";
-    assert!(rt; is_bad(alloc, b"1 begin\n1 jump", replies)?);
-    assert!(rt; is_bad(alloc, b"1 begin\n1 jump\n1 end\n", replies)?);
+    bad(&rt, rt.alloc(), b"1 begin\n1 jump", replies)?;
+    bad(&rt, rt.alloc(), b"1 begin\n1 jump\n1 end\n", replies)?;
     // lines that are skipped are counted
     let counted = b"1 ok begin 0\n! bad line 4 cause 5\n";
-    assert!(rt; is_bad(alloc, b"# x\n\n1 begin\n1 put 0 0 a", counted)?);
-    Ok(())
+    bad(&rt, rt.alloc(), b"# x\n\n1 begin\n1 put 0 0 a", counted)
 }
 
 #[test]

@@ -7,6 +7,7 @@ ghost use Rattle.command_line.specs.Requests.{request_of};
 
 use crate::texts::text;
 use command_line::{Task, read_words};
+use iso_disk::Image;
 use iso_io::{MemSink, MemSource, Source};
 use iso_memdisk::MemDisk;
 use iso_top::{alone, isotope};
@@ -80,18 +81,30 @@ pub fn call_from<S: Source>(
     source: &mut S,
     sink: MemSink,
 ) -> Result<Outcome, AllocError> {
+    let (status, output, disk) = call_with(alloc, line, disk, source, sink)?;
+    Ok(Outcome {
+        status,
+        output,
+        disk,
+    })
+}
+
+/// The status, the output and the image of such a call over any image.
+pub fn call_with<I: Image + Drop, S: Source>(
+    alloc: Global,
+    line: &str,
+    image: I,
+    source: &mut S,
+    sink: MemSink,
+) -> Result<(u8, Vec<u8>, I), AllocError> {
     let words = words_of(alloc, line)?;
     let mut sink = sink;
     if may_be_par(alloc, &words) {
         return Err(AllocError);
     }
-    let ended = alone(alloc, &words, disk, source, &mut sink);
+    let ended = alone(alloc, &words, image, source, &mut sink);
     let output = sink.bytes().to_vec(alloc)?;
-    Ok(Outcome {
-        status: ended.status,
-        output,
-        disk: ended.image,
-    })
+    Ok((ended.status, output, ended.image))
 }
 
 /// A gate at which no client waits.
@@ -189,12 +202,7 @@ pub fn run_image(alloc: Global, image: Vec<u8>, input: &[u8]) -> Result<Outcome,
     call_on(alloc, RUN, MemDisk::new(alloc, image), input)
 }
 
-/// Whether a new small image answers a script so, all of it, with status 0.
-pub fn answers(alloc: Global, script: &[u8], replies: &[u8]) -> Result<bool, AllocError> {
-    answers_on(alloc, SMALL, script, replies)
-}
-
-/// The same for the image that these words make.
+/// Whether the new image that these words make answers a script so, all of it, with status 0.
 pub fn answers_on(
     alloc: Global,
     line: &str,

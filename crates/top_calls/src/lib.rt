@@ -6,7 +6,7 @@ mod images;
 mod texts;
 
 pub use calls::{
-    Outcome, PAR, RECOVER, RUN, SMALL, answers, answers_on, call, call_from, call_on, call_over,
+    Outcome, PAR, RECOVER, RUN, SMALL, answers_on, call, call_from, call_on, call_over, call_with,
     gated_over, isotope_on, made_image, no_disk, par_image, run_image, stat_of, threads_over,
 };
 pub use images::{RECORD, change, one_put_image, part, small_image};

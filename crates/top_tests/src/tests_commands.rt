@@ -5,11 +5,25 @@ use std::alloc::{AllocError, Global};
 use std::fmt::Debug;
 use std::process::Abort;
 use std::test::Fail;
-use top_calls::{Outcome, RECOVER, RUN, call, call_on, call_over, no_disk, one_put_image, part};
+use top_calls::{
+    Outcome, RECOVER, RUN, answers_on, call, call_on, call_over, no_disk, one_put_image, part,
+};
 
 // Two values that are to be the same. Each test that compared them itself would prove what is printed where they differ.
 pub(crate) fn same<T: PartialEq + Debug + Drop>(rt: &impl Abort, found: T, wanted: T) {
     assert_eq!(rt; found, wanted);
+}
+
+// A script on the new image that these words make is answered so, all of it, with status 0.
+pub(crate) fn told(
+    rt: &impl Abort,
+    alloc: Global,
+    line: &str,
+    script: &[u8],
+    replies: &[u8],
+) -> Result<(), Fail> {
+    assert!(rt; answers_on(alloc, line, script, replies)?);
+    Ok(())
 }
 
 const ONE_PUT_LINE: &[u8] =

@@ -1,8 +1,8 @@
 // Scripts on images with files, alone and beside a hash store.
-use crate::tests_commands::same;
+use crate::tests_commands::{same, told};
 use std::alloc::{AllocError, Global};
 use std::test::Fail;
-use top_calls::{SMALL, answers_on, call, made_image, run_image};
+use top_calls::{SMALL, call, made_image, run_image};
 
 // Sixteen blocks of 256 bytes: four of the tree store, and twelve of the files, whose map is block 4. A file has at most 12,288 bytes.
 const FILES: &str = "isotope new t.img --block-size 256 --blocks 16 --log 8192 --tree 4";
@@ -17,8 +17,7 @@ fn a_file_from_its_making_to_its_end(rt: HostRuntime) -> Result<(), Fail> {
         b"1 begin\n1 fnew 61\n1 fwrite 61 0 0102\n1 fwrite 61 3 01\n1 fread 61 1 9\n1 fnew 61\n1 fmove 61 62\n1 fread 61 0 1\n1 fread 62 0 2\n1 fdel 62\n1 end\n";
     let replies =
         b"1 ok begin 0\n1 ok\n1 ok\n1 bad-range\n1 ok 02\n1 exists\n1 ok\n1 ok none\n1 ok 0102\n1 ok\n1 ok commit 1\n";
-    assert!(rt; answers_on(rt.alloc(), FILES, script, replies)?);
-    Ok(())
+    told(&rt, rt.alloc(), FILES, script, replies)
 }
 
 #[test]
@@ -27,8 +26,7 @@ fn two_clients_write_different_bytes_of_a_file(rt: HostRuntime) -> Result<(), Fa
         b"1 begin\n1 fnew 61\n1 fwrite 61 0 0102\n1 end\n1 begin\n2 begin\n1 fwrite 61 0 aa\n2 fwrite 61 1 bb\n1 end\n2 end\n1 begin\n1 fread 61 0 9\n1 end\n";
     let replies =
         b"1 ok begin 0\n1 ok\n1 ok\n1 ok commit 1\n1 ok begin 1\n2 ok begin 1\n1 ok\n2 ok\n1 ok commit 2\n2 ok commit 3\n1 ok begin 3\n1 ok aabb\n1 ok read-only\n";
-    assert!(rt; answers_on(rt.alloc(), FILES, script, replies)?);
-    Ok(())
+    told(&rt, rt.alloc(), FILES, script, replies)
 }
 
 #[test]
@@ -38,8 +36,7 @@ fn two_clients_that_append_to_a_file_conflict(rt: HostRuntime) -> Result<(), Fai
         b"1 begin\n1 fnew 61\n1 fwrite 61 0 aabb\n1 end\n1 begin\n2 begin\n1 fwrite 61 2 01\n2 fwrite 61 2 02\n1 end\n2 end\n";
     let replies =
         b"1 ok begin 0\n1 ok\n1 ok\n1 ok commit 1\n1 ok begin 1\n2 ok begin 1\n1 ok\n2 ok\n1 ok commit 2\n2 conflict with 2 block 5 at 0\n";
-    assert!(rt; answers_on(rt.alloc(), FILES, script, replies)?);
-    Ok(())
+    told(&rt, rt.alloc(), FILES, script, replies)
 }
 
 /// Adds a write of so many bytes of one value, which two digits spell, to the file 61.
@@ -77,8 +74,7 @@ fn a_write_across_three_blocks(rt: HostRuntime) -> Result<(), Fail> {
     )?;
     let replies =
         b"1 ok begin 0\n1 ok\n1 ok\n1 ok\n1 ok 1111eeee\n1 ok eeeeeeee\n1 ok eeeeeeee\n1 ok eeee1111\n1 ok 1111\n";
-    assert!(rt; answers_on(alloc, FILES, &script, replies)?);
-    Ok(())
+    told(&rt, rt.alloc(), FILES, &script, replies)
 }
 
 #[test]
@@ -93,8 +89,7 @@ fn a_file_of_the_largest_size(rt: HostRuntime) -> Result<(), Fail> {
     )?;
     let replies =
         b"1 ok begin 0\n1 ok\n1 ok\n1 ok\n1 ok\n1 bad-range\n1 bad-range\n1 ok\n1 ok commit 1\n1 ok begin 1\n1 ok 1122\n1 ok 2233\n1 ok 3344\n1 ok -\n1 bad-range\n";
-    assert!(rt; answers_on(alloc, words, &script, replies)?);
-    Ok(())
+    told(&rt, rt.alloc(), words, &script, replies)
 }
 
 #[test]
@@ -106,8 +101,7 @@ fn a_call_asks_for_at_most_4096_bytes(rt: HostRuntime) -> Result<(), Fail> {
         b"1 fread 61 0 4096\n1 fread 61 0 4097\n1 fread 61 0 0\n1 fread 62 9 4096\n",
     )?;
     let replies = b"1 ok begin 0\n1 ok\n1 bad-range\n1 ok -\n1 bad-range\n1 bad-range\n1 ok none\n";
-    assert!(rt; answers_on(alloc, FILES, &script, replies)?);
-    Ok(())
+    told(&rt, rt.alloc(), FILES, &script, replies)
 }
 
 #[test]
@@ -121,11 +115,10 @@ fn a_full_region_takes_no_block(rt: HostRuntime) -> Result<(), Fail> {
     )?;
     let replies =
         b"1 ok begin 0\n1 ok\n1 ok\n1 no-blocks need 1 free 0\n1 no-blocks need 1 free 0\n1 ok\n1 ok fe0f\n1 ok commit 1\n";
-    assert!(rt; answers_on(alloc, FILES, &script, replies)?);
+    told(&rt, rt.alloc(), FILES, &script, replies)?;
     let script = behind_a_file(alloc, 2561, b"1 fread 61 0 1\n1 end\n")?;
     let replies = b"1 ok begin 0\n1 ok\n1 no-blocks need 11 free 10\n1 ok -\n1 ok commit 1\n";
-    assert!(rt; answers_on(alloc, FILES, &script, replies)?);
-    Ok(())
+    told(&rt, rt.alloc(), FILES, &script, replies)
 }
 
 #[test]
@@ -140,8 +133,7 @@ fn a_file_that_is_removed_gives_its_blocks_back(rt: HostRuntime) -> Result<(), F
     script.extend_from_slice(b"1 fwrite 62 0 01\n1 get 4 64 2\n1 fdel 62\n1 get 4 64 2\n1 end\n")?;
     let replies =
         b"1 ok begin 0\n1 ok\n1 ok\n1 ok\n1 ok 0000\n1 ok none\n1 ok\n1 ok\n1 ok\n1 no-blocks need 1 free 0\n1 ok fe0f\n1 ok\n1 ok fc0f\n1 ok commit 1\n";
-    assert!(rt; answers_on(alloc, FILES, &script, replies)?);
-    Ok(())
+    told(&rt, rt.alloc(), FILES, &script, replies)
 }
 
 #[test]
@@ -152,8 +144,7 @@ fn a_full_tree_takes_no_name(rt: HostRuntime) -> Result<(), Fail> {
         b"1 begin\n1 fnew 61\n1 fnew 62\n1 fnew 63\n1 fnew 64\n1 fmove 63 64\n1 fdel 62\n1 fmove 63 64\n1 fread 64 0 1\n1 end\n";
     let replies =
         b"1 ok begin 0\n1 ok\n1 ok\n1 ok\n1 no-blocks need 2 free 0\n1 no-blocks need 2 free 0\n1 ok\n1 ok\n1 ok -\n1 ok commit 1\n";
-    assert!(rt; answers_on(rt.alloc(), words, script, replies)?);
-    Ok(())
+    told(&rt, rt.alloc(), words, script, replies)
 }
 
 #[test]
@@ -162,8 +153,7 @@ fn a_name_has_1_to_28_bytes(rt: HostRuntime) -> Result<(), Fail> {
         b"1 begin\n1 fnew 000102030405060708090a0b0c0d0e0f101112131415161718191a1b\n1 fnew 000102030405060708090a0b0c0d0e0f101112131415161718191a1b1c\n1 fnew -\n1 fread - 0 0\n1 fwrite - 0 01\n1 fmove - 61\n1 fmove 000102030405060708090a0b0c0d0e0f101112131415161718191a1b -\n1 fdel -\n1 fdel 000102030405060708090a0b0c0d0e0f101112131415161718191a1b\n";
     let replies =
         b"1 ok begin 0\n1 ok\n1 bad-name\n1 bad-name\n1 bad-name\n1 bad-name\n1 bad-name\n1 bad-name\n1 bad-name\n1 ok\n";
-    assert!(rt; answers_on(rt.alloc(), FILES, script, replies)?);
-    Ok(())
+    told(&rt, rt.alloc(), FILES, script, replies)
 }
 
 #[test]
@@ -172,8 +162,7 @@ fn an_empty_file_has_no_byte(rt: HostRuntime) -> Result<(), Fail> {
         b"1 begin\n1 fnew 61\n1 fread 61 0 1\n1 fread 61 1 1\n1 fwrite 61 1 01\n1 fdel 61\n1 fread 61 0 1\n1 fwrite 61 0 01\n";
     let replies =
         b"1 ok begin 0\n1 ok\n1 ok -\n1 bad-range\n1 bad-range\n1 ok\n1 ok none\n1 ok none\n";
-    assert!(rt; answers_on(rt.alloc(), FILES, script, replies)?);
-    Ok(())
+    told(&rt, rt.alloc(), FILES, script, replies)
 }
 
 #[test]
@@ -182,8 +171,7 @@ fn a_file_takes_a_free_name_alone(rt: HostRuntime) -> Result<(), Fail> {
         b"1 begin\n1 fmove 61 61\n1 fnew 61\n1 fwrite 61 0 05\n1 fnew 62\n1 fmove 61 61\n1 fmove 61 62\n1 fmove 63 61\n1 fdel 62\n1 fmove 61 62\n1 fread 62 0 1\n1 tget 62\n";
     let replies =
         b"1 ok begin 0\n1 ok none\n1 ok\n1 ok\n1 ok\n1 exists\n1 exists\n1 ok none\n1 ok\n1 ok\n1 ok 05\n1 ok 00000001\n";
-    assert!(rt; answers_on(rt.alloc(), FILES, script, replies)?);
-    Ok(())
+    told(&rt, rt.alloc(), FILES, script, replies)
 }
 
 #[test]
@@ -193,8 +181,7 @@ fn a_damaged_block_of_a_file_is_named(rt: HostRuntime) -> Result<(), Fail> {
         b"1 begin\n1 fnew 61\n1 fwrite 61 0 04\n1 tput 62 00000002\n1 fread 62 0 1\n1 put 8 0 02\n1 fread 61 0 1\n1 fwrite 61 0 01\n1 fdel 61\n1 put 8 0 03\n1 put 8 8 01\n1 fread 61 0 1\n1 put 8 8 00\n1 fread 61 0 1\n1 put 8 64 0000000d\n1 fread 61 0 1\n";
     let replies =
         b"1 ok begin 0\n1 ok\n1 ok\n1 ok\n1 broken block 9\n1 ok\n1 broken block 8\n1 broken block 8\n1 broken block 8\n1 ok\n1 ok\n1 broken block 8\n1 ok\n1 ok 04\n1 ok\n1 broken block 8\n";
-    assert!(rt; answers_on(rt.alloc(), BEHIND_A_HASH_STORE, script, replies)?);
-    Ok(())
+    told(&rt, rt.alloc(), BEHIND_A_HASH_STORE, script, replies)
 }
 
 #[test]
@@ -204,30 +191,27 @@ fn a_value_that_names_no_file_block_is_refused(rt: HostRuntime) -> Result<(), Fa
         b"1 begin\n1 tput 61 -\n1 fread 61 0 1\n1 tput 61 00000000\n1 fwrite 61 0 01\n1 tput 61 0000000d\n1 fdel 61\n1 tput 61 0000000c\n1 fread 61 0 1\n1 fmove 61 62\n1 put 3 0 00000009\n1 fnew 63\n";
     let replies =
         b"1 ok begin 0\n1 ok\n1 broken block 3\n1 ok\n1 broken block 3\n1 ok\n1 broken block 3\n1 ok\n1 broken block 19\n1 ok\n1 ok\n1 broken block 3\n";
-    assert!(rt; answers_on(rt.alloc(), BEHIND_A_HASH_STORE, script, replies)?);
-    Ok(())
+    told(&rt, rt.alloc(), BEHIND_A_HASH_STORE, script, replies)
 }
 
 #[test]
 fn files_are_refused(rt: HostRuntime) -> Result<(), Fail> {
-    let alloc = rt.alloc();
     let script = b"1 fnew 61\n1 begin\n1 fnew -\n1 fread 61 0 1\n";
     let replies = b"1 not-in-tx\n1 ok begin 0\n1 no-store\n1 no-store\n";
-    assert!(rt; answers_on(alloc, SMALL, script, replies)?);
+    told(&rt, rt.alloc(), SMALL, script, replies)?;
     // One block behind the tree store is too few, and of two the files have one.
     let one = "isotope new t.img --block-size 256 --blocks 16 --log 8192 --tree 15";
     let script = b"1 begin\n1 fnew 61\n1 tput 61 31\n1 fdel 61\n";
     let replies = b"1 ok begin 0\n1 no-store\n1 ok\n1 no-store\n";
-    assert!(rt; answers_on(alloc, one, script, replies)?);
+    told(&rt, rt.alloc(), one, script, replies)?;
     let two = "isotope new t.img --block-size 256 --blocks 16 --log 8192 --tree 14";
     let script = b"1 begin\n1 fnew 61\n1 fnew 62\n1 fwrite 61 0 01\n1 fread 61 0 1\n";
     let replies =
         b"1 ok begin 0\n1 ok\n1 no-blocks need 1 free 0\n1 no-blocks need 1 free 0\n1 ok -\n";
-    assert!(rt; answers_on(alloc, two, script, replies)?);
+    told(&rt, rt.alloc(), two, script, replies)?;
     let script = b"1 upgrade\n1 begin snapshot\n1 fnew 61\n1 fread - 0 0\n";
     let replies = b"1 ok upgrade 0\n1 ok begin 0\n1 store-mode\n1 store-mode\n";
-    assert!(rt; answers_on(alloc, FILES, script, replies)?);
-    Ok(())
+    told(&rt, rt.alloc(), FILES, script, replies)
 }
 
 #[test]

@@ -1,8 +1,8 @@
 // The limits of an image: transactions, accesses, numbers, clients, and the largest geometries of a new image.
-use crate::tests_commands::same;
+use crate::tests_commands::{same, told};
 use std::alloc::{AllocError, Global};
 use std::test::Fail;
-use top_calls::{SMALL, answers, call, change, run_image, small_image};
+use top_calls::{SMALL, call, change, run_image, small_image};
 
 /// Transactions of client 1, 1,024 of them, each under a label of its own.
 fn all_released(alloc: Global) -> Result<Vec<u8>, AllocError> {
@@ -30,8 +30,7 @@ fn no_more_than_1024_transactions_are_live(rt: HostRuntime) -> Result<(), Fail> 
     replies.extend_from_slice(
         b"1 too-many-tx\n1 ok last 0 base 0 trim 0 live 1024 used 0 versions 0\n2 no-handle\n2 not-in-tx\n1 too-many-tx\n",
     )?;
-    assert!(rt; answers(alloc, &script, &replies)?);
-    Ok(())
+    told(&rt, rt.alloc(), SMALL, &script, &replies)
 }
 
 #[test]
@@ -68,8 +67,7 @@ fn a_transaction_has_4096_accesses(rt: HostRuntime) -> Result<(), Fail> {
     replies.extend_from_slice(
         b"1 too-many-accesses\n1 too-many-accesses\n1 too-many-accesses\n1 bad-block\n1 ok\n1 ok commit 1\n1 ok begin 1\n1 ok bb00\n",
     )?;
-    assert!(rt; answers(alloc, &script, &replies)?);
-    Ok(())
+    told(&rt, rt.alloc(), SMALL, &script, &replies)
 }
 
 #[test]

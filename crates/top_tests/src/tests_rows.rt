@@ -1,9 +1,7 @@
 // Scripts on new images, reply by reply, and the bytes of images.
-use crate::tests_commands::same;
+use crate::tests_commands::{same, told};
 use std::test::Fail;
-use top_calls::{
-    RECORD, RUN, SMALL, answers, answers_on, call, call_on, joined, part, small_image,
-};
+use top_calls::{RECORD, RUN, SMALL, call, call_on, joined, part, small_image};
 
 const SNAPSHOT: &str = "isotope new t.img --block-size 64 --blocks 4 --log 256 --mode snapshot";
 
@@ -49,60 +47,50 @@ fn a_put_is_a_record_behind_an_open_gate(rt: HostRuntime) -> Result<(), Fail> {
 
 #[test]
 fn two_writes_of_a_block_merge(rt: HostRuntime) -> Result<(), Fail> {
-    let alloc = rt.alloc();
     let script =
         b"1 begin\n2 begin\n1 put 0 0 aa\n2 put 0 1 bb\n1 end\n2 end\n1 begin\n1 get 0 0 2\n1 end\n";
     let replies =
         b"1 ok begin 0\n2 ok begin 0\n1 ok\n2 ok\n1 ok commit 1\n2 ok commit 2\n1 ok begin 2\n1 ok aabb\n1 ok read-only\n";
-    assert!(rt; answers(alloc, script, replies)?);
-    Ok(())
+    told(&rt, rt.alloc(), SMALL, script, replies)
 }
 
 #[test]
 fn a_read_of_a_whole_block_conflicts(rt: HostRuntime) -> Result<(), Fail> {
-    let alloc = rt.alloc();
     let script =
         b"1 begin\n2 begin\n2 read 0\n1 put 0 0 aa\n2 put 0 1 bb\n1 end\n2 end\n1 begin\n1 get 0 0 2\n1 end\n";
     let replies =
         b"1 ok begin 0\n2 ok begin 0\n2 ok Z\n1 ok\n2 ok\n1 ok commit 1\n2 conflict with 1 block 0 at 0\n1 ok begin 1\n1 ok aa00\n1 ok read-only\n";
-    assert!(rt; answers(alloc, script, replies)?);
-    Ok(())
+    told(&rt, rt.alloc(), SMALL, script, replies)
 }
 
 #[test]
 fn a_mark_narrows_what_was_read(rt: HostRuntime) -> Result<(), Fail> {
-    let alloc = rt.alloc();
     let script =
         b"1 begin\n2 begin\n2 read 0\n2 mark 1 1\n1 put 0 0 aa\n2 put 0 1 bb\n1 end\n2 end\n1 begin\n1 get 0 0 2\n1 end\n";
     let replies =
         b"1 ok begin 0\n2 ok begin 0\n2 ok Z\n2 ok\n1 ok\n2 ok\n1 ok commit 1\n2 ok commit 2\n1 ok begin 2\n1 ok aabb\n1 ok read-only\n";
-    assert!(rt; answers(alloc, script, replies)?);
-    Ok(())
+    told(&rt, rt.alloc(), SMALL, script, replies)
 }
 
 #[test]
 fn a_conflict_ends_the_transaction(rt: HostRuntime) -> Result<(), Fail> {
-    let alloc = rt.alloc();
     let script =
         b"1 begin\n2 begin\n2 read 0\n1 put 0 0 aa\n2 put 0 1 bb\n1 end\n2 end\n1 begin\n1 read 0\n2 end\n";
     let replies =
         b"1 ok begin 0\n2 ok begin 0\n2 ok Z\n1 ok\n2 ok\n1 ok commit 1\n2 conflict with 1 block 0 at 0\n1 ok begin 1\n1 ok aa000000000000000000000000000000000000000000000000000000000000000000000000000000000000000000000000000000000000000000000000000000\n2 not-in-tx\n";
-    assert!(rt; answers(alloc, script, replies)?);
-    Ok(())
+    told(&rt, rt.alloc(), SMALL, script, replies)
 }
 
 #[test]
 fn the_mode_says_which_bytes_conflict(rt: HostRuntime) -> Result<(), Fail> {
-    let alloc = rt.alloc();
     let script =
         b"1 begin\n2 begin\n1 put 0 0 aa\n2 put 0 0 bb\n1 end\n2 end\n1 begin\n1 get 0 0 1\n";
     let in_snapshot =
         b"1 ok begin 0\n2 ok begin 0\n1 ok\n2 ok\n1 ok commit 1\n2 conflict with 1 block 0 at 0\n1 ok begin 1\n1 ok aa\n";
     let in_serial =
         b"1 ok begin 0\n2 ok begin 0\n1 ok\n2 ok\n1 ok commit 1\n2 ok commit 2\n1 ok begin 2\n1 ok bb\n";
-    assert!(rt; answers_on(alloc, SNAPSHOT, script, in_snapshot)?);
-    assert!(rt; answers(alloc, script, in_serial)?);
-    Ok(())
+    told(&rt, rt.alloc(), SNAPSHOT, script, in_snapshot)?;
+    told(&rt, rt.alloc(), SMALL, script, in_serial)
 }
 
 /// Two transactions that use 184 bytes of a log.
@@ -135,7 +123,7 @@ fn a_log_is_filled_to_its_last_byte(rt: HostRuntime) -> Result<(), Fail> {
             TWO_REPLIES,
             b"1 ok begin 2\n1 ok\n1 ok commit 3\n1 ok begin 3\n1 ok\n1 log full need 30 free 1\n",
         )?;
-        assert!(rt; answers(alloc, &script, &replies)?);
+        told(&rt, rt.alloc(), SMALL, &script, &replies)?;
     }
     Ok(())
 }
@@ -150,7 +138,7 @@ fn a_record_that_is_a_byte_too_long_is_refused(rt: HostRuntime) -> Result<(), Fa
             TWO_REPLIES,
             b"1 ok begin 2\n1 ok\n1 log full need 73 free 72\n1 in-tx\n1 ok\n",
         )?;
-        assert!(rt; answers(alloc, &script, &replies)?);
+        told(&rt, rt.alloc(), SMALL, &script, &replies)?;
     }
     Ok(())
 }
@@ -164,52 +152,43 @@ fn a_compaction_makes_room_in_a_full_log(rt: HostRuntime) -> Result<(), Fail> {
         TWO_REPLIES,
         b"1 ok begin 2\n1 ok\n1 ok commit 3\n1 ok begin 3\n1 ok\n1 log full need 30 free 1\n1 ok\n1 ok compact 3\n1 ok begin 3\n1 ok\n1 ok commit 4\n1 ok last 4 base 3 trim 3 live 0 used 29 versions 1\n",
     )?;
-    assert!(rt; answers(alloc, &script, &replies)?);
-    Ok(())
+    told(&rt, rt.alloc(), SMALL, &script, &replies)
 }
 
 #[test]
 fn the_snapshot_moves_with_the_handle(rt: HostRuntime) -> Result<(), Fail> {
-    let alloc = rt.alloc();
     let script =
         b"1 begin\n1 get 0 0 1\n1 release a\n2 begin\n2 put 0 0 cc\n2 end\n3 takeover a\n3 get 0 0 1\n3 end\n";
     let replies =
         b"1 ok begin 0\n1 ok 00\n1 ok\n2 ok begin 0\n2 ok\n2 ok commit 1\n3 ok begin 0\n3 ok 00\n3 ok read-only\n";
-    assert!(rt; answers(alloc, script, replies)?);
-    Ok(())
+    told(&rt, rt.alloc(), SMALL, script, replies)
 }
 
 #[test]
 fn what_is_under_a_label_holds_the_floor(rt: HostRuntime) -> Result<(), Fail> {
-    let alloc = rt.alloc();
     let script =
         b"1 begin\n1 get 0 0 1\n1 release a\n2 begin\n2 put 0 0 cc\n2 end\n2 trim\n2 compact\n2 stat\n3 takeover a\n3 get 0 0 1\n3 end\n3 compact\n3 stat\n";
     let replies =
         b"1 ok begin 0\n1 ok 00\n1 ok\n2 ok begin 0\n2 ok\n2 ok commit 1\n2 ok trim 0\n2 ok compact 0\n2 ok last 1 base 0 trim 0 live 1 used 29 versions 1\n3 ok begin 0\n3 ok 00\n3 ok read-only\n3 ok compact 1\n3 ok last 1 base 1 trim 1 live 0 used 0 versions 0\n";
-    assert!(rt; answers(alloc, script, replies)?);
-    Ok(())
+    told(&rt, rt.alloc(), SMALL, script, replies)
 }
 
 #[test]
 fn a_client_and_a_label_have_one_transaction(rt: HostRuntime) -> Result<(), Fail> {
-    let alloc = rt.alloc();
     let script =
         b"1 takeover zz\n1 begin\n1 begin\n1 release a\n1 begin\n1 release a\n1 abort\n1 end\n";
     let replies =
         b"1 no-handle\n1 ok begin 0\n1 in-tx\n1 ok\n1 ok begin 0\n1 label-taken\n1 ok\n1 not-in-tx\n";
-    assert!(rt; answers(alloc, script, replies)?);
-    Ok(())
+    told(&rt, rt.alloc(), SMALL, script, replies)
 }
 
 #[test]
 fn marks_and_their_refusals(rt: HostRuntime) -> Result<(), Fail> {
-    let alloc = rt.alloc();
     let script =
         b"1 begin\n1 mark 0 1\n1 read 3\n1 mark 63 1\n1 mark 63 2\n1 mark 0 0\n1 mark 0 1\n1 mark 0 1\n1 mark 0 1\n1 mark 0 1\n1 mark 0 1\n1 mark 0 1\n1 mark 0 1\n1 mark 0 1\n1 read 4\n";
     let replies =
         b"1 ok begin 0\n1 no-access\n1 ok Z\n1 ok\n1 bad-range\n1 bad-range\n1 ok\n1 ok\n1 ok\n1 ok\n1 ok\n1 ok\n1 ok\n1 too-many-marks\n1 bad-block\n";
-    assert!(rt; answers(alloc, script, replies)?);
-    Ok(())
+    told(&rt, rt.alloc(), SMALL, script, replies)
 }
 
 #[test]
@@ -221,15 +200,14 @@ fn an_old_snapshot_is_read_to_its_end(rt: HostRuntime) -> Result<(), Fail> {
         b"1 ok begin 0\n2 ok begin 0\n2 ok\n2 ok commit 1\n2 ok begin 1\n2 ok\n2 ok commit 2\n1 ok Z\n".as_slice();
     let script = joined(alloc, front, b"1 end\n")?;
     let replies = joined(alloc, front_replies, b"1 ok read-only\n")?;
-    assert!(rt; answers(alloc, &script, &replies)?);
+    told(&rt, rt.alloc(), SMALL, &script, &replies)?;
     let script = joined(alloc, front, b"1 put 1 0 aa\n1 end\n")?;
     let replies = joined(
         alloc,
         front_replies,
         b"1 ok\n1 conflict with 1 block 0 at 0\n",
     )?;
-    assert!(rt; answers(alloc, &script, &replies)?);
-    Ok(())
+    told(&rt, rt.alloc(), SMALL, &script, &replies)
 }
 
 #[test]
@@ -251,13 +229,12 @@ fn a_trim_drops_what_no_snapshot_shows(rt: HostRuntime) -> Result<(), Fail> {
 
 #[test]
 fn lines_that_are_skipped_and_a_last_line(rt: HostRuntime) -> Result<(), Fail> {
-    let alloc = rt.alloc();
     let replies = b"1 ok begin 0\n1 ok read-only\n";
     for script in [
         b"1 begin\r\n# x\n1 end".as_slice(),
         b"\n   \n  1   begin  \n#\xff\r\n\r\n1 end\n",
     ] {
-        assert!(rt; answers(alloc, script, replies)?);
+        told(&rt, rt.alloc(), SMALL, script, replies)?;
     }
     Ok(())
 }
