@@ -7,44 +7,20 @@ use Rattle.iso_shared.specs.Ports.{IsTx}
 
 tells_fault : (S : State) (c : Call) (now : ℕ) → (after_fault S c now).tells ≡ S.tells
 tells_fault S (call.Begin named) now = refl
-tells_fault S (call.Fetch n block) now = refl
-tells_fault S (call.End n accesses) now = refl
-tells_fault S (call.EndGroup members) now = refl
-tells_fault S call.Trim now = refl
-tells_fault S call.Compact now = refl
-tells_fault S call.Upgrade now = refl
-tells_fault S (call.Post n l accesses) now = refl
-tells_fault S (call.Recent n) now = refl
+tells_fault S c now = refl
 
 tells_refusal : (S : State) (c : Call) (why : Cause) → (after_refusal S c why).tells ≡ S.tells
-tells_refusal S c cause.Down = refl
 tells_refusal S c (cause.Disk before now) = tells_fault S c now
-tells_refusal S c cause.TooManyTx = refl
-tells_refusal S c (cause.LogFull need free) = refl
-tells_refusal S c cause.Memory = refl
-tells_refusal S c cause.Worn = refl
-tells_refusal S c cause.ModeFixed = refl
-tells_refusal S c cause.LabelTaken = refl
+tells_refusal S c why = refl
 
 tells_sweep : (S : State) (found : Option ℕ) → (after_sweep S found).tells ≡ S.tells
 tells_sweep S None = refl
 tells_sweep S (Some n) = refl
 
 tells_next : (S : State) (e : Entry) → (after S e).tells ≡ S.tells
-tells_next S (entry.Begin k at mode) = refl
-tells_next S (entry.Fetch k block bytes) = refl
-tells_next S (entry.End k accesses r) = refl
-tells_next S (entry.EndGroup ends) = refl
-tells_next S (entry.Abort k) = refl
-tells_next S (entry.Trim k) = refl
-tells_next S (entry.Compact k) = refl
-tells_next S (entry.Upgrade k) = refl
-tells_next S (entry.Stat k) = refl
-tells_next S (entry.Post k l accesses) = refl
-tells_next S (entry.Look l found) = refl
 tells_next S (entry.Sweep found) = tells_sweep S found
-tells_next S (entry.Recent k upto) = refl
 tells_next S (entry.Refused c why) = tells_refusal S c why
+tells_next S e = refl
 
 tells_all : (S : State) (es : List Entry) → (after_all S es).tells ≡ S.tells
 tells_all S [] = refl

@@ -136,6 +136,27 @@ module _ {D O : Type 0} where
       let d : units s ≡ (view s.port.pass).units + (view t.pass).units = ap (λ (o : Option (Tx D O)). units_of (view s.port.pass) o) was in
       omega arith)
 
+  -- A call through the pass of the transaction t: a is as it was told what the port had seen, k as the call left it, b as it told the port.
+  pub record Through (A : Start) (s : Session D O) (q : Port D O) (t a k b : Tx D O) : Type 0 where
+    pub is : IsSession A s
+    pub was : s.tx ≡ Some t
+    pub owns : own_in b ≡ own_in t
+    pub number : a.number ≡ t.number
+    pub told : IsPrefix (seen s) (view a.pass).seen
+    pub mine : (view a.pass).mine ≡ (view t.pass).mine
+    pub kept : (view k.pass).units ≡ (view t.pass).units
+    pub last : view b.pass ≡ view k.pass
+    pub port : View Entry
+    pub same : port ≡ view s.port.pass
+    pub alike : IsAlike port (view q.pass)
+    pub knows : IsPrefix (view k.pass).seen (view q.pass).seen
+
+  abbrev pub made_through : {A : Start} {s : Session D O} {q : Port D O} {t a k b : Tx D O} (h : Through A s q t a k b) (l : Tx D O) (e : ℕ → Entry) → PassMade A (view a.pass) (view a.pass) (e a.number) (view k.pass) → view l.pass ≡ view b.pass
+      → Made A s (record { shared = s.shared; port = q; tx = Some l }) (e t.number)
+  made_through {A} {s} {q} {t} {a} {k} {b} h l e m last =
+      made_kept A s q (Some l) t k l (e t.number) (view a.pass) (view a.pass) h.port h.is h.was refl (subst (λ (x : Entry). PassMade A (view a.pass) (view a.pass) x (view k.pass)) (ap e h.number) m) h.told h.mine h.kept (last ∙ h.last)
+      h.same h.alike h.knows
+
   -- what its holder sees of one transaction
   pub own_same : (t u : Tx D O) → IsSameTx t u → own_in u ≡ own_in t
   own_same t u same = λ i. posting_of_tx (same.number i) (same.work i)
@@ -178,18 +199,10 @@ module _ {D O : Type 0} where
 pub down_by : (A : Start) (before : List Entry) (n block b k : ℕ) (e : CoreError) → IsLegal A (before ++ entry.Refused (call.Fetch n block) (cause_of b k e) ∷ []) → (e ≡ error.Disk → ⊥) → e ≡ error.Down
 down_by A before n block b k error.Down legal never = refl
 down_by A before n block b k error.Disk legal never = absurd (never refl)
-down_by A before n block b k error.TooManyTx legal never = absurd (cc ((legal_last (opened A) before _ legal).1.answers.1.1))
-down_by A before n block b k (error.LogFull need free) legal never = absurd (cc ((legal_last (opened A) before _ legal).1.answers.1.1))
 down_by A before n block b k error.Memory legal never = absurd ((legal_last (opened A) before _ legal).1.answers.1)
-down_by A before n block b k (error.Worn at) legal never = absurd (cc ((legal_last (opened A) before _ legal).1.answers.1.1))
-down_by A before n block b k error.ModeFixed legal never = absurd (cc ((legal_last (opened A) before _ legal).1.answers.1.1))
+down_by A before n block b k e legal never = absurd (cc ((legal_last (opened A) before _ legal).1.answers.1.1))
 
 -- a transaction is left but by a fault of the disk
 pub left_kept : (e : CoreError) (o : Own) → (e ≡ error.Disk → ⊥) → left_by e o ≡ Some o
-left_kept error.Down o never = refl
 left_kept error.Disk o never = absurd (never refl)
-left_kept error.TooManyTx o never = refl
-left_kept (error.LogFull need free) o never = refl
-left_kept error.Memory o never = refl
-left_kept (error.Worn at) o never = refl
-left_kept error.ModeFixed o never = refl
+left_kept e o never = refl

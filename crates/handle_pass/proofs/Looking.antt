@@ -60,14 +60,7 @@ read_free e (inr (inr is)) = subst (λ f. IsFree first_device (after_read (Err f
 -- no other refusal is a fault of the disk
 none_failed : (e : TxError) → ◌≢◌ {A = Result (Unit {0}) TxError} (Err e) (Err error.Disk) → failures_in (Err e) ≡ 0
 none_failed error.Disk other = absurd (other refl)
-none_failed error.Down other = refl
-none_failed error.Memory other = refl
-none_failed error.NotInTx other = refl
-none_failed error.BadBlock other = refl
-none_failed error.BadRange other = refl
-none_failed error.NoAccess other = refl
-none_failed error.TooManyMarks other = refl
-none_failed error.TooManyAccesses other = refl
+none_failed e other = refl
 
 later_first : (d : Device) → IsLater first_device d
 later_first d = record { faults = omega arith; down = λ is. absurd (cc is) }
@@ -293,12 +286,7 @@ module _ {D O : Type 0} (A : Start) (before : Option (Session D O)) where
   raised None failures count false fell up rose later failed = let some : 0 < failures = grind (arith, nat_tests) in absurd (omega (arith, some, failed.0))
   raised (Some (b, cause.Down)) failures count false fell up rose later failed = absurd (cc failed.1)
   raised (Some (b, cause.Disk earlier now)) failures count false fell up rose later failed = (omega (arith, later, failed.0), refl)
-  raised (Some (b, cause.TooManyTx)) failures count false fell up rose later failed = failed
-  raised (Some (b, cause.LogFull need free)) failures count false fell up rose later failed = failed
-  raised (Some (b, cause.Memory)) failures count false fell up rose later failed = failed
-  raised (Some (b, cause.Worn)) failures count false fell up rose later failed = failed
-  raised (Some (b, cause.ModeFixed)) failures count false fell up rose later failed = failed
-  raised (Some (b, cause.LabelTaken)) failures count false fell up rose later failed = failed
+  raised (Some (b, why)) failures count false fell up rose later failed = failed
 
   pub failed_again : (s : Session D O) (failures count : ℕ) (is_down : Bool) (old : Seen) → seen_by A before s failures is_down ≡ old → failed_in old.device ≡ true → is_down ≡ false → Rose failures count → failures ≤ count
       → IsVisit A before s failures is_down → IsVisit A before s count is_down

@@ -70,12 +70,7 @@ pub none_refused : (refused : Option (ℕ × Cause)) → Failed refused 0 false 
 none_refused None failed = refl
 none_refused (Some (b, cause.Down)) failed = absurd (cc failed.1)
 none_refused (Some (b, cause.Disk before now)) failed = absurd (omega (arith, failed.0))
-none_refused (Some (b, cause.TooManyTx)) failed = absurd failed
-none_refused (Some (b, cause.LogFull need free)) failed = absurd failed
-none_refused (Some (b, cause.Memory)) failed = absurd failed
-none_refused (Some (b, cause.Worn)) failed = absurd failed
-none_refused (Some (b, cause.ModeFixed)) failed = absurd failed
-none_refused (Some (b, cause.LabelTaken)) failed = absurd failed
+none_refused (Some (b, why)) failed = absurd failed
 
 module _ {D O : Type 0} (A : Start) where
   -- nothing was done yet

@@ -2,6 +2,8 @@
 ghost use Rattle.std.specs.Prelude.{◌≡◌, ◌<◌, IfOk, IfSome};
 ghost use Rattle.handle_pass.specs.Handles.{HasLooked, HasPosted};
 ghost use Rattle.handle_pass.specs.Sessions.{checked, units, IsSession};
+ghost use Rattle.handle_pass.specs.declared.errors.PostTxError.TheVariants as TheError;
+ghost use Rattle.tx_table.specs.declared.rack.PostError.TheVariants as TheCause;
 
 use crate::errors::PostTxError;
 use crate::session::{Session, attach};
@@ -10,6 +12,17 @@ use iso_model::{InTx, Label};
 use iso_shared::Origin;
 use std::sync::Wait;
 use tx_table::PostError;
+
+/// What is told of a post that the device refuses.
+fn refused(error: PostError) -> PostTxError
+    ensures taken { error ≡ TheCause.LabelTaken → result ≡ TheError.LabelTaken }
+    ensures memory { error ≡ TheCause.Memory → result ≡ TheError.Memory }
+{
+    match error {
+        PostError::LabelTaken => PostTxError::LabelTaken,
+        PostError::Memory => PostTxError::Memory,
+    }
+}
 
 impl<'a, D: Disk + Drop, O: Origin> Session<'a, D, O> {
     /// Puts the transaction under a label. After a refusal it is attached as it was.
@@ -26,10 +39,7 @@ impl<'a, D: Disk + Drop, O: Origin> Session<'a, D, O> {
             Err((error, mut tx)) => {
                 self.shared.tell_port(&mut tx, &mut self.port);
                 attach(&mut self.tx, tx);
-                match error {
-                    PostError::LabelTaken => Err(PostTxError::LabelTaken),
-                    PostError::Memory => Err(PostTxError::Memory),
-                }
+                Err(refused(error))
             }
         }
     }

@@ -1,5 +1,9 @@
-use Rattle.handle_pass.proofs.Words.{ap, refl, subst, sym, ◌∙◌, Some, Checked, view, prefix_self, Cause, Refused, post_cause, checked_of, own_in, own_of, OfPost}
-use Rattle.iso_shared.specs.Ports.{Made}
+use Rattle.handle_pass.proofs.Words.{◌≡◌, ℕ, List, Err, ap, refl, subst, sym, ◌∙◌, Some, Checked, view, prefix_self, post_cause, checked_of, own_in, own_of, Session, Start}
+use Rattle.handle_pass.specs.Handles.{HasPosted, Unposted}
+use Rattle.handle_pass.specs.declared.errors.PostTxError.{PostTxError}
+use Rattle.handle_pass.specs.declared.errors.PostTxError.TheVariants as error
+use Rattle.tx_table.specs.declared.rack.PostError.{PostError}
+use Rattle.tx_table.specs.declared.rack.PostError.TheVariants as cause
 use Rattle.handle_pass.proofs.Entering.{made_gone, made_kept, own_same}
 use Rattle.handle_pass.proofs.session.Session.post_tx.Goals as goal
 
@@ -13,29 +17,14 @@ returns-in-Ok-clause-did g c =
       made_gone g.O.Origin.start s c.post.new.port c.take.new.self c.in-Some.tx _ c.requires.session was c.take.ensures.after c.in-Ok.ensures.ok.0 c.in-Ok.ensures.ok.1,
     )
 
-pub returns-in-LabelTaken-clause-did : goal.returns-in-LabelTaken-clause-did
-returns-in-LabelTaken-clause-did g c =
-    let A = g.O.Origin.start in
-    let s = c.args.self.now in
-    let t = c.in-Some.tx in
-    let k = c.in-Err.tx in
-    let l = c.tell_port.new.tx in
-    let was = sym c.take.ensures.value ∙ c.in-Some.is in
-    let e = c.in-Err.ensures.err in
-    let made = subst (λ (why : Cause). Made A (view s.port.pass) (view t.pass) (Refused (OfPost t.number c.args.label t.work.accesses) why) (view k.pass)) (ap post_cause c.in-LabelTaken.is) e.4 in
-    let upto = c.tell_port.ensures.same.0.checked ∙ e.1.checked in (
-      own_in t,
-      ap own_of was,
-      record {
-        is = ap own_of c.attach.ensures ∙ ap Some (own_same k l c.tell_port.ensures.same.0 ∙ own_same t k e.1) ∙ sym (ap own_of was);
-        upto = ap checked_of c.attach.ensures ∙ ap (λ (v : Checked). v.upto) upto ∙ sym (ap checked_of was);
-      },
-      made_kept A s c.tell_port.new.port c.attach.new.place t k l _ (view s.port.pass) (view t.pass) (view c.post.new.port.pass) c.requires.session was c.attach.ensures
-          made (prefix_self _) refl e.2 c.tell_port.ensures.tx.1 e.3 c.tell_port.ensures.alike c.tell_port.ensures.told,
-    )
+-- a post that is refused, as it is told
+unposted : {D O : Type 0} (A : Start) (s t : Session D O) (label : List ℕ) (why : PostError) (said : PostTxError) → (why ≡ cause.LabelTaken → said ≡ error.LabelTaken) → (why ≡ cause.Memory → said ≡ error.Memory) → Unposted A s t label (post_cause why)
+    → HasPosted A s label (Err said) t
+unposted A s t label cause.LabelTaken said taken memory is = subst (λ e. HasPosted A s label (Err e) t) (sym (taken refl)) is
+unposted A s t label cause.Memory said taken memory is = subst (λ e. HasPosted A s label (Err e) t) (sym (memory refl)) is
 
-pub returns-in-Memory-clause-did : goal.returns-in-Memory-clause-did
-returns-in-Memory-clause-did g c =
+pub returns-in-Err-clause-did : goal.returns-in-Err-clause-did
+returns-in-Err-clause-did g c =
     let A = g.O.Origin.start in
     let s = c.args.self.now in
     let t = c.in-Some.tx in
@@ -43,8 +32,8 @@ returns-in-Memory-clause-did g c =
     let l = c.tell_port.new.tx in
     let was = sym c.take.ensures.value ∙ c.in-Some.is in
     let e = c.in-Err.ensures.err in
-    let made = subst (λ (why : Cause). Made A (view s.port.pass) (view t.pass) (Refused (OfPost t.number c.args.label t.work.accesses) why) (view k.pass)) (ap post_cause c.in-Memory.is) e.4 in
-    let upto = c.tell_port.ensures.same.0.checked ∙ e.1.checked in (
+    let upto = c.tell_port.ensures.same.0.checked ∙ e.1.checked in
+    unposted A s _ c.args.label c.in-Err.error c.refused.result c.refused.ensures.taken c.refused.ensures.memory (
       own_in t,
       ap own_of was,
       record {
@@ -52,5 +41,5 @@ returns-in-Memory-clause-did g c =
         upto = ap checked_of c.attach.ensures ∙ ap (λ (v : Checked). v.upto) upto ∙ sym (ap checked_of was);
       },
       made_kept A s c.tell_port.new.port c.attach.new.place t k l _ (view s.port.pass) (view t.pass) (view c.post.new.port.pass) c.requires.session was c.attach.ensures
-          made (prefix_self _) refl e.2 c.tell_port.ensures.tx.1 e.3 c.tell_port.ensures.alike c.tell_port.ensures.told,
+          e.4 (prefix_self _) refl e.2 c.tell_port.ensures.tx.1 e.3 c.tell_port.ensures.alike c.tell_port.ensures.told,
     )
