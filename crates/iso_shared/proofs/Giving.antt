@@ -1,5 +1,5 @@
 -- What stands under the lock after a call of the core that leaves the labels.
-use Rattle.iso_shared.proofs.Words.{◌≡◌, ◌≤◌, inr, true, Checked, Doing, IsAhead, IsOwn, IsPrefix, IsTxOf, Tx, live_of, tx_view, times, faults_of, is_live, ℕ, ◌<◌, List, [], ◌∷◌, ◌++◌, Option, None, Result, Ok, Err, refl, sym, ap, ◌∙◌, subst, Recent, Core, disk_of, DiskState, IsLawful, LeavesOnly, WritesNothing, at_end, weakened, Commit, World, ShowsBetween, ShowsLast, CoreError, AreHeld, held_after, Call, Entry, Posted, Answers, IsLegal, ended, handed, returned, tx_in, Came, Holds, StandsAt, whole, with_lost, Start, State, after, after_fault, opened, state_at, cause_of, entry_of, fetch_entry, recent_entry}
+use Rattle.iso_shared.proofs.Words.{◌≡◌, ◌≤◌, inr, true, Checked, Doing, IsAhead, IsOwn, IsPrefix, IsTxOf, Tx, live_of, tx_view, times, faults_of, is_live, ℕ, ◌<◌, List, [], ◌∷◌, ◌++◌, Option, None, Result, Ok, Err, refl, sym, ap, ◌∙◌, subst, Recent, Core, disk_of, DiskState, IsLawful, LeavesOnly, WritesNothing, at_end, weakened, Commit, World, ShowsBetween, ShowsLast, CoreError, AreHeld, held_after, Call, Entry, Posted, Answers, IsLegal, ended, handed, returned, tx_in, Came, StandsAt, whole, with_lost, Start, State, after, after_fault, opened, state_at, cause_of, entry_of, fetch_entry, recent_entry}
 use Rattle.iso_model.specs.declared.core_error.CoreError.TheVariants as error
 use Rattle.turn_lock.specs.Numbers.{without}
 use Rattle.iso_shared.specs.declared.entry.Call.TheVariants as call

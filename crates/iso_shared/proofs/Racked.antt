@@ -1,5 +1,5 @@
 -- Transactions under labels: what they have kept, and what stands under the lock after a call on labels.
-use Rattle.iso_shared.proofs.Words.{◌≡◌, ℕ, ◌+◌, ◌<◌, ◌≤◌, ◌==◌, Bool, true, false, cond, List, [], ◌∷◌, ◌++◌, Option, Some, None, refl, sym, ap, ◌∙◌, subst, arith, bytes_eq, drop, option_map, lookup, remove_entry, AllByRecursion, lookup-map_values, Core, DiskState, Geometry, last, World, Live, IsLive, hit, times, hit_same, Entry, Posting, Posted, Call, Cause, Fits, LegalFrom, IsOwn, IsOn, StandsAt, posting_in, Start, State, after, after_all, after_refusal, is_live, live_of, opened, posting_of, racked, state_at, inl, Ok, Err, is_some, slice_get, map-append, disk_of, held_after, PostError, Answers, handed, returned, Holds, postings, post_entry}
+use Rattle.iso_shared.proofs.Words.{◌≡◌, ℕ, ◌+◌, ◌<◌, ◌≤◌, ◌==◌, Bool, true, false, cond, List, [], ◌∷◌, ◌++◌, Option, Some, None, refl, sym, ap, ◌∙◌, subst, arith, bytes_eq, drop, option_map, lookup, remove_entry, AllByRecursion, lookup-map_values, Core, DiskState, Geometry, last, World, Live, IsLive, hit, times, hit_same, Entry, Posting, Posted, Call, Cause, Fits, LegalFrom, IsOwn, IsOn, StandsAt, posting_in, Start, State, after, after_all, after_refusal, is_live, live_of, opened, posting_of, racked, state_at, inl, Ok, Err, is_some, slice_get, map-append, held_after, PostError, Answers, handed, returned, Holds, postings, post_entry}
 use Rattle.iso_shared.specs.declared.entry.Entry.TheVariants as entry
 use Rattle.iso_shared.specs.declared.entry.Cause.TheVariants as cause
 use Rattle.tx_table.specs.declared.rack.PostError.TheVariants as post

@@ -1,4 +1,4 @@
-use Rattle.iso_shared.proofs.Words.{inl, [], ◌∷◌, ◌++◌, ◌≡◌, ◌≤◌, ℕ, ap, refl, rules, subst, sym, ◌∙◌, IsRecent, faults_of, standing_of, state_at, tx_of, recent_entry}
+use Rattle.iso_shared.proofs.Words.{inl, [], ◌∷◌, ◌++◌, ◌≡◌, ap, refl, rules, subst, sym, ◌∙◌, IsRecent, faults_of, standing_of, state_at, tx_of, recent_entry}
 use Rattle.iso_shared.specs.declared.entry.Call.TheVariants as call
 use Rattle.iso_shared.specs.declared.entry.Entry.TheVariants as entry
 use Rattle.iso_shared.proofs.Begins.{did_recent, if_ok_by, is_recent, recent_state}
