@@ -1,5 +1,5 @@
 -- A list over the image of the tests may begin where a core stands for it.
-use Rattle.iso_shared.proofs.Words.{◌≡◌, Some, Result, Ok, Err, IfOk, refl, sym, subst, same_Some, result_ok, Core, StandsFor, disk_of, up, DiskState, IsLawful, empty_history, fresh, start_at, MayStart, Start, small}
+use Rattle.iso_shared.proofs.Words.{◌≡◌, Some, Result, Ok, Err, IfOk, refl, sym, subst, same_Some, result_ok, Core, StandsFor, disk_of, up, DiskState, IsLawful, empty_history, fresh, start_at, MayStart, small}
 use Rattle.iso_shared.proofs.Standings.{came_first, holds_first}
 
 -- what holds of an answer, once it was taken out of its result
@@ -15,11 +15,3 @@ may_start disk core laws stands = record {
   came = came_first disk core (fresh small 1 (empty_history small)) laws stands;
   geometry = refl;
 }
-
--- where the list begins over a core, and that it may, where a call answered the core
-abbrev pub first_start : {D : Type 0} (disk : D → DiskState) → Core D → Start
-first_start disk core = start_at (fresh small 1 (empty_history small)) (disk (disk_of core))
-
-pub starts : {D E : Type 0} (disk : D → DiskState) (laws : (d : D) → IsLawful (disk d)) (core : Core D) (r : Result (Core D) E) → Some core ≡ result_ok r → IfOk r (λ k. StandsFor disk k (fresh small 1 (empty_history small)) up)
-    → MayStart disk (first_start disk core) (disk (disk_of core)) core
-starts {D} disk laws core r is stands = may_start disk core (laws (disk_of core)) (ok_has (λ (k : Core D). StandsFor disk k (fresh small 1 (empty_history small)) up) r core is stands)

@@ -15,21 +15,11 @@ use Rattle.par_lines.specs.Replies as say
 -- a refusal of the device, as the client is answered
 pub refused_is : (before now : ℕ) (e : CoreError) → say.refused e ≡ lines.refused (cause_of before now e)
 refused_is before now error.Down = refl
-refused_is before now error.TooManyTx = refl
-refused_is before now (error.LogFull need free) = refl
-refused_is before now error.Disk = refl
-refused_is before now error.Memory = refl
-refused_is before now (error.Worn at) = refl
-refused_is before now error.ModeFixed = refl
+refused_is before now e = refl
 
 left_is : (before now : ℕ) (e : CoreError) (o : Own) → left_by e o ≡ lines.left_by (cause_of before now e) o
 left_is before now error.Down o = refl
-left_is before now error.TooManyTx o = refl
-left_is before now (error.LogFull need free) o = refl
-left_is before now error.Disk o = refl
-left_is before now error.Memory o = refl
-left_is before now (error.Worn at) o = refl
-left_is before now error.ModeFixed o = refl
+left_is before now e o = refl
 
 some_own : (own : Option Own) → IsSome own → (o : Own) × (own ≡ Some o)
 some_own None never = absurd (cc never)
@@ -50,34 +40,6 @@ no_release A label = (refl, refl, refl)
 no_takeover : (A : Start) → (o : Own) (label : List ℕ) → Does A.world.geometry A.tells (Some o) (op.Takeover label) [] (Ok reply.InTx) (Some o)
 unfolding step
 no_takeover A o label = (refl, refl, refl)
-
-trims : (A : Start) → (k : ℕ) (was own' : Option Own) → own' ≡ was → Does A.world.geometry A.tells was op.Trim (entry.Trim k ∷ []) (Ok (reply.Trimmed k)) own'
-trims A k None own' is = (refl, is)
-trims A k (Some o) own' is = (refl, is)
-
-no_trim : (A : Start) → (b n : ℕ) (e : CoreError) (was own' : Option Own) → own' ≡ was → Does A.world.geometry A.tells was op.Trim (entry.Refused call.Trim (cause_of b n e) ∷ []) (say.refused e) own'
-no_trim A b n e None own' is = (refl, refused_is b n e, is)
-no_trim A b n e (Some o) own' is = (refl, refused_is b n e, is)
-
-compacts : (A : Start) → (k : ℕ) (was own' : Option Own) → own' ≡ was → Does A.world.geometry A.tells was op.Compact (entry.Compact k ∷ []) (Ok (reply.Compacted k)) own'
-compacts A k None own' is = (refl, is)
-compacts A k (Some o) own' is = (refl, is)
-
-no_compact : (A : Start) → (b n : ℕ) (e : CoreError) (was own' : Option Own) → own' ≡ was → Does A.world.geometry A.tells was op.Compact (entry.Refused call.Compact (cause_of b n e) ∷ []) (say.refused e) own'
-no_compact A b n e None own' is = (refl, refused_is b n e, is)
-no_compact A b n e (Some o) own' is = (refl, refused_is b n e, is)
-
-upgrades : (A : Start) → (k : ℕ) (was own' : Option Own) → own' ≡ was → Does A.world.geometry A.tells was op.Upgrade (entry.Upgrade k ∷ []) (Ok (reply.Upgraded k)) own'
-upgrades A k None own' is = (refl, is)
-upgrades A k (Some o) own' is = (refl, is)
-
-no_upgrade : (A : Start) → (b n : ℕ) (e : CoreError) (was own' : Option Own) → own' ≡ was → Does A.world.geometry A.tells was op.Upgrade (entry.Refused call.Upgrade (cause_of b n e) ∷ []) (say.refused e) own'
-no_upgrade A b n e None own' is = (refl, refused_is b n e, is)
-no_upgrade A b n e (Some o) own' is = (refl, refused_is b n e, is)
-
-tells : (A : Start) → (n : Stat) (was own' : Option Own) → own' ≡ was → Does A.world.geometry A.tells was op.Stat (entry.Stat (numbers_of n) ∷ []) (Ok (say.numbers n)) own'
-tells A n None own' is = (refl, is)
-tells A n (Some o) own' is = (refl, is)
 
 -- the check ahead of an end, and the end
 no_end : (A : Start) → Does A.world.geometry A.tells None op.End [] (Ok reply.NotInTx) None
@@ -141,24 +103,28 @@ module _ {D O : Type 0} (A : Start) where
       by_none s t (op.Takeover label) (Ok reply.InTx) (Some o.0) o.1 h.1 (no_takeover A o.0 label)
 
   -- a line that leaves the transaction, whatever it is
-  kept : (s t : Session D O) (o : Op) (e : Entry) (r : Result Reply Stop) → Made A s t e → own t ≡ own s → ((was own' : Option Own) → own' ≡ was → Does A.world.geometry A.tells was o (e ∷ []) r own')
-      → Answered A s o r t
-  kept s t o e r m same does = by_entry s t o e r (own s) refl m (does (own s) (own t) same)
+  kept : (s t : Session D O) (o : Op) (e : Entry) (r : Result Reply Stop) → Made A s t e → own t ≡ own s → ((own' : Option Own) → own' ≡ None → Does A.world.geometry A.tells None o (e ∷ []) r own')
+      → ((p : Own) (own' : Option Own) → own' ≡ Some p → Does A.world.geometry A.tells (Some p) o (e ∷ []) r own') → Answered A s o r t
+  kept s t o e r m same without within = by_entry s t o e r (own s) refl m (does (own s) (own t) same)
+    where
+      does : (was own' : Option Own) → own' ≡ was → Does A.world.geometry A.tells was o (e ∷ []) r own'
+      does None own' is = without own' is
+      does (Some p) own' is = within p own' is
 
   pub trimmed : (s t : Session D O) (b n : ℕ) (r : Result ℕ CoreError) → Made A s t (trim_entry b n r) → KeepsTx s t → Answered A s op.Trim (say.trimmed r) t
-  trimmed s t b n (Ok k) m keeps = kept s t op.Trim (entry.Trim k) (Ok (reply.Trimmed k)) m keeps.is (trims A k)
-  trimmed s t b n (Err e) m keeps = kept s t op.Trim (entry.Refused call.Trim (cause_of b n e)) (say.refused e) m keeps.is (no_trim A b n e)
+  trimmed s t b n (Ok k) m keeps = kept s t op.Trim (entry.Trim k) (Ok (reply.Trimmed k)) m keeps.is (λ w is. (refl, is)) (λ p w is. (refl, is))
+  trimmed s t b n (Err e) m keeps = kept s t op.Trim (entry.Refused call.Trim (cause_of b n e)) (say.refused e) m keeps.is (λ w is. (refl, refused_is b n e, is)) (λ p w is. (refl, refused_is b n e, is))
 
   pub compacted : (s t : Session D O) (b n : ℕ) (r : Result ℕ CoreError) → Made A s t (compact_entry b n r) → KeepsTx s t → Answered A s op.Compact (say.compacted r) t
-  compacted s t b n (Ok k) m keeps = kept s t op.Compact (entry.Compact k) (Ok (reply.Compacted k)) m keeps.is (compacts A k)
-  compacted s t b n (Err e) m keeps = kept s t op.Compact (entry.Refused call.Compact (cause_of b n e)) (say.refused e) m keeps.is (no_compact A b n e)
+  compacted s t b n (Ok k) m keeps = kept s t op.Compact (entry.Compact k) (Ok (reply.Compacted k)) m keeps.is (λ w is. (refl, is)) (λ p w is. (refl, is))
+  compacted s t b n (Err e) m keeps = kept s t op.Compact (entry.Refused call.Compact (cause_of b n e)) (say.refused e) m keeps.is (λ w is. (refl, refused_is b n e, is)) (λ p w is. (refl, refused_is b n e, is))
 
   pub upgraded : (s t : Session D O) (b n : ℕ) (r : Result ℕ CoreError) → Made A s t (upgrade_entry b n r) → KeepsTx s t → Answered A s op.Upgrade (say.upgraded r) t
-  upgraded s t b n (Ok k) m keeps = kept s t op.Upgrade (entry.Upgrade k) (Ok (reply.Upgraded k)) m keeps.is (upgrades A k)
-  upgraded s t b n (Err e) m keeps = kept s t op.Upgrade (entry.Refused call.Upgrade (cause_of b n e)) (say.refused e) m keeps.is (no_upgrade A b n e)
+  upgraded s t b n (Ok k) m keeps = kept s t op.Upgrade (entry.Upgrade k) (Ok (reply.Upgraded k)) m keeps.is (λ w is. (refl, is)) (λ p w is. (refl, is))
+  upgraded s t b n (Err e) m keeps = kept s t op.Upgrade (entry.Refused call.Upgrade (cause_of b n e)) (say.refused e) m keeps.is (λ w is. (refl, refused_is b n e, is)) (λ p w is. (refl, refused_is b n e, is))
 
   pub told_numbers : (s t : Session D O) (n : Stat) → Made A s t (entry.Stat (numbers_of n)) → KeepsTx s t → Answered A s op.Stat (Ok (say.numbers n)) t
-  told_numbers s t n m keeps = kept s t op.Stat (entry.Stat (numbers_of n)) (Ok (say.numbers n)) m keeps.is (tells A n)
+  told_numbers s t n m keeps = kept s t op.Stat (entry.Stat (numbers_of n)) (Ok (say.numbers n)) m keeps.is (λ w is. (refl, is)) (λ p w is. (refl, is))
 
   pub unchecked : (s t : Session D O) (e : EndError) → HasChecked A s (Err e) t → Answered A s op.End (say.not_ended e) t
   unchecked s t end.NotInTx h = by_none s t op.End (Ok reply.NotInTx) None h.0 h.1 (no_end A)

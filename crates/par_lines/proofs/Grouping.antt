@@ -142,13 +142,8 @@ module _ {D O : Type 0} where
   aborts_are (t ∷ txs) = ap (λ l. entry.Abort (number_of t) ∷ l) (aborts_are txs)
 
   after_are : (before now : ℕ) (e : CoreError) (txs : List (Tx D O)) → commit.aborts_after e txs ≡ lines.aborts_after (cause_of before now e) (map own_in txs)
-  after_are before now error.Down txs = aborts_are txs
-  after_are before now error.TooManyTx txs = aborts_are txs
-  after_are before now (error.LogFull need free) txs = aborts_are txs
   after_are before now error.Disk txs = refl
-  after_are before now error.Memory txs = aborts_are txs
-  after_are before now (error.Worn at) txs = aborts_are txs
-  after_are before now error.ModeFixed txs = aborts_are txs
+  after_are before now e txs = aborts_are txs
 
   spread_is : (members : List (Option (Tx D O))) (replies : List GroupReply) → spread (marks_of members) replies ≡ replies_to (told_of members) replies
   spread_is [] replies = refl

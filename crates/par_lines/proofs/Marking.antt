@@ -34,8 +34,7 @@ says_mark g tells o own' off len w is left = (refl, ap (λ (v : Reply × World).
 
 refused_reply : (e : MarkError) → say.accessed (Err (marking e)) ≡ Ok (mark_refused e)
 refused_reply mark.BadRange = refl
-refused_reply mark.NoAccess = refl
-refused_reply mark.TooManyMarks = refl
+refused_reply x = refl
 
 with_last : (o : Own) (off len : ℕ) (g : Geometry) → own_among (marked_step (alone g [] (Some o)) (live_of o) (span_at off len) None).1.live ≡ Some (with_mark o off len)
 with_last o off len g = ap (λ b. own_among (cond b (record (live_of o) { accesses = marked (span_at off len) o.accesses }) (live_of o) ∷ [])) (eq-eqb o.number o.number refl)

@@ -47,12 +47,7 @@ module _ (r : Result Reply Stop) (failures : ℕ) (is_down : Bool) (stops : Stop
   stops_by None failed = stops_none failed
   stops_by (Some (b, cause.Down)) failed = stops_down failed
   stops_by (Some (b, cause.Disk before now)) failed = stops_disk failed.0
-  stops_by (Some (b, cause.TooManyTx)) failed = failed
-  stops_by (Some (b, cause.LogFull need free)) failed = failed
-  stops_by (Some (b, cause.Memory)) failed = failed
-  stops_by (Some (b, cause.Worn)) failed = failed
-  stops_by (Some (b, cause.ModeFixed)) failed = failed
-  stops_by (Some (b, cause.LabelTaken)) failed = failed
+  stops_by (Some (b, why)) failed = failed
 
 flipped : (B : Array) (fetched : List (ℕ × List ℕ)) → AllByRecursion (λ f. f.1 ≡ block_at B f.0) fetched → AllByRecursion (λ f. block_at B f.0 ≡ f.1) fetched
 flipped B [] all = tt
@@ -133,38 +128,27 @@ ended g B o x = store_ended (store_areas g x) x (4096 - length o.accesses) (arra
 abbrev act : Geometry → Array → Own → Op → Reply × World
 act g B o x = ((ended g B o x).1, rules.with_accesses (alone g B (Some o)) (live_of o) (o.accesses ++ (ended g B o x).0))
 
-stepped : (g : Geometry) (B : Array) (o : Own) (x : Op) → IsOnStore x
-    → step (alone g B (Some o)) 1 x ≡ in_store (alone g B (Some o)) (live_of o) (store_blocks g x) (cond (is_empty_scan x) (reply.BadRange, alone g B (Some o)) (act g B o x))
+-- what each operation on a store is for the rules, and for a line
+record IsStoreLine (g : Geometry) (x : Op) : Type 0 where
+  stepped : (B : Array) (o : Own) → step (alone g B (Some o)) 1 x ≡ in_store (alone g B (Some o)) (live_of o) (store_blocks g x) (cond (is_empty_scan x) (reply.BadRange, alone g B (Some o)) (act g B o x))
+  does_in : (tells : Bool) (o : Own) (es : List Entry) (r : Result Reply Stop) (own' : Option Own) → InStore (store_blocks g x) o (CallsStore g tells o x es r own') (Says g (Some o) x es r own') → Does g tells (Some o) x es r own'
+  no_tx : (tells : Bool) → Does g tells None x [] (Ok reply.NotInTx) None
+
+store_line : (g : Geometry) (x : Op) → IsOnStore x → IsStoreLine g x
 unfolding step hash_put_step hash_get_step hash_delete_step tree_put_step tree_get_step tree_delete_step tree_scan_step file_new_step file_write_step file_read_step file_move_step file_delete_step store_step
-stepped g B o (op.HashPut key value) is = refl
-stepped g B o (op.HashGet key) is = refl
-stepped g B o (op.HashDelete key) is = refl
-stepped g B o (op.TreePut key value) is = refl
-stepped g B o (op.TreeGet key) is = refl
-stepped g B o (op.TreeDelete key) is = refl
-stepped g B o (op.TreeScan from to most) is = refl
-stepped g B o (op.FileNew name) is = refl
-stepped g B o (op.FileWrite name off bytes) is = refl
-stepped g B o (op.FileRead name off len) is = refl
-stepped g B o (op.FileMove from to) is = refl
-stepped g B o (op.FileDelete name) is = refl
-stepped g B o (op.Begin mode) is = absurd is
-stepped g B o op.End is = absurd is
-stepped g B o op.Abort is = absurd is
-stepped g B o (op.Put block off bytes) is = absurd is
-stepped g B o (op.Read block) is = absurd is
-stepped g B o (op.Get block off len) is = absurd is
-stepped g B o (op.Write block bytes) is = absurd is
-stepped g B o (op.Fill block bytes) is = absurd is
-stepped g B o (op.Mark off len) is = absurd is
-stepped g B o (op.Release label) is = absurd is
-stepped g B o (op.Takeover label) is = absurd is
-stepped g B o (op.Await label) is = absurd is
-stepped g B o (op.Group labels) is = absurd is
-stepped g B o op.Trim is = absurd is
-stepped g B o op.Stat is = absurd is
-stepped g B o op.Compact is = absurd is
-stepped g B o op.Upgrade is = absurd is
+store_line g (op.HashPut key value) is = record { stepped = λ B o. refl; does_in = λ tells o es r own' does. does; no_tx = λ tells. (refl, refl, refl) }
+store_line g (op.HashGet key) is = record { stepped = λ B o. refl; does_in = λ tells o es r own' does. does; no_tx = λ tells. (refl, refl, refl) }
+store_line g (op.HashDelete key) is = record { stepped = λ B o. refl; does_in = λ tells o es r own' does. does; no_tx = λ tells. (refl, refl, refl) }
+store_line g (op.TreePut key value) is = record { stepped = λ B o. refl; does_in = λ tells o es r own' does. does; no_tx = λ tells. (refl, refl, refl) }
+store_line g (op.TreeGet key) is = record { stepped = λ B o. refl; does_in = λ tells o es r own' does. does; no_tx = λ tells. (refl, refl, refl) }
+store_line g (op.TreeDelete key) is = record { stepped = λ B o. refl; does_in = λ tells o es r own' does. does; no_tx = λ tells. (refl, refl, refl) }
+store_line g (op.TreeScan from to most) is = record { stepped = λ B o. refl; does_in = λ tells o es r own' does. does; no_tx = λ tells. (refl, refl, refl) }
+store_line g (op.FileNew name) is = record { stepped = λ B o. refl; does_in = λ tells o es r own' does. does; no_tx = λ tells. (refl, refl, refl) }
+store_line g (op.FileWrite name off bytes) is = record { stepped = λ B o. refl; does_in = λ tells o es r own' does. does; no_tx = λ tells. (refl, refl, refl) }
+store_line g (op.FileRead name off len) is = record { stepped = λ B o. refl; does_in = λ tells o es r own' does. does; no_tx = λ tells. (refl, refl, refl) }
+store_line g (op.FileMove from to) is = record { stepped = λ B o. refl; does_in = λ tells o es r own' does. does; no_tx = λ tells. (refl, refl, refl) }
+store_line g (op.FileDelete name) is = record { stepped = λ B o. refl; does_in = λ tells o es r own' does. does; no_tx = λ tells. (refl, refl, refl) }
+store_line g other is = absurd is
 
 array_is : (g : Geometry) (B : Array) (o : Own) → array_of (alone g B (Some o)) (live_of o) ≡ own B o.accesses
 array_is g B o = ap (λ c. own (all_own B c) o.accesses) (no_take (o.begin + 1 - 1))
@@ -176,7 +160,7 @@ module _ (g : Geometry) (o : Own) (x : Op) (is : IsOnStore x) where
   served : (store_blocks g x) ≢ 0 → o.mode ≡ Serial → is_empty_scan x ≡ false → IsServed g o x (store_ended (store_areas g x) x)
   served some mode full =
       let whole : (B : Array) → step (alone g B (Some o)) 1 x ≡ act g B o x =
-      λ B. stepped g B o x is ∙ there_is (alone g B (Some o)) (live_of o) (store_blocks g x) _ some mode ∙ ap (λ b. cond b (reply.BadRange, alone g B (Some o)) (act g B o x)) full in
+      λ B. (store_line g x is).stepped B o ∙ there_is (alone g B (Some o)) (live_of o) (store_blocks g x) _ some mode ∙ ap (λ b. cond b (reply.BadRange, alone g B (Some o)) (act g B o x)) full in
       record {
         answers = λ B. ap (λ (w : Reply × World). w.0) (whole B) ∙ ap (λ C. (store_ended (store_areas g x) x (4096 - length o.accesses) C).1) (array_is g B o);
         leaves = λ B. ap (λ (w : Reply × World). own_among w.1.live) (whole B) ∙ own_with g B o (o.accesses ++ (ended g B o x).0)
@@ -199,71 +183,6 @@ not_so_in_store P Q blocks o some mode q =
     let there : (blocks == 0) ≡ false = ne_eqb blocks 0 some in
     subst (λ b. Where (not b && is_serial o.mode) P Q) (sym there) (subst (λ m. Where (is_serial m) P Q) (sym mode) q)
 
-module _ (g : Geometry) (tells : Bool) (o : Own) (es : List Entry) (r : Result Reply Stop) (own' : Option Own) where
-  -- the clause of each operation on a store
-  does_in : (x : Op) → IsOnStore x → InStore (store_blocks g x) o (CallsStore g tells o x es r own') (Says g (Some o) x es r own') → Does g tells (Some o) x es r own'
-  does_in (op.HashPut key value) is does = does
-  does_in (op.HashGet key) is does = does
-  does_in (op.HashDelete key) is does = does
-  does_in (op.TreePut key value) is does = does
-  does_in (op.TreeGet key) is does = does
-  does_in (op.TreeDelete key) is does = does
-  does_in (op.TreeScan from to most) is does = does
-  does_in (op.FileNew name) is does = does
-  does_in (op.FileWrite name off bytes) is does = does
-  does_in (op.FileRead name off len) is does = does
-  does_in (op.FileMove from to) is does = does
-  does_in (op.FileDelete name) is does = does
-  does_in (op.Begin mode) is does = absurd is
-  does_in op.End is does = absurd is
-  does_in op.Abort is does = absurd is
-  does_in (op.Put block off bytes) is does = absurd is
-  does_in (op.Read block) is does = absurd is
-  does_in (op.Get block off len) is does = absurd is
-  does_in (op.Write block bytes) is does = absurd is
-  does_in (op.Fill block bytes) is does = absurd is
-  does_in (op.Mark off len) is does = absurd is
-  does_in (op.Release label) is does = absurd is
-  does_in (op.Takeover label) is does = absurd is
-  does_in (op.Await label) is does = absurd is
-  does_in (op.Group labels) is does = absurd is
-  does_in op.Trim is does = absurd is
-  does_in op.Stat is does = absurd is
-  does_in op.Compact is does = absurd is
-  does_in op.Upgrade is does = absurd is
-
-no_tx : (g : Geometry) (tells : Bool) (x : Op) → IsOnStore x → Does g tells None x [] (Ok reply.NotInTx) None
-unfolding step
-no_tx g tells (op.HashPut key value) is = (refl, refl, refl)
-no_tx g tells (op.HashGet key) is = (refl, refl, refl)
-no_tx g tells (op.HashDelete key) is = (refl, refl, refl)
-no_tx g tells (op.TreePut key value) is = (refl, refl, refl)
-no_tx g tells (op.TreeGet key) is = (refl, refl, refl)
-no_tx g tells (op.TreeDelete key) is = (refl, refl, refl)
-no_tx g tells (op.TreeScan from to most) is = (refl, refl, refl)
-no_tx g tells (op.FileNew name) is = (refl, refl, refl)
-no_tx g tells (op.FileWrite name off bytes) is = (refl, refl, refl)
-no_tx g tells (op.FileRead name off len) is = (refl, refl, refl)
-no_tx g tells (op.FileMove from to) is = (refl, refl, refl)
-no_tx g tells (op.FileDelete name) is = (refl, refl, refl)
-no_tx g tells (op.Begin mode) is = absurd is
-no_tx g tells op.End is = absurd is
-no_tx g tells op.Abort is = absurd is
-no_tx g tells (op.Put block off bytes) is = absurd is
-no_tx g tells (op.Read block) is = absurd is
-no_tx g tells (op.Get block off len) is = absurd is
-no_tx g tells (op.Write block bytes) is = absurd is
-no_tx g tells (op.Fill block bytes) is = absurd is
-no_tx g tells (op.Mark off len) is = absurd is
-no_tx g tells (op.Release label) is = absurd is
-no_tx g tells (op.Takeover label) is = absurd is
-no_tx g tells (op.Await label) is = absurd is
-no_tx g tells (op.Group labels) is = absurd is
-no_tx g tells op.Trim is = absurd is
-no_tx g tells op.Stat is = absurd is
-no_tx g tells op.Compact is = absurd is
-no_tx g tells op.Upgrade is = absurd is
-
 says_by : (g : Geometry) (o : Own) (x : Op) (r : Reply) → step (alone g [] (Some o)) 1 x ≡ (r, alone g [] (Some o)) → Says g (Some o) x [] (Ok r) (Some o)
 says_by g o x r e = (refl, ap (λ (w : Reply × World). Ok w.0) (sym e), ap (λ (w : Reply × World). own_among w.1.live) (sym e))
 
@@ -274,30 +193,30 @@ has_own (Some o) m e = (o, refl, cc e)
 
 module _ {D O : Type 0} (A : Start) (s : Session D O) (x : Op) (is : IsOnStore x) where
   pub without_tx : handle.own s ≡ None → Answered A s x (Ok reply.NotInTx) s
-  without_tx none = by_none A s s x (Ok reply.NotInTx) None none refl (no_tx A.world.geometry A.tells x is)
+  without_tx none = by_none A s s x (Ok reply.NotInTx) None none refl ((store_line A.world.geometry x is).no_tx A.tells)
 
   pub without_store : (o : Own) → handle.own s ≡ Some o → (store_blocks A.world.geometry x) ≡ 0 → Answered A s x (Ok reply.NoStore) s
   without_store o was none =
       by_none A s s x (Ok reply.NoStore) (Some o) was refl
-      (does_in A.world.geometry A.tells o [] (Ok reply.NoStore) (Some o) x is
+      ((store_line A.world.geometry x is).does_in A.tells o [] (Ok reply.NoStore) (Some o)
       (not_in_store (CallsStore A.world.geometry A.tells o x [] (Ok reply.NoStore) (Some o)) (Says A.world.geometry (Some o) x [] (Ok reply.NoStore) (Some o)) (store_blocks A.world.geometry x) o none
-      (says_by A.world.geometry o x reply.NoStore (stepped A.world.geometry [] o x is ∙ no_store (alone A.world.geometry [] (Some o)) (live_of o) (store_blocks A.world.geometry x) _ none))))
+      (says_by A.world.geometry o x reply.NoStore ((store_line A.world.geometry x is).stepped [] o ∙ no_store (alone A.world.geometry [] (Some o)) (live_of o) (store_blocks A.world.geometry x) _ none))))
 
   pub without_mode : (o : Own) → handle.own s ≡ Some o → (store_blocks A.world.geometry x) ≢ 0 → o.mode ≡ Snapshot → Answered A s x (Ok reply.StoreMode) s
   without_mode o was some mode =
       by_none A s s x (Ok reply.StoreMode) (Some o) was refl
-      (does_in A.world.geometry A.tells o [] (Ok reply.StoreMode) (Some o) x is
+      ((store_line A.world.geometry x is).does_in A.tells o [] (Ok reply.StoreMode) (Some o)
       (not_so_in_store (CallsStore A.world.geometry A.tells o x [] (Ok reply.StoreMode) (Some o)) (Says A.world.geometry (Some o) x [] (Ok reply.StoreMode) (Some o)) (store_blocks A.world.geometry x) o some mode
-      (says_by A.world.geometry o x reply.StoreMode (stepped A.world.geometry [] o x is ∙ no_serial (alone A.world.geometry [] (Some o)) (live_of o) (store_blocks A.world.geometry x) _ some mode))))
+      (says_by A.world.geometry o x reply.StoreMode ((store_line A.world.geometry x is).stepped [] o ∙ no_serial (alone A.world.geometry [] (Some o)) (live_of o) (store_blocks A.world.geometry x) _ some mode))))
 
   -- a scan that is to find no pair reads nothing
   pub without_pairs : (o : Own) → handle.own s ≡ Some o → (store_blocks A.world.geometry x) ≢ 0 → o.mode ≡ Serial → is_empty_scan x ≡ true → Answered A s x (Ok reply.BadRange) s
   without_pairs o was some mode empty =
       let g : Geometry = A.world.geometry in
       let whole : step (alone g [] (Some o)) 1 x ≡ (reply.BadRange, alone g [] (Some o)) =
-      stepped g [] o x is ∙ there_is (alone g [] (Some o)) (live_of o) (store_blocks g x) _ some mode ∙ ap (λ b. cond b (reply.BadRange, alone g [] (Some o)) (act g [] o x)) empty in
+      (store_line g x is).stepped [] o ∙ there_is (alone g [] (Some o)) (live_of o) (store_blocks g x) _ some mode ∙ ap (λ b. cond b (reply.BadRange, alone g [] (Some o)) (act g [] o x)) empty in
       by_none A s s x (Ok reply.BadRange) (Some o) was refl
-      (does_in g A.tells o [] (Ok reply.BadRange) (Some o) x is
+      ((store_line g x is).does_in A.tells o [] (Ok reply.BadRange) (Some o)
       (in_store_so (CallsStore g A.tells o x [] (Ok reply.BadRange) (Some o)) (Says g (Some o) x [] (Ok reply.BadRange) (Some o)) (store_blocks g x) o some mode (record {
         fetched = [];
         refused = None;
@@ -338,7 +257,7 @@ module _ {D O : Type 0} (A : Start) (s : Session D O) (x : Op) (is : IsOnStore x
         moves = subst (λ (k : ℕ). Moves s t (visits.fetches k made.fetched ++ visits.refusals k visit.refused)) n made.moves;
         did = subst (λ y. Did g A.tells y x (visits.fetches o.number made.fetched ++ visits.refusals o.number visit.refused) q (handle.own t)) (sym was)
             (inl (subst (λ y. Does g A.tells (Some o) x (visits.fetches o.number made.fetched ++ visits.refusals o.number visit.refused) y (handle.own t)) (sym ends)
-            (does_in g A.tells o (visits.fetches o.number made.fetched ++ visits.refusals o.number visit.refused) (settled failures is_down r) (handle.own t) x is (in_store_so (CallsStore g A.tells o x (visits.fetches o.number made.fetched ++ visits.refusals o.number visit.refused) (settled failures is_down r) (handle.own t)) (Says g (Some o) x (visits.fetches o.number made.fetched ++ visits.refusals o.number visit.refused) (settled failures is_down r) (handle.own t)) (store_blocks g x) o there mode calls))));
+            ((store_line g x is).does_in A.tells o (visits.fetches o.number made.fetched ++ visits.refusals o.number visit.refused) (settled failures is_down r) (handle.own t) (in_store_so (CallsStore g A.tells o x (visits.fetches o.number made.fetched ++ visits.refusals o.number visit.refused) (settled failures is_down r) (handle.own t)) (Says g (Some o) x (visits.fetches o.number made.fetched ++ visits.refusals o.number visit.refused) (settled failures is_down r) (handle.own t)) (store_blocks g x) o there mode calls))));
         of = ap (λ y. y.now) made.of;
       }
     where

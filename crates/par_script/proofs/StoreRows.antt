@@ -118,12 +118,7 @@ answered_by : (refused : Option (ℕ × Cause)) (said : Reply) → StopsBy refus
 answered_by None said stops = refl
 answered_by (Some (b, cause.Down)) said stops = absurd (cc stops)
 answered_by (Some (b, cause.Disk earlier now)) said stops = absurd (cc stops)
-answered_by (Some (b, cause.TooManyTx)) said stops = absurd stops
-answered_by (Some (b, cause.LogFull need free)) said stops = absurd stops
-answered_by (Some (b, cause.Memory)) said stops = absurd stops
-answered_by (Some (b, cause.Worn)) said stops = absurd stops
-answered_by (Some (b, cause.ModeFixed)) said stops = absurd stops
-answered_by (Some (b, cause.LabelTaken)) said stops = absurd stops
+answered_by (Some (b, why)) said stops = absurd stops
 
 abbrev accesses_in : Option Own → List Access
 accesses_in None = []
