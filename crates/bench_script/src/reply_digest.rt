@@ -125,8 +125,8 @@ impl Sink for ReplyDigest {
         self.size = size;
         Ok(bytes.len())
     }
+
     fn hand_on(&mut self)
         ensures { self.new ≡ self.old }
-    {
-    }
+    {}
 }

@@ -5,7 +5,10 @@ use Rattle.command_line.proofs.laws.every_image_is_opened.Goals as goal
 pub returns : goal.returns
 unfolding clap_on_literals request_of rows_found task_of
 returns c = record {
-  run = run_opens; run_behind_the_end = λ program image. refl;
-  par = par_opens; par_behind_the_end = λ program image. refl;
-  recover = recover_opens; recover_behind_the_end = λ program image. refl;
+  run = run_opens;
+  run_behind_the_end = λ program image. refl;
+  par = par_opens;
+  par_behind_the_end = λ program image. refl;
+  recover = recover_opens;
+  recover_behind_the_end = λ program image. refl;
 }

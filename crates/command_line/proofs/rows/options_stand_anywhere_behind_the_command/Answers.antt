@@ -4,5 +4,9 @@ use Rattle.command_line.proofs.rows.options_stand_anywhere_behind_the_command.Go
 pub returns : goal.returns
 unfolding clap_on_literals words_of request_of rows_found task_of geometry_of number_of is_valid long_number_of
 returns c = record {
-  before = refl; behind = refl; ended = refl; ended_behind = refl; an_option_behind_the_end = refl;
+  before = refl;
+  behind = refl;
+  ended = refl;
+  ended_behind = refl;
+  an_option_behind_the_end = refl;
 }

@@ -7,7 +7,7 @@ pub returns : goal.returns
 returns _ = record {
   got = λ a b key A t u parts r is ended. reads_beside (hash_store a) (file_store b) (tree.get_program b.tree key) A t u parts r (get_reads b.tree key) is ended;
   found = λ a b from to most A t u parts r is ended.
-    reads_beside (hash_store a) (file_store b) (tree.scan_program b.tree from to most) A t u parts r (program_reads b.tree from to most) is ended;
+      reads_beside (hash_store a) (file_store b) (tree.scan_program b.tree from to most) A t u parts r (program_reads b.tree from to most) is ended;
   was_read = λ a b name off len A t u parts r is run.
-    reads_beside (hash_store a) (tree_store b.tree) (read_program b name off len) A t u parts r (read_reads b name off len) is run;
+      reads_beside (hash_store a) (tree_store b.tree) (read_program b name off len) A t u parts r (read_reads b name off len) is run;
 }

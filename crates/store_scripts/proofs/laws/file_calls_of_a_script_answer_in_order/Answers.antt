@@ -9,13 +9,13 @@ use Rattle.store_scripts.proofs.laws.file_calls_of_a_script_answer_in_order.Goal
 pub returns : goal.returns
 returns _ = record {
   by_calls = λ W lines begins good keeps.
-    (noted_after the_files files_second file_goes (Unit {0}) (last W.history) W (no_notes the_files) lines (noted_begins the_files files_second file_goes W begins) good (λ q. keeps)).by tt;
+      (noted_after the_files files_second file_goes (Unit {0}) (last W.history) W (no_notes the_files) lines (noted_begins the_files files_second file_goes W begins) good (λ q. keeps)).by tt;
   commits = commits_told the_files files_second file_goes;
   grouped = groups_told the_files files_second file_goes;
   live = λ W lines client t begins good keeps found kept.
-    live_told the_files files_second (last W.history) (after W lines) (notes_after the_files W (no_notes the_files) lines)
-    (noted_after the_files files_second file_goes (Unit {0}) (last W.history) W (no_notes the_files) lines (noted_begins the_files files_second file_goes W begins) good (λ q. keeps)) client t found kept;
+      live_told the_files files_second (last W.history) (after W lines) (notes_after the_files W (no_notes the_files) lines)
+      (noted_after the_files files_second file_goes (Unit {0}) (last W.history) W (no_notes the_files) lines (noted_begins the_files files_second file_goes W begins) good (λ q. keeps)) client t found kept;
   read_only = λ W lines client t begins good keeps found none.
-    read_only_told the_files files_second (last W.history) (after W lines) (notes_after the_files W (no_notes the_files) lines)
-    (noted_after the_files files_second file_goes (Unit {0}) (last W.history) W (no_notes the_files) lines (noted_begins the_files files_second file_goes W begins) good (λ q. keeps)) client t found none;
+      read_only_told the_files files_second (last W.history) (after W lines) (notes_after the_files W (no_notes the_files) lines)
+      (noted_after the_files files_second file_goes (Unit {0}) (last W.history) W (no_notes the_files) lines (noted_begins the_files files_second file_goes W begins) good (λ q. keeps)) client t found none;
 }
