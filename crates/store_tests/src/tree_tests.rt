@@ -82,20 +82,16 @@ fn blank(alloc: Global) -> Result<PlainTx, Fail>
 fn put_in(
     alloc: Global,
     tx: &mut PlainTx,
-    blocks: u32,
+    size: u32,
     key: &[u8],
     value: &[u8],
 ) -> Result<(), StoreError>
     requires ready { IsReady 40 (state_of tx.old) }
-    requires least { 2 ≤ blocks }
-    requires most { blocks ≤ 39 }
+    requires least { 2 ≤ size }
+    requires most { size ≤ 39 }
     ensures { IsReady 40 (state_of tx.new) }
 {
-    let region = Region {
-        start: 1,
-        size: blocks,
-    };
-    put(alloc, tx, region, key, value)
+    put(alloc, tx, Region { start: 1, size }, key, value)
 }
 
 fn get_in(alloc: Global, tx: &mut PlainTx, key: &[u8]) -> Result<Option<Bytes>, StoreError>
