@@ -1,6 +1,5 @@
 -- The transactions of accounts keep the sum.
-use Rattle.account_laws.proofs.Words.{◌≡◌, ◌≢◌, ◌∙◌, sym, refl, ap, subst, ℕ, ◌+◌, Bool, true, false, cond, List, [], ◌∷◌, Option, Some, None, arith, inl, inr, nat_list_cmp_total, sum_by-cons, get, get-empty, get-insert, insert, slice_cmp, eq_by_cmp, nat_cmp, bytes_other, ties, Geometry, Get, Got, KeyCall, Put, StoreAnswer, WasPut, run, Pairs, image_hash, Accounts, HasFirst, KeepsSum, amount, amount_in, sum_of, total, IsOfAccounts, IsOpening, IsTransfer, opening_answers, opening_calls}
-use Rattle.account_laws.proofs.Sums.{total_empty, total_put}
+use Rattle.account_laws.proofs.{Words.{◌≡◌, ◌≢◌, ◌∙◌, sym, refl, ap, subst, ℕ, ◌+◌, Bool, true, false, cond, List, [], ◌∷◌, Option, Some, None, arith, inl, inr, nat_list_cmp_total, sum_by-cons, get, get-empty, get-insert, insert, slice_cmp, eq_by_cmp, nat_cmp, bytes_other, ties, Geometry, Get, Got, KeyCall, Put, StoreAnswer, WasPut, run, Pairs, image_hash, Accounts, HasFirst, KeepsSum, amount, amount_in, sum_of, total, IsOfAccounts, IsOpening, IsTransfer, opening_answers, opening_calls}, Sums.{total_empty, total_put}}
 
 some_not_none : (x : Option (List ℕ)) (v : List ℕ) → x ≡ Some v → x ≡ None → ⊥
 some_not_none x v some none = cc (sym some ∙ none)

@@ -1,12 +1,9 @@
 -- Along a list whose transactions are those of accounts, each commit has their sum.
-use Rattle.account_laws.proofs.Words.{◌≡◌, ◌⊎◌, ◌∙◌, inl, inr, sym, refl, ap, subst, ℕ, zero, suc, ◌+◌, ◌-◌, ◌<◌, ◌≤◌, true, IfSome, List, [], ◌∷◌, ◌++◌, append_assoc, append-nil, length, length-append, slice_get, Option, Some, None, arith, AllByRecursion, Access, Array, Commit, Geometry, History, array_at, last, Live, World, IsWorld, Entry, IsLegal, Start, State, state_at, IsOfBoth, firsts, answers_in, calls_in, image_hash, image_tree, Accounts, KeepsSum, AreOfAccounts, CommitsAccounts, IsOfAccountsAt, KeepsSumAt, KeepsSumIn, KeepsSumSince, commits_by, cases_lt, group_is, ahead, decided, leave_all, made_by, member_reply, with_commits, after_leaving, end_step, IsLive, EndReply, Committed, Conflict, ReadOnly, GroupReply, follows_all, last_longer, group_history, after_snoc, legal_append, legal_snoc, loose_is, Call, Cause, Member, MemberEnd, answered, AreLoose, Fits, IsGroup, LegalFrom, MayHaveMade, MayRefuse, whole, with_lost, after, commits_made, group_answers, is_live, lost_commits, member_numbers, members_of, opened, replies_of, tx_of, txs_of, stores_answer_at, AreCallsInOrderAt, CommitsAreByCalls, StoresAreWell, commit_at, commits_as, world_at, both_commits, AreMixed, BothInOrder, IsByBoth, hash_blocks, tree_blocks, array_extends}
+use Rattle.account_laws.proofs.{Words.{◌≡◌, ◌⊎◌, ◌∙◌, inl, inr, sym, refl, ap, subst, ℕ, zero, suc, ◌+◌, ◌-◌, ◌<◌, ◌≤◌, true, IfSome, List, [], ◌∷◌, ◌++◌, append_assoc, append-nil, length, length-append, slice_get, Option, Some, None, arith, AllByRecursion, Access, Array, Commit, Geometry, History, array_at, last, Live, World, IsWorld, Entry, IsLegal, Start, State, state_at, IsOfBoth, firsts, answers_in, calls_in, image_hash, image_tree, Accounts, KeepsSum, AreOfAccounts, CommitsAccounts, IsOfAccountsAt, KeepsSumAt, KeepsSumIn, KeepsSumSince, commits_by, cases_lt, group_is, ahead, decided, leave_all, made_by, member_reply, with_commits, after_leaving, end_step, IsLive, EndReply, Committed, Conflict, ReadOnly, GroupReply, follows_all, last_longer, group_history, after_snoc, legal_append, legal_snoc, loose_is, Call, Cause, Member, MemberEnd, answered, AreLoose, Fits, IsGroup, LegalFrom, MayHaveMade, MayRefuse, whole, with_lost, after, commits_made, group_answers, is_live, lost_commits, member_numbers, members_of, opened, replies_of, tx_of, txs_of, stores_answer_at, AreCallsInOrderAt, CommitsAreByCalls, StoresAreWell, commit_at, commits_as, world_at, both_commits, AreMixed, BothInOrder, IsByBoth, hash_blocks, tree_blocks, array_extends}, Keeping.keep_sum, SoundWorlds.{may_end, may_end_all, sound_at}, Splits.{nth_of, slice_get_behind, snoc_split}}
 use Rattle.iso_model.specs.declared.access.GroupReply.TheVariants as member
 use Rattle.iso_shared.specs.declared.entry.Call.TheVariants as call
 use Rattle.iso_shared.specs.declared.entry.Cause.TheVariants as cause
 use Rattle.iso_shared.specs.declared.entry.Entry.TheVariants as entry
-use Rattle.account_laws.proofs.Keeping.{keep_sum}
-use Rattle.account_laws.proofs.SoundWorlds.{may_end, may_end_all, sound_at}
-use Rattle.account_laws.proofs.Splits.{nth_of, slice_get_behind, snoc_split}
 
 -- The entry adds commits to the history, or leaves them open behind it, as an entry tells of them that a device makes which is up.
 record Adds (S : State) (e : Entry) : Type 0 where

@@ -1,7 +1,6 @@
 -- Calls on accounts fill the transaction that a session has begun.
-use Rattle.accounts.proofs.Words.{◌≡◌, ◌∙◌, sym, refl, ap, subst, ℕ, ◌+◌, ◌<◌, ◌≤◌, true, cond, List, [], ◌∷◌, ◌++◌, Option, Some, None, Ok, arith, length, Accounts, Array, Geometry, firsts, KeyCall, StoreAnswer, IsOfAccounts, IsMadeOfBoth, answers_in, calls_in, hash_area, image_hash, image_tree, IsHashArea, Area, Region, area_of, Tx, Does, IsPut, IsTakenFor, more_first_answers, more_first_calls, the_tree, IsPrefix, option_map, ext_get_or, block_shaped, length-shaped, Session, accesses_of, tx_on, HasBegun, Own, own, seen, Visited, base_in, begin_array, shaped, with_list, array_shape, Mode, Serial, array_at, last, block_at, IsWorld, began_last, follows_all, follows_prefix, legal_last, Entry, IsLegal, Start, opened, world_at, hash_area_is, array_extends, prefix_trans, sound_at, to_be_bytes, w64, Cause, area_in, HashPuts, HasCalled, HasStore, IsFilled, IsHeld, OfCalls, OwnFilled}
+use Rattle.accounts.proofs.{Words.{◌≡◌, ◌∙◌, sym, refl, ap, subst, ℕ, ◌+◌, ◌<◌, ◌≤◌, true, cond, List, [], ◌∷◌, ◌++◌, Option, Some, None, Ok, arith, length, Accounts, Array, Geometry, firsts, KeyCall, StoreAnswer, IsOfAccounts, IsMadeOfBoth, answers_in, calls_in, hash_area, image_hash, image_tree, IsHashArea, Area, Region, area_of, Tx, Does, IsPut, IsTakenFor, more_first_answers, more_first_calls, the_tree, IsPrefix, option_map, ext_get_or, block_shaped, length-shaped, Session, accesses_of, tx_on, HasBegun, Own, own, seen, Visited, base_in, begin_array, shaped, with_list, array_shape, Mode, Serial, array_at, last, block_at, IsWorld, began_last, follows_all, follows_prefix, legal_last, Entry, IsLegal, Start, opened, world_at, hash_area_is, array_extends, prefix_trans, sound_at, to_be_bytes, w64, Cause, area_in, HashPuts, HasCalled, HasStore, IsFilled, IsHeld, OfCalls, OwnFilled}, Adding.{completed, does_put, put_adds, transfers}}
 use Rattle.iso_shared.specs.declared.entry.Entry.TheVariants as entry
-use Rattle.accounts.proofs.Adding.{completed, does_put, put_adds, transfers}
 
 -- an array that has the image's shape is not cut
 shaped_is : (g : Geometry) (X : Array) → length X ≡ g.blocks → ((b : ℕ) → b < g.blocks → length (block_at X b) ≡ g.block) → shaped g X ≡ X

@@ -1,14 +1,11 @@
 -- A group of transactions that were given away commits as accounts do.
-use Rattle.accounts.proofs.Words.{◌≡◌, ◌∙◌, inl, inr, sym, refl, ap, subst, suc, ℕ, true, List, [], ◌∷◌, ◌++◌, arith, length, Option, Some, None, Result, Ok, Err, Accounts, IsPrefix, AllByRecursion, prefix_self, prefix_trans, View, times, HasGrouped, HasMade, KnowsAll, aborts_after, aborts_of, count_all, found_in, group_of, refused_by, next_prefix, own_in, Commit, GroupReply, CoreError, made_by, Live, World, legal_last, loose_is, Entry, Member, Shared, answered, made_in, AreLoose, IsLegal, number_of, tx_view, Start, commits_made, group_answers, lost_commits, member_numbers, members_of, opened, state_at, txs_of, cause_of, members_in, commit_at, world_at, IsOfAccountsAt, CommitsAccounts, AreGiven, Covers, IsReady, IsWhole}
+use Rattle.accounts.proofs.{Words.{◌≡◌, ◌∙◌, inl, inr, sym, refl, ap, subst, suc, ℕ, true, List, [], ◌∷◌, ◌++◌, arith, length, Option, Some, None, Result, Ok, Err, Accounts, IsPrefix, AllByRecursion, prefix_self, prefix_trans, View, times, HasGrouped, HasMade, KnowsAll, aborts_after, aborts_of, count_all, found_in, group_of, refused_by, next_prefix, own_in, Commit, GroupReply, CoreError, made_by, Live, World, legal_last, loose_is, Entry, Member, Shared, answered, made_in, AreLoose, IsLegal, number_of, tx_view, Start, commits_made, group_answers, lost_commits, member_numbers, members_of, opened, state_at, txs_of, cause_of, members_in, commit_at, world_at, IsOfAccountsAt, CommitsAccounts, AreGiven, Covers, IsReady, IsWhole}, Committing.commits_well, Covering.{IsQuiet, covers_both, covers_none, covers_on, covers_one, covers_quiet}}
 use Rattle.group_commit.specs.Groups.{HasEnded}
 use Rattle.iso_model.specs.declared.access.GroupReply.TheVariants as member
 use Rattle.iso_model.specs.declared.core_error.CoreError.TheVariants as error
 use Rattle.iso_shared.specs.declared.entry.Call.TheVariants as call
 use Rattle.iso_shared.specs.declared.entry.Entry.TheVariants as entry
-use Rattle.iso_shared.specs.declared.tx.Tx.{Tx}
-use Rattle.iso_shared.specs.States.{tx_of}
-use Rattle.accounts.proofs.Committing.{commits_well}
-use Rattle.accounts.proofs.Covering.{IsQuiet, covers_both, covers_none, covers_on, covers_one, covers_quiet}
+use Rattle.iso_shared.specs.{declared.tx.Tx.Tx, States.tx_of}
 
 made_well : (P : Commit → Type 0) (t : Live) (r : GroupReply) (rest : List Commit) → P (Rattle.iso_model.specs.Step.commit_from t) → AllByRecursion P rest → AllByRecursion P (made_by t r ++ rest)
 made_well P t (member.Committed k) rest here all = (here, all)

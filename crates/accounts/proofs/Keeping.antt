@@ -1,13 +1,11 @@
 -- What calls leave of a session whose transactions are those of accounts.
-use Rattle.accounts.proofs.Words.{◌≡◌, ◌∙◌, sym, refl, ap, subst, ℕ, true, List, [], ◌∷◌, ◌++◌, arith, Option, Some, None, Result, Ok, Err, Accounts, Access, IsPrefix, AllByRecursion, prefix_self, prefix_trans, View, times, BeginError, EndError, Handle, Session, EndsWith, HasAborted, HasBegun, Next, Released, known, places, tx_of, IsSession, Made, Own, count, device, own, seen, Visited, fetches, number_in, refusals, EndReply, Committed, Conflict, ReadOnly, Mode, CoreError, NotInTx, legal_last, loose_is, Cause, Entry, Start, opened, state_at, cause_of, commit_at, world_at, IsOfAccountsAt, CommitsAccounts, IsOfAccounts, TookOver, Covers, IsFilled, IsGiven, IsHeld, IsKept, IsReady, OfCalls, Stays}
+use Rattle.accounts.proofs.{Words.{◌≡◌, ◌∙◌, sym, refl, ap, subst, ℕ, true, List, [], ◌∷◌, ◌++◌, arith, Option, Some, None, Result, Ok, Err, Accounts, Access, IsPrefix, AllByRecursion, prefix_self, prefix_trans, View, times, BeginError, EndError, Handle, Session, EndsWith, HasAborted, HasBegun, Next, Released, known, places, tx_of, IsSession, Made, Own, count, device, own, seen, Visited, fetches, number_in, refusals, EndReply, Committed, Conflict, ReadOnly, Mode, CoreError, NotInTx, legal_last, loose_is, Cause, Entry, Start, opened, state_at, cause_of, commit_at, world_at, IsOfAccountsAt, CommitsAccounts, IsOfAccounts, TookOver, Covers, IsFilled, IsGiven, IsHeld, IsKept, IsReady, OfCalls, Stays}, Committing.commits_well, Covering.{IsQuiet, covers_both, covers_less, covers_on, covers_one, covers_quiet, quiet_well}}
 use Rattle.handle_pass.specs.declared.errors.BeginError.TheVariants as begin
 use Rattle.handle_pass.specs.declared.errors.EndError.TheVariants as end
 use Rattle.handle_pass.specs.Calls.{HasEnded}
 use Rattle.iso_model.specs.declared.core_error.CoreError.TheVariants as error
 use Rattle.iso_shared.specs.declared.entry.Call.TheVariants as call
 use Rattle.iso_shared.specs.declared.entry.Entry.TheVariants as entry
-use Rattle.accounts.proofs.Committing.{commits_well}
-use Rattle.accounts.proofs.Covering.{IsQuiet, covers_both, covers_less, covers_on, covers_one, covers_quiet, quiet_well}
 
 pub filled_on : (Is : OfCalls) (A : Start) (E F : List Entry) (o : Own) → IsPrefix E F → IsFilled Is A E o → IsFilled Is A F o
 filled_on Is A E F o more is = record {

@@ -1,8 +1,5 @@
 -- A tally of the lines of replies.
-use Rattle.bench_script.proofs.Words.{◌≡◌, ◌∙◌, sym, ap, ℕ, ◌+◌, ◌≤◌, true, List, [], ◌∷◌, ◌++◌, length, length-append, append_assoc, decimal, arith, subst, Contains, filter, list_all, Line, Reply, is_committed, is_conflict, reply_line, reply_text, text_of, append-nil, IsLeft, IsTallied, LineKind, kind_of, commits_in, conflicts_in}
-use Rattle.bench_script.proofs.KindsOfReplies.{commits_with, conflicts_with}
-use Rattle.bench_script.proofs.ReplyTexts.{is_other, both, other_than_digits, reply_has_no_feed}
-use Rattle.bench_script.proofs.Splits.{is_there, same_split}
+use Rattle.bench_script.proofs.{Words.{◌≡◌, ◌∙◌, sym, ap, ℕ, ◌+◌, ◌≤◌, true, List, [], ◌∷◌, ◌++◌, length, length-append, append_assoc, decimal, arith, subst, Contains, filter, list_all, Line, Reply, is_committed, is_conflict, reply_line, reply_text, text_of, append-nil, IsLeft, IsTallied, LineKind, kind_of, commits_in, conflicts_in}, KindsOfReplies.{commits_with, conflicts_with}, ReplyTexts.{is_other, both, other_than_digits, reply_has_no_feed}, Splits.{is_there, same_split}}
 
 -- nothing is taken yet
 pub none_taken : IsTallied [] [] 0 0

@@ -1,6 +1,5 @@
 -- A digest of replies as bytes come.
-use Rattle.bench_script.proofs.Words.{◌≡◌, ◌∙◌, sym, refl, ap, ℕ, ◌+◌, ◌-◌, ◌≤◌, List, [], ◌∷◌, ◌++◌, length, drop-append-add, drop-drop, length-append, append_assoc, arith, drop, take, take-append-drop, Holds256, IsFed, IsTallied, Sha256}
-use Rattle.bench_script.proofs.Counting.{more_taken, none_taken}
+use Rattle.bench_script.proofs.{Words.{◌≡◌, ◌∙◌, sym, refl, ap, ℕ, ◌+◌, ◌-◌, ◌≤◌, List, [], ◌∷◌, ◌++◌, length, drop-append-add, drop-drop, length-append, append_assoc, arith, drop, take, take-append-drop, Holds256, IsFed, IsTallied, Sha256}, Counting.{more_taken, none_taken}}
 
 -- nothing is taken yet
 pub nothing_fed : (hasher : Sha256) → Holds256 hasher [] → IsFed hasher [] [] 0 0 0

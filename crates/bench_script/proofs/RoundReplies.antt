@@ -1,8 +1,5 @@
 -- The replies to all rounds of a bench, and how many of them are commits and conflicts.
-use Rattle.bench_script.proofs.Words.{◌≡◌, ◌∙◌, ap, refl, sym, subst, ℕ, zero, suc, ◌+◌, ◌*◌, ◌<◌, ◌≤◌, Bool, true, false, List, [], ◌∷◌, ◌++◌, length, filter, sum_by, sum_by-append, arith, eqb-true, eqb-false, length-append, Access, Clash, Commit, Array, get_access, bench_geometry, record_length, runs, last, World, empty_history, bench_text, bench_world, after_draws, nth_drawn, answers_to, is_committed, is_conflict, Script, script, step, Line, Op, End, Reply, Began, Committed, Conflict, Done, Shown, AreRoundReplies, is_one_place, last_after, one_places, if◌then◌else◌}
-use Rattle.bench_script.proofs.GoodLines.{bench_lines, round_lines, said_by, scripts_are}
-use Rattle.bench_script.proofs.Meetings.{clash_nowhere, clash_there, commit_of, history_of, reads_and_writes, size_of_one}
-use Rattle.bench_script.proofs.RoundSteps.{began, between, first_begins, first_ends, first_reads, first_shown, first_writes, left, second_begins, second_clashes, second_ends, second_reads, second_shown, second_writes}
+use Rattle.bench_script.proofs.{Words.{◌≡◌, ◌∙◌, ap, refl, sym, subst, ℕ, zero, suc, ◌+◌, ◌*◌, ◌<◌, ◌≤◌, Bool, true, false, List, [], ◌∷◌, ◌++◌, length, filter, sum_by, sum_by-append, arith, eqb-true, eqb-false, length-append, Access, Clash, Commit, Array, get_access, bench_geometry, record_length, runs, last, World, empty_history, bench_text, bench_world, after_draws, nth_drawn, answers_to, is_committed, is_conflict, Script, script, step, Line, Op, End, Reply, Began, Committed, Conflict, Done, Shown, AreRoundReplies, is_one_place, last_after, one_places, if◌then◌else◌}, GoodLines.{bench_lines, round_lines, said_by, scripts_are}, Meetings.{clash_nowhere, clash_there, commit_of, history_of, reads_and_writes, size_of_one}, RoundSteps.{began, between, first_begins, first_ends, first_reads, first_shown, first_writes, left, second_begins, second_clashes, second_ends, second_reads, second_shown, second_writes}}
 
 -- these lines are answered so
 record AreGiven (W : World) (lines : List (ℕ × Line)) (replies : List Reply) : Type 0 where

@@ -1,7 +1,6 @@
 -- The lines of a round, one after the other, from a world in which no transaction is live.
-use Rattle.bench_script.proofs.Words.{◌≡◌, ◌∙◌, ap, refl, ℕ, ◌+◌, ◌-◌, ◌<◌, ◌≤◌, Bool, true, false, cond, nat_le, nat_lt, ◌==◌, List, [], ◌∷◌, ◌++◌, Option, Some, None, length, drop, take, arith, eq-eqb, ne_eqb, le-ltb, lt-leb, drop_of_length-le, Access, Clash, Commit, LAST, MAX_ACCESSES, Serial, Array, bench_geometry, clash, clash_from, has_write, last, Live, World, client, used, need, get_access, put_access, shown_to, after_commit, with, without, with_access, access_step, begin_step, commit_step, end_step, get_step, put_step, step, as_step, Reply, Begin, End, Get, Put, Began, Committed, Conflict, Done, Shown}
+use Rattle.bench_script.proofs.{Words.{◌≡◌, ◌∙◌, ap, refl, ℕ, ◌+◌, ◌-◌, ◌<◌, ◌≤◌, Bool, true, false, cond, nat_le, nat_lt, ◌==◌, List, [], ◌∷◌, ◌++◌, Option, Some, None, length, drop, take, arith, eq-eqb, ne_eqb, le-ltb, lt-leb, drop_of_length-le, Access, Clash, Commit, LAST, MAX_ACCESSES, Serial, Array, bench_geometry, clash, clash_from, has_write, last, Live, World, client, used, need, get_access, put_access, shown_to, after_commit, with, without, with_access, access_step, begin_step, commit_step, end_step, get_step, put_step, step, as_step, Reply, Begin, End, Get, Put, Began, Committed, Conflict, Done, Shown}, Meetings.{commit_of, history_of}}
 use Rattle.iso_model.specs.declared.core_reply.CoreReply.TheVariants as core
-use Rattle.bench_script.proofs.Meetings.{commit_of, history_of}
 
 -- each test of a step is passed
 access_made : (W : World) (t : Live) (block : ℕ) (wrong : Bool) (answer : Reply) (a : Access) → nat_le W.geometry.blocks block ≡ false → wrong ≡ false

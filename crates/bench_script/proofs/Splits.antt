@@ -1,6 +1,5 @@
 -- A text has one first byte of a kind.
-use Rattle.bench_script.proofs.Words.{◌≡◌, refl, ℕ, true, false, List, [], ◌∷◌, ◌++◌, arith, Contains, list_all, and_parts, eq-eqb, Contains-append_right}
-use Rattle.bench_script.proofs.ReplyTexts.{is_other}
+use Rattle.bench_script.proofs.{Words.{◌≡◌, refl, ℕ, true, false, List, [], ◌∷◌, ◌++◌, arith, Contains, list_all, and_parts, eq-eqb, Contains-append_right}, ReplyTexts.is_other}
 
 -- a byte of a text is in it
 pub is_there : (x : ℕ) (front more : List ℕ) → Contains (front ++ x ∷ more) x

@@ -1,6 +1,5 @@
 -- Entries whose blocks rise.
-use Rattle.byte_marks.proofs.Words.{◌≡◌, ◌≢◌, refl, ◌∙◌, sym, ap, subst, ℕ, zero, suc, ◌+◌, ◌<◌, ◌≤◌, Bool, true, false, ◌&&◌, ◌||◌, ◌==◌, inl, inr, List, [], ◌∷◌, ◌++◌, length, get_or, set, take, drop, arith, ne_eqb, and_comm, or_assoc, or_comm, and_left, and_right, cases_eq, Extent, has, entry_has, touches, RisesFrom}
-use Rattle.byte_marks.proofs.Apart.{leave_out}
+use Rattle.byte_marks.proofs.{Words.{◌≡◌, ◌≢◌, refl, ◌∙◌, sym, ap, subst, ℕ, zero, suc, ◌+◌, ◌<◌, ◌≤◌, Bool, true, false, ◌&&◌, ◌||◌, ◌==◌, inl, inr, List, [], ◌∷◌, ◌++◌, length, get_or, set, take, drop, arith, ne_eqb, and_comm, or_assoc, or_comm, and_left, and_right, cases_eq, Extent, has, entry_has, touches, RisesFrom}, Apart.leave_out}
 
 -- they rise from any earlier block on too
 pub rises_earlier : (f g : ℕ) (es : List (ℕ × List Extent)) → f ≤ g → RisesFrom g es → RisesFrom f es

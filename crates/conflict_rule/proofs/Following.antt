@@ -1,6 +1,5 @@
 -- Notes that follow a history, when it grows and when they are dropped.
-use Rattle.conflict_rule.proofs.Words.{◌≡◌, ◌∙◌, refl, sym, ap, subst, ℕ, zero, suc, ◌+◌, ◌-◌, ◌<◌, ◌≤◌, false, nat_lt, List, [], ◌∷◌, ◌++◌, length, drop, arith, inl, inr, cases_lt, le-ltb, drop-drop, drop_all, length-drop, drop-append-le, Commit, Geometry, Write, first_after, History, Note, above, RisesFrom, AreTouched, AreNotes, AreNotesAfter, Bytes}
-use Rattle.conflict_rule.proofs.Numbers.{all_above}
+use Rattle.conflict_rule.proofs.{Words.{◌≡◌, ◌∙◌, refl, sym, ap, subst, ℕ, zero, suc, ◌+◌, ◌-◌, ◌<◌, ◌≤◌, false, nat_lt, List, [], ◌∷◌, ◌++◌, length, drop, arith, inl, inr, cases_lt, le-ltb, drop-drop, drop_all, length-drop, drop-append-le, Commit, Geometry, Write, first_after, History, Note, above, RisesFrom, AreTouched, AreNotes, AreNotesAfter, Bytes}, Numbers.all_above}
 
 pub notes_rise : (g : Geometry) (k : ℕ) (notes : List Note) (commits : List Commit) → AreNotes g k notes commits → RisesFrom k notes
 notes_rise g k [] commits are = tt

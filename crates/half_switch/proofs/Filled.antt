@@ -1,9 +1,5 @@
 -- What a half is filled with, in one image.
-use Rattle.half_switch.proofs.Words.{◌≡◌, ◌≤◌, ◌+◌, ◌-◌, ◌*◌, inl, inr, ℕ, List, [], ◌∷◌, ◌++◌, length, take, drop, get_or, Option, IsTrue, refl, sym, ◌∙◌, ap, arith, subst, length-append, length-drop, append_assoc, AllByRecursion, slice_range, drop-take, length-take-le, take-take, take_at, get_or-take, get_or-drop, get_or_at, Geometry, LAST, Array, image_size, base_place, is_valid, log_place, all_own, array_at, IsRecord, Written, blocks_of, commits_of, half_header, records, spliced, Torn, slice-torn, spliced_torn, take-drop-spliced, HalfPlace, Half, HasLog, IsFilled, IsHeld, history_of, in_form, last_told, told_bytes, held_each, held_last, held_log, blocks_same, held_half, log_inside, records_form, has_log, FillPlan, all_laid, AreHalves, Copies, IsReady, place_of, refilled, HasRecords, IsLaidOut, closed_log, filled_with, header_tail}
-use Rattle.half_switch.proofs.Forms.{all_take, each_form, may_switch}
-use Rattle.half_switch.proofs.Kept.{other_place}
-use Rattle.half_switch.proofs.Lays.{all_laid_blocks, length-all_laid, take_commits}
-use Rattle.half_switch.proofs.Nexts.{records_split}
+use Rattle.half_switch.proofs.{Words.{◌≡◌, ◌≤◌, ◌+◌, ◌-◌, ◌*◌, inl, inr, ℕ, List, [], ◌∷◌, ◌++◌, length, take, drop, get_or, Option, IsTrue, refl, sym, ◌∙◌, ap, arith, subst, length-append, length-drop, append_assoc, AllByRecursion, slice_range, drop-take, length-take-le, take-take, take_at, get_or-take, get_or-drop, get_or_at, Geometry, LAST, Array, image_size, base_place, is_valid, log_place, all_own, array_at, IsRecord, Written, blocks_of, commits_of, half_header, records, spliced, Torn, slice-torn, spliced_torn, take-drop-spliced, HalfPlace, Half, HasLog, IsFilled, IsHeld, history_of, in_form, last_told, told_bytes, held_each, held_last, held_log, blocks_same, held_half, log_inside, records_form, has_log, FillPlan, all_laid, AreHalves, Copies, IsReady, place_of, refilled, HasRecords, IsLaidOut, closed_log, filled_with, header_tail}, Forms.{all_take, each_form, may_switch}, Kept.other_place, Lays.{all_laid_blocks, length-all_laid, take_commits}, Nexts.records_split}
 
 gate_free : (form generation base : ℕ) → header_tail form generation base ≡ take 31 (drop 1 (half_header 1 form generation base))
 unfolding half_header

@@ -1,7 +1,5 @@
 -- A visit of a session's transaction begins.
-use Rattle.handle_pass.proofs.Words.{◌≡◌, ◌≤◌, false, IsTrue, Option, Some, None, length, refl, sym, subst, arith, Array, is_valid, array_at, block_at, limits, Start, state_at, IsArrayOf, IsTx, Session, accesses_of, tx_on, Own, own, seen, IsSession, IsVisit, base_in, base_of, begin_array, shaped}
-use Rattle.handle_pass.proofs.Shapes.{length-block_shaped, length-shaped}
-use Rattle.handle_pass.proofs.Visiting.{begun_base, told_base, visit_none}
+use Rattle.handle_pass.proofs.{Words.{◌≡◌, ◌≤◌, false, IsTrue, Option, Some, None, length, refl, sym, subst, arith, Array, is_valid, array_at, block_at, limits, Start, state_at, IsArrayOf, IsTx, Session, accesses_of, tx_on, Own, own, seen, IsSession, IsVisit, base_in, base_of, begin_array, shaped}, Shapes.{length-block_shaped, length-shaped}, Visiting.{begun_base, told_base, visit_none}}
 
 module _ {D O : Type 0} (A : Start) (s : Session D O) where
   base_shape : (B : Array) → base_in A s ≡ Some B → IsArrayOf (tx_on A s (base_in A s)) B

@@ -1,7 +1,6 @@
 -- The entries of a session, as it makes more.
-use Rattle.handle_pass.proofs.Words.{IsLegal, times, ◌≡◌, ℕ, ◌+◌, List, [], ◌∷◌, ◌++◌, get_or, length, refl, sym, ap, ◌∙◌, subst, append_assoc, arith, length-append, map-append, append-nil, get_or-append, get_or-append_seam, hit, AllBelow, prefix_length, prefix_self, prefix_trans, below_more, below_snoc, rises_snoc, times_append, Entry, Start, Session, Port, View, port_view, Joined, Split, entries_at, AreNext, Log, Moves, MovesThrough, count, count_with, seen, units, Made, Rested, IsPrefix, PassMade}
+use Rattle.handle_pass.proofs.{Words.{IsLegal, times, ◌≡◌, ℕ, ◌+◌, List, [], ◌∷◌, ◌++◌, get_or, length, refl, sym, ap, ◌∙◌, subst, append_assoc, arith, length-append, map-append, append-nil, get_or-append, get_or-append_seam, hit, AllBelow, prefix_length, prefix_self, prefix_trans, below_more, below_snoc, rises_snoc, times_append, Entry, Start, Session, Port, View, port_view, Joined, Split, entries_at, AreNext, Log, Moves, MovesThrough, count, count_with, seen, units, Made, Rested, IsPrefix, PassMade}, Entering.{known_by, one_place}}
 use Rattle.iso_shared.specs.declared.entry.Entry.TheVariants as entry
-use Rattle.handle_pass.proofs.Entering.{known_by, one_place}
 
 at_prefix : (xs E : List Entry) (ps : List ℕ) → IsPrefix xs E → AllBelow (length xs) ps → entries_at E ps ≡ entries_at xs ps
 at_prefix xs E [] pre below = refl

@@ -1,12 +1,11 @@
 -- How one call on a session's transaction answers a store.
-use Rattle.handle_pass.proofs.Words.{◌≡◌, ◌≢◌, ℕ, ◌<◌, ◌≤◌, Bool, true, false, not, if◌then◌else◌, List, [], ◌∷◌, ◌++◌, Option, Some, None, Result, Ok, Err, length, nat_le, inl, inr, refl, sym, ap, ◌∙◌, subst, arith, is_some, nat_tests, append-nil, length_push, Rose, Access, TxError, marked, block_at, read_access, write_access, length-marked, Cause, Start, span_at, Device, IsArrayOf, IsFree, IsLater, IsRefused, IsTx, access_refusal, with_accesses, Passed, Session, HasMarked, HasRead, HasWritten, IsReadCause, IsWriteCause, access_answer, accesses_of, mark_answer, tx_on, with_access, Looked, Marked, Unlooked, Wrote, down_in, failed_in, failures_in, Own, own, IsSession, Made, Rested, Failed, IsVisit, Seen, Visited, base_of, blocks_read, seen_by}
+use Rattle.handle_pass.proofs.{Words.{◌≡◌, ◌≢◌, ℕ, ◌<◌, ◌≤◌, Bool, true, false, not, if◌then◌else◌, List, [], ◌∷◌, ◌++◌, Option, Some, None, Result, Ok, Err, length, nat_le, inl, inr, refl, sym, ap, ◌∙◌, subst, arith, is_some, nat_tests, append-nil, length_push, Rose, Access, TxError, marked, block_at, read_access, write_access, length-marked, Cause, Start, span_at, Device, IsArrayOf, IsFree, IsLater, IsRefused, IsTx, access_refusal, with_accesses, Passed, Session, HasMarked, HasRead, HasWritten, IsReadCause, IsWriteCause, access_answer, accesses_of, mark_answer, tx_on, with_access, Looked, Marked, Unlooked, Wrote, down_in, failed_in, failures_in, Own, own, IsSession, Made, Rested, Failed, IsVisit, Seen, Visited, base_of, blocks_read, seen_by}, Visiting.{blocks_append, blocks_marked, none_refused, told_by, visit_fetched, visit_refused, visit_rested}}
 use Rattle.store_model.specs.declared.stores.TxError.TheVariants as error
 use Rattle.iso_model.specs.Effect as effect
 use Rattle.iso_shared.specs.declared.entry.Call.TheVariants as call
 use Rattle.iso_shared.specs.declared.entry.Cause.TheVariants as cause
 use Rattle.iso_shared.specs.declared.entry.Entry.TheVariants as entry
 use Rattle.tx_blocks.specs.Tx.{Tx}
-use Rattle.handle_pass.proofs.Visiting.{blocks_append, blocks_marked, none_refused, told_by, visit_fetched, visit_refused, visit_rested}
 
 no_error : {T E : Type 0} (x : T) (e : E) → ◌≡◌ {A = Result T E} (Ok x) (Err e) → ⊥
 no_error x e is = cc

@@ -1,11 +1,8 @@
 -- What a session's own calls make of a visit: its fetches, its transaction, and what a store sees.
-use Rattle.handle_pass.proofs.Words.{◌≡◌, ℕ, ◌<◌, Bool, true, false, cond, List, [], ◌∷◌, ◌++◌, Option, Some, None, option_map, length, map, refl, sym, ap, ◌∙◌, subst, append_assoc, arith, ForSome, map-append, append-nil, Access, Span, Array, is_write, array_at, marked, block_at, Cause, Entry, Start, state_at, Session, accesses_of, Shows, AreNext, Moves, Own, count, own, seen, IsSession, Made, Rested, Failed, KeepsOwn, Visited, base_in, begin_array, blocks_read, with_list, fetches, number_in, refusals, shaped, prefix_self, prefix_trans}
+use Rattle.handle_pass.proofs.{Words.{◌≡◌, ℕ, ◌<◌, Bool, true, false, cond, List, [], ◌∷◌, ◌++◌, Option, Some, None, option_map, length, map, refl, sym, ap, ◌∙◌, subst, append_assoc, arith, ForSome, map-append, append-nil, Access, Span, Array, is_write, array_at, marked, block_at, Cause, Entry, Start, state_at, Session, accesses_of, Shows, AreNext, Moves, Own, count, own, seen, IsSession, Made, Rested, Failed, KeepsOwn, Visited, base_in, begin_array, blocks_read, with_list, fetches, number_in, refusals, shaped, prefix_self, prefix_trans}, Logs.{moves_made, moves_none, moves_on, moves_rested, next_made, next_on, next_rested}, Begun.{HasBegin, array_kept, has_begin, tells_at}, Shapes.{all_snoc, block_shaped, length_laid}}
 use Rattle.iso_shared.specs.declared.entry.Call.TheVariants as call
 use Rattle.iso_shared.specs.declared.entry.Cause.TheVariants as cause
 use Rattle.iso_shared.specs.declared.entry.Entry.TheVariants as entry
-use Rattle.handle_pass.proofs.Logs.{moves_made, moves_none, moves_on, moves_rested, next_made, next_on, next_rested}
-use Rattle.handle_pass.proofs.Begun.{HasBegin, array_kept, has_begin, tells_at}
-use Rattle.handle_pass.proofs.Shapes.{all_snoc, block_shaped, length_laid}
 
 -- the transaction, but for its accesses
 kept_twice : (x : Option Own) (k l : List Access) → option_map (with_list l) (option_map (with_list k) x) ≡ option_map (with_list l) x

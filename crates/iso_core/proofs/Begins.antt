@@ -1,8 +1,6 @@
 -- A core with one more live transaction.
-use Rattle.iso_core.proofs.Words.{◌≡◌, ◌∙◌, sym, refl, ap, ℕ, ◌+◌, ◌<◌, ◌≤◌, Bool, true, false, ◌&&◌, ◌==◌, not, List, [], ◌∷◌, ◌++◌, length, map, arith, le-leb, lt-leb, le-ltb, lt-ltb, map-append, AllByRecursion, Mode, LAST, MAX_LIVE, last, same_mode, after_begin, begin_step, World, Live, Place, client, label, unattached, floor, AreApart, IsWorld, MayHave, floor_above, floor_below, all_push, all_weaker, begins, floor_between, at_work, Begun, Kept, bare, IsOf, NotesSince}
+use Rattle.iso_core.proofs.{Words.{◌≡◌, ◌∙◌, sym, refl, ap, ℕ, ◌+◌, ◌<◌, ◌≤◌, Bool, true, false, ◌&&◌, ◌==◌, not, List, [], ◌∷◌, ◌++◌, length, map, arith, le-leb, lt-leb, le-ltb, lt-ltb, map-append, AllByRecursion, Mode, LAST, MAX_LIVE, last, same_mode, after_begin, begin_step, World, Live, Place, client, label, unattached, floor, AreApart, IsWorld, MayHave, floor_above, floor_below, all_push, all_weaker, begins, floor_between, at_work, Begun, Kept, bare, IsOf, NotesSince}, Standings.kept_live, Numbers.log_last}
 use Rattle.iso_model.specs.declared.core_reply.CoreReply.TheVariants as reply
-use Rattle.iso_core.proofs.Standings.{kept_live}
-use Rattle.iso_core.proofs.Numbers.{log_last}
 
 -- a place that is none is no other's
 apart : (place : Place) → AreApart place unattached

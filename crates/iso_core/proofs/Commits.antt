@@ -1,7 +1,5 @@
 -- A core with one more commit.
-use Rattle.iso_core.proofs.Words.{◌≡◌, ◌∙◌, sym, ap, ℕ, zero, suc, ◌+◌, ◌-◌, ◌<◌, ◌≤◌, ◌==◌, not, List, [], ◌∷◌, ◌++◌, length, map, arith, subst, nat_eq, slice_index_or, drop, length-drop, transport, drop-map, length_push, AllByRecursion, remove_entry, Extent, AreNotes, AreNotesAfter, Held, Note, above, added_after, dropped_after, Half, half_of_world, last_told, with_records, half_after, log_place, History, last, Commit, Geometry, IsRecord, Written, written, after_commit, commit_from, World, Live, floor, floor_of, without, IsWorld, all_filter, floor_above, floor_below, floor_between, IsIndexOf, BlockVersions, at_work, Begun, PartSpan, HasTaken, MayTake, index_more, may_take, Kept, IsGrownBy, written_of, bare, IsOf, LogExtent, extent_of}
-use Rattle.iso_core.proofs.Numbers.{last_is}
-use Rattle.iso_core.proofs.Transactions.{kept_floor, kept_without}
+use Rattle.iso_core.proofs.{Words.{◌≡◌, ◌∙◌, sym, ap, ℕ, zero, suc, ◌+◌, ◌-◌, ◌<◌, ◌≤◌, ◌==◌, not, List, [], ◌∷◌, ◌++◌, length, map, arith, subst, nat_eq, slice_index_or, drop, length-drop, transport, drop-map, length_push, AllByRecursion, remove_entry, Extent, AreNotes, AreNotesAfter, Held, Note, above, added_after, dropped_after, Half, half_of_world, last_told, with_records, half_after, log_place, History, last, Commit, Geometry, IsRecord, Written, written, after_commit, commit_from, World, Live, floor, floor_of, without, IsWorld, all_filter, floor_above, floor_below, floor_between, IsIndexOf, BlockVersions, at_work, Begun, PartSpan, HasTaken, MayTake, index_more, may_take, Kept, IsGrownBy, written_of, bare, IsOf, LogExtent, extent_of}, Numbers.last_is, Transactions.{kept_floor, kept_without}}
 
 all_dropped : {X : Type 0} (P : X → Type 0) (n : ℕ) (xs : List X) → AllByRecursion P xs → AllByRecursion P (drop n xs)
 all_dropped P zero xs all = all

@@ -1,10 +1,5 @@
 -- The steps of a commit: what is kept, and the disk, between two of them.
-use Rattle.iso_core.proofs.Words.{◌≡◌, ◌≢◌, ◌∙◌, sym, refl, ap, ℕ, ◌+◌, ◌-◌, ◌≤◌, Bool, true, List, [], ◌∷◌, ◌++◌, length, arith, subst, length_push, Extent, DiskState, IsLawful, IsSettled, LeavesOnly, at_end, Half, IsHeld, MayFollow, half_of_world, next_gate, with_records, extent_of, LAST, image_size, last, after_commit, after_leaving, need, commit_from, World, Live, unattached, used, IsWorld, commits, Doing, Kept, AreOf, IsGrownBy, IsPrepared, IsSpelled, MayCommit, written_of, IsOf, up, down, ShowsEither}
-use Rattle.iso_core.proofs.Commits.{next_half}
-use Rattle.iso_core.proofs.Leaves.{has_begun}
-use Rattle.iso_core.proofs.Moments.{record_needs}
-use Rattle.iso_core.proofs.Numbers.{log_room, log_used}
-use Rattle.iso_core.proofs.Standings.{kept_with, stands_on}
+use Rattle.iso_core.proofs.{Words.{◌≡◌, ◌≢◌, ◌∙◌, sym, refl, ap, ℕ, ◌+◌, ◌-◌, ◌≤◌, Bool, true, List, [], ◌∷◌, ◌++◌, length, arith, subst, length_push, Extent, DiskState, IsLawful, IsSettled, LeavesOnly, at_end, Half, IsHeld, MayFollow, half_of_world, next_gate, with_records, extent_of, LAST, image_size, last, after_commit, after_leaving, need, commit_from, World, Live, unattached, used, IsWorld, commits, Doing, Kept, AreOf, IsGrownBy, IsPrepared, IsSpelled, MayCommit, written_of, IsOf, up, down, ShowsEither}, Commits.next_half, Leaves.has_begun, Moments.record_needs, Numbers.{log_room, log_used}, Standings.{kept_with, stands_on}}
 
 -- other things that are kept change, and the core stands as before
 pub keeps_stand : (d : DiskState) (kept new : Kept) (W : World) → AreOf d kept W up → IsOf new W → new.half ≡ kept.half → new.down ≡ kept.down → AreOf d new W up

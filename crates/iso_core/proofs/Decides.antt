@@ -1,6 +1,5 @@
 -- What a decision is asked.
-use Rattle.iso_core.proofs.Words.{◌≡◌, ◌∙◌, sym, refl, ap, ℕ, suc, ◌+◌, ◌-◌, ◌<◌, ◌≤◌, List, [], ◌∷◌, length, drop, arith, subst, length-drop, true, transport, AreTouched, AreNotes, AreNotesAfter, Bytes, IsAsked, Note, above, Checked, dropped_after, Access, Commit, MAX_ACCESSES, Geometry, Read, Write, last, AreAccesses, World, Live, floor, limits, AreWithin, Doing, Kept, IsCheckedOf, IsTx, IsWorkOf, IsSettledOf, IsOf}
-use Rattle.iso_core.proofs.Leaves.{has_begun}
+use Rattle.iso_core.proofs.{Words.{◌≡◌, ◌∙◌, sym, refl, ap, ℕ, suc, ◌+◌, ◌-◌, ◌<◌, ◌≤◌, List, [], ◌∷◌, length, drop, arith, subst, length-drop, true, transport, AreTouched, AreNotes, AreNotesAfter, Bytes, IsAsked, Note, above, Checked, dropped_after, Access, Commit, MAX_ACCESSES, Geometry, Read, Write, last, AreAccesses, World, Live, floor, limits, AreWithin, Doing, Kept, IsCheckedOf, IsTx, IsWorkOf, IsSettledOf, IsOf}, Leaves.has_begun}
 
 notes_count : (g : Geometry) (k : ℕ) (notes : List Note) (commits : List Commit) → AreNotes g k notes commits → length notes ≡ length commits
 notes_count g k [] [] are = refl

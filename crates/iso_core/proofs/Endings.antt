@@ -1,7 +1,6 @@
 -- How an end goes, step by step.
-use Rattle.iso_core.proofs.Words.{◌≡◌, sym, refl, ap, true, false, Option, Some, None, ℕ, DiskState, Clash, clash, has_write, after_leaving, commit_step, end_step, World, Live, without, Doing, Kept, IsTx, AreOf, IsSettledOf, MayCommit, IsOf, CoreReply, subst, up}
+use Rattle.iso_core.proofs.{Words.{◌≡◌, sym, refl, ap, true, false, Option, Some, None, ℕ, DiskState, Clash, clash, has_write, after_leaving, commit_step, end_step, World, Live, without, Doing, Kept, IsTx, AreOf, IsSettledOf, MayCommit, IsOf, CoreReply, subst, up}, Standings.stands_on}
 use Rattle.iso_model.specs.declared.core_reply.CoreReply.TheVariants as reply
-use Rattle.iso_core.proofs.Standings.{stands_on}
 
 module _ (W : World) (t : Live) where
   pub ends_read_only : has_write t.accesses ≡ false → end_step W t ≡ (reply.ReadOnly, after_leaving W t)

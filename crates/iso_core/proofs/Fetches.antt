@@ -1,8 +1,5 @@
 -- A block that is read by the versions of a core is the block at the transaction's begin.
-use Rattle.iso_core.proofs.Words.{◌≡◌, ◌∙◌, ◌⊎◌, inl, inr, ap, ℕ, ◌+◌, ◌*◌, ◌<◌, ◌≤◌, List, length, arith, subst, AllByRecursion, IsHeld, half_of_world, world_bytes, Array, base_place, image_size, array_at, records, block_at, World, Live, used, Version, Lies, ShowTheSame, ShowTheSameIn, upto, versions_in, IsOver, IsOverIn, Option, get_or, take, drop, refl, unwrap_or, length-whole_block, range_is_over, whole_block, whole_is_over, array_of, fetched, last_of, newest, all_lie, Kept, IsTx, IsOf}
-use Rattle.iso_core.proofs.Commits.{held_records}
-use Rattle.iso_core.proofs.Leaves.{has_begun}
-use Rattle.iso_core.proofs.Numbers.{log_last}
+use Rattle.iso_core.proofs.{Words.{◌≡◌, ◌∙◌, ◌⊎◌, inl, inr, ap, ℕ, ◌+◌, ◌*◌, ◌<◌, ◌≤◌, List, length, arith, subst, AllByRecursion, IsHeld, half_of_world, world_bytes, Array, base_place, image_size, array_at, records, block_at, World, Live, used, Version, Lies, ShowTheSame, ShowTheSameIn, upto, versions_in, IsOver, IsOverIn, Option, get_or, take, drop, refl, unwrap_or, length-whole_block, range_is_over, whole_block, whole_is_over, array_of, fetched, last_of, newest, all_lie, Kept, IsTx, IsOf}, Commits.held_records, Leaves.has_begun, Numbers.log_last}
 
 module _ (kept : Kept) (W : World) (of : IsOf kept W) where
   -- the versions of a block lie in the image

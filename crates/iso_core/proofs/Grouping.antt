@@ -1,11 +1,5 @@
 -- A core that ends a group.
-use Rattle.iso_core.proofs.Words.{◌≡◌, ◌≢◌, ◌∙◌, ◌⊎◌, inl, inr, sym, refl, ap, ℕ, ◌+◌, ◌<◌, ◌≤◌, true, List, [], ◌∷◌, ◌++◌, length, map, arith, subst, AllByRecursion, length-append, length-map, length_push, DiskState, IsLawful, IsSettled, LeavesOnly, at_end, Half, IsHeld, half_of_world, next_gate, with_records, extent_of, Commit, Geometry, LAST, record_length, image_size, History, last, with_commits, IsRecord, Written, records, written, after_leaving, with_live, World, Live, used, IsWorld, length-records, sum_by-map, GroupReply, AreNotes, Note, GroupEnd, Kept, Staged, Plan, AreOf, AreNextRecords, ahead, decided, group, leave_all, IsOf, AreEach, AreStaged, HasPlanned, HasStaged, IsAhead, IsReady, IsGrownWith, IsPlannedFor, IsReserved, ShowsWith, up, down, ShowsEither, ShowsLast, group_is, nothing_ahead}
-use Rattle.iso_core.proofs.Judging.{last_ahead, settled_ahead, staged_count, used_ahead}
-use Rattle.iso_core.proofs.Moments.{shows_world}
-use Rattle.iso_core.proofs.Nexts.{may_follow}
-use Rattle.iso_core.proofs.Numbers.{log_room, log_used}
-use Rattle.iso_core.proofs.Staging.{half_ahead}
-use Rattle.iso_core.proofs.Standings.{stands_on}
+use Rattle.iso_core.proofs.{Words.{◌≡◌, ◌≢◌, ◌∙◌, ◌⊎◌, inl, inr, sym, refl, ap, ℕ, ◌+◌, ◌<◌, ◌≤◌, true, List, [], ◌∷◌, ◌++◌, length, map, arith, subst, AllByRecursion, length-append, length-map, length_push, DiskState, IsLawful, IsSettled, LeavesOnly, at_end, Half, IsHeld, half_of_world, next_gate, with_records, extent_of, Commit, Geometry, LAST, record_length, image_size, History, last, with_commits, IsRecord, Written, records, written, after_leaving, with_live, World, Live, used, IsWorld, length-records, sum_by-map, GroupReply, AreNotes, Note, GroupEnd, Kept, Staged, Plan, AreOf, AreNextRecords, ahead, decided, group, leave_all, IsOf, AreEach, AreStaged, HasPlanned, HasStaged, IsAhead, IsReady, IsGrownWith, IsPlannedFor, IsReserved, ShowsWith, up, down, ShowsEither, ShowsLast, group_is, nothing_ahead}, Judging.{last_ahead, settled_ahead, staged_count, used_ahead}, Moments.shows_world, Nexts.may_follow, Numbers.{log_room, log_used}, Staging.half_ahead, Standings.stands_on}
 
 -- a world that some have left differs in what is live alone
 pub leave_all_is : (members : List Live) (W : World) → leave_all members W ≡ with_live W (leave_all members W).live

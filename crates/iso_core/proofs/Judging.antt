@@ -1,12 +1,7 @@
 -- A member of a group, after those before it.
-use Rattle.iso_core.proofs.Words.{◌≡◌, ◌≢◌, ◌∙◌, sym, refl, ap, ℕ, suc, ◌+◌, ◌-◌, ◌<◌, ◌≤◌, Bool, true, false, cond, List, [], ◌∷◌, ◌++◌, length, map, take, drop, arith, subst, None, Option, sum_by, append-nil, transport, AllByRecursion, append_assoc, length-append, take-append-le, take_all, drop-append-le, drop_all, drop-take, map-append, length-map, sum_by-append, sum_by-cons, AreTouched, AreNotes, AreNotesAfter, Bytes, IsAsked, up_to, Note, above, notes_appended, notes_rise, all_above, LieInAnImage, records-append, Access, Clash, Commit, Geometry, Read, Write, Mode, Run, LAST, CoreReply, clash, clash_from, first_after, has_write, record_length, runs, History, last, Written, kind_of, records, spell, written, AreAccesses, commit_step, end_step, need, commit_from, World, Live, logged_commits, used, IsWorld, limits, are_runs, length-records, sum_by-map, commit_is_record, runs_where_write, Doing, PartSpan, GroupReply, GroupEnd, Kept, Plan, Staged, IsCheckedOf, IsTx, AreNextRecords, IsSettledOf, MayCommit, written_of, ahead, decided, made_by, member_reply, with_first, IsOf, AreEach, AreStaged, HasPlanned, IfCommits, IsAhead, IsNextStaged, IsReady, all_parts, is_commit, parts_of, stays_ahead}
+use Rattle.iso_core.proofs.{Words.{◌≡◌, ◌≢◌, ◌∙◌, sym, refl, ap, ℕ, suc, ◌+◌, ◌-◌, ◌<◌, ◌≤◌, Bool, true, false, cond, List, [], ◌∷◌, ◌++◌, length, map, take, drop, arith, subst, None, Option, sum_by, append-nil, transport, AllByRecursion, append_assoc, length-append, take-append-le, take_all, drop-append-le, drop_all, drop-take, map-append, length-map, sum_by-append, sum_by-cons, AreTouched, AreNotes, AreNotesAfter, Bytes, IsAsked, up_to, Note, above, notes_appended, notes_rise, all_above, LieInAnImage, records-append, Access, Clash, Commit, Geometry, Read, Write, Mode, Run, LAST, CoreReply, clash, clash_from, first_after, has_write, record_length, runs, History, last, Written, kind_of, records, spell, written, AreAccesses, commit_step, end_step, need, commit_from, World, Live, logged_commits, used, IsWorld, limits, are_runs, length-records, sum_by-map, commit_is_record, runs_where_write, Doing, PartSpan, GroupReply, GroupEnd, Kept, Plan, Staged, IsCheckedOf, IsTx, AreNextRecords, IsSettledOf, MayCommit, written_of, ahead, decided, made_by, member_reply, with_first, IsOf, AreEach, AreStaged, HasPlanned, IfCommits, IsAhead, IsNextStaged, IsReady, all_parts, is_commit, parts_of, stays_ahead}, Decides.asked, Endings.ends_by, Leaves.has_begun, Moments.{is_committed, is_full, is_worn}, Numbers.{log_last, log_used, log_room}}
 use Rattle.iso_model.specs.declared.core_reply.CoreReply.TheVariants as reply
 use Rattle.iso_model.specs.declared.access.GroupReply.TheVariants as member
-use Rattle.iso_core.proofs.Decides.{asked}
-use Rattle.iso_core.proofs.Endings.{ends_by}
-use Rattle.iso_core.proofs.Leaves.{has_begun}
-use Rattle.iso_core.proofs.Moments.{is_committed, is_full, is_worn}
-use Rattle.iso_core.proofs.Numbers.{log_last, log_used, log_room}
 
 -- nothing was checked of a member
 no_more : (test : Bool) (found : Option Clash) → None ≡ found → None ≡ cond test found None

@@ -1,7 +1,5 @@
 -- A core without one of its transactions, and what its transactions began with.
-use Rattle.iso_core.proofs.Words.{◌≡◌, ◌∙◌, sym, refl, ap, ℕ, ◌<◌, ◌≤◌, ◌==◌, not, List, map, Some, IsSome, arith, nat_eq, AllByRecursion, lookup, remove_entry, last, after_leaving, World, Live, floor, without, IsLive, IsWorld, MayHave, all_filter, floor_above, floor_below, all_weaker, floor_between, leaves, at_work, begin_of, Begun, Kept, IsTx, bare, IsOf, NotesSince}
-use Rattle.iso_core.proofs.Standings.{kept_live}
-use Rattle.iso_core.proofs.Transactions.{among, kept_tx, kept_without}
+use Rattle.iso_core.proofs.{Words.{◌≡◌, ◌∙◌, sym, refl, ap, ℕ, ◌<◌, ◌≤◌, ◌==◌, not, List, map, Some, IsSome, arith, nat_eq, AllByRecursion, lookup, remove_entry, last, after_leaving, World, Live, floor, without, IsLive, IsWorld, MayHave, all_filter, floor_above, floor_below, all_weaker, floor_between, leaves, at_work, begin_of, Begun, Kept, IsTx, bare, IsOf, NotesSince}, Standings.kept_live, Transactions.{among, kept_tx, kept_without}}
 
 -- what a live transaction began with
 pub record HasBegun (W : World) (t : Live) : Type 0 where

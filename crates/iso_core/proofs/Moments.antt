@@ -1,7 +1,6 @@
 -- What the images of a core show before a commit, in the middle of it and after it.
-use Rattle.iso_core.proofs.Words.{◌≡◌, ◌≢◌, ◌⊎◌, inl, inr, sym, refl, ap, ℕ, ◌+◌, ◌-◌, ◌<◌, ◌≤◌, List, [], ◌∷◌, length, arith, subst, None, eq-eqb, ne_eqb, le-ltb, lt-ltb, DiskState, IsLawful, LeavesOnly, started, Half, IsHeld, half_of_world, with_records, half_shows, LAST, last, after_commit, commit_step, need, World, Live, used, IsWorld, length-records, Kept, AreOf, AreNextRecords, written_of, up, ShowsEither, ShowsLast}
+use Rattle.iso_core.proofs.{Words.{◌≡◌, ◌≢◌, ◌⊎◌, inl, inr, sym, refl, ap, ℕ, ◌+◌, ◌-◌, ◌<◌, ◌≤◌, List, [], ◌∷◌, length, arith, subst, None, eq-eqb, ne_eqb, le-ltb, lt-ltb, DiskState, IsLawful, LeavesOnly, started, Half, IsHeld, half_of_world, with_records, half_shows, LAST, last, after_commit, commit_step, need, World, Live, used, IsWorld, length-records, Kept, AreOf, AreNextRecords, written_of, up, ShowsEither, ShowsLast}, Commits.next_half}
 use Rattle.iso_model.specs.declared.core_reply.CoreReply.TheVariants as reply
-use Rattle.iso_core.proofs.Commits.{next_half}
 
 -- an image that holds the half of a world shows its history
 pub shows_world : (W : World) (at : ℕ) → IsWorld W → (c : List ℕ) → IsHeld W.geometry (half_of_world W at) c → ShowsLast W c

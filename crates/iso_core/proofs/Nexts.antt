@@ -1,7 +1,6 @@
 -- Records that follow the last one of a core.
-use Rattle.iso_core.proofs.Words.{◌≡◌, ◌∙◌, sym, ap, ℕ, ◌+◌, ◌≤◌, List, [], ◌∷◌, ◌++◌, length, arith, subst, Half, MayFollow, half_of_world, last_told, told_bytes, with_records, world_bytes, records-append, IsNext, LAST, last, Written, records, World, used, IsWorld, Kept, AreNextRecords, IsOf}
+use Rattle.iso_core.proofs.{Words.{◌≡◌, ◌∙◌, sym, ap, ℕ, ◌+◌, ◌≤◌, List, [], ◌∷◌, ◌++◌, length, arith, subst, Half, MayFollow, half_of_world, last_told, told_bytes, with_records, world_bytes, records-append, IsNext, LAST, last, Written, records, World, used, IsWorld, Kept, AreNextRecords, IsOf}, Numbers.{last_is, log_last}}
 use Rattle.std.proofs.Common.{length-append}
-use Rattle.iso_core.proofs.Numbers.{last_is, log_last}
 
 -- records that follow what is kept, with a closed gate behind them
 pub next_all : (kept : Kept) (W : World) (more : List Written) (all : List ℕ) → IsOf kept W → AreNextRecords W more all → (bytes : List ℕ) → bytes ≡ all ++ 0 ∷ [] → IsNext kept.log W.geometry more bytes

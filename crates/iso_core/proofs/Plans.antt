@@ -1,8 +1,6 @@
 -- The plan of a switch is that of the world.
-use Rattle.iso_core.proofs.Words.{◌≡◌, ◌≢◌, ◌∙◌, ◌⊎◌, inl, inr, sym, refl, ap, ℕ, ◌+◌, ◌-◌, ◌<◌, ◌≤◌, List, IsTrue, arith, subst, eq-eqb, ne_eqb, transport, FillPlan, Copies, place_of, refilled, refilled_history, HalfPlace, Half, IsHeld, half_of_world, history_of, in_form, half_form, half_shows, world_bytes, Geometry, LAST, CoreReply, is_valid, after_switch, switch_step, World, floor, IsWorld, limits, floor_between, switch_leads, Kept, IsOf, ShowsLast, HasFormOr, IsForm}
+use Rattle.iso_core.proofs.{Words.{◌≡◌, ◌≢◌, ◌∙◌, ◌⊎◌, inl, inr, sym, refl, ap, ℕ, ◌+◌, ◌-◌, ◌<◌, ◌≤◌, List, IsTrue, arith, subst, eq-eqb, ne_eqb, transport, FillPlan, Copies, place_of, refilled, refilled_history, HalfPlace, Half, IsHeld, half_of_world, history_of, in_form, half_form, half_shows, world_bytes, Geometry, LAST, CoreReply, is_valid, after_switch, switch_step, World, floor, IsWorld, limits, floor_between, switch_leads, Kept, IsOf, ShowsLast, HasFormOr, IsForm}, Moments.shows_world, Numbers.{last_is, log_used}}
 use Rattle.iso_model.specs.declared.core_reply.CoreReply.TheVariants as reply
-use Rattle.iso_core.proofs.Moments.{shows_world}
-use Rattle.iso_core.proofs.Numbers.{last_is, log_used}
 
 -- how a switch goes
 module _ (W : World) (form : ℕ) (answer : CoreReply) where

@@ -1,9 +1,5 @@
 -- A commit before the first call of the disk.
-use Rattle.iso_core.proofs.Words.{◌≡◌, ◌∙◌, sym, ap, ℕ, ◌+◌, ◌^◌, ◌<◌, ◌≤◌, List, [], ◌∷◌, ◌++◌, length, map, arith, subst, append-nil, AllByRecursion, AreNotesAfter, Held, Note, LieInAnImage, MayFollow, half_of_world, Mode, Run, LAST, runs, last, kind_of, spell, World, Live, limits, are_runs, commit_is_record, runs_where_write, BlockVersions, versions_in, Doing, PartSpan, BlocksRise, part_of, parts_below, parts_few, parts_rise, Kept, AreNextRecords, IsSpelled, MayCommit, written_of, commit_from, IsOf}
-use Rattle.iso_core.proofs.Leaves.{has_begun}
-use Rattle.iso_core.proofs.Nexts.{may_follow}
-use Rattle.iso_core.proofs.Numbers.{log_last, log_used, log_room}
-use Rattle.iso_core.proofs.Standings.{kept_with}
+use Rattle.iso_core.proofs.{Words.{◌≡◌, ◌∙◌, sym, ap, ℕ, ◌+◌, ◌^◌, ◌<◌, ◌≤◌, List, [], ◌∷◌, ◌++◌, length, map, arith, subst, append-nil, AllByRecursion, AreNotesAfter, Held, Note, LieInAnImage, MayFollow, half_of_world, Mode, Run, LAST, runs, last, kind_of, spell, World, Live, limits, are_runs, commit_is_record, runs_where_write, BlockVersions, versions_in, Doing, PartSpan, BlocksRise, part_of, parts_below, parts_few, parts_rise, Kept, AreNextRecords, IsSpelled, MayCommit, written_of, commit_from, IsOf}, Leaves.has_begun, Nexts.may_follow, Numbers.{log_last, log_used, log_room}, Standings.kept_with}
 
 -- what is kept besides the index and the notes, which show the same
 pub keeps_on : (kept : Kept) (W : World) (index : List BlockVersions) (notes : Held) → IsOf kept W → length index ≡ length kept.index

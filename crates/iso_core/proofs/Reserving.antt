@@ -1,7 +1,6 @@
 -- Memory for the commits of a plan.
-use Rattle.iso_core.proofs.Words.{◌≡◌, ◌∙◌, inl, inr, nat_lt, sym, refl, ap, ℕ, ◌+◌, ◌^◌, ◌<◌, ◌≤◌, ◌==◌, cond, List, [], ◌∷◌, length, sum_by, arith, AllByRecursion, cases_lt, le-ltb, lt-ltb, length-append, length-map, sum_by-IsPermutation, sum_by-cons, Commit, Geometry, Run, record_length, runs, written, limits, are_runs, World, used, IsWorld, BlockVersions, PartSpan, HasRoom, part_of, parts_in, parts_below, Plan, ahead, IsAhead, all_parts, parts_of, all_append}
+use Rattle.iso_core.proofs.{Words.{◌≡◌, ◌∙◌, inl, inr, nat_lt, sym, refl, ap, ℕ, ◌+◌, ◌^◌, ◌<◌, ◌≤◌, ◌==◌, cond, List, [], ◌∷◌, length, sum_by, arith, AllByRecursion, cases_lt, le-ltb, lt-ltb, length-append, length-map, sum_by-IsPermutation, sum_by-cons, Commit, Geometry, Run, record_length, runs, written, limits, are_runs, World, used, IsWorld, BlockVersions, PartSpan, HasRoom, part_of, parts_in, parts_below, Plan, ahead, IsAhead, all_parts, parts_of, all_append}, Judging.used_ahead}
 use Rattle.std.specs.List.Sorted.{IsPermutation}
-use Rattle.iso_core.proofs.Judging.{used_ahead}
 
 -- room for the sorted parts is room for the parts in order
 pub room_sorted : (xs ys : List PartSpan) (index : List BlockVersions) → IsPermutation xs ys → HasRoom ys index → HasRoom xs index

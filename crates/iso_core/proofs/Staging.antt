@@ -1,11 +1,6 @@
 -- The commits of a plan are taken in, and their transactions leave.
-use Rattle.iso_core.proofs.Words.{Bool, true, false, IsSome, nat_eq, remove_entry, begin_of, Begun, leave_all, ◌≡◌, ◌≢◌, ◌∙◌, inl, inr, sym, refl, ap, ℕ, ◌+◌, ◌-◌, ◌<◌, ◌≤◌, ◌==◌, cond, List, [], ◌∷◌, ◌++◌, length, map, take, drop, arith, subst, eq-eqb, ne_eqb, Result, OnOk, transport, AllByRecursion, cases_eq, append_assoc, length-append, length_push, take-append-le, take_all, drop-append-le, drop_all, map-append, length-map, sum_by-append, AreNotes, AreNotesAfter, Held, Note, RisesFrom, above, dropped_after, notes_rise, HasLog, Half, MayFollow, half_of_world, last_told, next_gate, told_bytes, with_records, Commit, Geometry, first_after, record_length, log_place, all_own, array_at, last, IsRecord, Written, written, after_leaving, World, Live, floor, without, IsWorld, floor_above, floor_below, length-records, floor_between, IsIndexOf, BlockVersions, PartSpan, HasRoom, HasTaken, MayTake, parts_in, index_more, may_take, GroupEnd, Kept, Plan, Staged, IsAmong, ahead, IsOf, IsMember, AreEach, IsGrownWith, IsReady, MayTakeAll, all_parts, parts_of, HasTold, DiskState, held_log, AreOf, up, LogExtent, extent_of, on_ok_weaker}
+use Rattle.iso_core.proofs.{Words.{Bool, true, false, IsSome, nat_eq, remove_entry, begin_of, Begun, leave_all, ◌≡◌, ◌≢◌, ◌∙◌, inl, inr, sym, refl, ap, ℕ, ◌+◌, ◌-◌, ◌<◌, ◌≤◌, ◌==◌, cond, List, [], ◌∷◌, ◌++◌, length, map, take, drop, arith, subst, eq-eqb, ne_eqb, Result, OnOk, transport, AllByRecursion, cases_eq, append_assoc, length-append, length_push, take-append-le, take_all, drop-append-le, drop_all, map-append, length-map, sum_by-append, AreNotes, AreNotesAfter, Held, Note, RisesFrom, above, dropped_after, notes_rise, HasLog, Half, MayFollow, half_of_world, last_told, next_gate, told_bytes, with_records, Commit, Geometry, first_after, record_length, log_place, all_own, array_at, last, IsRecord, Written, written, after_leaving, World, Live, floor, without, IsWorld, floor_above, floor_below, length-records, floor_between, IsIndexOf, BlockVersions, PartSpan, HasRoom, HasTaken, MayTake, parts_in, index_more, may_take, GroupEnd, Kept, Plan, Staged, IsAmong, ahead, IsOf, IsMember, AreEach, IsGrownWith, IsReady, MayTakeAll, all_parts, parts_of, HasTold, DiskState, held_log, AreOf, up, LogExtent, extent_of, on_ok_weaker}, Commits.held_records, Leaves.{is_live, leaves_so}, Judging.staged_count, Numbers.last_is, Standings.kept_with}
 use Rattle.std.proofs.lemmas.List.{length-drop}
-use Rattle.iso_core.proofs.Commits.{held_records}
-use Rattle.iso_core.proofs.Leaves.{is_live, leaves_so}
-use Rattle.iso_core.proofs.Judging.{staged_count}
-use Rattle.iso_core.proofs.Numbers.{last_is}
-use Rattle.iso_core.proofs.Standings.{kept_with}
 
 -- parts of both lists
 pub parts_both : (b : ℕ) (xs ys : List PartSpan) → parts_in b (xs ++ ys) ≡ parts_in b xs + parts_in b ys

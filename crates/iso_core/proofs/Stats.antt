@@ -1,6 +1,5 @@
 -- The numbers that a core shows are those of its world.
-use Rattle.iso_core.proofs.Words.{◌≡◌, ◌+◌, length, refl, log_place, is_written, kept_from, versions, World, logged_commits, count_of, count_is, Kept, IsOf}
-use Rattle.iso_core.proofs.Transactions.{kept_count}
+use Rattle.iso_core.proofs.{Words.{◌≡◌, ◌+◌, length, refl, log_place, is_written, kept_from, versions, World, logged_commits, count_of, count_is, Kept, IsOf}, Transactions.kept_count}
 
 module _ (kept : Kept) (W : World) (of : IsOf kept W) where
   pub live_is : length kept.live ≡ length W.live

@@ -1,9 +1,6 @@
 -- What is kept once the other half is the current one.
-use Rattle.iso_core.proofs.Words.{◌≡◌, ◌∙◌, sym, ap, ℕ, ◌+◌, ◌-◌, ◌*◌, ◌^◌, ◌<◌, ◌≤◌, List, length, drop, take, arith, subst, length-take-le, transport, take-append-drop, Half, half_of, half_of_world, in_form, told_bytes, log_inside, half_form, later_records, records_form, world_bytes, records-append, extent_of, image_size, log_place, last, Written, records, after_switch, World, floor, used, IsWorld, limits, floor_between, AreSplit, moved_to, IsIndexOf, all_at, AllLie, Lies, BlockVersions, no_version, versions_in, bytes_above, records_above, index_moved, index_split, Kept, IsOf}
+use Rattle.iso_core.proofs.{Words.{◌≡◌, ◌∙◌, sym, ap, ℕ, ◌+◌, ◌-◌, ◌*◌, ◌^◌, ◌<◌, ◌≤◌, List, length, drop, take, arith, subst, length-take-le, transport, take-append-drop, Half, half_of, half_of_world, in_form, told_bytes, log_inside, half_form, later_records, records_form, world_bytes, records-append, extent_of, image_size, log_place, last, Written, records, after_switch, World, floor, used, IsWorld, limits, floor_between, AreSplit, moved_to, IsIndexOf, all_at, AllLie, Lies, BlockVersions, no_version, versions_in, bytes_above, records_above, index_moved, index_split, Kept, IsOf}, Commits.held_records, Fetches.versions_lie, Numbers.{last_is, log_last, log_room}}
 use Rattle.std.proofs.Common.{length-append}
-use Rattle.iso_core.proofs.Commits.{held_records}
-use Rattle.iso_core.proofs.Fetches.{versions_lie}
-use Rattle.iso_core.proofs.Numbers.{last_is, log_last, log_room}
 
 module _ (kept : Kept) (W : World) (of : IsOf kept W) where
   -- the half, its records, and how many of them the floor leaves out

@@ -1,7 +1,5 @@
 -- A core whose versions are trimmed to the floor.
-use Rattle.iso_core.proofs.Words.{◌≡◌, ◌∙◌, ℕ, ◌+◌, List, length, map, half_of_world, log_place, last, after_trim, World, floor, floor_of, floor_between, trim_leads, BlockVersions, shown_since, versions_in, shown_again, versions_of, at_work, Kept, IsOf}
-use Rattle.iso_core.proofs.Numbers.{log_last}
-use Rattle.iso_core.proofs.Transactions.{kept_floor}
+use Rattle.iso_core.proofs.{Words.{◌≡◌, ◌∙◌, ℕ, ◌+◌, List, length, map, half_of_world, log_place, last, after_trim, World, floor, floor_of, floor_between, trim_leads, BlockVersions, shown_since, versions_in, shown_again, versions_of, at_work, Kept, IsOf}, Numbers.log_last, Transactions.kept_floor}
 
 module _ (kept : Kept) (W : World) (of : IsOf kept W) where
   -- the floor of what is kept is that of the world

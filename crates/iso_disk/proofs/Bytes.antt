@@ -1,6 +1,5 @@
 -- What a write does to the bytes in its range, and what a torn one leaves outside it.
-use Rattle.std.proofs.Common.{◌≡◌, ◌⊎◌, ◌<◌, ◌≤◌, ◌+◌, ◌-◌, ℕ, List, ◌++◌, inl, inr, length, take, drop, get_or, refl, sym, ◌∙◌, ap, arith, length-append, length-drop, append_assoc, take-append-drop}
-use Rattle.std.proofs.lemmas.List.{take-append-le, take_at, take-take, drop-drop, drop_at, get_or-take, get_or-drop, length-take-le, drop-take}
+use Rattle.std.proofs.{Common.{◌≡◌, ◌⊎◌, ◌<◌, ◌≤◌, ◌+◌, ◌-◌, ℕ, List, ◌++◌, inl, inr, length, take, drop, get_or, refl, sym, ◌∙◌, ap, arith, length-append, length-drop, append_assoc, take-append-drop}, lemmas.List.{take-append-le, take_at, take-take, drop-drop, drop_at, get_or-take, get_or-drop, length-take-le, drop-take}}
 use Rattle.iso_disk.specs.Disk.{spliced, Torn}
 
 module _ (old : List ℕ) (at : ℕ) (bytes : List ℕ) (fits : at + length bytes ≤ length old) where

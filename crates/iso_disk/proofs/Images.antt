@@ -1,8 +1,6 @@
 -- What a crash may leave after a write and after a sync.
-use Rattle.std.proofs.Common.{◌≡◌, ◌≤◌, ◌+◌, ℕ, List, length, Option, Some, None, refl, ◌∙◌, ap, arith}
-use Rattle.std.specs.Option.{option_map}
-use Rattle.iso_disk.specs.Disk.{DiskState, IsLawful, spliced, TornFrom, Splices, TellsTorn, IsSettled}
-use Rattle.iso_disk.proofs.Bytes.{spliced_torn, torn_same, torn_wider, torn_twice}
+use Rattle.std.{proofs.Common.{◌≡◌, ◌≤◌, ◌+◌, ℕ, List, length, Option, Some, None, refl, ◌∙◌, ap, arith}, specs.Option.option_map}
+use Rattle.iso_disk.{specs.Disk.{DiskState, IsLawful, spliced, TornFrom, Splices, TellsTorn, IsSettled}, proofs.Bytes.{spliced_torn, torn_same, torn_wider, torn_twice}}
 
 -- an image of before counts among the torn outcomes of a write
 pub torn_from_old : {images : List ℕ → Type 0} (at n : ℕ) (c : List ℕ) → images c → TornFrom at n images c

@@ -1,6 +1,5 @@
 -- How what a crash may leave goes on over a run of calls.
-use Rattle.std.proofs.Common.{◌≡◌, ◌≤◌, inl, inr, ⊎_elim, ℕ, List, Some, refl, sym, ◌∙◌, ap, subst, arith}
-use Rattle.std.proofs.lemmas.Option.{same_Some}
+use Rattle.std.proofs.{Common.{◌≡◌, ◌≤◌, inl, inr, ⊎_elim, ℕ, List, Some, refl, sym, ◌∙◌, ap, subst, arith}, lemmas.Option.same_Some}
 use Rattle.iso_disk.specs.Disk.{DiskState, IsLawful, IsSettled, Elapses, LeavesOnly, WritesNothing, SinceBind, IsBoundTo}
 
 -- before the first call, where each image of this moment has P

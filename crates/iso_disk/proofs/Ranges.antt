@@ -1,8 +1,6 @@
 -- A run of calls that writes in one range alone: each image is one from before the run, with any bytes in that range.
 use Rattle.std.proofs.Common.{◌≤◌, ◌+◌, ℕ}
-use Rattle.iso_disk.specs.Disk.{DiskState, IsLawful, TornFrom, Elapses, LeavesOnly}
-use Rattle.iso_disk.proofs.Images.{torn_from_old, torn_from_wider, torn_from_twice}
-use Rattle.iso_disk.proofs.Moments.{started, goes_on, joined, weakened, at_end}
+use Rattle.iso_disk.{specs.Disk.{DiskState, IsLawful, TornFrom, Elapses, LeavesOnly}, proofs.Images.{torn_from_old, torn_from_wider, torn_from_twice}, proofs.Moments.{started, goes_on, joined, weakened, at_end}}
 
 -- before the first call
 pub starts_inside : {d : DiskState} → IsLawful d → (from len : ℕ) → LeavesOnly d d (TornFrom from len d.now)

@@ -1,6 +1,5 @@
 -- When a disk goes on telling its bytes.
-use Rattle.std.proofs.Common.{◌≡◌, ℕ, List, Option, Some, None, IsSome, sym, subst}
-use Rattle.std.specs.Option.{option_map}
+use Rattle.std.{proofs.Common.{◌≡◌, ℕ, List, Option, Some, None, IsSome, sym, subst}, specs.Option.option_map}
 use Rattle.iso_disk.specs.Disk.{DiskState, Splices, StaysTold, spliced}
 
 -- after a call that leaves the contents

@@ -1,7 +1,5 @@
 -- A buffer of records, as parts are pushed and the record is finished.
-use Rattle.iso_format.proofs.Words.{◌≡◌, ℕ, ◌+◌, ◌-◌, ◌<◌, ◌≤◌, List, [], ◌∷◌, ◌++◌, length, take, drop, replicate, flat_map, sym, ap, subst, ◌∙◌, arith, append-nil, append_assoc, take-append-le, drop-append-le, length-append, length-take, length-drop, get_or_append_left, take_at, flat_map-append, AllByRecursion, all_push, Run, part, body_length, spell, IsSmall, runs_of, HoldsParts, parts_behind, spelled, head}
-use Rattle.iso_format.proofs.PartLaws.{length-runs_of, small_again}
-use Rattle.iso_format.proofs.Parts.{count_bound, length-flat_map-part}
+use Rattle.iso_format.proofs.{Words.{◌≡◌, ℕ, ◌+◌, ◌-◌, ◌<◌, ◌≤◌, List, [], ◌∷◌, ◌++◌, length, take, drop, replicate, flat_map, sym, ap, subst, ◌∙◌, arith, append-nil, append_assoc, take-append-le, drop-append-le, length-append, length-take, length-drop, get_or_append_left, take_at, flat_map-append, AllByRecursion, all_push, Run, part, body_length, spell, IsSmall, runs_of, HoldsParts, parts_behind, spelled, head}, PartLaws.{length-runs_of, small_again}, Parts.{count_bound, length-flat_map-part}}
 
 -- how many bytes the parts have
 pub parts_length : (start count : ℕ) (bytes : List ℕ) → HoldsParts start count bytes → body_length (parts_behind start count bytes) ≡ length bytes - start - 20

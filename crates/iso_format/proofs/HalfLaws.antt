@@ -1,6 +1,5 @@
 -- The header of a half is read exactly as it is written.
-use Rattle.iso_format.proofs.Words.{◌≡◌, ℕ, ◌+◌, ◌^◌, ◌<◌, ◌==◌, ◌&&◌, Bool, true, false, not, cond, List, [], ◌∷◌, ◌++◌, Option, Some, None, length, get_or, take, drop, replicate, IsTrue, refl, ◌∙◌, sym, ap, arith, and_parts, position_from-zero, list_all, position, position_from, is_some, take_all, from_be_bytes-to_be_bytes_8, w64, to_be_bytes, half_header, number_at, are_zero, half_of, AreBytes}
-use Rattle.iso_format.proofs.Pieces.{grow, spelled_64, one_at, zeros_at}
+use Rattle.iso_format.proofs.{Words.{◌≡◌, ℕ, ◌+◌, ◌^◌, ◌<◌, ◌==◌, ◌&&◌, Bool, true, false, not, cond, List, [], ◌∷◌, ◌++◌, Option, Some, None, length, get_or, take, drop, replicate, IsTrue, refl, ◌∙◌, sym, ap, arith, and_parts, position_from-zero, list_all, position, position_from, is_some, take_all, from_be_bytes-to_be_bytes_8, w64, to_be_bytes, half_header, number_at, are_zero, half_of, AreBytes}, Pieces.{grow, spelled_64, one_at, zeros_at}}
 
 pub half_again : (gate form generation base : ℕ) → generation < 2 ^ 64 → base < 2 ^ 64 →
     half_of (half_header gate form generation base) ≡ record { gate = gate; form = form; generation = generation; base = base; clean = true }

@@ -1,7 +1,5 @@
 -- The parts of a record are read exactly as they are written.
-use Rattle.iso_format.proofs.Words.{◌≡◌, ℕ, zero, suc, ◌+◌, ◌-◌, ◌*◌, ◌<◌, ◌≤◌, Bool, true, false, ◌&&◌, ◌||◌, ◌==◌, nat_lt, nat_le, cond, not, inl, inr, List, [], ◌∷◌, ◌++◌, Option, Some, None, length, take, drop, IsTrue, flat_map, refl, sym, ap, ◌∙◌, arith, leb-true, le-leb, ltb-true, ltb-false, lt-ltb, le-ltb, eqb-true, eq-eqb, not-false, or_cases, and_parts, and_from, or_right, take_at, drop_at, take-append-drop, length-append, length-take, length-drop, flat_map-cons, sum_by-cons, from_be_bytes-to_be_bytes_2, from_be_bytes-to_be_bytes_4, w16, w32, to_be_bytes, AllByRecursion, Geometry, Run, or_else, IsRun, AreRuns, ComesAfter, part, body_length, FormatError, Order, Range, Length, number_at, IsSmall, run_of, runs_of, part_size, part_end, HasParts, follows, lies_in, part_fault, parts_fault, bytes_drop, AreBytes}
-use Rattle.iso_format.proofs.Parts.{IsBounded}
-use Rattle.iso_format.proofs.Pieces.{grow, spelled_16, spelled_32}
+use Rattle.iso_format.proofs.{Words.{◌≡◌, ℕ, zero, suc, ◌+◌, ◌-◌, ◌*◌, ◌<◌, ◌≤◌, Bool, true, false, ◌&&◌, ◌||◌, ◌==◌, nat_lt, nat_le, cond, not, inl, inr, List, [], ◌∷◌, ◌++◌, Option, Some, None, length, take, drop, IsTrue, flat_map, refl, sym, ap, ◌∙◌, arith, leb-true, le-leb, ltb-true, ltb-false, lt-ltb, le-ltb, eqb-true, eq-eqb, not-false, or_cases, and_parts, and_from, or_right, take_at, drop_at, take-append-drop, length-append, length-take, length-drop, flat_map-cons, sum_by-cons, from_be_bytes-to_be_bytes_2, from_be_bytes-to_be_bytes_4, w16, w32, to_be_bytes, AllByRecursion, Geometry, Run, or_else, IsRun, AreRuns, ComesAfter, part, body_length, FormatError, Order, Range, Length, number_at, IsSmall, run_of, runs_of, part_size, part_end, HasParts, follows, lies_in, part_fault, parts_fault, bytes_drop, AreBytes}, Parts.IsBounded, Pieces.{grow, spelled_16, spelled_32}}
 
 -- none of two tests failed
 pub neither : {A : Type 0} (x y : Option A) → or_else x y ≡ None → (x ≡ None) × (y ≡ None)

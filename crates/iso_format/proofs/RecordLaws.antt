@@ -1,8 +1,5 @@
 -- A record is read exactly as it is written.
-use Rattle.iso_format.proofs.Words.{◌≡◌, ◌≢◌, ℕ, suc, ◌+◌, ◌*◌, ◌^◌, ◌<◌, ◌≤◌, Bool, true, false, ◌&&◌, ◌||◌, ◌==◌, nat_lt, nat_le, cond, not, List, [], ◌∷◌, ◌++◌, Option, Some, None, Result, Ok, Err, IfOk, IfErr, length, get_or, take, drop, IsTrue, flat_map, refl, sym, ap, subst, ◌∙◌, arith, drop-cons, leb-true, le-leb, ltb-false, le-ltb, eqb-true, eqb-false, eq-eqb, ne_eqb, not-false, and_from, take_at, take-append-drop, length-append, length-take, length-drop, from_be_bytes-to_be_bytes_4, from_be_bytes-to_be_bytes_8, w32, w64, to_be_bytes, Geometry, Run, LAST, or_else, is_valid, AreRuns, body_length, part, spell, FormatError, Short, Kind, NotZero, Count, Number, number_at, Recorded, BeginsWith, is_kind, head_fault, parts_fault, number_fault, body_of, fault_of, recorded, runs_of, bytes_drop, bytes_take, AreBytes}
-use Rattle.iso_format.proofs.PartLaws.{neither, unless, length-runs_of, parts_spelled, parts_run, parts_again, runs_again, nine_each}
-use Rattle.iso_format.proofs.Parts.{bounded, body_bound, count_bound, length-flat_map-part, length-spell}
-use Rattle.iso_format.proofs.Pieces.{grow, spelled_32, spelled_64, one_at}
+use Rattle.iso_format.proofs.{Words.{◌≡◌, ◌≢◌, ℕ, suc, ◌+◌, ◌*◌, ◌^◌, ◌<◌, ◌≤◌, Bool, true, false, ◌&&◌, ◌||◌, ◌==◌, nat_lt, nat_le, cond, not, List, [], ◌∷◌, ◌++◌, Option, Some, None, Result, Ok, Err, IfOk, IfErr, length, get_or, take, drop, IsTrue, flat_map, refl, sym, ap, subst, ◌∙◌, arith, drop-cons, leb-true, le-leb, ltb-false, le-ltb, eqb-true, eqb-false, eq-eqb, ne_eqb, not-false, and_from, take_at, take-append-drop, length-append, length-take, length-drop, from_be_bytes-to_be_bytes_4, from_be_bytes-to_be_bytes_8, w32, w64, to_be_bytes, Geometry, Run, LAST, or_else, is_valid, AreRuns, body_length, part, spell, FormatError, Short, Kind, NotZero, Count, Number, number_at, Recorded, BeginsWith, is_kind, head_fault, parts_fault, number_fault, body_of, fault_of, recorded, runs_of, bytes_drop, bytes_take, AreBytes}, PartLaws.{neither, unless, length-runs_of, parts_spelled, parts_run, parts_again, runs_again, nine_each}, Parts.{bounded, body_bound, count_bound, length-flat_map-part, length-spell}, Pieces.{grow, spelled_32, spelled_64, one_at}}
 
 -- each test passed
 pub record IsFree (g : Geometry) (n : ℕ) (bytes : List ℕ) : Type 0 where

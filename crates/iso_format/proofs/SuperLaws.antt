@@ -1,7 +1,5 @@
 -- A superblock is read exactly as it is written.
-use Rattle.iso_format.proofs.Words.{◌≡◌, ℕ, zero, suc, ◌+◌, ◌^◌, ◌<◌, ◌≤◌, Bool, true, false, ◌&&◌, ◌==◌, cond, not, nat_eq, nat_le, List, [], ◌∷◌, ◌++◌, Option, Some, None, Result, Ok, Err, IfOk, length, get_or, take, drop, replicate, IsTrue, codes, refl, ap, ◌∙◌, sym, subst, arith, eqb-true, leb-true, and_parts, and_from, take_all, from_be_bytes-to_be_bytes_4, w32, to_be_bytes, position_from, starts_with, Geometry, Mode, Serial, Snapshot, is_valid, is_block_size, is_region, superblock, mode_byte, SuperError, NotIsotope, number_at, are_zero, mode_of, geometry_of, has_regions, wrong_field, unless_wrong, super_of, AreBytes}
-use Rattle.iso_format.proofs.Parts.{block_fits}
-use Rattle.iso_format.proofs.Pieces.{grow, spelled_32, one_at, zeros_at, same_bytes}
+use Rattle.iso_format.proofs.{Words.{◌≡◌, ℕ, zero, suc, ◌+◌, ◌^◌, ◌<◌, ◌≤◌, Bool, true, false, ◌&&◌, ◌==◌, cond, not, nat_eq, nat_le, List, [], ◌∷◌, ◌++◌, Option, Some, None, Result, Ok, Err, IfOk, length, get_or, take, drop, replicate, IsTrue, codes, refl, ap, ◌∙◌, sym, subst, arith, eqb-true, leb-true, and_parts, and_from, take_all, from_be_bytes-to_be_bytes_4, w32, to_be_bytes, position_from, starts_with, Geometry, Mode, Serial, Snapshot, is_valid, is_block_size, is_region, superblock, mode_byte, SuperError, NotIsotope, number_at, are_zero, mode_of, geometry_of, has_regions, wrong_field, unless_wrong, super_of, AreBytes}, Parts.block_fits, Pieces.{grow, spelled_32, one_at, zeros_at, same_bytes}}
 
 -- the limits of a valid geometry, as a superblock is tested for them
 pub record IsWithin (g : Geometry) : Type 0 where

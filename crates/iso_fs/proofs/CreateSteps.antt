@@ -1,10 +1,7 @@
 -- A create, part by part.
-use Rattle.iso_fs.proofs.Words.{◌≡◌, ◌∙◌, sym, refl, ap, subst, ℕ, zero, suc, ◌+◌, ◌-◌, ◌%◌, ◌<◌, ◌≤◌, ◌==◌, Bool, true, false, not, cond, List, length, get_or, Option, Some, None, Result, Err, IfOk, arith, get_or-take, get_or-set_same, Array, first_from, own, bit_place, lowest_free, map_bytes, map_mark, set_bit, with_bit, is_key, bytes_in, get_program, put_program, Tx, IsTx, IsLocalCall, HasAccess, at_start, ran_at, blocks_in, FsError, FileAreas, FsRegion, Call, create_at, create_new, create_op, create_program, empty_writes, goes_on, in_tree, name_file, refuse, AreFileAreas, AreFileRegions, files, HasRun, areas_of}
+use Rattle.iso_fs.proofs.{Words.{◌≡◌, ◌∙◌, sym, refl, ap, subst, ℕ, zero, suc, ◌+◌, ◌-◌, ◌%◌, ◌<◌, ◌≤◌, ◌==◌, Bool, true, false, not, cond, List, length, get_or, Option, Some, None, Result, Err, IfOk, arith, get_or-take, get_or-set_same, Array, first_from, own, bit_place, lowest_free, map_bytes, map_mark, set_bit, with_bit, is_key, bytes_in, get_program, put_program, Tx, IsTx, IsLocalCall, HasAccess, at_start, ran_at, blocks_in, FsError, FileAreas, FsRegion, Call, create_at, create_new, create_op, create_program, empty_writes, goes_on, in_tree, name_file, refuse, AreFileAreas, AreFileRegions, files, HasRun, areas_of}, CreateCalls.{HaveBlocks, create_local}, Ended.{has_then, call_local}, Finding.get_has}
 use Rattle.store_model.specs.declared.stores.StoreError.TheVariants as store
 use Rattle.store_model.specs.declared.files.FsError.TheVariants as fs
-use Rattle.iso_fs.proofs.CreateCalls.{HaveBlocks, create_local}
-use Rattle.iso_fs.proofs.Ended.{has_then, call_local}
-use Rattle.iso_fs.proofs.Finding.{get_has}
 
 -- THE NAME
 abbrev pub naming : FileAreas → (name : List ℕ) → (block byte : ℕ) → (value : List ℕ) → Call (Unit {0})

@@ -1,9 +1,7 @@
 -- Where a file call answers that a file exists.
-use Rattle.iso_fs.proofs.Words.{◌≡◌, ◌∙◌, ◌↔◌, sym, refl, ap, ℕ, ◌-◌, Bool, true, false, ◌&&◌, cond, IsTrue, List, Option, Some, None, option_map, Result, Ok, Err, is_some, get, w32, to_be_bytes, and_parts, Array, own, StoreError, FsError, FileAreas, bit_place, lowest_free, map_mark, set_bit, is_key, block_at, Done, accesses_of, answer_of, bytes_in, del_program, get_program, put_program, tree_map, number_of, Call, create_at, create_new, create_program, empty_writes, goes_on, in_tree, refuse, rename_found, rename_free, rename_program, AreFileRegions, content, files, Tx, room_of, outcome_whole, answer_then, ExistsWhere, HasAnswered, HasRun}
+use Rattle.iso_fs.proofs.{Words.{◌≡◌, ◌∙◌, ◌↔◌, sym, refl, ap, ℕ, ◌-◌, Bool, true, false, ◌&&◌, cond, IsTrue, List, Option, Some, None, option_map, Result, Ok, Err, is_some, get, w32, to_be_bytes, and_parts, Array, own, StoreError, FsError, FileAreas, bit_place, lowest_free, map_mark, set_bit, is_key, block_at, Done, accesses_of, answer_of, bytes_in, del_program, get_program, put_program, tree_map, number_of, Call, create_at, create_new, create_program, empty_writes, goes_on, in_tree, refuse, rename_found, rename_free, rename_program, AreFileRegions, content, files, Tx, room_of, outcome_whole, answer_then, ExistsWhere, HasAnswered, HasRun}, AfterTree.answer_got, Lookups.files_get}
 use Rattle.store_model.specs.declared.stores.StoreError.TheVariants as store
 use Rattle.store_model.specs.declared.files.FsError.TheVariants as fs
-use Rattle.iso_fs.proofs.AfterTree.{answer_got}
-use Rattle.iso_fs.proofs.Lookups.{files_get}
 
 -- a call that came to its answer gives its program's
 answer_is : {X : Type 0} (p : Call X) (t u : Tx) (result : Result X FsError) → HasRun p t u result → HasAnswered result → (A : Array) → t.base ≡ Some A → answer_of p (own A t.accesses) ≡ result

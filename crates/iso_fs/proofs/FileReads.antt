@@ -1,10 +1,6 @@
 -- A read is that of the files.
-use Rattle.iso_fs.proofs.Words.{◌≡◌, ◌∙◌, sym, refl, ap, subst, ℕ, zero, suc, ◌+◌, ◌/◌, ◌<◌, ◌≤◌, Bool, true, cond, List, [], length, take, drop, nat_le, Option, Some, None, option_map, Result, Ok, Err, arith, inl, inr, nat_lt, get, cases_Bool, leb-true, Area, Array, is_key, block_at, AreReads, IsLocal, accesses_of, answer_of, get_program, tree_map, IsCorrect, local_from, own_reads, whole_reads, cond_reads, same_ok, FsError, FileAreas, bytes_of, entry_at, number_of, piece_len, Call, at_file, in_tree, is_many, least, read_from, read_of, read_op, read_pieces, read_program, refuse, AreFileAreas, AreFileRegions, content, file_at, file_byte, files}
+use Rattle.iso_fs.proofs.{Words.{◌≡◌, ◌∙◌, sym, refl, ap, subst, ℕ, zero, suc, ◌+◌, ◌/◌, ◌<◌, ◌≤◌, Bool, true, cond, List, [], length, take, drop, nat_le, Option, Some, None, option_map, Result, Ok, Err, arith, inl, inr, nat_lt, get, cases_Bool, leb-true, Area, Array, is_key, block_at, AreReads, IsLocal, accesses_of, answer_of, get_program, tree_map, IsCorrect, local_from, own_reads, whole_reads, cond_reads, same_ok, FsError, FileAreas, bytes_of, entry_at, number_of, piece_len, Call, at_file, in_tree, is_many, least, read_from, read_of, read_op, read_pieces, read_program, refuse, AreFileAreas, AreFileRegions, content, file_at, file_byte, files}, AfterTree.{answer_at_file, answer_got, reads_behind_file, reads_behind_get}, Files.{FileParts, file_parts, entry_inside, least_is}, Lookups.files_get, Pieces.{read_gives, slice_range}}
 use Rattle.store_model.specs.declared.files.FsError.TheVariants as fs
-use Rattle.iso_fs.proofs.AfterTree.{answer_at_file, answer_got, reads_behind_file, reads_behind_get}
-use Rattle.iso_fs.proofs.Files.{FileParts, file_parts, entry_inside, least_is}
-use Rattle.iso_fs.proofs.Lookups.{files_get}
-use Rattle.iso_fs.proofs.Pieces.{read_gives, slice_range}
 
 pub pieces_read : (a : Area) (file : List ℕ) (A : Array) (most from to : ℕ) (found : List ℕ) → AreReads (accesses_of (read_pieces a file most from to found) A)
 pieces_read a file A zero from to found = tt

@@ -1,6 +1,5 @@
 -- What the test of a file block says, and the blocks that a file uses.
-use Rattle.iso_fs.proofs.Words.{◌≡◌, ◌⊎◌, ◌∙◌, sym, ap, ℕ, zero, suc, ◌+◌, ◌-◌, ◌*◌, ◌/◌, ◌<◌, ◌≤◌, ◌==◌, ◌&&◌, Bool, true, false, cond, List, nat_le, arith, inl, inr, nat_lt, slice_index, get, and_parts, cases_lt, leb-true, ltb-true, nat_tests, div-lt_iff_lt-mul, div-mul-le_self, le-div, Area, Array, tree_map, all_at, FileAreas, are_entries, blocks_for, bytes_of, data_count, entry_at, has_zeros, is_file, is_handed, most_bytes, AreFileRegions, Uses, file_at}
-use Rattle.iso_fs.proofs.Lookups.{names_by}
+use Rattle.iso_fs.proofs.{Words.{◌≡◌, ◌⊎◌, ◌∙◌, sym, ap, ℕ, zero, suc, ◌+◌, ◌-◌, ◌*◌, ◌/◌, ◌<◌, ◌≤◌, ◌==◌, ◌&&◌, Bool, true, false, cond, List, nat_le, arith, inl, inr, nat_lt, slice_index, get, and_parts, cases_lt, leb-true, ltb-true, nat_tests, div-lt_iff_lt-mul, div-mul-le_self, le-div, Area, Array, tree_map, all_at, FileAreas, are_entries, blocks_for, bytes_of, data_count, entry_at, has_zeros, is_file, is_handed, most_bytes, AreFileRegions, Uses, file_at}, Lookups.names_by}
 
 pub record FileParts (a : Area) (file : List ℕ) : Type 0 where
   pub few : bytes_of file ≤ most_bytes a.size

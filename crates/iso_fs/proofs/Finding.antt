@@ -1,8 +1,7 @@
 -- The look-up of a file block, part by part, and what follows it in a call.
-use Rattle.iso_fs.proofs.Words.{◌≡◌, ◌∙◌, sym, refl, ap, subst, ℕ, ◌+◌, Bool, true, false, cond, List, Option, Some, None, Result, Ok, Err, arith, Area, StoreError, FsError, FileAreas, is_key, is_value, Done, LookWhole, Program, then_do, del_program, get_program, put_program, is_file, is_number, number_of, Call, at_file, broken, goes_on, in_tree, numbered, with_file, Tx, Device, HasAccess, IsAt, at_start, at_then, ran_at, stopped_then, cut_then, then_assoc, HasRun, Found, find_program, found_file, on_found, IsPart, HasRead}
+use Rattle.iso_fs.proofs.{Words.{◌≡◌, ◌∙◌, sym, refl, ap, subst, ℕ, ◌+◌, Bool, true, false, cond, List, Option, Some, None, Result, Ok, Err, arith, Area, StoreError, FsError, FileAreas, is_key, is_value, Done, LookWhole, Program, then_do, del_program, get_program, put_program, is_file, is_number, number_of, Call, at_file, broken, goes_on, in_tree, numbered, with_file, Tx, Device, HasAccess, IsAt, at_start, at_then, ran_at, stopped_then, cut_then, then_assoc, HasRun, Found, find_program, found_file, on_found, IsPart, HasRead}, Ended.{behaves_after, run_as, run_from}}
 use Rattle.store_model.specs.declared.stores.StoreError.TheVariants as store
 use Rattle.store_model.specs.declared.files.FsError.TheVariants as fs
-use Rattle.iso_fs.proofs.Ended.{behaves_after, run_as, run_from}
 
 -- THE CALLS OF THE TREE MAKE AN ACCESS
 pub get_has : (a : Area) (key : List ℕ) → is_key key ≡ true → HasAccess (get_program a key)

@@ -1,7 +1,5 @@
 -- A file whose blocks stay has the same bytes.
-use Rattle.iso_fs.proofs.Words.{◌≡◌, ◌∙◌, sym, refl, ap, subst, ℕ, zero, suc, ◌+◌, ◌/◌, ◌%◌, ◌<◌, ◌≤◌, List, ◌∷◌, get_or, map, Some, arith, range_with_len, Array, FileAreas, bytes_of, data_count, entry_at, Uses, block_in, content, file_at, file_byte, number_at}
-use Rattle.iso_fs.proofs.Files.{place_below}
-use Rattle.iso_fs.proofs.Lookups.{same_some}
+use Rattle.iso_fs.proofs.{Words.{◌≡◌, ◌∙◌, sym, refl, ap, subst, ℕ, zero, suc, ◌+◌, ◌/◌, ◌%◌, ◌<◌, ◌≤◌, List, ◌∷◌, get_or, map, Some, arith, range_with_len, Array, FileAreas, bytes_of, data_count, entry_at, Uses, block_in, content, file_at, file_byte, number_at}, Files.place_below, Lookups.same_some}
 
 pub same_bytes_by : (f g : ℕ → ℕ) (from n : ℕ) → ((p : ℕ) → p < from + n → f p ≡ g p) → map f (range_with_len from n) ≡ map g (range_with_len from n)
 same_bytes_by f g from zero each = refl

@@ -1,6 +1,5 @@
 -- The pieces of a range, of which so many at most are left.
-use Rattle.iso_fs.proofs.Words.{◌≡◌, refl, subst, ℕ, zero, suc, ◌-◌, ◌≤◌, Err, arith, FsError, Call, Tx, IsAt, at_join, HasRun}
-use Rattle.iso_fs.proofs.Ended.{run_from}
+use Rattle.iso_fs.proofs.{Words.{◌≡◌, refl, subst, ℕ, zero, suc, ◌-◌, ◌≤◌, Err, arith, FsError, Call, Tx, IsAt, at_join, HasRun}, Ended.run_from}
 
 -- what is left of the call, where so many bytes are left and each piece has one at least
 pub record HasLeft {X : Type 0} (whole : Call X) (p : ℕ → Call X) (left : ℕ) (t u : Tx) : Type 0 where

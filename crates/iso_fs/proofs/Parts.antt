@@ -1,9 +1,8 @@
 -- The parts of a call: what follows another name of a program, a call of the tree store, a read or a write.
-use Rattle.iso_fs.proofs.Words.{◌≡◌, ◌≢◌, ◌∙◌, refl, ap, ℕ, ◌+◌, ◌≤◌, Bool, true, List, [], ◌∷◌, None, Result, Ok, Err, arith, IfErr, Access, Span, Area, StoreError, TxError, FsError, FileAreas, FsRegion, map_mark, Done, LookWhole, Program, AreReads, Store, bytes_in, look_access, store_access, Tx, Device, IsLater, IsTx, with_accesses, AreBytesOf, Ran, IsCause, IsStoreCause, HasEnded, HasRead, Passed, HasAccess, at_look, at_look_whole, at_start, at_store, ran_at, cut_at_look, cut_at_store, cut_at_whole, read_more, read_none, read_same, later_same, store_cause, Call, in_tree, look_map, refuse, AreFileAreas, HasAnswered, HasArea, HasRun, IsFsCause, IsPart, areas_of, may_follow}
+use Rattle.iso_fs.proofs.{Words.{◌≡◌, ◌≢◌, ◌∙◌, refl, ap, ℕ, ◌+◌, ◌≤◌, Bool, true, List, [], ◌∷◌, None, Result, Ok, Err, arith, IfErr, Access, Span, Area, StoreError, TxError, FsError, FileAreas, FsRegion, map_mark, Done, LookWhole, Program, AreReads, Store, bytes_in, look_access, store_access, Tx, Device, IsLater, IsTx, with_accesses, AreBytesOf, Ran, IsCause, IsStoreCause, HasEnded, HasRead, Passed, HasAccess, at_look, at_look_whole, at_start, at_store, ran_at, cut_at_look, cut_at_store, cut_at_whole, read_more, read_none, read_same, later_same, store_cause, Call, in_tree, look_map, refuse, AreFileAreas, HasAnswered, HasArea, HasRun, IsFsCause, IsPart, areas_of, may_follow}, Ended.{behaves_after, behaves_behind, done_so, fs_since, refused_access, refused_so, refused_store, run_from, tree_done, tree_refused, unwritten_tree}}
 use Rattle.store_model.specs.declared.stores.StoreError.TheVariants as store
 use Rattle.store_model.specs.declared.files.FsError.TheVariants as fs
 use Rattle.tx_blocks.specs.Runs as runs
-use Rattle.iso_fs.proofs.Ended.{behaves_after, behaves_behind, done_so, fs_since, refused_access, refused_so, refused_store, run_from, tree_done, tree_refused, unwritten_tree}
 
 -- THE BLOCKS STAY
 pub area_stays : {t u : Tx} {a : Area} (done : List Access) → u ≡ with_accesses t done → HasArea t a → HasArea u a

@@ -1,13 +1,7 @@
 -- A read, part by part.
-use Rattle.iso_fs.proofs.Words.{◌≡◌, ◌∙◌, sym, refl, ap, subst, ℕ, zero, suc, ◌+◌, ◌-◌, ◌*◌, ◌/◌, ◌<◌, ◌≤◌, Bool, true, false, cond, List, [], ◌∷◌, ◌++◌, length, take, drop, append_assoc, length-append, nat_le, Option, Some, None, Result, Ok, Err, IfOk, arith, nat_lt, option_map, ForSome, length-take-le, take_at, nat_tests, div-lt_iff_lt-mul, Span, Area, TxError, own, is_key, block_at, Done, bytes_in, look_access, laid_at, get_program, Tx, Device, IsTx, with_accesses, IsCause, IsLocalCall, HasAccess, IsAt, at_look, at_start, ran_at, cut_at_look, at_as, FsError, FileAreas, FsRegion, bytes_of, entry_at, entry_count, is_file, piece_len, piece_mark, Call, at_file, goes_on, in_tree, is_many, least, read_from, read_op, read_pieces, read_program, refuse, AreFileAreas, AreFileRegions, files, HasRun, areas_of}
+use Rattle.iso_fs.proofs.{Words.{◌≡◌, ◌∙◌, sym, refl, ap, subst, ℕ, zero, suc, ◌+◌, ◌-◌, ◌*◌, ◌/◌, ◌<◌, ◌≤◌, Bool, true, false, cond, List, [], ◌∷◌, ◌++◌, length, take, drop, append_assoc, length-append, nat_le, Option, Some, None, Result, Ok, Err, IfOk, arith, nat_lt, option_map, ForSome, length-take-le, take_at, nat_tests, div-lt_iff_lt-mul, Span, Area, TxError, own, is_key, block_at, Done, bytes_in, look_access, laid_at, get_program, Tx, Device, IsTx, with_accesses, IsCause, IsLocalCall, HasAccess, IsAt, at_look, at_start, ran_at, cut_at_look, at_as, FsError, FileAreas, FsRegion, bytes_of, entry_at, entry_count, is_file, piece_len, piece_mark, Call, at_file, goes_on, in_tree, is_many, least, read_from, read_op, read_pieces, read_program, refuse, AreFileAreas, AreFileRegions, files, HasRun, areas_of}, Ended.{has_then, call_local}, Finding.get_has, Lefts.HasLeft, FileReads.read_local, Files.{entry_inside, file_parts}, Pieces.step}
 use Rattle.store_model.specs.declared.stores.StoreError.TheVariants as store
 use Rattle.store_model.specs.declared.files.FsError.TheVariants as fs
-use Rattle.iso_fs.proofs.Ended.{has_then, call_local}
-use Rattle.iso_fs.proofs.Finding.{get_has}
-use Rattle.iso_fs.proofs.Lefts.{HasLeft}
-use Rattle.iso_fs.proofs.FileReads.{read_local}
-use Rattle.iso_fs.proofs.Files.{entry_inside, file_parts}
-use Rattle.iso_fs.proofs.Pieces.{step}
 
 -- WHERE A BYTE OF A FILE STANDS
 pub entry_fits : (a : Area) (file : List ℕ) → is_file a file ≡ true → 256 ≤ a.size → (p : ℕ) → p < bytes_of file → 64 + 4 * (p / a.size) + 4 ≤ a.size

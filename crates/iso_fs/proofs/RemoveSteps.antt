@@ -1,13 +1,6 @@
 -- A removal, part by part.
-use Rattle.iso_fs.proofs.Words.{◌≡◌, ◌∙◌, sym, refl, ap, subst, ℕ, suc, ◌+◌, ◌-◌, ◌*◌, ◌<◌, ◌≤◌, Bool, true, false, cond, List, [], ◌∷◌, length, take, drop, get_or, set, Result, Err, IfOk, arith, inl, inr, map, range_with_len, drop-take, get_or-take, take-take, own, Span, Area, FsError, FileAreas, FsRegion, block_with, bit_place, clear_bit, map_bytes, map_mark, without_bit, is_key, IsIn, bytes_in, store_access, get_program, IsTreeArea, data_count, entries_of, entry_at, is_file, Call, at_file, bits_mark, goes_on, high_place, in_tree, low_place, refuse, remove_file, remove_op, remove_program, without_bits, AreFileAreas, AreFileRegions, files, Tx, IsTx, IsLocalCall, HasAccess, at_start, ran_at, take-set-lt, HasRun, areas_of, ArePlaces}
+use Rattle.iso_fs.proofs.{Words.{◌≡◌, ◌∙◌, sym, refl, ap, subst, ℕ, suc, ◌+◌, ◌-◌, ◌*◌, ◌<◌, ◌≤◌, Bool, true, false, cond, List, [], ◌∷◌, length, take, drop, get_or, set, Result, Err, IfOk, arith, inl, inr, map, range_with_len, drop-take, get_or-take, take-take, own, Span, Area, FsError, FileAreas, FsRegion, block_with, bit_place, clear_bit, map_bytes, map_mark, without_bit, is_key, IsIn, bytes_in, store_access, get_program, IsTreeArea, data_count, entries_of, entry_at, is_file, Call, at_file, bits_mark, goes_on, high_place, in_tree, low_place, refuse, remove_file, remove_op, remove_program, without_bits, AreFileAreas, AreFileRegions, files, Tx, IsTx, IsLocalCall, HasAccess, at_start, ran_at, take-set-lt, HasRun, areas_of, ArePlaces}, CreateSteps.have_blocks, Ended.{has_then, call_local}, Files.{entry_handed, file_parts}, Finding.get_has, MapLaid.{high_below, high_is, low_is}, RemoveCalls.remove_local, Removes.in_range_map}
 use Rattle.store_model.specs.declared.files.FsError.TheVariants as fs
-use Rattle.iso_fs.proofs.CreateSteps.{have_blocks}
-use Rattle.iso_fs.proofs.Ended.{has_then, call_local}
-use Rattle.iso_fs.proofs.Files.{entry_handed, file_parts}
-use Rattle.iso_fs.proofs.Finding.{get_has}
-use Rattle.iso_fs.proofs.MapLaid.{high_below, high_is, low_is}
-use Rattle.iso_fs.proofs.RemoveCalls.{remove_local}
-use Rattle.iso_fs.proofs.Removes.{in_range_map}
 
 -- THE NUMBERS THAT ARE LEFT
 abbrev pub entries_from : (file : List ℕ) → (i count : ℕ) → List ℕ

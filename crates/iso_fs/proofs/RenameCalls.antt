@@ -1,9 +1,6 @@
 -- A rename is local.
-use Rattle.iso_fs.proofs.Words.{◌≡◌, ◌∙◌, sym, refl, ap, subst, ℕ, ◌+◌, Bool, true, false, ◌&&◌, cond, List, [], ◌∷◌, Option, Some, None, option_map, Result, Ok, Err, inl, inr, get, and_from, cases_Bool, Access, StoreError, Array, own, is_key, is_value, Done, IsLocal, accesses_of, answer_of, del_program, get_program, put_program, tree_map, AreWhole, IsCorrect, accesses_then, answer_then, local_from, length-block_own, HasBlocks, del_whole, whole_append, area_block, put_whole, same_ok, FsError, FileAreas, number_of, Call, goes_on, in_tree, refuse, rename_found, rename_free, rename_in, rename_op, rename_program, AreFileAreas, AreFileRegions, content, files}
+use Rattle.iso_fs.proofs.{Words.{◌≡◌, ◌∙◌, sym, refl, ap, subst, ℕ, ◌+◌, Bool, true, false, ◌&&◌, cond, List, [], ◌∷◌, Option, Some, None, option_map, Result, Ok, Err, inl, inr, get, and_from, cases_Bool, Access, StoreError, Array, own, is_key, is_value, Done, IsLocal, accesses_of, answer_of, del_program, get_program, put_program, tree_map, AreWhole, IsCorrect, accesses_then, answer_then, local_from, length-block_own, HasBlocks, del_whole, whole_append, area_block, put_whole, same_ok, FsError, FileAreas, number_of, Call, goes_on, in_tree, refuse, rename_found, rename_free, rename_in, rename_op, rename_program, AreFileAreas, AreFileRegions, content, files}, AfterTree.{answer_got, own_got, own_then, whole_behind_get}, Lookups.files_get, Renames.renamed}
 use Rattle.store_model.specs.declared.files.FsError.TheVariants as fs
-use Rattle.iso_fs.proofs.AfterTree.{answer_got, own_got, own_then, whole_behind_get}
-use Rattle.iso_fs.proofs.Lookups.{files_get}
-use Rattle.iso_fs.proofs.Renames.{renamed}
 
 no_ok : (e : FsError) (r : Bool) → ◌≡◌ {A = Result Bool FsError} (Err e) (Ok r) → ⊥
 no_ok e r is = cc

@@ -1,10 +1,7 @@
 -- A rename, part by part.
-use Rattle.iso_fs.proofs.Words.{◌≡◌, ◌≢◌, refl, ap, ℕ, ◌+◌, ◌≤◌, Bool, true, false, ◌&&◌, cond, List, Result, Err, IfOk, own, StoreError, FsError, FileAreas, FsRegion, is_key, get_program, in_tree, refuse, rename_found, rename_op, rename_program, AreFileAreas, AreFileRegions, files, Tx, IsTx, IsLocalCall, at_start, ran_at, TakesNoBlocks, HasRun, areas_of, may_follow}
+use Rattle.iso_fs.proofs.{Words.{◌≡◌, ◌≢◌, refl, ap, ℕ, ◌+◌, ◌≤◌, Bool, true, false, ◌&&◌, cond, List, Result, Err, IfOk, own, StoreError, FsError, FileAreas, FsRegion, is_key, get_program, in_tree, refuse, rename_found, rename_op, rename_program, AreFileAreas, AreFileRegions, files, Tx, IsTx, IsLocalCall, at_start, ran_at, TakesNoBlocks, HasRun, areas_of, may_follow}, CreateSteps.have_blocks, Ended.{run_as, call_local}, RenameCalls.rename_local}
 use Rattle.store_model.specs.declared.stores.StoreError.TheVariants as store
 use Rattle.store_model.specs.declared.files.FsError.TheVariants as fs
-use Rattle.iso_fs.proofs.CreateSteps.{have_blocks}
-use Rattle.iso_fs.proofs.Ended.{run_as, call_local}
-use Rattle.iso_fs.proofs.RenameCalls.{rename_local}
 
 -- THE OLD NAME IS REMOVED
 pub tree_follows : (e : StoreError) → (e ≢ store.BadKey) × TakesNoBlocks e → may_follow true (fs.Store e) ≡ true

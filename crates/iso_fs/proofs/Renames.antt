@@ -1,7 +1,5 @@
 -- A file under another name.
-use Rattle.iso_fs.proofs.Words.{◌≡◌, ◌≢◌, ◌∙◌, sym, refl, ap, subst, ℕ, ◌+◌, ◌/◌, ◌%◌, ◌≤◌, ◌==◌, Bool, true, false, cond, List, length, get_or, take, map, Option, Some, None, option_map, Ok, arith, inl, inr, list_all, range_with_len, get, get-remove, insert, remove, same_map, slice_cmp-IsAntisymmetric, nat_cmp-IsAntisymmetric, nat_list_cmp_total, and_parts, both_ways, cases_Bool, nat_tests, Array, own, is_zero, map_bit, is_key, is_value, Pairs, block_at, accesses_of, answer_of, del_program, put_program, IsTreeRegion, tree_map, del_correct, put_correct, FileAreas, bytes_of, entry_at, is_file, is_number, number_of, AreFileAreas, AreFileRegions, Uses, block_in, content, file_at, file_byte, files, number_at, in_area, kept_outside, del_program_stores, put_program_stores}
-use Rattle.iso_fs.proofs.Kept.{same_bytes_by}
-use Rattle.iso_fs.proofs.Lookups.{files_get, insert_get, name_is, name_other, name_self, names_by, same_name, no_some}
+use Rattle.iso_fs.proofs.{Words.{◌≡◌, ◌≢◌, ◌∙◌, sym, refl, ap, subst, ℕ, ◌+◌, ◌/◌, ◌%◌, ◌≤◌, ◌==◌, Bool, true, false, cond, List, length, get_or, take, map, Option, Some, None, option_map, Ok, arith, inl, inr, list_all, range_with_len, get, get-remove, insert, remove, same_map, slice_cmp-IsAntisymmetric, nat_cmp-IsAntisymmetric, nat_list_cmp_total, and_parts, both_ways, cases_Bool, nat_tests, Array, own, is_zero, map_bit, is_key, is_value, Pairs, block_at, accesses_of, answer_of, del_program, put_program, IsTreeRegion, tree_map, del_correct, put_correct, FileAreas, bytes_of, entry_at, is_file, is_number, number_of, AreFileAreas, AreFileRegions, Uses, block_in, content, file_at, file_byte, files, number_at, in_area, kept_outside, del_program_stores, put_program_stores}, Kept.same_bytes_by, Lookups.{files_get, insert_get, name_is, name_other, name_self, names_by, same_name, no_some}}
 
 pub remove_get : (m : Pairs) (name q : List ℕ) → get (remove m name) q ≡ cond (same_name q name) None (get m q)
 remove_get m name q = get-remove nat_list_cmp_total m name q

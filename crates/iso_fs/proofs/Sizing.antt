@@ -1,7 +1,5 @@
 -- A file block that is laid number by number.
-use Rattle.iso_fs.proofs.Words.{◌≡◌, ◌∙◌, sym, refl, ap, ℕ, ◌+◌, ◌-◌, ◌*◌, ◌≤◌, List, [], ◌∷◌, ◌++◌, length, replicate, take, drop, arith, append_assoc, length-append, flat_map, range_with_len, map, w32, to_be_bytes, flat_map-append, append-nil, drop-drop, drop-replicate, drop_at, take_at, laid_at, file_block}
-use Rattle.iso_fs.proofs.FileBlocks.{length-numbers}
-use Rattle.iso_fs.proofs.Pieces.{range_split}
+use Rattle.iso_fs.proofs.{Words.{◌≡◌, ◌∙◌, sym, refl, ap, ℕ, ◌+◌, ◌-◌, ◌*◌, ◌≤◌, List, [], ◌∷◌, ◌++◌, length, replicate, take, drop, arith, append_assoc, length-append, flat_map, range_with_len, map, w32, to_be_bytes, flat_map-append, append-nil, drop-drop, drop-replicate, drop_at, take_at, laid_at, file_block}, FileBlocks.length-numbers, Pieces.range_split}
 
 module _ (n b : ℕ) (es : List ℕ) (k i : ℕ) (is : length es ≡ i) (fits : 64 + 4 * i + 4 ≤ n) where
   abbrev word : List ℕ

@@ -1,13 +1,7 @@
 -- A write, part by part.
-use Rattle.iso_fs.proofs.Words.{◌≡◌, ◌∙◌, sym, refl, ap, subst, ℕ, zero, suc, ◌+◌, ◌-◌, ◌*◌, ◌/◌, ◌%◌, ◌<◌, ◌≤◌, ◌&&◌, Bool, true, false, not, cond, List, [], ◌∷◌, ◌++◌, length, take, drop, get_or, nat_le, None, Result, Ok, Err, IfOk, arith, nat_lt, slice_index, filter, range_with_len, nat_tests, append-nil, drop-drop, get_or-append_right, get_or_append_left, take_rest, get_or-map-range_with_len, length-map-range_with_len, mul-le-mul_right, Access, Span, own, Area, TxError, FsError, FileAreas, FsRegion, block_with, free_count, map_bit, map_mark, is_key, Done, Store, bytes_in, store_access, first_write, free_list, get_program, IsTreeArea, blocks_for, bytes_of, data_count, entries_of, entry_at, file_block, is_file, most_bytes, piece_len, piece_mark, Call, at_file, goes_on, in_tree, is_many, look_map, refuse, with_new, write_op, write_pieces, write_program, write_sized, write_to, AreFileAreas, AreFileRegions, files, Tx, Device, IsTx, with_accesses, IsCause, IsLocalCall, HasAccess, IsAt, at_start, at_store, ran_at, cut_at_store, at_as, AreBlocks, free_same, taken_same, taken_are, HasRun, areas_of, with_taken, Up, blocks_from, Region, div-lt_iff_lt-mul}
+use Rattle.iso_fs.proofs.{Words.{◌≡◌, ◌∙◌, sym, refl, ap, subst, ℕ, zero, suc, ◌+◌, ◌-◌, ◌*◌, ◌/◌, ◌%◌, ◌<◌, ◌≤◌, ◌&&◌, Bool, true, false, not, cond, List, [], ◌∷◌, ◌++◌, length, take, drop, get_or, nat_le, None, Result, Ok, Err, IfOk, arith, nat_lt, slice_index, filter, range_with_len, nat_tests, append-nil, drop-drop, get_or-append_right, get_or_append_left, take_rest, get_or-map-range_with_len, length-map-range_with_len, mul-le-mul_right, Access, Span, own, Area, TxError, FsError, FileAreas, FsRegion, block_with, free_count, map_bit, map_mark, is_key, Done, Store, bytes_in, store_access, first_write, free_list, get_program, IsTreeArea, blocks_for, bytes_of, data_count, entries_of, entry_at, file_block, is_file, most_bytes, piece_len, piece_mark, Call, at_file, goes_on, in_tree, is_many, look_map, refuse, with_new, write_op, write_pieces, write_program, write_sized, write_to, AreFileAreas, AreFileRegions, files, Tx, Device, IsTx, with_accesses, IsCause, IsLocalCall, HasAccess, IsAt, at_start, at_store, ran_at, cut_at_store, at_as, AreBlocks, free_same, taken_same, taken_are, HasRun, areas_of, with_taken, Up, blocks_from, Region, div-lt_iff_lt-mul}, CreateSteps.have_blocks, Ended.{has_then, call_local}, Files.{count_covers, entry_handed, file_parts}, Finding.get_has, Lefts.HasLeft, WriteWhole.write_local}
 use Rattle.store_model.specs.declared.stores.StoreError.TheVariants as store
 use Rattle.store_model.specs.declared.files.FsError.TheVariants as fs
-use Rattle.iso_fs.proofs.CreateSteps.{have_blocks}
-use Rattle.iso_fs.proofs.Ended.{has_then, call_local}
-use Rattle.iso_fs.proofs.Files.{count_covers, entry_handed, file_parts}
-use Rattle.iso_fs.proofs.Finding.{get_has}
-use Rattle.iso_fs.proofs.Lefts.{HasLeft}
-use Rattle.iso_fs.proofs.WriteWhole.{write_local}
 
 -- THE NUMBERS OF THE DATA BLOCKS
 module _ (a : Area) (file news : List ℕ) (count : ℕ) (count_is : count ≡ data_count a.size file) where

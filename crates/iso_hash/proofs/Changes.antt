@@ -1,13 +1,5 @@
 -- Puts and removals are what the operations on the map of the region are.
-use Rattle.iso_hash.proofs.Words.{◌≡◌, ◌⊎◌, ◌∙◌, sym, refl, ap, subst, ℕ, zero, suc, ◌+◌, ◌*◌, ◌%◌, ◌<◌, Bool, true, false, ◌==◌, not, cond, List, [], ◌∷◌, ◌++◌, length, get_or, replicate, Option, Some, None, Result, Ok, IfSome, arith, inl, inr, is_some, w32, to_be_bytes, nat_cmp, eq_by_cmp, slice_cmp, nat_list_cmp_total, get, remove, get-remove, same_map, slice_cmp-IsAntisymmetric, nat_cmp-IsAntisymmetric, and_parts, eqb-true, ltb-true, leb-true, length-replicate, bytes_eq-Decides, Access, Area, Spot, StoreError, Broken, NoBlocks, Array, put, own, block_at, Program, Done, Look, Reserve, Store, bytes_in, store_access, accesses_of, answer_of, then_do, IsLocal, cell_count, keys_end, key_mark, value_mark, next_mark, value_part, block_with, map_mark, bit_place, bit_mark, map_bit, set_bit, clear_bit, lowest_free, Pairs, view_of, buckets, bucket_of, last_position, next_of, chain, hash_map, AreLinked, Stands, IsHashRegion, IsHashArea, put_op, del_op, Walked, AtCell, AtEnd, AtBroken, walk, spot_in, spare_in, put_new, put_at, put_program, is_spent, is_alone, del_at, del_program, is_key, is_value, AreWhole, accesses_then, answer_then, own_reads, whole_reads, IsCorrect, local_from, own_append, first_below, length-part, length-block_with, no_ok, same_ok, first_low, map_byte, HasBlocks, first_passes, whole_append}
-use Rattle.iso_hash.proofs.Chains.{linked_split, next_in, head_of}
-use Rattle.iso_hash.proofs.Dels.{del_cell, del_block}
-use Rattle.iso_hash.proofs.Finding.{ties, cases_key}
-use Rattle.iso_hash.proofs.Gets.{bucket_below, key_some, key_short, walk_is_reads, walk_found, walk_missed, found_stands, missed_nowhere, get_found, get_none}
-use Rattle.iso_hash.proofs.Grown.{put_grown}
-use Rattle.iso_hash.proofs.NewBlocks.{size_most, length-new_block}
-use Rattle.iso_hash.proofs.Puts.{HasPut, put_found, put_spare, length-with_cell, cells_fit}
-use Rattle.iso_hash.proofs.Ways.{Way, way, cell_below, Found, IsSpare}
+use Rattle.iso_hash.proofs.{Words.{◌≡◌, ◌⊎◌, ◌∙◌, sym, refl, ap, subst, ℕ, zero, suc, ◌+◌, ◌*◌, ◌%◌, ◌<◌, Bool, true, false, ◌==◌, not, cond, List, [], ◌∷◌, ◌++◌, length, get_or, replicate, Option, Some, None, Result, Ok, IfSome, arith, inl, inr, is_some, w32, to_be_bytes, nat_cmp, eq_by_cmp, slice_cmp, nat_list_cmp_total, get, remove, get-remove, same_map, slice_cmp-IsAntisymmetric, nat_cmp-IsAntisymmetric, and_parts, eqb-true, ltb-true, leb-true, length-replicate, bytes_eq-Decides, Access, Area, Spot, StoreError, Broken, NoBlocks, Array, put, own, block_at, Program, Done, Look, Reserve, Store, bytes_in, store_access, accesses_of, answer_of, then_do, IsLocal, cell_count, keys_end, key_mark, value_mark, next_mark, value_part, block_with, map_mark, bit_place, bit_mark, map_bit, set_bit, clear_bit, lowest_free, Pairs, view_of, buckets, bucket_of, last_position, next_of, chain, hash_map, AreLinked, Stands, IsHashRegion, IsHashArea, put_op, del_op, Walked, AtCell, AtEnd, AtBroken, walk, spot_in, spare_in, put_new, put_at, put_program, is_spent, is_alone, del_at, del_program, is_key, is_value, AreWhole, accesses_then, answer_then, own_reads, whole_reads, IsCorrect, local_from, own_append, first_below, length-part, length-block_with, no_ok, same_ok, first_low, map_byte, HasBlocks, first_passes, whole_append}, Chains.{linked_split, next_in, head_of}, Dels.{del_cell, del_block}, Finding.{ties, cases_key}, Gets.{bucket_below, key_some, key_short, walk_is_reads, walk_found, walk_missed, found_stands, missed_nowhere, get_found, get_none}, Grown.put_grown, NewBlocks.{size_most, length-new_block}, Puts.{HasPut, put_found, put_spare, length-with_cell, cells_fit}, Ways.{Way, way, cell_below, Found, IsSpare}}
 
 -- what is done after a walk is done on the same array
 module _ {X : Type 0} (a : Area) (key : List ℕ) (f : Walked → Program X) (A : Array) where

@@ -1,10 +1,5 @@
 -- A removal of a cell, and one that gives its block back: the region stays well formed, and its map loses the key.
-use Rattle.iso_hash.proofs.Words.{◌≡◌, ◌≢◌, ◌↔◌, ◌∙◌, sym, refl, ap, subst, ℕ, ◌+◌, ◌*◌, ◌<◌, ◌≤◌, true, false, ◌&&◌, ◌||◌, ◌==◌, not, IsTrue, List, [], ◌∷◌, ◌++◌, length, get_or, take, replicate, arith, inl, inr, eq-eqb, ne_eqb, length-append, append_assoc, list_all, remove, cases_eq, both_ways, and_parts, and_from, or_cases, eqb-true, length-replicate, Area, Spot, Array, merged, put, block_at, bytes_in, store_access, cell_count, key_mark, value_mark, next_mark, word_at, is_zero, is_part, is_unused, key_at, block_with, map_bytes, bit_place, bit_mark, map_bit, clear_bit, view_of, buckets, bucket_of, last_position, chain, hash_map, IsIn, AreLinked, Stands, IsOverflow, HaveValues, IsHashRegion, IsHashArea, is_alone, length-block_put, written_block, other_block, bits_without, all_at, zero_part, zeros_are, piece_zero, byte_here, byte_far, head_far, in_front, in_back, in_cases}
-use Rattle.iso_hash.proofs.Chains.{placed, block_inside, one_bucket, length-chain_from, not_twice}
-use Rattle.iso_hash.proofs.Linking.{chain_of}
-use Rattle.iso_hash.proofs.Moves.{IsSame, Moves, StandsNowhere, map_removed, buckets_nowhere, apart_nowhere}
-use Rattle.iso_hash.proofs.Relinked.{IsRelinked, some_in, first_long, chain_other, linked_anew, linked_all, stays_same, was_same, values_old}
-use Rattle.iso_hash.proofs.Rewritten.{IsRewritten, rewrites, linked_kept, bits_kept, same_there, same_before, values_kept}
+use Rattle.iso_hash.proofs.{Words.{◌≡◌, ◌≢◌, ◌↔◌, ◌∙◌, sym, refl, ap, subst, ℕ, ◌+◌, ◌*◌, ◌<◌, ◌≤◌, true, false, ◌&&◌, ◌||◌, ◌==◌, not, IsTrue, List, [], ◌∷◌, ◌++◌, length, get_or, take, replicate, arith, inl, inr, eq-eqb, ne_eqb, length-append, append_assoc, list_all, remove, cases_eq, both_ways, and_parts, and_from, or_cases, eqb-true, length-replicate, Area, Spot, Array, merged, put, block_at, bytes_in, store_access, cell_count, key_mark, value_mark, next_mark, word_at, is_zero, is_part, is_unused, key_at, block_with, map_bytes, bit_place, bit_mark, map_bit, clear_bit, view_of, buckets, bucket_of, last_position, chain, hash_map, IsIn, AreLinked, Stands, IsOverflow, HaveValues, IsHashRegion, IsHashArea, is_alone, length-block_put, written_block, other_block, bits_without, all_at, zero_part, zeros_are, piece_zero, byte_here, byte_far, head_far, in_front, in_back, in_cases}, Chains.{placed, block_inside, one_bucket, length-chain_from, not_twice}, Linking.chain_of, Moves.{IsSame, Moves, StandsNowhere, map_removed, buckets_nowhere, apart_nowhere}, Relinked.{IsRelinked, some_in, first_long, chain_other, linked_anew, linked_all, stays_same, was_same, values_old}, Rewritten.{IsRewritten, rewrites, linked_kept, bits_kept, same_there, same_before, values_kept}}
 
 -- what a removal leaves
 pub record HasRemoved (a : Area) (key : List ℕ) (A B : Array) : Type 0 where

@@ -1,7 +1,5 @@
 -- A get is the look-up in the map of the region.
-use Rattle.iso_hash.proofs.Words.{◌≡◌, ◌≢◌, ◌∙◌, sym, refl, ap, subst, ℕ, ◌+◌, ◌<◌, ◌≤◌, Bool, true, false, cond, List, length, Option, Some, None, Ok, Err, arith, inl, inr, get, cases_Bool, and_parts, leb-true, Area, Spot, StoreError, BadKey, Broken, Array, Done, accesses_of, answer_of, then_do, AreReads, IsLocal, is_part, text_of, key_at, view_of, buckets, bucket_of, last_position, chain, hash_map, Stands, IsHashRegion, IsHashArea, get_op, Walked, AtCell, AtEnd, AtBroken, walk, is_key, got, get_program, answer_then, own_reads, whole_reads, reads_then, IsCorrect, local_from, same_ok, no_ok}
-use Rattle.iso_hash.proofs.Finding.{finds_it, finds_none, map_gets}
-use Rattle.iso_hash.proofs.Ways.{way, way_cell, way_end, walk_reads, key_used, Found, Missed}
+use Rattle.iso_hash.proofs.{Words.{◌≡◌, ◌≢◌, ◌∙◌, sym, refl, ap, subst, ℕ, ◌+◌, ◌<◌, ◌≤◌, Bool, true, false, cond, List, length, Option, Some, None, Ok, Err, arith, inl, inr, get, cases_Bool, and_parts, leb-true, Area, Spot, StoreError, BadKey, Broken, Array, Done, accesses_of, answer_of, then_do, AreReads, IsLocal, is_part, text_of, key_at, view_of, buckets, bucket_of, last_position, chain, hash_map, Stands, IsHashRegion, IsHashArea, get_op, Walked, AtCell, AtEnd, AtBroken, walk, is_key, got, get_program, answer_then, own_reads, whole_reads, reads_then, IsCorrect, local_from, same_ok, no_ok}, Finding.{finds_it, finds_none, map_gets}, Ways.{way, way_cell, way_end, walk_reads, key_used, Found, Missed}}
 
 pub bucket_below : (a : Area) (key : List ℕ) → IsHashArea a → bucket_of a key < buckets a
 unfolding bucket_of

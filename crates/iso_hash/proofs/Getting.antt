@@ -1,8 +1,7 @@
 -- What a get answers where its walk ends.
-use Rattle.iso_hash.proofs.Words.{◌≡◌, ◌≢◌, ◌∙◌, refl, ap, subst, ℕ, ◌+◌, ◌*◌, Bool, true, false, cond, List, [], take, drop, Option, Some, None, Result, Ok, Err, Access, Area, Spot, StoreError, own, value_mark, keys_end, is_part, text_of, get_program, got, walk, is_key, IsHashArea, IsHashRegion, hash_map, get_op, Done, then_do, bytes_in, IsLocal, Tx, Ran, HasEnded, IsLocalCall, ran_at, at_start, at_then, whole_run, cut_then, HasWalked, HasRun, Program, IsAt, ended_from, sym}
+use Rattle.iso_hash.proofs.{Words.{◌≡◌, ◌≢◌, ◌∙◌, refl, ap, subst, ℕ, ◌+◌, ◌*◌, Bool, true, false, cond, List, [], take, drop, Option, Some, None, Result, Ok, Err, Access, Area, Spot, StoreError, own, value_mark, keys_end, is_part, text_of, get_program, got, walk, is_key, IsHashArea, IsHashRegion, hash_map, get_op, Done, then_do, bytes_in, IsLocal, Tx, Ran, HasEnded, IsLocalCall, ran_at, at_start, at_then, whole_run, cut_then, HasWalked, HasRun, Program, IsAt, ended_from, sym}, Gets.get_local}
 use Rattle.store_model.specs.declared.stores.StoreError.TheVariants as store
 use Rattle.store_model.specs.HashCalls as hash
-use Rattle.iso_hash.proofs.Gets.{get_local}
 use Rattle.iso_hash.specs.declared.walk.Walked as code
 
 get_ran : (a : Area) (key : List ℕ) (t u : Tx) (w : hash.Walked) → is_key key ≡ true → Ran (walk a key true) t u w → Ran (get_program a key) t u (got a w)

@@ -1,14 +1,5 @@
 -- A put into a new block behind the last one of a chain: the region stays well formed, and its map gets the value.
-use Rattle.iso_hash.proofs.Words.{◌≡◌, ◌≢◌, ◌⊎◌, ◌↔◌, ◌∙◌, sym, refl, ap, subst, ℕ, ◌+◌, ◌*◌, ◌^◌, ◌<◌, ◌≤◌, true, false, ◌||◌, ◌==◌, not, nat_eq, nat_le, nat_lt, IsTrue, List, [], ◌∷◌, ◌++◌, length, get_or, take, Option, arith, inl, inr, eq-eqb, ne_eqb, length-append, w32, to_be_bytes, list_all, cases_eq, both_ways, and_from, or_left, or_right, or_cases, eqb-true, nat_tests, from_be_bytes-to_be_bytes_4, Area, Spot, Array, merged, put, block_at, bytes_in, store_access, cell_count, keys_mark, key_mark, value_mark, next_mark, word_at, is_zero, is_part, text_of, key_part, value_part, is_unused, key_at, block_with, map_bytes, bit_place, bit_mark, map_bit, set_bit, view_of, buckets, bucket_of, last_position, next_of, is_next, is_linked, chain, hash_map, IsIn, AreLinked, Stands, IsOverflow, HaveValues, IsHashRegion, IsHashArea, new_block, length-block_put, written_block, other_block, bits_with, laid_whole, part_is_part, part_text, zero_part, zeros_are, byte_here, byte_far, head_far, length-block_with, in_block_with, in_front, in_back, in_cases}
-use Rattle.iso_hash.proofs.Chains.{placed, block_inside, all_in, distinct, next_in, head_of}
-use Rattle.iso_hash.proofs.Gets.{bucket_below}
-use Rattle.iso_hash.proofs.Linking.{chain_of}
-use Rattle.iso_hash.proofs.Moves.{IsSame, Moves, StandsAt, map_put, buckets_at, apart_at}
-use Rattle.iso_hash.proofs.NewBlocks.{size_most, length-new_block, new_next, new_key_here, new_unused, new_value_here, new_value_blank, new_linked}
-use Rattle.iso_hash.proofs.Relinked.{IsRelinked, some_in, first_long, chain_other, linked_anew, linked_all, stays_same, was_same, values_old}
-use Rattle.iso_hash.proofs.Pigeons.{fewer}
-use Rattle.iso_hash.proofs.Puts.{HasPut, new_used, new_key}
-use Rattle.iso_hash.proofs.Ways.{Missed}
+use Rattle.iso_hash.proofs.{Words.{◌≡◌, ◌≢◌, ◌⊎◌, ◌↔◌, ◌∙◌, sym, refl, ap, subst, ℕ, ◌+◌, ◌*◌, ◌^◌, ◌<◌, ◌≤◌, true, false, ◌||◌, ◌==◌, not, nat_eq, nat_le, nat_lt, IsTrue, List, [], ◌∷◌, ◌++◌, length, get_or, take, Option, arith, inl, inr, eq-eqb, ne_eqb, length-append, w32, to_be_bytes, list_all, cases_eq, both_ways, and_from, or_left, or_right, or_cases, eqb-true, nat_tests, from_be_bytes-to_be_bytes_4, Area, Spot, Array, merged, put, block_at, bytes_in, store_access, cell_count, keys_mark, key_mark, value_mark, next_mark, word_at, is_zero, is_part, text_of, key_part, value_part, is_unused, key_at, block_with, map_bytes, bit_place, bit_mark, map_bit, set_bit, view_of, buckets, bucket_of, last_position, next_of, is_next, is_linked, chain, hash_map, IsIn, AreLinked, Stands, IsOverflow, HaveValues, IsHashRegion, IsHashArea, new_block, length-block_put, written_block, other_block, bits_with, laid_whole, part_is_part, part_text, zero_part, zeros_are, byte_here, byte_far, head_far, length-block_with, in_block_with, in_front, in_back, in_cases}, Chains.{placed, block_inside, all_in, distinct, next_in, head_of}, Gets.bucket_below, Linking.chain_of, Moves.{IsSame, Moves, StandsAt, map_put, buckets_at, apart_at}, NewBlocks.{size_most, length-new_block, new_next, new_key_here, new_unused, new_value_here, new_value_blank, new_linked}, Relinked.{IsRelinked, some_in, first_long, chain_other, linked_anew, linked_all, stays_same, was_same, values_old}, Pigeons.fewer, Puts.{HasPut, new_used, new_key}, Ways.Missed}
 
 -- a chain that leaves out an overflow block is shorter than one of all of them
 pub room_left : (a : Area) (keys : ℕ → List ℕ) (b new : ℕ) (blocks : List ℕ) → IsHashArea a → AreLinked a keys b 0 blocks (1 + b) 0 → buckets a < new → new < a.blocks → ((k : ℕ) → IsIn k blocks → k ≢ new) → length blocks ≤ last_position a

@@ -1,7 +1,5 @@
 -- A block whose next number is written, and a block 0 of which one byte of the map is.
-use Rattle.iso_hash.proofs.Words.{◌≡◌, ◌∙◌, sym, ap, ℕ, ◌+◌, ◌<◌, ◌≤◌, true, false, List, [], ◌∷◌, length, arith, inr, or_left, Span, Area, merged, bytes_in, cell_count, keys_end, keys_mark, key_mark, next_mark, word_at, is_part, last_position, next_of, is_next, is_linked, chain_from, chain, AreLinked, all_at, kept_1, laid_all, piece_of, all_pass}
-use Rattle.iso_hash.proofs.Chains.{chain_is, head_of}
-use Rattle.iso_hash.proofs.Rewritten.{linked_again}
+use Rattle.iso_hash.proofs.{Words.{◌≡◌, ◌∙◌, sym, ap, ℕ, ◌+◌, ◌<◌, ◌≤◌, true, false, List, [], ◌∷◌, length, arith, inr, or_left, Span, Area, merged, bytes_in, cell_count, keys_end, keys_mark, key_mark, next_mark, word_at, is_part, last_position, next_of, is_next, is_linked, chain_from, chain, AreLinked, all_at, kept_1, laid_all, piece_of, all_pass}, Chains.{chain_is, head_of}, Rewritten.linked_again}
 
 -- the chain of a bucket is the list that is linked to its end
 pub chain_of : (a : Area) (keys : ℕ → List ℕ) (b : ℕ) (blocks : List ℕ) → AreLinked a keys b 0 blocks (1 + b) 0 → length blocks ≤ last_position a + 1 → chain a keys b ≡ blocks

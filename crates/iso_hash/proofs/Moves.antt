@@ -1,6 +1,5 @@
 -- A change of the cells of a region: its keys stay apart, and its map has one key changed.
-use Rattle.iso_hash.proofs.Words.{◌≡◌, ◌≢◌, ◌∙◌, sym, refl, ap, ℕ, true, false, cond, List, Some, None, inl, inr, nat_cmp, eq_by_cmp, slice_cmp, nat_list_cmp_total, from_entries, get, insert, remove, get-insert, get-remove, same_map, slice_cmp-IsAntisymmetric, nat_cmp-IsAntisymmetric, bytes_eq-Decides, Area, Spot, text_of, key_at, Pairs, bucket_of, all_pairs, Stands}
-use Rattle.iso_hash.proofs.Finding.{ties, bytes_other, cases_key, found_in, seek, AreApart, finds_it, finds_none, map_gets}
+use Rattle.iso_hash.proofs.{Words.{◌≡◌, ◌≢◌, ◌∙◌, sym, refl, ap, ℕ, true, false, cond, List, Some, None, inl, inr, nat_cmp, eq_by_cmp, slice_cmp, nat_list_cmp_total, from_entries, get, insert, remove, get-insert, get-remove, same_map, slice_cmp-IsAntisymmetric, nat_cmp-IsAntisymmetric, bytes_eq-Decides, Area, Spot, text_of, key_at, Pairs, bucket_of, all_pairs, Stands}, Finding.{ties, bytes_other, cases_key, found_in, seek, AreApart, finds_it, finds_none, map_gets}}
 
 -- the cell stands in another region too, with the same key and value
 pub record IsSame (a : Area) (keys new : ℕ → List ℕ) (value given : ℕ → ℕ → List ℕ) (b k i : ℕ) : Type 0 where

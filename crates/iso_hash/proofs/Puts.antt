@@ -1,10 +1,5 @@
 -- A put into a cell that has the key, and one into an unused cell: the region stays well formed, and its map gets the value.
-use Rattle.iso_hash.proofs.Words.{◌≡◌, ◌≢◌, ◌∙◌, sym, refl, ap, subst, ℕ, ◌+◌, ◌*◌, ◌<◌, ◌≤◌, true, false, ◌==◌, List, [], ◌∷◌, length, get_or, replicate, arith, inl, inr, ne_eqb, list_all, insert, cases_eq, both_ways, or_left, length-replicate, Access, Area, Spot, Array, put, block_at, bytes_in, store_access, cell_count, keys_end, keys_mark, key_mark, value_mark, is_zero, is_part, text_of, key_part, value_part, is_unused, key_at, laid_at, block_with, view_of, buckets, bucket_of, chain, all_pairs, hash_map, IsIn, Stands, IsKeyed, HaveValues, IsHashRegion, IsHashArea, with_cell, length-block_put, written_block, other_block, laid_here, length-laid_at, kept_1, laid_all, laid_kept, length-part, part_is_part, part_text}
-use Rattle.iso_hash.proofs.Chains.{one_bucket, block_inside, placed}
-use Rattle.iso_hash.proofs.Gets.{bucket_below}
-use Rattle.iso_hash.proofs.Moves.{Moves, StandsAt, map_put, buckets_at, apart_at}
-use Rattle.iso_hash.proofs.Rewritten.{IsRewritten, rewrites, is_spot, chain_same, linked_kept, bits_kept, same_there, same_before, values_kept}
-use Rattle.iso_hash.proofs.Ways.{IsSpare}
+use Rattle.iso_hash.proofs.{Words.{◌≡◌, ◌≢◌, ◌∙◌, sym, refl, ap, subst, ℕ, ◌+◌, ◌*◌, ◌<◌, ◌≤◌, true, false, ◌==◌, List, [], ◌∷◌, length, get_or, replicate, arith, inl, inr, ne_eqb, list_all, insert, cases_eq, both_ways, or_left, length-replicate, Access, Area, Spot, Array, put, block_at, bytes_in, store_access, cell_count, keys_end, keys_mark, key_mark, value_mark, is_zero, is_part, text_of, key_part, value_part, is_unused, key_at, laid_at, block_with, view_of, buckets, bucket_of, chain, all_pairs, hash_map, IsIn, Stands, IsKeyed, HaveValues, IsHashRegion, IsHashArea, with_cell, length-block_put, written_block, other_block, laid_here, length-laid_at, kept_1, laid_all, laid_kept, length-part, part_is_part, part_text}, Chains.{one_bucket, block_inside, placed}, Gets.bucket_below, Moves.{Moves, StandsAt, map_put, buckets_at, apart_at}, Rewritten.{IsRewritten, rewrites, is_spot, chain_same, linked_kept, bits_kept, same_there, same_before, values_kept}, Ways.IsSpare}
 
 -- what a put leaves
 pub record HasPut (a : Area) (key value : List ℕ) (A B : Array) : Type 0 where

@@ -1,8 +1,5 @@
 -- One block of a chain gets another next number, and the other linked blocks stay: what stays of the region.
-use Rattle.iso_hash.proofs.Words.{◌≡◌, ◌≢◌, ◌∙◌, sym, refl, ap, subst, ℕ, ◌+◌, ◌<◌, true, ◌==◌, IsTrue, List, [], ◌∷◌, ◌++◌, length, get_or, arith, inl, inr, list_all, cases_eq, Area, Array, merged, block_at, bytes_in, cell_count, keys_mark, key_mark, value_mark, next_mark, word_at, is_zero, is_part, text_of, is_unused, view_of, buckets, last_position, next_of, is_next, is_linked, chain, IsIn, AreLinked, Stands, IsHashRegion, IsHashArea, in_front}
-use Rattle.iso_hash.proofs.Chains.{placed, one_bucket, linked_split, linked_join, linked_alike, LinkedAlike, length-chain_from, not_twice}
-use Rattle.iso_hash.proofs.Linking.{chain_of, piece_far, key_far, next_here, relinked}
-use Rattle.iso_hash.proofs.Moves.{IsSame}
+use Rattle.iso_hash.proofs.{Words.{◌≡◌, ◌≢◌, ◌∙◌, sym, refl, ap, subst, ℕ, ◌+◌, ◌<◌, true, ◌==◌, IsTrue, List, [], ◌∷◌, ◌++◌, length, get_or, arith, inl, inr, list_all, cases_eq, Area, Array, merged, block_at, bytes_in, cell_count, keys_mark, key_mark, value_mark, next_mark, word_at, is_zero, is_part, text_of, is_unused, view_of, buckets, last_position, next_of, is_next, is_linked, chain, IsIn, AreLinked, Stands, IsHashRegion, IsHashArea, in_front}, Chains.{placed, one_bucket, linked_split, linked_join, linked_alike, LinkedAlike, length-chain_from, not_twice}, Linking.{chain_of, piece_far, key_far, next_here, relinked}, Moves.IsSame}
 
 pub some_in : (a : Area) (A : Array) (region : IsHashRegion a A) (b k : ℕ) → b < buckets a → IsIn k (chain a (view_of a A).keys b) → 0 < k
 some_in a A region b k below has = (placed a (view_of a A).keys b 0 (chain a (view_of a A).keys b) (1 + b) 0 k (region.keyed.linked b below) has).some

@@ -1,7 +1,5 @@
 -- One cell of a linked block is rewritten, key part and value part: what stays.
-use Rattle.iso_hash.proofs.Words.{◌≡◌, ◌≢◌, ◌⊎◌, ◌↔◌, ◌∙◌, sym, refl, ap, subst, ℕ, zero, suc, ◌+◌, ◌*◌, ◌<◌, ◌≤◌, true, false, ◌==◌, cond, IsTrue, List, [], ◌∷◌, length, get_or, arith, inl, inr, list_all, cases_eq, cases_lt, and_parts, and_from, or_left, or_right, Access, Span, Area, Spot, Array, covered, in_span, merged, put, block_at, bytes_in, store_access, cell_count, keys_end, keys_mark, key_mark, value_mark, word_at, is_zero, is_part, text_of, is_unused, are_key_parts, map_bytes, map_bit, view_of, last_position, next_of, is_next, is_linked, chain_from, chain, IsIn, AreLinked, Stands, IsOverflow, HaveValues, IsHashArea, written_block, other_block, all_at, kept_2, laid_all, piece_of}
-use Rattle.iso_hash.proofs.Chains.{linked_alike, LinkedAlike, head_of}
-use Rattle.iso_hash.proofs.Moves.{IsSame}
+use Rattle.iso_hash.proofs.{Words.{◌≡◌, ◌≢◌, ◌⊎◌, ◌↔◌, ◌∙◌, sym, refl, ap, subst, ℕ, zero, suc, ◌+◌, ◌*◌, ◌<◌, ◌≤◌, true, false, ◌==◌, cond, IsTrue, List, [], ◌∷◌, length, get_or, arith, inl, inr, list_all, cases_eq, cases_lt, and_parts, and_from, or_left, or_right, Access, Span, Area, Spot, Array, covered, in_span, merged, put, block_at, bytes_in, store_access, cell_count, keys_end, keys_mark, key_mark, value_mark, word_at, is_zero, is_part, text_of, is_unused, are_key_parts, map_bytes, map_bit, view_of, last_position, next_of, is_next, is_linked, chain_from, chain, IsIn, AreLinked, Stands, IsOverflow, HaveValues, IsHashArea, written_block, other_block, all_at, kept_2, laid_all, piece_of}, Chains.{linked_alike, LinkedAlike, head_of}, Moves.IsSame}
 use Rattle.tx_blocks.proofs.Frames.{AreApart}
 pub use Rattle.iso_alloc.proofs.Loops.{all_pass}
 

@@ -1,6 +1,5 @@
 -- One block of a walk.
-use Rattle.iso_hash.proofs.Words.{◌≡◌, ◌∙◌, sym, refl, ap, subst, ℕ, suc, ◌+◌, ◌-◌, ◌*◌, ◌<◌, ◌≤◌, ◌&&◌, ◌==◌, Bool, true, false, cond, List, [], ◌∷◌, length, take, Option, Some, None, IfSome, option_map, arith, eq-eqb, ne_eqb, ForSome, Span, Area, Spot, own, or_else, block_at, Program, Done, bytes_in, further_bytes, with_further, look_access, cell_count, keys_end, keys_mark, value_mark, cell_with, unused_cell, are_key_parts, Walked, AtCell, AtEnd, AtBroken, walk, walk_from, walk_further, walk_next, spare_in, spot_in, is_linked, next_of, last_position, bucket_of, Tx, Device, with_accesses, Ran, IsCut, IsCause, TxError, IsAt, at_start, at_look, ran_at, cut_at_look, IsSpot, at_as}
-use Rattle.iso_hash.proofs.Chains.{next_in, head_of}
+use Rattle.iso_hash.proofs.{Words.{◌≡◌, ◌∙◌, sym, refl, ap, subst, ℕ, suc, ◌+◌, ◌-◌, ◌*◌, ◌<◌, ◌≤◌, ◌&&◌, ◌==◌, Bool, true, false, cond, List, [], ◌∷◌, length, take, Option, Some, None, IfSome, option_map, arith, eq-eqb, ne_eqb, ForSome, Span, Area, Spot, own, or_else, block_at, Program, Done, bytes_in, further_bytes, with_further, look_access, cell_count, keys_end, keys_mark, value_mark, cell_with, unused_cell, are_key_parts, Walked, AtCell, AtEnd, AtBroken, walk, walk_from, walk_further, walk_next, spare_in, spot_in, is_linked, next_of, last_position, bucket_of, Tx, Device, with_accesses, Ran, IsCut, IsCause, TxError, IsAt, at_start, at_look, ran_at, cut_at_look, IsSpot, at_as}, Chains.{next_in, head_of}}
 
 pub walk_begins : (a : Area) (key : List ℕ) (with_value : Bool) (bucket n : ℕ) (t : Tx) → bucket ≡ bucket_of a key → n ≡ last_position a
     → IsAt (walk a key with_value) (walk_from a key bucket with_value (n + 1 - 0) 0 0 (1 + bucket) None) t t

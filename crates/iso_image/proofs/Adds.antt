@@ -1,8 +1,5 @@
 -- Records that are added to the log of the current half.
-use Rattle.iso_image.proofs.Words.{◌≡◌, ◌⊎◌, inl, inr, ◌<◌, ◌≤◌, ◌+◌, ◌-◌, ℕ, List, [], ◌∷◌, ◌++◌, length, take, drop, sym, ◌∙◌, ap, arith, length-append, subst, AllByRecursion, length-take, take-take, Geometry, LAST, log_place, IsRecord, Written, records, spliced, Torn, get_or-torn, slice-torn, spliced_torn, torn_same, IsClosed, IsOpen, Half, IsHeld, HasLog, MayFollow, last_told, next_gate, told_bytes, with_records, Appending, InLog}
-use Rattle.iso_image.proofs.Appends.{appending_gate}
-use Rattle.iso_image.proofs.Frames.{frame, held_half, log_inside}
-use Rattle.iso_image.proofs.Logs.{has_log, log_front, log_gate, log_step, log_whole, records-append}
+use Rattle.iso_image.proofs.{Words.{◌≡◌, ◌⊎◌, inl, inr, ◌<◌, ◌≤◌, ◌+◌, ◌-◌, ℕ, List, [], ◌∷◌, ◌++◌, length, take, drop, sym, ◌∙◌, ap, arith, length-append, subst, AllByRecursion, length-take, take-take, Geometry, LAST, log_place, IsRecord, Written, records, spliced, Torn, get_or-torn, slice-torn, spliced_torn, torn_same, IsClosed, IsOpen, Half, IsHeld, HasLog, MayFollow, last_told, next_gate, told_bytes, with_records, Appending, InLog}, Appends.appending_gate, Frames.{frame, held_half, log_inside}, Logs.{has_log, log_front, log_gate, log_step, log_whole, records-append}}
 
 -- the log of the half that an image holds
 pub held_log : (g : Geometry) (x : Half) (c : List ℕ) → IsHeld g x c → HasLog (log_place g x.at) g.log g (x.base + 1) x.told c

@@ -1,6 +1,5 @@
 -- An image whose bytes change in the half that is not the current one.
-use Rattle.iso_image.proofs.Words.{◌≡◌, ◌⊎◌, inl, inr, ◌<◌, ◌≤◌, ◌+◌, ◌-◌, ◌==◌, ℕ, zero, suc, List, take, drop, get_or, Bool, true, false, Some, refl, sym, ◌∙◌, ap, arith, subst, eq-eqb, ne_eqb, lt-ltb, le-ltb, cond, from_be_bytes, to_be_bytes, w64, cases_eq, drop-drop, drop-take, take-take, get_or-take, get_or-drop, from_be_bytes-to_be_bytes_8, Geometry, LAST, half_size, header_place, base_place, log_place, IsLog, blocks_of, chosen_half, current_half, generation_at, half_header, is_open_at, Torn, slice-torn, get_or-torn, take-torn, IsClosed, IsOpen, Half, IsHeld, InHalf}
-use Rattle.iso_image.proofs.Frames.{blocks_same}
+use Rattle.iso_image.proofs.{Words.{◌≡◌, ◌⊎◌, inl, inr, ◌<◌, ◌≤◌, ◌+◌, ◌-◌, ◌==◌, ℕ, zero, suc, List, take, drop, get_or, Bool, true, false, Some, refl, sym, ◌∙◌, ap, arith, subst, eq-eqb, ne_eqb, lt-ltb, le-ltb, cond, from_be_bytes, to_be_bytes, w64, cases_eq, drop-drop, drop-take, take-take, get_or-take, get_or-drop, from_be_bytes-to_be_bytes_8, Geometry, LAST, half_size, header_place, base_place, log_place, IsLog, blocks_of, chosen_half, current_half, generation_at, half_header, is_open_at, Torn, slice-torn, get_or-torn, take-torn, IsClosed, IsOpen, Half, IsHeld, InHalf}, Frames.blocks_same}
 
 -- what stands in the one half stands outside the other
 pub apart : (g : Geometry) (half other at n i len : ℕ) → half + other ≡ 1 → header_place g other ≤ at → at + n ≤ header_place g other + half_size g

@@ -1,7 +1,5 @@
 -- Where a record stands in a log.
-use Rattle.iso_image.proofs.Words.{◌≡◌, ◌≤◌, ◌+◌, ◌-◌, ℕ, suc, List, ◌∷◌, ◌++◌, length, take, drop, refl, sym, ◌∙◌, ap, arith, length-append, subst, take_at, drop_at, drop-take, take-take, drop-drop, length-take, Geometry, log_place, Written, kind_of, records, spell, Half, HasLog, IsHeld}
-use Rattle.iso_image.proofs.Adds.{held_log}
-use Rattle.iso_image.proofs.Logs.{log_front, records-append}
+use Rattle.iso_image.proofs.{Words.{◌≡◌, ◌≤◌, ◌+◌, ◌-◌, ℕ, suc, List, ◌∷◌, ◌++◌, length, take, drop, refl, sym, ◌∙◌, ap, arith, length-append, subst, take_at, drop_at, drop-take, take-take, drop-drop, length-take, Geometry, log_place, Written, kind_of, records, spell, Half, HasLog, IsHeld}, Adds.held_log, Logs.{log_front, records-append}}
 
 slice_front : (k at n : ℕ) (bytes : List ℕ) → at + n ≤ k → take n (drop at (take k bytes)) ≡ take n (drop at bytes)
 slice_front k at n bytes inside =

@@ -1,6 +1,5 @@
 -- The gate of the half that is not the current one, as it opens over what the half was filled with.
-use Rattle.iso_image.proofs.Words.{◌≡◌, ◌⊎◌, inl, inr, ◌<◌, ◌≤◌, ◌+◌, ◌-◌, ℕ, zero, suc, List, ◌∷◌, length, take, drop, get_or, refl, sym, ◌∙◌, ap, arith, eq-eqb, cases_eq, drop_more, Geometry, image_size, half_size, header_place, base_place, log_place, blocks_of, half_header, superblock, Torn, take-torn, drop-torn, IsOpen, Half, IsHeld, IsFilled, in_form, InHalf, MaySwitch}
-use Rattle.iso_image.proofs.Others.{both_open, beside_closed, still_open, still_generation, told_generation}
+use Rattle.iso_image.proofs.{Words.{◌≡◌, ◌⊎◌, inl, inr, ◌<◌, ◌≤◌, ◌+◌, ◌-◌, ℕ, zero, suc, List, ◌∷◌, length, take, drop, get_or, refl, sym, ◌∙◌, ap, arith, eq-eqb, cases_eq, drop_more, Geometry, image_size, half_size, header_place, base_place, log_place, blocks_of, half_header, superblock, Torn, take-torn, drop-torn, IsOpen, Half, IsHeld, IsFilled, in_form, InHalf, MaySwitch}, Others.{both_open, beside_closed, still_open, still_generation, told_generation}}
 
 super_form : (g : Geometry) (form : ℕ) → superblock 1 (in_form form g) ≡ superblock 1 g
 unfolding superblock

@@ -1,8 +1,5 @@
 -- Known bytes, one piece after another.
-use Rattle.std.proofs.Common.{◌≡◌, ℕ, ◌+◌, ◌-◌, ◌≤◌, length-drop, length-append, List, ◌++◌, [], Option, None, Some, take, drop, length, refl, ap, sym, ◌∙◌, append_assoc, append-nil, arith}
-use Rattle.std.proofs.lemmas.List.{take_all, take-append-drop, drop-drop}
-use Rattle.std.proofs.Math.Seq.{take-add}
-use Rattle.std.specs.Io.KnownBytes.{append_known, prepend_known}
+use Rattle.std.{proofs.Common.{◌≡◌, ℕ, ◌+◌, ◌-◌, ◌≤◌, length-drop, length-append, List, ◌++◌, [], Option, None, Some, take, drop, length, refl, ap, sym, ◌∙◌, append_assoc, append-nil, arith}, proofs.lemmas.List.{take_all, take-append-drop, drop-drop}, proofs.Math.Seq.take-add, specs.Io.KnownBytes.{append_known, prepend_known}}
 use Rattle.iso_io.specs.Source.{SourceState, Took, TookAtMost}
 
 -- two pieces put one after the other

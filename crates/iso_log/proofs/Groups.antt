@@ -1,6 +1,5 @@
 -- What becomes of a log's records, and of the half that an image holds, as a group of records is appended.
-use Rattle.iso_log.proofs.Words.{◌≡◌, ◌⊎◌, ◌<◌, ◌≤◌, ◌+◌, ◌-◌, ℕ, List, [], ◌∷◌, ◌++◌, length, get_or, sym, ◌∙◌, ap, arith, length-append, append_assoc, subst, Geometry, Written, kind_of, records, spell, DiskState, IsLawful, LeavesOnly, spliced, length-image, weakened, IsClosed, Appending, Half, HasLog, IsHeld, MayFollow, last_told, told_bytes, with_records, adding, added, log_gate, log_step, log_whole, records-append, Extent, extent_of, next_place, AppendedTo, AppendingFrom, HasTold, IsNext}
-use Rattle.iso_log.proofs.Counts.{spell_gate}
+use Rattle.iso_log.proofs.{Words.{◌≡◌, ◌⊎◌, ◌<◌, ◌≤◌, ◌+◌, ◌-◌, ℕ, List, [], ◌∷◌, ◌++◌, length, get_or, sym, ◌∙◌, ap, arith, length-append, append_assoc, subst, Geometry, Written, kind_of, records, spell, DiskState, IsLawful, LeavesOnly, spliced, length-image, weakened, IsClosed, Appending, Half, HasLog, IsHeld, MayFollow, last_told, told_bytes, with_records, adding, added, log_gate, log_step, log_whole, records-append, Extent, extent_of, next_place, AppendedTo, AppendingFrom, HasTold, IsNext}, Counts.spell_gate}
 
 -- ---- where a log that was opened into its fields goes on
 

@@ -1,8 +1,7 @@
 -- A begin, by what the core answers.
-use Rattle.iso_machine.proofs.Words.{◌≡◌, ◌≢◌, ◌∙◌, sym, refl, ap, ℕ, Bool, true, false, cond, ◌==◌, ◌&&◌, not, length, nat_le, nat_lt, Option, IsTrue, and_parts, Geometry, Mode, LAST, MAX_LIVE, CoreReply, as_step, is_block_size, is_valid, same_mode, last, after_begin, begin_step, mode_named, out_of_transaction, step, World, Live, Place, attached, client}
+use Rattle.iso_machine.proofs.{Words.{◌≡◌, ◌≢◌, ◌∙◌, sym, refl, ap, ℕ, Bool, true, false, cond, ◌==◌, ◌&&◌, not, length, nat_le, nat_lt, Option, IsTrue, and_parts, Geometry, Mode, LAST, MAX_LIVE, CoreReply, as_step, is_block_size, is_valid, same_mode, last, after_begin, begin_step, mode_named, out_of_transaction, step, World, Live, Place, attached, client}, Refusals.{KeepsRefused, keeps_either}}
 use Rattle.script_model.specs.declared.script.Op.TheVariants as op
 use Rattle.iso_model.specs.declared.core_reply.CoreReply.TheVariants as reply
-use Rattle.iso_machine.proofs.Refusals.{KeepsRefused, keeps_either}
 
 -- the reply does not depend on the place
 same_either : (W : World) (test : Bool) (r : CoreReply) (x y : CoreReply × World) → x.0 ≡ y.0 → (cond test (r, W) x).0 ≡ (cond test (r, W) y).0

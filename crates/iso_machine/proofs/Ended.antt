@@ -1,10 +1,8 @@
 -- A machine whose members are taken out, and what it answers once the core has ended them.
-use Rattle.iso_machine.proofs.Words.{◌≡◌, ◌∙◌, ◌⊎◌, inl, inr, sym, refl, ap, subst, ℕ, ◌≤◌, List, [], ◌∷◌, length, map, Option, Some, None, Err, arith, AllByRecursion, DiskState, LeavesOnly, Geometry, GroupReply, CoreError, World, Live, found_ones, group, group_step, grouped, label_replies, looks, step, Reply, Core, GroupEnd, StandsFor, AreEach, IsMember, up, ShowsEither, Attached, IsSized, live_of, AreOf, Answers, Never, answer_to, HasTaken, filled, found_in, left_in, member_of, stand_in, without_found, under, reply_in, AreListed, Finder}
+use Rattle.iso_machine.proofs.{Words.{◌≡◌, ◌∙◌, ◌⊎◌, inl, inr, sym, refl, ap, subst, ℕ, ◌≤◌, List, [], ◌∷◌, length, map, Option, Some, None, Err, arith, AllByRecursion, DiskState, LeavesOnly, Geometry, GroupReply, CoreError, World, Live, found_ones, group, group_step, grouped, label_replies, looks, step, Reply, Core, GroupEnd, StandsFor, AreEach, IsMember, up, ShowsEither, Attached, IsSized, live_of, AreOf, Answers, Never, answer_to, HasTaken, filled, found_in, left_in, member_of, stand_in, without_found, under, reply_in, AreListed, Finder}, Quiet.{answers_by, no_reply}, Groups.{are_members, filled_is, found_is, geometry_behind, live_behind, looks_is, none_found, stands_looked}}
 use Rattle.iso_core.specs.Calls as core
 use Rattle.iso_model.specs.declared.core_error.CoreError.TheVariants as error
 use Rattle.script_model.specs.declared.script.Op.TheVariants as op
-use Rattle.iso_machine.proofs.Quiet.{answers_by, no_reply}
-use Rattle.iso_machine.proofs.Groups.{are_members, filled_is, found_is, geometry_behind, live_behind, looks_is, none_found, stands_looked}
 
 pub step_is : (W : World) (c : ℕ) (texts : List (List ℕ)) → step W c (op.Group texts) ≡ grouped (group_step W texts)
 unfolding step

@@ -1,6 +1,5 @@
 -- A group over a machine: what is taken out of its list is what the model finds under the labels, and stands for the same world.
-use Rattle.iso_machine.proofs.Words.{◌≡◌, ◌≢◌, ◌∙◌, ◌⊎◌, sym, refl, ap, subst, ℕ, ◌==◌, not, Bool, true, false, cond, List, [], ◌∷◌, map, filter, Option, Some, None, inl, inr, eq-eqb, ne_eqb, cases_eq, AllByRecursion, all_filter, all_find, all_weaker, same_number, DiskState, Geometry, GroupReply, World, Live, Place, held, is_under_label, unattached, with, without, IsWorld, placed, after_leaving, with_live, after_look, ahead, decided, decided_live, found_ones, group, group_is, group_step, label_replies, leave_all, looks, made_by, member_reply, held_live, look_leads, looks_lead, looks_geometry, end_step, Core, IsAmong, StandsFor, AreEach, IsMember, bare, up, Attached, IsSized, live_of, filled, found_in, left_in, member_of, stand_in, under, without_found}
-use Rattle.iso_machine.proofs.Besides.{stands_besides}
+use Rattle.iso_machine.proofs.{Words.{◌≡◌, ◌≢◌, ◌∙◌, ◌⊎◌, sym, refl, ap, subst, ℕ, ◌==◌, not, Bool, true, false, cond, List, [], ◌∷◌, map, filter, Option, Some, None, inl, inr, eq-eqb, ne_eqb, cases_eq, AllByRecursion, all_filter, all_find, all_weaker, same_number, DiskState, Geometry, GroupReply, World, Live, Place, held, is_under_label, unattached, with, without, IsWorld, placed, after_leaving, with_live, after_look, ahead, decided, decided_live, found_ones, group, group_is, group_step, label_replies, leave_all, looks, made_by, member_reply, held_live, look_leads, looks_lead, looks_geometry, end_step, Core, IsAmong, StandsFor, AreEach, IsMember, bare, up, Attached, IsSized, live_of, filled, found_in, left_in, member_of, stand_in, under, without_found}, Besides.stands_besides}
 
 -- WHAT IS FOUND
 -- all but those that are left out, which are nowhere

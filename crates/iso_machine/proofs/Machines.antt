@@ -1,9 +1,6 @@
 -- A machine whose transactions change, leave and begin.
-use Rattle.iso_machine.proofs.Words.{◌≡◌, ◌∙◌, sym, refl, ap, subst, ℕ, ◌<◌, Bool, List, [], ◌∷◌, ◌++◌, length, get_or, set, map, Option, Some, None, find, AllByRecursion, remove, map_push, set-get_or, DiskState, Geometry, Mode, Op, last, after_begin, with_live, in_transaction, out_of_transaction, release_step, step, takeover_step, World, Live, Place, attached, held, is_at_client, is_under_label, unattached, with, without, AreDistinct, IsWorld, IsOp, all_push, step_leads, Core, IsAmong, IsTx, IsWorkOf, StandsFor, bare, up, Doing, Attached, IsActive, IsWorkedTo, act_step, AreKnown, AreListed, AreOf, Finder, IsOff, IsSized, IsTrue, is_label, live_of, number_at, number_under, HoldsAt, IfSome, IsHere, MatchOption, get, key_of, nat_eq, ◌≢◌}
+use Rattle.iso_machine.proofs.{Words.{◌≡◌, ◌∙◌, sym, refl, ap, subst, ℕ, ◌<◌, Bool, List, [], ◌∷◌, ◌++◌, length, get_or, set, map, Option, Some, None, find, AllByRecursion, remove, map_push, set-get_or, DiskState, Geometry, Mode, Op, last, after_begin, with_live, in_transaction, out_of_transaction, release_step, step, takeover_step, World, Live, Place, attached, held, is_at_client, is_under_label, unattached, with, without, AreDistinct, IsWorld, IsOp, all_push, step_leads, Core, IsAmong, IsTx, IsWorkOf, StandsFor, bare, up, Doing, Attached, IsActive, IsWorkedTo, act_step, AreKnown, AreListed, AreOf, Finder, IsOff, IsSized, IsTrue, is_label, live_of, number_at, number_under, HoldsAt, IfSome, IsHere, MatchOption, get, key_of, nat_eq, ◌≢◌}, Besides.stands_besides, Lists.{all_at, all_remove, all_set, among_at, bare_with, remove_set, with_at, without_at}, Whereabouts.{alone, client_lone, clients_go, is_there}}
 use Rattle.script_model.specs.declared.script.Op.TheVariants as op
-use Rattle.iso_machine.proofs.Besides.{stands_besides}
-use Rattle.iso_machine.proofs.Lists.{all_at, all_remove, all_set, among_at, bare_with, remove_set, with_at, without_at}
-use Rattle.iso_machine.proofs.Whereabouts.{alone, client_lone, clients_go, is_there}
 use Rattle.iso_machine.specs.declared.attached.Spot.TheVariants as spot
 
 module _ {D : Type 0} {state : D → DiskState} {core : Core D} {table : Finder} {live : List Attached} {W : World} (of : AreOf state core table live W) where

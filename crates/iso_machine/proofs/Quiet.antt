@@ -1,8 +1,7 @@
 -- Answers that are given, and answers that write nothing.
-use Rattle.iso_machine.proofs.Words.{◌≡◌, inl, ap, sym, refl, subst, ℕ, List, Result, Ok, Err, IfErr, IfOk, IsErrOf, OnErr, IsSome, Option, arith, DiskState, IsLawful, LeavesOnly, StaysTold, WritesNothing, started, stays, Reply, last, Shows, World, Live, Doing, Stop, ShowsEither, BlamesDisk, IsShown, IsWorkedTo, Answers, AreOf, Attached, Core, Finder, disk_of, shows}
+use Rattle.iso_machine.proofs.{Words.{◌≡◌, inl, ap, sym, refl, subst, ℕ, List, Result, Ok, Err, IfErr, IfOk, IsErrOf, OnErr, IsSome, Option, arith, DiskState, IsLawful, LeavesOnly, StaysTold, WritesNothing, started, stays, Reply, last, Shows, World, Live, Doing, Stop, ShowsEither, BlamesDisk, IsShown, IsWorkedTo, Answers, AreOf, Attached, Core, Finder, disk_of, shows}, Accesses.same_but_shown}
 use Rattle.iso_core.specs.Calls as core
 use Rattle.script_model.specs.declared.stop.Stop.TheVariants as stop
-use Rattle.iso_machine.proofs.Accesses.{same_but_shown}
 
 -- a call that has no reply
 pub no_reply : {goes_on : Stop → Type 0} {stands : World → Type 0} {old new : DiskState} {W : World} {given : Reply × World} {why : Stop} → LeavesOnly old new (ShowsEither W given.1) → (why ≡ stop.Down → ⊥)

@@ -1,11 +1,9 @@
 -- Answers where a call of the core is refused.
-use Rattle.iso_machine.proofs.Words.{◌≡◌, ◌≢◌, ◌∙◌, ◌⊎◌, inl, inr, sym, refl, ap, subst, ℕ, List, Bool, true, false, cond, Err, Ok, None, Some, IsSome, arith, DiskState, IsLawful, LeavesOnly, StaysTold, started, CoreError, CoreReply, as_reply, as_step, last, Shows, World, Refuses, ShowsEither, Stop, Answers, answer_to}
+use Rattle.iso_machine.proofs.{Words.{◌≡◌, ◌≢◌, ◌∙◌, ◌⊎◌, inl, inr, sym, refl, ap, subst, ℕ, List, Bool, true, false, cond, Err, Ok, None, Some, IsSome, arith, DiskState, IsLawful, LeavesOnly, StaysTold, started, CoreError, CoreReply, as_reply, as_step, last, Shows, World, Refuses, ShowsEither, Stop, Answers, answer_to}, Accesses.same_but_shown, Quiet.no_reply}
 use Rattle.iso_model.specs.declared.core_error.CoreError.TheVariants as error
 use Rattle.iso_model.specs.declared.core_reply.CoreReply.TheVariants as reply
 use Rattle.script_model.specs.declared.stop.Stop.TheVariants as stop
 use Rattle.iso_core.specs.Calls as core
-use Rattle.iso_machine.proofs.Accesses.{same_but_shown}
-use Rattle.iso_machine.proofs.Quiet.{no_reply}
 
 -- a reply that stands for an error of a core
 abbrev pub IsRefusal : CoreReply → Type 0

@@ -1,10 +1,8 @@
 -- What an operation on a store makes of the world.
-use Rattle.iso_machine.proofs.Words.{◌≡◌, ◌≢◌, ◌∙◌, sym, refl, ap, subst, ℕ, ◌+◌, ◌-◌, ◌≤◌, ◌==◌, Bool, true, false, cond, List, ◌++◌, length, Option, Some, None, Result, Ok, Err, IfOk, option_map, arith, DiskState, IsLawful, Access, Serial, Snapshot, Op, Reply, FileAreas, FsRegion, own, array_at, MAX_ACCESSES, array_of, in_store, with_accesses, World, Live, Core, IsTx, StandsFor, disk_of, up, IsSameWork, tx_of, array_in, array_told, array_shown, Doing, Tx, Stop, IfTold, IsActive, IsGiven, HasCalled, AreStoreAreas, is_empty_scan, store_areas, store_blocks, store_ended, store_areas_fit, store_areas_are, IsStored, store_act}
-use Rattle.std.specs.Prelude.{IsSome}
-use Rattle.std.proofs.lemmas.Bool.{eq-eqb, ne_eqb}
+use Rattle.iso_machine.proofs.{Words.{◌≡◌, ◌≢◌, ◌∙◌, sym, refl, ap, subst, ℕ, ◌+◌, ◌-◌, ◌≤◌, ◌==◌, Bool, true, false, cond, List, ◌++◌, length, Option, Some, None, Result, Ok, Err, IfOk, option_map, arith, DiskState, IsLawful, Access, Serial, Snapshot, Op, Reply, FileAreas, FsRegion, own, array_at, MAX_ACCESSES, array_of, in_store, with_accesses, World, Live, Core, IsTx, StandsFor, disk_of, up, IsSameWork, tx_of, array_in, array_told, array_shown, Doing, Tx, Stop, IfTold, IsActive, IsGiven, HasCalled, AreStoreAreas, is_empty_scan, store_areas, store_blocks, store_ended, store_areas_fit, store_areas_are, IsStored, store_act}, Accesses.{has_worked, refused}}
+use Rattle.std.{specs.Prelude.IsSome, proofs.lemmas.Bool.{eq-eqb, ne_eqb}}
 use Rattle.script_model.specs.declared.script.Reply.TheVariants as reply
 use Rattle.store_calls.specs.Calls.{placed}
-use Rattle.iso_machine.proofs.Accesses.{has_worked, refused}
 
 no_store : (W : World) (t : Live) (blocks : ℕ) (result : Reply × World) → blocks ≡ 0 → in_store W t blocks result ≡ (reply.NoStore, W)
 no_store W t blocks result e = let none : (blocks == 0) ≡ true = eq-eqb blocks 0 e in rw none refl

@@ -1,11 +1,9 @@
 -- A switch to the other half.
-use Rattle.iso_machine.proofs.Words.{◌≡◌, ◌≢◌, ◌⊎◌, ◌==◌, if◌then◌else◌, inl, refl, sym, subst, ℕ, List, Bool, true, false, Err, IsSome, DiskState, LeavesOnly, weakened, CoreError, LAST, CoreReply, as_step, after_switch, switch_step, step, World, floor, all_weaker, Core, Refuses, refusal_of, StandsFor, disk_of, up, ShowsLast, Attached, Answers, Wanting, answer_to, AreOf, Finder, IsSized}
+use Rattle.iso_machine.proofs.{Words.{◌≡◌, ◌≢◌, ◌⊎◌, ◌==◌, if◌then◌else◌, inl, refl, sym, subst, ℕ, List, Bool, true, false, Err, IsSome, DiskState, LeavesOnly, weakened, CoreError, LAST, CoreReply, as_step, after_switch, switch_step, step, World, floor, all_weaker, Core, Refuses, refusal_of, StandsFor, disk_of, up, ShowsLast, Attached, Answers, Wanting, answer_to, AreOf, Finder, IsSized}, Machines.same, Refusals.{IsRefusal, KeepsRefused, blames, refused}}
 use Rattle.iso_model.specs.declared.core_error.CoreError.TheVariants as error
 use Rattle.iso_model.specs.declared.core_reply.CoreReply.TheVariants as reply
 use Rattle.script_model.specs.declared.script.Op.TheVariants as op
 use Rattle.iso_core.specs.Calls.{BlamesDisk}
-use Rattle.iso_machine.proofs.Machines.{same}
-use Rattle.iso_machine.proofs.Refusals.{IsRefusal, KeepsRefused, blames, refused}
 
 -- the transactions stay
 pub switched : {D : Type 0} {state : D → DiskState} {core new : Core D} {table : Finder} {live : List Attached} {W : World} (form : ℕ) → AreOf state core table live W → StandsFor state new (after_switch W form) up

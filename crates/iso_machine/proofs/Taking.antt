@@ -1,7 +1,6 @@
 -- Transactions that are taken out of the list of live ones for a group.
-use Rattle.iso_machine.proofs.Words.{◌≡◌, ◌∙◌, sym, refl, ap, subst, ℕ, ◌<◌, List, [], ◌∷◌, ◌++◌, length, get_or, map, arith, Option, Some, None, Result, Ok, Err, OnOk, append-nil, append_assoc, map-append, not, ◌==◌, AllByRecursion, remove, distinct_filter, GroupReply, found_ones, Live, AreDistinct, GroupEnd, Attached, IsSized, live_of, HasTaken, found_in, left_in, member_of, stand_in, under, without_found, all_append}
+use Rattle.iso_machine.proofs.{Words.{◌≡◌, ◌∙◌, sym, refl, ap, subst, ℕ, ◌<◌, List, [], ◌∷◌, ◌++◌, length, get_or, map, arith, Option, Some, None, Result, Ok, Err, OnOk, append-nil, append_assoc, map-append, not, ◌==◌, AllByRecursion, remove, distinct_filter, GroupReply, found_ones, Live, AreDistinct, GroupEnd, Attached, IsSized, live_of, HasTaken, found_in, left_in, member_of, stand_in, under, without_found, all_append}, Lists.{all_at, all_remove, without_at}}
 use Rattle.iso_model.specs.declared.access.GroupReply.TheVariants as member
-use Rattle.iso_machine.proofs.Lists.{all_at, all_remove, without_at}
 
 -- nothing is under the label
 pub none_taken : (text : List ℕ) (list live : List Attached) (answers new : List (Option GroupReply)) (ends : List GroupEnd) → list ≡ live → under text (map live_of list) ≡ None → new ≡ answers ++ None ∷ []

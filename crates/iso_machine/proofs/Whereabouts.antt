@@ -1,7 +1,6 @@
 -- Who is at a client and who under a label, and what is noted of them.
-use Rattle.iso_machine.proofs.Words.{◌≡◌, ◌≢◌, ◌∙◌, ◌⊎◌, inl, inr, sym, refl, ap, subst, ℕ, zero, suc, ◌<◌, Bool, true, false, IsTrue, cond, List, [], ◌∷◌, length, get_or, set, map, arith, ne_eqb, eqb-true, both_ways, bytes_eq, bytes_eq-Decides, cases_eq, Option, Some, None, slice_index_or, find, AllByRecursion, Live, Place, client, label, unattached, is_at_client, is_label, is_under_label, AreDistinct, AreTwo, Attached, AreListed, Finder, IsOff, live_of, number_at, number_under, place_of, AreApart, same_Some}
+use Rattle.iso_machine.proofs.{Words.{◌≡◌, ◌≢◌, ◌∙◌, ◌⊎◌, inl, inr, sym, refl, ap, subst, ℕ, zero, suc, ◌<◌, Bool, true, false, IsTrue, cond, List, [], ◌∷◌, length, get_or, set, map, arith, ne_eqb, eqb-true, both_ways, bytes_eq, bytes_eq-Decides, cases_eq, Option, Some, None, slice_index_or, find, AllByRecursion, Live, Place, client, label, unattached, is_at_client, is_label, is_under_label, AreDistinct, AreTwo, Attached, AreListed, Finder, IsOff, live_of, number_at, number_under, place_of, AreApart, same_Some}, Lists.two_at}
 use Rattle.iso_machine.specs.declared.attached.Spot.TheVariants as spot
-use Rattle.iso_machine.proofs.Lists.{two_at}
 
 -- of two places that are apart one alone passes
 abbrev pub IsLone : (Place → Bool) → Type 0

@@ -1,6 +1,5 @@
 -- A crash after all calls: those up to the last sync were done, and those behind it may be torn.
-use Rattle.iso_memdisk.proofs.Words.{◌≡◌, ℕ, List, length, take, drop, refl, sym, ◌∙◌, ap, subst, take-append-drop, Call, written, images_after, AllFit, TornBy, written-image}
-use Rattle.iso_memdisk.proofs.Calls.{written-append, images_after-join, torn_image}
+use Rattle.iso_memdisk.proofs.{Words.{◌≡◌, ℕ, List, length, take, drop, refl, sym, ◌∙◌, ap, subst, take-append-drop, Call, written, images_after, AllFit, TornBy, written-image}, Calls.{written-append, images_after-join, torn_image}}
 
 module _ (calls : List Call) (stable : ℕ) (first mid last : List ℕ) (replayed : mid ≡ written (take stable calls) first) where
   pub crash_image : AllFit (length first) (take stable calls) → TornBy (drop stable calls) mid last → images_after calls first (λ c. c ≡ first) last

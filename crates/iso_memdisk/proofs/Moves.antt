@@ -1,6 +1,5 @@
 -- What a call of a memory disk does to its moments: nothing, or one more call in the record.
-use Rattle.iso_memdisk.proofs.Words.{◌≡◌, ◌⊎◌, inl, inr, ⊎_elim, ◌≤◌, ◌+◌, ℕ, List, [], ◌∷◌, ◌++◌, length, take, Some, Vec, refl, sym, ◌∙◌, ap, subst, arith, length-append, take_all, take-append-le, option_map, Global, spliced, TornFrom, Elapses, IsSettled, Call, Write, Sync, MemDisk, written, images_after, bytes_of, contents_of, now_of, clock_of, state_of, IsUntouched, Appends, written-image}
-use Rattle.iso_memdisk.proofs.Calls.{written-append, images_after-append, images_after-join}
+use Rattle.iso_memdisk.proofs.{Words.{◌≡◌, ◌⊎◌, inl, inr, ⊎_elim, ◌≤◌, ◌+◌, ℕ, List, [], ◌∷◌, ◌++◌, length, take, Some, Vec, refl, sym, ◌∙◌, ap, subst, arith, length-append, take_all, take-append-le, option_map, Global, spliced, TornFrom, Elapses, IsSettled, Call, Write, Sync, MemDisk, written, images_after, bytes_of, contents_of, now_of, clock_of, state_of, IsUntouched, Appends, written-image}, Calls.{written-append, images_after-append, images_after-join}}
 
 -- the images that first bytes and a record may leave, now and since a moment
 abbrev images : List Call → List ℕ → List ℕ → Type 0

@@ -1,7 +1,6 @@
 -- How the loops over the calls go on.
-use Rattle.iso_memdisk.proofs.Words.{◌≡◌, ◌⊎◌, ⊎_elim, ◌<◌, ◌≤◌, ◌+◌, ℕ, zero, suc, List, [], ◌∷◌, ◌++◌, length, take, drop, get_or, Some, slice_get, refl, sym, ◌∙◌, ap, subst, arith, drop_more, take_more, same_Some, slice_get-get_or, slice_get_within, Global, spliced, Torn, Call, Write, Sync, written, synced, AllFit, NoSync, TornBy}
+use Rattle.iso_memdisk.proofs.{Words.{◌≡◌, ◌⊎◌, ⊎_elim, ◌<◌, ◌≤◌, ◌+◌, ℕ, zero, suc, List, [], ◌∷◌, ◌++◌, length, take, drop, get_or, Some, slice_get, refl, sym, ◌∙◌, ap, subst, arith, drop_more, take_more, same_Some, slice_get-get_or, slice_get_within, Global, spliced, Torn, Call, Write, Sync, written, synced, AllFit, NoSync, TornBy}, Calls.written-append}
 use Rattle.std.specs.Prelude.{Vec}
-use Rattle.iso_memdisk.proofs.Calls.{written-append}
 
 -- of the first i calls, none after the first `stable` is a sync, and these come to what was synced
 pub record IsStable (calls : List Call) (i stable : ℕ) : Type 0 where

@@ -1,9 +1,6 @@
 -- The accesses that operations make are accesses to the array.
-use Rattle.iso_model.proofs.Words.{◌≡◌, refl, ap, ℕ, zero, suc, ◌+◌, ◌-◌, ◌<◌, ◌≤◌, Bool, true, false, ◌==◌, not, cond, List, [], ◌∷◌, ◌++◌, length, Some, None, nat_le, nat_lt, replicate, arith, or_parts, leb-false, ltb-false, eqb-false, length_push, Access, Geometry, Span, MAX_SPANS, IsAccess, IsSpan, AreAccesses, AreBytes, is_outside, marked, marks_fault, mark_fault, put_access, read_access, get_access, write_access}
+use Rattle.iso_model.proofs.{Words.{◌≡◌, refl, ap, ℕ, zero, suc, ◌+◌, ◌-◌, ◌<◌, ◌≤◌, Bool, true, false, ◌==◌, not, cond, List, [], ◌∷◌, ◌++◌, length, Some, None, nat_le, nat_lt, replicate, arith, or_parts, leb-false, ltb-false, eqb-false, length_push, Access, Geometry, Span, MAX_SPANS, IsAccess, IsSpan, AreAccesses, AreBytes, is_outside, marked, marks_fault, mark_fault, put_access, read_access, get_access, write_access}, ByteLists.{no_bytes, bytes_append, replicate_bytes}, Growth.all_push, Recorded.length-recorded}
 use Rattle.iso_model.specs.declared.access.MarkError.TheVariants as mark
-use Rattle.iso_model.proofs.ByteLists.{no_bytes, bytes_append, replicate_bytes}
-use Rattle.iso_model.proofs.Growth.{all_push}
-use Rattle.iso_model.proofs.Recorded.{length-recorded}
 
 -- the accesses that operations make
 pub put_is_access : (g : Geometry) (block off : ℕ) (bytes : List ℕ) → block < g.blocks → 0 < length bytes → off + length bytes ≤ g.block → AreBytes bytes

@@ -1,6 +1,5 @@
 -- What holds of an image holds of it in another form: the numbers of its array are the same.
-use Rattle.iso_model.proofs.Words.{◌≡◌, refl, sym, ℕ, ◌-◌, ◌≤◌, IsTrue, List, [], ◌∷◌, Option, Some, None, IfSome, slice_get, sum_by, arith, subst, and_parts, and_from, le-leb, Access, Commit, Geometry, Mode, Serial, Snapshot, Run, record_length, runs, is_valid, History, AreRuns, IsRecord, Written, written, HasSeen, IsIsolated, IsIsolatedAt, AreAccesses, IsAccess, IsHistory, AreRecords}
-use Rattle.iso_model.proofs.Growth.{all_weaker}
+use Rattle.iso_model.proofs.{Words.{◌≡◌, refl, sym, ℕ, ◌-◌, ◌≤◌, IsTrue, List, [], ◌∷◌, Option, Some, None, IfSome, slice_get, sum_by, arith, subst, and_parts, and_from, le-leb, Access, Commit, Geometry, Mode, Serial, Snapshot, Run, record_length, runs, is_valid, History, AreRuns, IsRecord, Written, written, HasSeen, IsIsolated, IsIsolatedAt, AreAccesses, IsAccess, IsHistory, AreRecords}, Growth.all_weaker}
 
 abbrev pub in_form : Geometry → ℕ → Geometry
 in_form g form = record g { form = form }

@@ -1,7 +1,5 @@
 -- A world that was just made or opened is sound, and in a serial one every commit is serial.
-use Rattle.iso_model.proofs.Words.{◌≡◌, ◌∙◌, refl, ℕ, zero, suc, ◌+◌, ◌-◌, ◌<◌, ◌≤◌, IsTrue, List, [], ◌∷◌, Option, Some, None, slice_get, IfSome, arith, subst, same_Some, Commit, Geometry, Mode, Serial, LAST, IsSerialAt, is_valid, History, last, IsRecord, written, HasSeen, IsIsolated, IsIsolatedAt, IsHistory, World, used, fresh, empty_history, AreRecords, IsWorld}
-use Rattle.iso_model.proofs.Bounds.{limits}
-use Rattle.iso_model.proofs.Growth.{empty_is}
+use Rattle.iso_model.proofs.{Words.{◌≡◌, ◌∙◌, refl, ℕ, zero, suc, ◌+◌, ◌-◌, ◌<◌, ◌≤◌, IsTrue, List, [], ◌∷◌, Option, Some, None, slice_get, IfSome, arith, subst, same_Some, Commit, Geometry, Mode, Serial, LAST, IsSerialAt, is_valid, History, last, IsRecord, written, HasSeen, IsIsolated, IsIsolatedAt, IsHistory, World, used, fresh, empty_history, AreRecords, IsWorld}, Bounds.limits, Growth.empty_is}
 
 -- the world of an image that was just made or opened
 pub fresh_is : (g : Geometry) (generation : ℕ) (H : History) → IsTrue (is_valid g) → IsHistory g H → IsIsolated g H → AreRecords g H.commits

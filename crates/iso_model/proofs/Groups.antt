@@ -1,9 +1,6 @@
 -- What a group does to a world.
-use Rattle.iso_model.proofs.Words.{◌≡◌, ◌∙◌, sym, refl, ap, ℕ, ◌+◌, ◌-◌, ◌<◌, ◌≤◌, Bool, true, false, ◌==◌, cond, List, [], ◌∷◌, ◌++◌, length, arith, subst, None, Some, Option, nat_lt, append-nil, eqb-false, ltb-false, length-append, length_push, AllByRecursion, Clash, Commit, LAST, GroupReply, CoreReply, clash, has_write, Follow, after_look, after_member, ahead, decided, found_ones, group, group_step, leave_all, looks, made_by, member_reply, numbers_told, with_first, last, after_commit, after_leaving, commit_from, placed, commit_step, end_step, need, with_live, World, Live, Place, client, held, is_under_label, label, unattached, used, without, AreApart, IsLive, IsWorld, LeadsTo}
+use Rattle.iso_model.proofs.{Words.{◌≡◌, ◌∙◌, sym, refl, ap, ℕ, ◌+◌, ◌-◌, ◌<◌, ◌≤◌, Bool, true, false, ◌==◌, cond, List, [], ◌∷◌, ◌++◌, length, arith, subst, None, Some, Option, nat_lt, append-nil, eqb-false, ltb-false, length-append, length_push, AllByRecursion, Clash, Commit, LAST, GroupReply, CoreReply, clash, has_write, Follow, after_look, after_member, ahead, decided, found_ones, group, group_step, leave_all, looks, made_by, member_reply, numbers_told, with_first, last, after_commit, after_leaving, commit_from, placed, commit_step, end_step, need, with_live, World, Live, Place, client, held, is_under_label, label, unattached, used, without, AreApart, IsLive, IsWorld, LeadsTo}, Distinct.all_find, Growth.all_weaker, Worlds.{commits, leads_on, leaves, live_on, places, same_geometry, stays}}
 use Rattle.iso_model.specs.declared.core_reply.CoreReply.TheVariants as reply
-use Rattle.iso_model.proofs.Distinct.{all_find}
-use Rattle.iso_model.proofs.Growth.{all_weaker}
-use Rattle.iso_model.proofs.Worlds.{commits, leads_on, leaves, live_on, places, same_geometry, stays}
 
 -- what an end answers hangs on no other transaction
 pub same_answer : (W : World) (live : List Live) (t : Live) → (end_step (with_live W live) t).0 ≡ (end_step W t).0

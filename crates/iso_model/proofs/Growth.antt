@@ -1,6 +1,5 @@
 -- An empty history is one of its image, and so is one with a commit more.
-use Rattle.iso_model.proofs.Words.{ap, ◌∙◌, inl, inr, ℕ, List, [], ◌∷◌, ◌++◌, length, arith, replicate, AllByRecursion, cases_lt, length-replicate, get_or-replicate, get_or_past, Commit, Geometry, History, empty_history, block_at, AreAccesses, AreBytes, IsHistory, appended}
-use Rattle.iso_model.proofs.ByteLists.{replicate_bytes}
+use Rattle.iso_model.proofs.{Words.{ap, ◌∙◌, inl, inr, ℕ, List, [], ◌∷◌, ◌++◌, length, arith, replicate, AllByRecursion, cases_lt, length-replicate, get_or-replicate, get_or_past, Commit, Geometry, History, empty_history, block_at, AreAccesses, AreBytes, IsHistory, appended}, ByteLists.replicate_bytes}
 
 -- a block of zeros has bytes, and so has none
 zero_bytes : (n size b : ℕ) → AreBytes (block_at (replicate n (replicate {A = ℕ} size 0)) b)

@@ -1,9 +1,5 @@
 -- What an image shows whose base is a later commit, and what it shows of a longer history.
-use Rattle.iso_model.proofs.Words.{◌≡◌, ◌∙◌, sym, ap, ℕ, zero, suc, ◌+◌, ◌-◌, ◌<◌, ◌≤◌, IfSome, List, [], ◌∷◌, ◌++◌, length, take, drop, map, slice_get, arith, subst, Option, Some, None, length-append, length-drop, take_all, take-append-le, Commit, Geometry, History, last, all_own, array_at, IsImage, Shows, SameCommit, written, commits_of, IsHistory, Extends}
-use Rattle.iso_model.specs.Image.{held}
-use Rattle.iso_model.proofs.Clashes.{slice_get-drop}
-use Rattle.iso_model.proofs.Isolation.{commits_drop, all_own_append, slice_get_append_left}
-use Rattle.iso_model.proofs.Recorded.{array_shape, size_of, all_own_logged, length-logged, same_commits}
+use Rattle.iso_model.{proofs.Words.{◌≡◌, ◌∙◌, sym, ap, ℕ, zero, suc, ◌+◌, ◌-◌, ◌<◌, ◌≤◌, IfSome, List, [], ◌∷◌, ◌++◌, length, take, drop, map, slice_get, arith, subst, Option, Some, None, length-append, length-drop, take_all, take-append-le, Commit, Geometry, History, last, all_own, array_at, IsImage, Shows, SameCommit, written, commits_of, IsHistory, Extends}, specs.Image.held, proofs.Clashes.slice_get-drop, proofs.Isolation.{commits_drop, all_own_append, slice_get_append_left}, proofs.Recorded.{array_shape, size_of, all_own_logged, length-logged, same_commits}}
 
 -- it has the arrays from its base on
 pub held_array : (g : Geometry) (b n : ℕ) (H : History) → IsHistory g H → H.first ≤ b + 1 → b ≤ n → array_at (held g b H) n ≡ array_at H n

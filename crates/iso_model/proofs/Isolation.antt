@@ -1,9 +1,5 @@
 -- A transaction without a clash is isolated at the next commit, and each commit stays so.
-use Rattle.iso_model.proofs.Words.{◌≡◌, ◌∙◌, sym, refl, ap, ℕ, zero, suc, ◌+◌, ◌-◌, ◌<◌, ◌≤◌, true, false, IsTrue, IfSome, List, [], ◌∷◌, ◌++◌, length, get_or, take, drop, Option, Some, None, is_some, slice_get, option_map, unwrap_or, arith, inl, inr, subst, AllByRecursion, cases_lt, or_left, or_right, false_from_ne_true, none-some, same_Some, IfSome_then, take_all, take-append-le, take-append-drop, get_or_past, length_push, Access, Clash, Commit, Geometry, Kind, Read, Write, Mode, Serial, Snapshot, Array, byte_at, is_write, has_write, covers, touches, effect_at, own, History, last, array_at, all_own, shown, shown_block, clash, guarded, IsClash, IsSerialAt, IsSnapshotAt, Meets, IsIsolatedAt, IsIsolated, HasSeen, block_at, IsAccess, AreAccesses, IsHistory, appended}
-use Rattle.iso_model.proofs.Bytes.{own_at, length-block_own, length-block_all_own, touches_where_effect}
-use Rattle.iso_model.proofs.Recorded.{CommitsOf, bytes_of_accesses}
-use Rattle.iso_model.proofs.Written.{covers_where}
-use Rattle.iso_model.proofs.Clashes.{none_from_clash, slice_get-drop}
+use Rattle.iso_model.proofs.{Words.{◌≡◌, ◌∙◌, sym, refl, ap, ℕ, zero, suc, ◌+◌, ◌-◌, ◌<◌, ◌≤◌, true, false, IsTrue, IfSome, List, [], ◌∷◌, ◌++◌, length, get_or, take, drop, Option, Some, None, is_some, slice_get, option_map, unwrap_or, arith, inl, inr, subst, AllByRecursion, cases_lt, or_left, or_right, false_from_ne_true, none-some, same_Some, IfSome_then, take_all, take-append-le, take-append-drop, get_or_past, length_push, Access, Clash, Commit, Geometry, Kind, Read, Write, Mode, Serial, Snapshot, Array, byte_at, is_write, has_write, covers, touches, effect_at, own, History, last, array_at, all_own, shown, shown_block, clash, guarded, IsClash, IsSerialAt, IsSnapshotAt, Meets, IsIsolatedAt, IsIsolated, HasSeen, block_at, IsAccess, AreAccesses, IsHistory, appended}, Bytes.{own_at, length-block_own, length-block_all_own, touches_where_effect}, Recorded.{CommitsOf, bytes_of_accesses}, Written.covers_where, Clashes.{none_from_clash, slice_get-drop}}
 
 none_from_is_some : (o : Option ℕ) → is_some o ≡ false → o ≡ None
 none_from_is_some None not = refl

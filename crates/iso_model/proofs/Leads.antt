@@ -1,7 +1,6 @@
 -- The steps of one transaction lead from a sound world to a sound one.
-use Rattle.iso_model.proofs.Words.{◌≡◌, ◌-◌, Bool, true, false, ◌&&◌, ◌==◌, not, cond, length, Option, Some, None, nat_le, nat_lt, refl, AllByRecursion, leb-false, ltb-false, eqb-false, Clash, Mode, LAST, MAX_LIVE, clash, has_write, same_mode, last, after_leaving, begin_step, commit_step, end_step, need, World, Live, Place, used, AreApart, IsLive, IsPlace, IsWorld, LeadsTo}
+use Rattle.iso_model.proofs.{Words.{◌≡◌, ◌-◌, Bool, true, false, ◌&&◌, ◌==◌, not, cond, length, Option, Some, None, nat_le, nat_lt, refl, AllByRecursion, leb-false, ltb-false, eqb-false, Clash, Mode, LAST, MAX_LIVE, clash, has_write, same_mode, last, after_leaving, begin_step, commit_step, end_step, need, World, Live, Place, used, AreApart, IsLive, IsPlace, IsWorld, LeadsTo}, Worlds.{begins, chosen, commits, leaves, may_have, stays}}
 use Rattle.iso_model.specs.declared.core_reply.CoreReply.TheVariants as reply
-use Rattle.iso_model.proofs.Worlds.{begins, chosen, commits, leaves, may_have, stays}
 
 pub begin_leads : (W : World) (place : Place) (mode : Mode) → IsWorld W → IsPlace place → AllByRecursion (λ u. AreApart u.place place) W.live
     → LeadsTo W (begin_step W place mode).1

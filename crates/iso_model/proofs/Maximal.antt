@@ -1,6 +1,5 @@
 -- The runs of what a list writes are maximal, rising and in the array.
-use Rattle.iso_model.proofs.Words.{◌≡◌, ◌∙◌, sym, ℕ, zero, suc, ◌+◌, ◌<◌, ◌≤◌, true, false, ◌==◌, List, [], ◌∷◌, ◌++◌, length, Option, Some, None, arith, inl, inr, eq-eqb, ne_eqb, AllByRecursion, flat_map, range_with_len, cases_eq, Access, Geometry, Run, effects_from, joined, runs_from, block_runs, runs, IsRun, AreRuns}
-use Rattle.iso_model.proofs.Lookups.{StandIn, runs_stand, length-effects}
+use Rattle.iso_model.proofs.{Words.{◌≡◌, ◌∙◌, sym, ℕ, zero, suc, ◌+◌, ◌<◌, ◌≤◌, true, false, ◌==◌, List, [], ◌∷◌, ◌++◌, length, Option, Some, None, arith, inl, inr, eq-eqb, ne_eqb, AllByRecursion, flat_map, range_with_len, cases_eq, Access, Geometry, Run, effects_from, joined, runs_from, block_runs, runs, IsRun, AreRuns}, Lookups.{StandIn, runs_stand, length-effects}}
 
 -- the first run may be exchanged for one that begins earlier and ends where it does
 longer_runs : (g : Geometry) (x y : Run) (runs : List Run) → IsRun g y → y.block ≡ x.block → y.off + length y.bytes ≡ x.off + length x.bytes

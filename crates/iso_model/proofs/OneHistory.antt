@@ -1,8 +1,6 @@
 -- The bytes of an image tell one generation and one history.
-use Rattle.iso_model.proofs.Words.{◌≡◌, ◌≢◌, ◌∙◌, sym, refl, ap, ℕ, ◌+◌, ◌-◌, ◌^◌, ◌<◌, ◌≤◌, cond, List, [], ◌∷◌, ◌++◌, length, get_or, take, drop, arith, subst, append_assoc, AllByRecursion, to_be_bytes, from_be_bytes, w16, w32, w64, length-append, length-take, from_be_bytes-to_be_bytes_2, from_be_bytes-to_be_bytes_4, from_be_bytes-to_be_bytes_8, same_Some, Geometry, Mode, Serial, Snapshot, Run, LAST, same_mode, log_place, base_place, header_place, History, IsRun, AreRuns, IsRecord, IsImage, Written, commits_of, records, spell, part, kind_of, half_header, superblock, mode_byte, current_half, blocks_of, Limits}
+use Rattle.iso_model.proofs.{Words.{◌≡◌, ◌≢◌, ◌∙◌, sym, refl, ap, ℕ, ◌+◌, ◌-◌, ◌^◌, ◌<◌, ◌≤◌, cond, List, [], ◌∷◌, ◌++◌, length, get_or, take, drop, arith, subst, append_assoc, AllByRecursion, to_be_bytes, from_be_bytes, w16, w32, w64, length-append, length-take, from_be_bytes-to_be_bytes_2, from_be_bytes-to_be_bytes_4, from_be_bytes-to_be_bytes_8, same_Some, Geometry, Mode, Serial, Snapshot, Run, LAST, same_mode, log_place, base_place, header_place, History, IsRun, AreRuns, IsRecord, IsImage, Written, commits_of, records, spell, part, kind_of, half_header, superblock, mode_byte, current_half, blocks_of, Limits}, Bounds.limits, Opened.length-part}
 use Rattle.std.proofs.Common.{flat_map}
-use Rattle.iso_model.proofs.Bounds.{limits}
-use Rattle.iso_model.proofs.Opened.{length-part}
 
 -- lists that are joined to the same list, the first of one length
 split_same : {X : Type 0} (xs xs' ys ys' : List X) → length xs ≡ length xs' → xs ++ ys ≡ xs' ++ ys' → (xs ≡ xs') × (ys ≡ ys')

@@ -1,11 +1,6 @@
 -- The history that an image holds is a sound one: the world that it opens to is sound.
-use Rattle.iso_model.proofs.Words.{◌≡◌, ◌⊎◌, ◌∙◌, sym, refl, ap, ℕ, zero, suc, ◌+◌, ◌-◌, ◌*◌, ◌<◌, ◌≤◌, Bool, true, false, cond, List, [], ◌∷◌, ◌++◌, length, get_or, map, take, drop, slice_get, sum_by, Some, nat_lt, arith, inl, inr, subst, true≢false, AllByRecursion, to_be_bytes, w16, w32, length-append, length-take, length-drop, length-take-le, sum_by-cons, none-some, same_Some, Access, Commit, Geometry, Read, Mode, Serial, Snapshot, Run, LAST, Array, covers, runs, record_length, image_size, base_place, log_place, History, AreRuns, IsRecord, IsImage, Written, written, commit_of, commits_of, records, spell, part, kind_of, blocks_of, chosen_half, recorded, IsIsolated, IsIsolatedAt, block_at, AreAccesses, AreBytes, used, fresh, IsWorld}
+use Rattle.iso_model.proofs.{Words.{◌≡◌, ◌⊎◌, ◌∙◌, sym, refl, ap, ℕ, zero, suc, ◌+◌, ◌-◌, ◌*◌, ◌<◌, ◌≤◌, Bool, true, false, cond, List, [], ◌∷◌, ◌++◌, length, get_or, map, take, drop, slice_get, sum_by, Some, nat_lt, arith, inl, inr, subst, true≢false, AllByRecursion, to_be_bytes, w16, w32, length-append, length-take, length-drop, length-take-le, sum_by-cons, none-some, same_Some, Access, Commit, Geometry, Read, Mode, Serial, Snapshot, Run, LAST, Array, covers, runs, record_length, image_size, base_place, log_place, History, AreRuns, IsRecord, IsImage, Written, written, commit_of, commits_of, records, spell, part, kind_of, blocks_of, chosen_half, recorded, IsIsolated, IsIsolatedAt, block_at, AreAccesses, AreBytes, used, fresh, IsWorld}, ByteLists.{no_bytes, bytes_back, bytes_drop, bytes_front, bytes_take}, Isolation.if_some_from, Unique.runs_recorded, Accesses.put_is_access, FreshWorlds.fresh_is}
 use Rattle.std.proofs.Common.{flat_map}
-use Rattle.iso_model.proofs.ByteLists.{no_bytes, bytes_back, bytes_drop, bytes_front, bytes_take}
-use Rattle.iso_model.proofs.Isolation.{if_some_from}
-use Rattle.iso_model.proofs.Unique.{runs_recorded}
-use Rattle.iso_model.proofs.Accesses.{put_is_access}
-use Rattle.iso_model.proofs.FreshWorlds.{fresh_is}
 
 -- the half is the first or the second
 pub half_is : (a : Bool) (m : ℕ) (b : Bool) (n half : ℕ) → chosen_half a m b n ≡ Some half → (half ≡ 0) ⊎ (half ≡ 1)

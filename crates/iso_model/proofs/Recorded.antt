@@ -1,9 +1,5 @@
 -- The writes that a record stands for have the effect of those that it was made of.
-use Rattle.iso_model.proofs.Words.{inl, inr, ◌≡◌, ◌∙◌, sym, refl, ap, ℕ, zero, suc, ◌+◌, ◌-◌, ◌<◌, ◌≤◌, Bool, true, false, ◌&&◌, ◌||◌, ◌==◌, nat_le, nat_lt, cond, IfSome, List, [], ◌∷◌, ◌++◌, length, get_or, map, take, replicate, Some, None, slice_get, unwrap_or, arith, AllByRecursion, cases_eq, and_parts, leb-true, ltb-true, length-replicate, length-append, get_or_append_left, get_or-append_right, ext_get_or, Access, Commit, Geometry, Run, Span, Write, Array, in_span, byte_at, put, is_write, covers, or_else, effect_at, own, runs, History, array_at, all_own, AreRuns, SameEffect, SameCommit, written, commits_of, recorded, put_access, block_at, AreBytes, HasShape, HasBytes, AreAccesses, IsHistory, in_run, value_of, value_in}
-use Rattle.iso_model.proofs.ByteLists.{merged_bytes}
-use Rattle.iso_model.proofs.Bytes.{written_block, other_block, own_at, length-own, length-block_own}
-use Rattle.iso_model.proofs.Lookups.{value_runs}
-use Rattle.iso_model.proofs.Maximal.{are_runs}
+use Rattle.iso_model.proofs.{Words.{inl, inr, ◌≡◌, ◌∙◌, sym, refl, ap, ℕ, zero, suc, ◌+◌, ◌-◌, ◌<◌, ◌≤◌, Bool, true, false, ◌&&◌, ◌||◌, ◌==◌, nat_le, nat_lt, cond, IfSome, List, [], ◌∷◌, ◌++◌, length, get_or, map, take, replicate, Some, None, slice_get, unwrap_or, arith, AllByRecursion, cases_eq, and_parts, leb-true, ltb-true, length-replicate, length-append, get_or_append_left, get_or-append_right, ext_get_or, Access, Commit, Geometry, Run, Span, Write, Array, in_span, byte_at, put, is_write, covers, or_else, effect_at, own, runs, History, array_at, all_own, AreRuns, SameEffect, SameCommit, written, commits_of, recorded, put_access, block_at, AreBytes, HasShape, HasBytes, AreAccesses, IsHistory, in_run, value_of, value_in}, ByteLists.merged_bytes, Bytes.{written_block, other_block, own_at, length-own, length-block_own}, Lookups.value_runs, Maximal.are_runs}
 
 -- a byte of bytes between two others
 between : (off n p : ℕ) (bytes : List ℕ) → off ≤ p → p < off + length bytes → get_or (replicate off 0 ++ bytes ++ replicate n 0) p 0 ≡ get_or bytes (p - off) 0

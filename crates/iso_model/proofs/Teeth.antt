@@ -1,7 +1,5 @@
 -- What the definitions refuse: histories that are not isolated, and images that show something else.
-use Rattle.iso_model.proofs.Words.{◌≡◌, ◌∙◌, sym, refl, ap, subst, ℕ, zero, suc, ◌-◌, ◌<◌, ◌≤◌, List, [], ◌∷◌, IfSome, slice_get, arith, Commit, Geometry, Mode, Serial, Snapshot, put, zeros, IsSerialAt, IsSnapshotAt, History, array_at, last, IsImage, SameCommit, Shows, mode_byte, IsIsolated, put_access, read_access, Live, Place, client, label, AreDistinct}
-use Rattle.iso_model.proofs.OneHistory.{image_tells_one}
-use Rattle.iso_model.proofs.Rows.{small}
+use Rattle.iso_model.proofs.{Words.{◌≡◌, ◌∙◌, sym, refl, ap, subst, ℕ, zero, suc, ◌-◌, ◌<◌, ◌≤◌, List, [], ◌∷◌, IfSome, slice_get, arith, Commit, Geometry, Mode, Serial, Snapshot, put, zeros, IsSerialAt, IsSnapshotAt, History, array_at, last, IsImage, SameCommit, Shows, mode_byte, IsIsolated, put_access, read_access, Live, Place, client, label, AreDistinct}, OneHistory.image_tells_one, Rows.small}
 
 -- a put of bytes in a transaction of this mode that began at a commit
 abbrev put_in : (mode : Mode) → (begin block off : ℕ) → List ℕ → Commit

@@ -1,8 +1,5 @@
 -- Runs are told apart by the bytes that they have.
-use Rattle.iso_model.proofs.Words.{◌≡◌, ◌⊎◌, ◌∙◌, sym, refl, ap, ℕ, ◌+◌, ◌-◌, ◌<◌, ◌≤◌, Bool, true, false, ◌&&◌, ◌==◌, nat_le, nat_lt, List, [], ◌∷◌, length, get_or, Some, None, arith, inl, inr, eq-eqb, ne_eqb, subst, AllByRecursion, cases_Bool, and_from, and_parts, cases_order, eqb-true, ltb-true, none-some, same_Some, nat_tests, ext_get_or, Geometry, Run, in_span, or_else, runs, IsRun, AreRuns, recorded, in_run, value_of, value_in}
-use Rattle.iso_model.proofs.Lookups.{value_runs, or_else_none, value_of_within, value_of_outside}
-use Rattle.iso_model.proofs.Maximal.{are_runs}
-use Rattle.iso_model.proofs.Recorded.{effect_recorded}
+use Rattle.iso_model.proofs.{Words.{◌≡◌, ◌⊎◌, ◌∙◌, sym, refl, ap, ℕ, ◌+◌, ◌-◌, ◌<◌, ◌≤◌, Bool, true, false, ◌&&◌, ◌==◌, nat_le, nat_lt, List, [], ◌∷◌, length, get_or, Some, None, arith, inl, inr, eq-eqb, ne_eqb, subst, AllByRecursion, cases_Bool, and_from, and_parts, cases_order, eqb-true, ltb-true, none-some, same_Some, nat_tests, ext_get_or, Geometry, Run, in_span, or_else, runs, IsRun, AreRuns, recorded, in_run, value_of, value_in}, Lookups.{value_runs, or_else_none, value_of_within, value_of_outside}, Maximal.are_runs, Recorded.effect_recorded}
 
 -- the byte (b, q) stands before (c, p)
 abbrev Before : (b q c p : ℕ) → Type 0

@@ -1,15 +1,6 @@
 -- What leads from one sound world to another.
-use Rattle.iso_model.proofs.Words.{◌≡◌, ◌≢◌, ◌∙◌, sym, refl, ap, ℕ, ◌+◌, ◌-◌, ◌<◌, ◌≤◌, Bool, true, false, ◌&&◌, ◌==◌, not, cond, List, [], ◌∷◌, ◌++◌, length, filter, drop, Some, None, sum_by, arith, eq-eqb, subst, AllByRecursion, eqb-false, length-append, length_push, drop-append-le, drop-drop, sum_by-append, sum_by-take-drop, Access, Commit, Geometry, Mode, Serial, Snapshot, LAST, MAX_ACCESSES, MAX_LIVE, CoreReply, clash, has_write, runs, record_length, same_mode, History, last, IsRecord, written, AreAccesses, switch_step, with_accesses, placed, after_leaving, after_commit, after_begin, after_trim, need, commit_from, World, Live, Place, used, fresh, attached, floor, without, with, is_at_client, MayHave, IsLive, AreRecords, AreApart, AreTwo, AreDistinct, IsPlace, Extends, KeepsGeometry, IsWorld, LeadsTo}
+use Rattle.iso_model.proofs.{Words.{◌≡◌, ◌≢◌, ◌∙◌, sym, refl, ap, ℕ, ◌+◌, ◌-◌, ◌<◌, ◌≤◌, Bool, true, false, ◌&&◌, ◌==◌, not, cond, List, [], ◌∷◌, ◌++◌, length, filter, drop, Some, None, sum_by, arith, eq-eqb, subst, AllByRecursion, eqb-false, length-append, length_push, drop-append-le, drop-drop, sum_by-append, sum_by-take-drop, Access, Commit, Geometry, Mode, Serial, Snapshot, LAST, MAX_ACCESSES, MAX_LIVE, CoreReply, clash, has_write, runs, record_length, same_mode, History, last, IsRecord, written, AreAccesses, switch_step, with_accesses, placed, after_leaving, after_commit, after_begin, after_trim, need, commit_from, World, Live, Place, used, fresh, attached, floor, without, with, is_at_client, MayHave, IsLive, AreRecords, AreApart, AreTwo, AreDistinct, IsPlace, Extends, KeepsGeometry, IsWorld, LeadsTo}, Bounds.limits, Distinct.{all_filter, all_find, length-filter, distinct_filter, distinct_push, distinct_with, length-with}, Floors.{floor_above, floor_below, floor_under}, Forms.{in_form, valid_in, accesses_in, history_in, isolated_in, records_in, lengths_in}, Places.distinct_placed, Growth.{both_of, all_push, all_weaker, appended_is}, Isolation.stays_isolated, Maximal.are_runs, Written.runs_where_write}
 use Rattle.std.proofs.lemmas.List.{append_assoc, append-nil}
-use Rattle.iso_model.proofs.Bounds.{limits}
-use Rattle.iso_model.proofs.Distinct.{all_filter, all_find, length-filter, distinct_filter, distinct_push, distinct_with, length-with}
-use Rattle.iso_model.proofs.Floors.{floor_above, floor_below, floor_under}
-use Rattle.iso_model.proofs.Forms.{in_form, valid_in, accesses_in, history_in, isolated_in, records_in, lengths_in}
-use Rattle.iso_model.proofs.Places.{distinct_placed}
-use Rattle.iso_model.proofs.Growth.{both_of, all_push, all_weaker, appended_is}
-use Rattle.iso_model.proofs.Isolation.{stays_isolated}
-use Rattle.iso_model.proofs.Maximal.{are_runs}
-use Rattle.iso_model.proofs.Written.{runs_where_write}
 
 -- a commit with a write may be a record
 pub commit_is_record : (g : Geometry) (c : Commit) → 0 < g.block → AreAccesses g c.accesses → has_write c.accesses ≡ true → MayHave g c.mode → IsRecord g (written g c)

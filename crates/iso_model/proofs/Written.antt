@@ -1,8 +1,5 @@
 -- A list has a write exactly where it has runs.
-use Rattle.iso_model.proofs.Words.{◌≡◌, ◌∙◌, sym, refl, ap, ℕ, ◌-◌, ◌<◌, true, cond, List, [], ◌∷◌, length, get_or, Option, Some, None, is_some, arith, inl, inr, eq-eqb, AllByRecursion, list_any, or_cases, or_left, or_right, and_from, and_parts, nat_tests, Access, Geometry, Run, Span, Write, covered, in_span, is_write, has_write, covers, touches, or_else, runs, IsRun, AreRuns, IsSpan, AreAccesses, in_run, value_in}
-use Rattle.iso_model.proofs.Bytes.{touches_where_effect}
-use Rattle.iso_model.proofs.Lookups.{value_runs}
-use Rattle.iso_model.proofs.Maximal.{are_runs}
+use Rattle.iso_model.proofs.{Words.{◌≡◌, ◌∙◌, sym, refl, ap, ℕ, ◌-◌, ◌<◌, true, cond, List, [], ◌∷◌, length, get_or, Option, Some, None, is_some, arith, inl, inr, eq-eqb, AllByRecursion, list_any, or_cases, or_left, or_right, and_from, and_parts, nat_tests, Access, Geometry, Run, Span, Write, covered, in_span, is_write, has_write, covers, touches, or_else, runs, IsRun, AreRuns, IsSpan, AreAccesses, in_run, value_in}, Bytes.touches_where_effect, Lookups.value_runs, Maximal.are_runs}
 
 -- a byte of the array that the list writes
 record IsWritten (g : Geometry) (accesses : List Access) : Type 0 where

@@ -1,8 +1,7 @@
 -- The front of an image: what the image is refused for up to its log, and what it says.
-use Rattle.iso_recover.proofs.Words.{◌≡◌, ◌<◌, ◌≤◌, ◌+◌, ◌==◌, ℕ, Bool, true, false, List, length, take, drop, cond, Option, Some, None, Result, Ok, Err, IfOk, IfErr, refl, sym, ◌∙◌, ap, arith, subst, le-ltb, lt-ltb, none-some, Geometry, or_else, half_size, header_place, image_size, log_place, current_half, superblock, DiskState, IsLawful, length-contents, SuperError, half_of, super_of, OpenError, NotIsotope, WrongSize, body_refusal, half_refusal, header_at, header_refusal, log_at, log_refusal, refusal, super_form, Front, HasFront, IsFront, IsFrontOf, chosen_by, halves_refusal, header_of, super_refusal}
+use Rattle.iso_recover.proofs.{Words.{◌≡◌, ◌<◌, ◌≤◌, ◌+◌, ◌==◌, ℕ, Bool, true, false, List, length, take, drop, cond, Option, Some, None, Result, Ok, Err, IfOk, IfErr, refl, sym, ◌∙◌, ap, arith, subst, le-ltb, lt-ltb, none-some, Geometry, or_else, half_size, header_place, image_size, log_place, current_half, superblock, DiskState, IsLawful, length-contents, SuperError, half_of, super_of, OpenError, NotIsotope, WrongSize, body_refusal, half_refusal, header_at, header_refusal, log_at, log_refusal, refusal, super_form, Front, HasFront, IsFront, IsFrontOf, chosen_by, halves_refusal, header_of, super_refusal}, Headers.{chosen_is, current_is, header_there}}
 use Rattle.std.proofs.lemmas.Bool.{eq-eqb}
 use Rattle.iso_format.specs.declared.superblock.SuperError.TheVariants as super
-use Rattle.iso_recover.proofs.Headers.{chosen_is, current_is, header_there}
 
 -- ---- the superblock
 

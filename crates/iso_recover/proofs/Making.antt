@@ -1,9 +1,7 @@
 -- An image in the making: refused, or empty.
-use Rattle.iso_recover.proofs.Words.{◌≡◌, ◌⊎◌, inl, inr, ◌-◌, ◌&&◌, ℕ, List, [], ◌∷◌, ◌++◌, length, take, replicate, get_or, nat_lt, Bool, true, false, cond, Some, Err, IsTrue, refl, sym, ◌∙◌, ap, arith, subst, ne_eqb, get_or-take, Geometry, image_size, is_valid, half_header, superblock, empty_history, DiskState, IsLawful, LeavesOnly, Torn, TornFrom, spliced, length-image, at_end, joined, weakened, IsClosed, IsOpen, super_of, IsHeld, NotIsotope, body_refusal, refusal, HoldsNothing, IsUnmade, IsUnmadeOrEmpty, new_image, staged}
+use Rattle.iso_recover.proofs.{Words.{◌≡◌, ◌⊎◌, inl, inr, ◌-◌, ◌&&◌, ℕ, List, [], ◌∷◌, ◌++◌, length, take, replicate, get_or, nat_lt, Bool, true, false, cond, Some, Err, IsTrue, refl, sym, ◌∙◌, ap, arith, subst, ne_eqb, get_or-take, Geometry, image_size, is_valid, half_header, superblock, empty_history, DiskState, IsLawful, LeavesOnly, Torn, TornFrom, spliced, length-image, at_end, joined, weakened, IsClosed, IsOpen, super_of, IsHeld, NotIsotope, body_refusal, refusal, HoldsNothing, IsUnmade, IsUnmadeOrEmpty, new_image, staged}, Laid.{block_is, gate_written, opened_is}, Whole.{length-super, new_held, super_open}}
 use Rattle.iso_format.specs.declared.superblock.SuperError.TheVariants as super
 use Rattle.iso_image.specs.Half.{half_of}
-use Rattle.iso_recover.proofs.Laid.{block_is, gate_written, opened_is}
-use Rattle.iso_recover.proofs.Whole.{length-super, new_held, super_open}
 
 second_fails : {X : Type 0} (a b : Bool) (x y : X) → b ≡ false → cond (a && b) x y ≡ y
 second_fails true true x y off = absurd cc

@@ -1,7 +1,5 @@
 -- What an image is opened to.
-use Rattle.iso_recover.proofs.Words.{◌≡◌, ◌⊎◌, inl, inr, ◌≤◌, ◌+◌, ◌-◌, ℕ, List, length, take, drop, map, Option, Some, None, Ok, IsErrOf, IsTrue, refl, sym, ◌∙◌, ap, arith, subst, AllByRecursion, ForSome, Geometry, LAST, Array, zeros, base_place, header_place, image_size, is_valid, log_place, History, all_own, IsRecord, Written, blocks_of, commits_of, half_header, written, empty_history, fresh, IsWorld, limits, empty_world_is, opened_is, told_again, DiskState, IsLawful, IsSettled, length-contents, Opened, Spelled, Half, HasLog, IsHeld, half_of_world, Extent, extent_of, OpenError, Disk, image_opens, Front, HasFront, IsFront, HoldsNothing, IsNew, IsOpened, opened_of, HasRead, read_bytes, IsIndexOf, BlockVersions}
-use Rattle.iso_recover.proofs.Values.{whole_bytes}
-use Rattle.iso_recover.proofs.Whole.{whole_held}
+use Rattle.iso_recover.proofs.{Words.{◌≡◌, ◌⊎◌, inl, inr, ◌≤◌, ◌+◌, ◌-◌, ℕ, List, length, take, drop, map, Option, Some, None, Ok, IsErrOf, IsTrue, refl, sym, ◌∙◌, ap, arith, subst, AllByRecursion, ForSome, Geometry, LAST, Array, zeros, base_place, header_place, image_size, is_valid, log_place, History, all_own, IsRecord, Written, blocks_of, commits_of, half_header, written, empty_history, fresh, IsWorld, limits, empty_world_is, opened_is, told_again, DiskState, IsLawful, IsSettled, length-contents, Opened, Spelled, Half, HasLog, IsHeld, half_of_world, Extent, extent_of, OpenError, Disk, image_opens, Front, HasFront, IsFront, HoldsNothing, IsNew, IsOpened, opened_of, HasRead, read_bytes, IsIndexOf, BlockVersions}, Values.whole_bytes, Whole.whole_held}
 
 -- the history over this base whose commits these records tell
 abbrev pub told_history : Front → Array → List Written → History

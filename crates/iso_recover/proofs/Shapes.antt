@@ -1,8 +1,7 @@
 -- What fails a test is refused with a place, a field, a size or a form that may be told so.
-use Rattle.iso_recover.proofs.Words.{◌≡◌, ◌<◌, ◌≤◌, ◌+◌, ◌==◌, ◌||◌, not, ℕ, zero, suc, Bool, true, false, List, [], ◌∷◌, length, cond, nat_lt, Option, Some, None, Result, Ok, Err, IsErrOf, option_map, refl, sym, ◌∙◌, arith, eq-eqb, subst, position_from, same_Some, none-some, Geometry, LAST, or_else, header_place, image_size, SuperError, geometry_of, half_of, super_of, unclean_place, unless_wrong, wrong_field, LogError, IsTestBefore, OpenError, NotIsotope, BadGeometry, WrongSize, NoHalf, Damaged, UnknownForm, header_refusal, number_refusal, opening, chosen_by, halves_refusal, header_of, super_refusal, IsShaped}
+use Rattle.iso_recover.proofs.{Words.{◌≡◌, ◌<◌, ◌≤◌, ◌+◌, ◌==◌, ◌||◌, not, ℕ, zero, suc, Bool, true, false, List, [], ◌∷◌, length, cond, nat_lt, Option, Some, None, Result, Ok, Err, IsErrOf, option_map, refl, sym, ◌∙◌, arith, eq-eqb, subst, position_from, same_Some, none-some, Geometry, LAST, or_else, header_place, image_size, SuperError, geometry_of, half_of, super_of, unclean_place, unless_wrong, wrong_field, LogError, IsTestBefore, OpenError, NotIsotope, BadGeometry, WrongSize, NoHalf, Damaged, UnknownForm, header_refusal, number_refusal, opening, chosen_by, halves_refusal, header_of, super_refusal, IsShaped}, Headers.{chosen_is, unclean_below}}
 use Rattle.iso_format.specs.declared.superblock.SuperError.TheVariants as super
 use Rattle.iso_log.specs.declared.log_error.LogError.TheVariants as log
-use Rattle.iso_recover.proofs.Headers.{chosen_is, unclean_below}
 
 -- ---- the superblock
 

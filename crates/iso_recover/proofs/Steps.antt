@@ -1,6 +1,5 @@
 -- A log that is read record by record: what holds before each.
-use Rattle.iso_recover.proofs.Words.{◌≡◌, ◌<◌, ◌≤◌, ◌+◌, ◌-◌, ◌^◌, ℕ, List, [], ◌∷◌, ◌++◌, length, map, Some, Result, Ok, Err, IsErrOf, refl, sym, ◌∙◌, ap, arith, subst, ForSome, LAST, image_size, log_place, Written, AreBytes, limits, Rose, DiskState, IsLawful, WritesNothing, length-contents, joined_unwritten, starts_unwritten, IsClosed, HasLog, MayFollow, log_inside, Extent, next_place, IsFirst, IsTaken, StandAt, OpenError, Disk, Memory, log_at, log_refusal, told_first, Front, BlamesDisk, IsFront, BeginsLog, HasRead, IsDamagedBy, read_bytes, IsIndexOf, BlockVersions, versions_in, HasTaken, MayTake, part_of, may_take}
-use Rattle.iso_recover.proofs.Scans.{begins_more, begins_none, long_record, more_is, reads_all, reads_more, reads_none, refuses_log}
+use Rattle.iso_recover.proofs.{Words.{◌≡◌, ◌<◌, ◌≤◌, ◌+◌, ◌-◌, ◌^◌, ℕ, List, [], ◌∷◌, ◌++◌, length, map, Some, Result, Ok, Err, IsErrOf, refl, sym, ◌∙◌, ap, arith, subst, ForSome, LAST, image_size, log_place, Written, AreBytes, limits, Rose, DiskState, IsLawful, WritesNothing, length-contents, joined_unwritten, starts_unwritten, IsClosed, HasLog, MayFollow, log_inside, Extent, next_place, IsFirst, IsTaken, StandAt, OpenError, Disk, Memory, log_at, log_refusal, told_first, Front, BlamesDisk, IsFront, BeginsLog, HasRead, IsDamagedBy, read_bytes, IsIndexOf, BlockVersions, versions_in, HasTaken, MayTake, part_of, may_take}, Scans.{begins_more, begins_none, long_record, more_is, reads_all, reads_more, reads_none, refuses_log}}
 
 -- ---- causes
 

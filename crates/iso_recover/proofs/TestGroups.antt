@@ -1,7 +1,6 @@
 -- A core of the tests in which two transactions began and did something.
-use Rattle.iso_recover.proofs.Words.{◌≡◌, ◌∙◌, sym, refl, ap, subst, inl, inr, ℕ, ◌+◌, ◌<◌, ◌≤◌, false, List, [], ◌∷◌, ◌++◌, length, None, arith, AllByRecursion, Core, GroupEnd, IsWorkOf, StandsFor, AreEach, IsMember, Standing, up, DiskState, Access, Geometry, Mode, MAX_ACCESSES, last, AreAccesses, AreBytes, IsAccess, after_begin, begin_step, read_access, with_live, write_access, World, Live, unattached, IsLive, Doing, HasDone}
+use Rattle.iso_recover.proofs.{Words.{◌≡◌, ◌∙◌, sym, refl, ap, subst, inl, inr, ℕ, ◌+◌, ◌<◌, ◌≤◌, false, List, [], ◌∷◌, ◌++◌, length, None, arith, AllByRecursion, Core, GroupEnd, IsWorkOf, StandsFor, AreEach, IsMember, Standing, up, DiskState, Access, Geometry, Mode, MAX_ACCESSES, last, AreAccesses, AreBytes, IsAccess, after_begin, begin_step, read_access, with_live, write_access, World, Live, unattached, IsLive, Doing, HasDone}, TestCores.{began_at, stands_with, working}}
 use Rattle.iso_model.specs.declared.core_reply.CoreReply.TheVariants as reply
-use Rattle.iso_recover.proofs.TestCores.{began_at, stands_with, working}
 
 -- the world in which the two began
 abbrev pub two_begun : World → Mode → World

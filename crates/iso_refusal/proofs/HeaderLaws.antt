@@ -1,6 +1,5 @@
 -- A header that passes each test is spelled, and what is spelled passes them; so for the form and the current half.
-use Rattle.iso_refusal.proofs.Words.{◌≡◌, ◌∙◌, refl, ap, inl, inr, ℕ, zero, suc, ◌+◌, ◌≤◌, ◌==◌, ◌||◌, nat_lt, nat_le, Bool, true, false, cond, List, Option, Some, None, IsTrue, length, get_or, drop, option_map, subst, arith, ltb-false, le-ltb, eqb-true, or_cases, and_parts, and_from, get_or-drop, get_or-take, same_Some, Geometry, LAST, or_else, is_valid, half_size, header_place, image_size, chosen_half, current_half, generation_at, half_header, is_open_at, superblock, AreBytes, limits, HalfHeader, first_not_zero, half_of, unclean_place, all_clean, half_again, half_spelled, neither, unless, OpenError, Damaged, UnknownForm, header_at, header_refusal, number_refusal}
-use Rattle.iso_refusal.proofs.LogLaws.{none_mapped}
+use Rattle.iso_refusal.proofs.{Words.{◌≡◌, ◌∙◌, refl, ap, inl, inr, ℕ, zero, suc, ◌+◌, ◌≤◌, ◌==◌, ◌||◌, nat_lt, nat_le, Bool, true, false, cond, List, Option, Some, None, IsTrue, length, get_or, drop, option_map, subst, arith, ltb-false, le-ltb, eqb-true, or_cases, and_parts, and_from, get_or-drop, get_or-take, same_Some, Geometry, LAST, or_else, is_valid, half_size, header_place, image_size, chosen_half, current_half, generation_at, half_header, is_open_at, superblock, AreBytes, limits, HalfHeader, first_not_zero, half_of, unclean_place, all_clean, half_again, half_spelled, neither, unless, OpenError, Damaged, UnknownForm, header_at, header_refusal, number_refusal}, LogLaws.none_mapped}
 
 -- a test that is to hold did, and the others followed
 pub held : {X : Type 0} (b : Bool) (x : X) (y : Option X) → cond b y (Some x) ≡ None → (b ≡ true) × (y ≡ None)

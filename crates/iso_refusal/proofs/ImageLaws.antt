@@ -1,9 +1,7 @@
 -- Bytes that pass each test are an image of what they open to, and an image passes each test and opens to what it holds.
-use Rattle.iso_refusal.proofs.Words.{◌≡◌, ◌∙◌, sym, refl, ap, ℕ, ◌+◌, ◌-◌, ◌<◌, ◌≤◌, ◌==◌, nat_lt, true, cond, List, Option, Some, None, Result, Ok, Err, length, drop, option_map, subst, arith, ltb-false, le-ltb, eqb-true, eq-eqb, length-drop, length-take, length-take-le, same_Some, Geometry, or_else, image_size, header_place, base_place, log_place, History, IsImage, blocks_of, commits_of, current_half, half_header, records, AreBytes, limits, HalfHeader, SuperError, half_of, super_of, neither, unless, bytes_drop, bytes_take, IsSpelled, super_again, super_spelled, OpenError, NotIsotope, WrongSize, Opened, body_refusal, first_number, half_refusal, header_at, header_refusal, log_at, log_refusal, opened, opened_half, opened_super, refusal, told_by, unless_refused, with_form}
+use Rattle.iso_refusal.proofs.{Words.{◌≡◌, ◌∙◌, sym, refl, ap, ℕ, ◌+◌, ◌-◌, ◌<◌, ◌≤◌, ◌==◌, nat_lt, true, cond, List, Option, Some, None, Result, Ok, Err, length, drop, option_map, subst, arith, ltb-false, le-ltb, eqb-true, eq-eqb, length-drop, length-take, length-take-le, same_Some, Geometry, or_else, image_size, header_place, base_place, log_place, History, IsImage, blocks_of, commits_of, current_half, half_header, records, AreBytes, limits, HalfHeader, SuperError, half_of, super_of, neither, unless, bytes_drop, bytes_take, IsSpelled, super_again, super_spelled, OpenError, NotIsotope, WrongSize, Opened, body_refusal, first_number, half_refusal, header_at, header_refusal, log_at, log_refusal, opened, opened_half, opened_super, refusal, told_by, unless_refused, with_form}, HeaderLaws.{form_is, gate_again, half_inside, header_again, held, is_current, said_again, super_form, unrefused_header, valid_form}, LogLaws.{log_again, unrefused_log}}
 use Rattle.std.proofs.Common.{◌∷◌, ◌++◌, take}
 use Rattle.iso_format.specs.declared.superblock.SuperError.TheVariants as super
-use Rattle.iso_refusal.proofs.HeaderLaws.{form_is, gate_again, half_inside, header_again, held, is_current, said_again, super_form, unrefused_header, valid_form}
-use Rattle.iso_refusal.proofs.LogLaws.{log_again, unrefused_log}
 
 -- ---- bytes that pass each test
 

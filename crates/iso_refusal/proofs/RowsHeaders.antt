@@ -1,7 +1,6 @@
 -- What a small image is refused for whose superblock or whose half is damaged, by computation.
-use Rattle.iso_refusal.proofs.Words.{[], ◌∷◌, take, replicate, half_of, super_of, refusal, NotIsotope, BadGeometry, WrongSize, NoHalf, Damaged, UnknownForm}
+use Rattle.iso_refusal.proofs.{Words.{[], ◌∷◌, take, replicate, half_of, super_of, refusal, NotIsotope, BadGeometry, WrongSize, NoHalf, Damaged, UnknownForm}, SmallImages.{AreRefused, blank, with_piece, with_byte}}
 use Rattle.std.specs.Prelude.{None, Some, refl}
-use Rattle.iso_refusal.proofs.SmallImages.{AreRefused, blank, with_piece, with_byte}
 
 -- the superblock and the size
 pub superblocks : AreRefused (

@@ -1,7 +1,6 @@
 -- What small images open to, by computation.
-use Rattle.iso_refusal.proofs.Words.{[], ◌∷◌, ◌++◌, map, take, replicate, slice_index_or, Mode, Serial, Snapshot, put, last, half_of, super_of, fault_of, parts_fault, Opened, opened, recovered, refusal}
+use Rattle.iso_refusal.proofs.{Words.{[], ◌∷◌, ◌++◌, map, take, replicate, slice_index_or, Mode, Serial, Snapshot, put, last, half_of, super_of, fault_of, parts_fault, Opened, opened, recovered, refusal}, SmallImages.{OpenTo, blank, with_piece, with_byte, put_record, one_commit}}
 use Rattle.std.specs.Prelude.{ℕ, List, drop, refl}
-use Rattle.iso_refusal.proofs.SmallImages.{OpenTo, blank, with_piece, with_byte, put_record, one_commit}
 
 -- it is opened at the first generation to the empty history
 abbrev fresh : Opened

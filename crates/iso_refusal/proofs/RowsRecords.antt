@@ -1,7 +1,6 @@
 -- What a small image is refused for whose log is damaged, by computation.
-use Rattle.iso_refusal.proofs.Words.{[], ◌∷◌, ◌++◌, replicate, half_of, super_of, fault_of, parts_fault, refusal, Damaged}
+use Rattle.iso_refusal.proofs.{Words.{[], ◌∷◌, ◌++◌, replicate, half_of, super_of, fault_of, parts_fault, refusal, Damaged}, SmallImages.{AreRefused, blank, with_piece, with_byte, put_record, one_commit}}
 use Rattle.std.specs.Prelude.{Some, refl}
-use Rattle.iso_refusal.proofs.SmallImages.{AreRefused, blank, with_piece, with_byte, put_record, one_commit}
 
 -- the records of a log
 pub logs : AreRefused (

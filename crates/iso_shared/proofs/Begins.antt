@@ -1,12 +1,10 @@
 -- A transaction that has just begun.
-use Rattle.iso_shared.proofs.Words.{◌≡◌, ℕ, suc, zero, ◌+◌, ◌-◌, ◌<◌, ◌≤◌, ◌==◌, Bool, true, false, ◌&&◌, not, cond, List, [], ◌∷◌, ◌++◌, Option, Some, None, Result, Ok, Err, IfOk, IsTrue, nat_le, nat_lt, length, take, eq-eqb, refl, sym, ap, ◌∙◌, subst, arith, and_parts, Checked, up_to, Begun, Core, StandsFor, up, down, DiskState, Access, Commit, Geometry, Mode, Serial, CoreError, LAST, MAX_LIVE, CoreReply, clash, clash_from, first_after, has_write, is_block_size, is_valid, same_mode, History, last, after_begin, begin_step, mode_named, World, Live, unattached, IsWorld, Doing, Entry, IsLegal, IsAhead, IsOwn, Holds, IsOn, standing_of, Start, State, after, is_live, live_of, opened, state_at, IfErr, IsErrOf, take-length, AreNotesAfter, Recent, IsRecent, recent_entry}
+use Rattle.iso_shared.proofs.{Words.{◌≡◌, ℕ, suc, zero, ◌+◌, ◌-◌, ◌<◌, ◌≤◌, ◌==◌, Bool, true, false, ◌&&◌, not, cond, List, [], ◌∷◌, ◌++◌, Option, Some, None, Result, Ok, Err, IfOk, IsTrue, nat_le, nat_lt, length, take, eq-eqb, refl, sym, ap, ◌∙◌, subst, arith, and_parts, Checked, up_to, Begun, Core, StandsFor, up, down, DiskState, Access, Commit, Geometry, Mode, Serial, CoreError, LAST, MAX_LIVE, CoreReply, clash, clash_from, first_after, has_write, is_block_size, is_valid, same_mode, History, last, after_begin, begin_step, mode_named, World, Live, unattached, IsWorld, Doing, Entry, IsLegal, IsAhead, IsOwn, Holds, IsOn, standing_of, Start, State, after, is_live, live_of, opened, state_at, IfErr, IsErrOf, take-length, AreNotesAfter, Recent, IsRecent, recent_entry}, Trace.{after_snoc, legal_last, opened_sound, sound_all}, Cores.{Did, by_lost, refused_down}}
 use Rattle.std.proofs.Common.{drop}
 use Rattle.iso_model.specs.declared.core_error.CoreError.TheVariants as error
 use Rattle.iso_model.specs.declared.core_reply.CoreReply.TheVariants as reply
 use Rattle.iso_shared.specs.declared.entry.Entry.TheVariants as entry
 use Rattle.iso_shared.specs.declared.entry.Call.TheVariants as call
-use Rattle.iso_shared.proofs.Trace.{after_snoc, legal_last, opened_sound, sound_all}
-use Rattle.iso_shared.proofs.Cores.{Did, by_lost, refused_down}
 
 -- a sound world has blocks of a size that a work may have
 pub block_size : (W : World) → IsWorld W → IsTrue (is_block_size W.geometry.block)

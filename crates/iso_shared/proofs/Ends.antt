@@ -1,14 +1,11 @@
 -- The end of a transaction leaves an entry that is legal at its place.
-use Rattle.iso_shared.proofs.Words.{◌≡◌, ◌≢◌, ◌⊎◌, inl, inr, ⊎_elim, ℕ, ◌+◌, ◌-◌, ◌<◌, ◌≤◌, Bool, true, false, cond, List, [], ◌∷◌, ◌++◌, Option, Some, None, Result, Ok, Err, IfOk, IfErr, OnOk, IsSome, length, nat_lt, refl, sym, ap, ◌∙◌, subst, arith, IsErrOf, Checked, up_to, Core, BlamesDisk, IsCheckedOf, IsWorkOf, Refuses, Writes, StandsFor, disk_of, up, down, ShowsEither, ShowsLast, DiskState, LeavesOnly, StaysTold, weakened, Access, Clash, Commit, EndReply, Committed, ReadOnly, Conflict, Geometry, CoreError, LAST, CoreReply, clash, has_write, last, after_commit, after_leaving, commit_step, end_step, need, commit_from, World, used, AreWithin, Doing, Entry, Answers, IsLegal, MayHaveMade, end_answer, reply_of, IsAhead, IsOwn, Holds, IsOn, ShowsSince, faults_of, with_lost, Start, State, after_end, is_live, live_of, state_at, tx_of, end_entry}
+use Rattle.iso_shared.proofs.{Words.{◌≡◌, ◌≢◌, ◌⊎◌, inl, inr, ⊎_elim, ℕ, ◌+◌, ◌-◌, ◌<◌, ◌≤◌, Bool, true, false, cond, List, [], ◌∷◌, ◌++◌, Option, Some, None, Result, Ok, Err, IfOk, IfErr, OnOk, IsSome, length, nat_lt, refl, sym, ap, ◌∙◌, subst, arith, IsErrOf, Checked, up_to, Core, BlamesDisk, IsCheckedOf, IsWorkOf, Refuses, Writes, StandsFor, disk_of, up, down, ShowsEither, ShowsLast, DiskState, LeavesOnly, StaysTold, weakened, Access, Clash, Commit, EndReply, Committed, ReadOnly, Conflict, Geometry, CoreError, LAST, CoreReply, clash, has_write, last, after_commit, after_leaving, commit_step, end_step, need, commit_from, World, used, AreWithin, Doing, Entry, Answers, IsLegal, MayHaveMade, end_answer, reply_of, IsAhead, IsOwn, Holds, IsOn, ShowsSince, faults_of, with_lost, Start, State, after_end, is_live, live_of, state_at, tx_of, end_entry}, Growing.{since_after, since_last}, Standings.Moved, Cores.{Did, by_disk, by_lost, holds_up, refused_down, refused_up}}
 use Rattle.std.specs.Prelude.{◌==◌}
 use Rattle.iso_core.specs.Calls as calls
 use Rattle.iso_model.specs.declared.core_error.CoreError.TheVariants as error
 use Rattle.iso_model.specs.declared.core_reply.CoreReply.TheVariants as reply
 use Rattle.iso_shared.specs.declared.entry.Call.TheVariants as call
 use Rattle.iso_shared.specs.declared.entry.Entry.TheVariants as entry
-use Rattle.iso_shared.proofs.Growing.{since_after, since_last}
-use Rattle.iso_shared.proofs.Standings.{Moved}
-use Rattle.iso_shared.proofs.Cores.{Did, by_disk, by_lost, holds_up, refused_down, refused_up}
 
 same_reply : (r : EndReply) → calls.reply_of r ≡ reply_of r
 same_reply (Committed n) = refl

@@ -1,11 +1,9 @@
 -- What stays along a list: the history grows, and a transaction keeps its begin and its mode for as long as it is live.
-use Rattle.iso_shared.proofs.Words.{◌≡◌, ℕ, ◌+◌, ◌-◌, ◌<◌, ◌≤◌, ◌==◌, Bool, true, false, cond, List, [], ◌∷◌, ◌++◌, Option, Some, None, length, length-append, take, refl, sym, ap, ◌∙◌, subst, arith, option_map, nat_tests, take-append-le, Checked, up_to, Access, Commit, EndReply, Committed, ReadOnly, Conflict, Geometry, Mode, clash, clash_from, clashes, first_after, first_byte, has_write, or_else, History, last, World, Live, without, Extends, extends_itself, extends_on, Doing, after_leaving, ahead, leave_all, Call, Cause, Entry, Member, IsAhead, IsOwn, Start, State, opened, is_live, live_of, after, after_all, after_fault, after_group, after_refusal, after_sweep, lost_commit, lost_commits, members_of, state_at, txs_of, with_world, IsPrefix}
+use Rattle.iso_shared.proofs.{Words.{◌≡◌, ℕ, ◌+◌, ◌-◌, ◌<◌, ◌≤◌, ◌==◌, Bool, true, false, cond, List, [], ◌∷◌, ◌++◌, Option, Some, None, length, length-append, take, refl, sym, ap, ◌∙◌, subst, arith, option_map, nat_tests, take-append-le, Checked, up_to, Access, Commit, EndReply, Committed, ReadOnly, Conflict, Geometry, Mode, clash, clash_from, clashes, first_after, first_byte, has_write, or_else, History, last, World, Live, without, Extends, extends_itself, extends_on, Doing, after_leaving, ahead, leave_all, Call, Cause, Entry, Member, IsAhead, IsOwn, Start, State, opened, is_live, live_of, after, after_all, after_fault, after_group, after_refusal, after_sweep, lost_commit, lost_commits, members_of, state_at, txs_of, with_world, IsPrefix}, Grouped.{after_is, behind_it}, Trace.{after_append, live_snoc, live_without, of_snoc, of_without}}
 use Rattle.std.proofs.Common.{drop}
 use Rattle.iso_shared.specs.declared.entry.Call.TheVariants as call
 use Rattle.iso_shared.specs.declared.entry.Cause.TheVariants as cause
 use Rattle.iso_shared.specs.declared.entry.Entry.TheVariants as entry
-use Rattle.iso_shared.proofs.Grouped.{after_is, behind_it}
-use Rattle.iso_shared.proofs.Trace.{after_append, live_snoc, live_without, of_snoc, of_without}
 
 -- what leads from a state to a later one
 pub record Follows (S T : State) : Type 0 where

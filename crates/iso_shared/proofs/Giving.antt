@@ -1,16 +1,9 @@
 -- What stands under the lock after a call of the core that leaves the labels.
-use Rattle.iso_shared.proofs.Words.{◌≡◌, ◌≤◌, inr, true, Checked, Doing, IsAhead, IsOwn, IsPrefix, IsTxOf, Tx, live_of, tx_view, times, faults_of, is_live, ℕ, ◌<◌, List, [], ◌∷◌, ◌++◌, Option, None, Result, Ok, Err, refl, sym, ap, ◌∙◌, subst, Recent, Core, disk_of, DiskState, IsLawful, LeavesOnly, WritesNothing, at_end, weakened, Commit, World, ShowsBetween, ShowsLast, CoreError, AreHeld, held_after, Call, Entry, Posted, Answers, IsLegal, ended, handed, returned, tx_in, Came, StandsAt, whole, with_lost, Start, State, after, after_fault, opened, state_at, cause_of, entry_of, fetch_entry, recent_entry}
+use Rattle.iso_shared.{proofs.Words.{◌≡◌, ◌≤◌, inr, true, Checked, Doing, IsAhead, IsOwn, IsPrefix, IsTxOf, Tx, live_of, tx_view, times, faults_of, is_live, ℕ, ◌<◌, List, [], ◌∷◌, ◌++◌, Option, None, Result, Ok, Err, refl, sym, ap, ◌∙◌, subst, Recent, Core, disk_of, DiskState, IsLawful, LeavesOnly, WritesNothing, at_end, weakened, Commit, World, ShowsBetween, ShowsLast, CoreError, AreHeld, held_after, Call, Entry, Posted, Answers, IsLegal, ended, handed, returned, tx_in, Came, StandsAt, whole, with_lost, Start, State, after, after_fault, opened, state_at, cause_of, entry_of, fetch_entry, recent_entry}, proofs.Cores.Did, proofs.Ends.{ahead_same, own_same}, proofs.Growing.since_last, proofs.Mades.{ahead_on, held_same, own_on}, proofs.Trace.after_snoc, proofs.Standings.{HoldsOut, MayLeave, Moved, held_live, stands_next}, specs.declared.guarded.Guarded.Guarded}
 use Rattle.iso_model.specs.declared.core_error.CoreError.TheVariants as error
 use Rattle.turn_lock.specs.Numbers.{without}
 use Rattle.iso_shared.specs.declared.entry.Call.TheVariants as call
 use Rattle.iso_shared.specs.declared.entry.Entry.TheVariants as entry
-use Rattle.iso_shared.proofs.Cores.{Did}
-use Rattle.iso_shared.proofs.Ends.{ahead_same, own_same}
-use Rattle.iso_shared.proofs.Growing.{since_last}
-use Rattle.iso_shared.proofs.Mades.{ahead_on, held_same, own_on}
-use Rattle.iso_shared.proofs.Trace.{after_snoc}
-use Rattle.iso_shared.proofs.Standings.{HoldsOut, MayLeave, Moved, held_live, stands_next}
-use Rattle.iso_shared.specs.declared.guarded.Guarded.{Guarded}
 
 -- the entry leaves the labels
 abbrev pub KeepsRack : Entry → Type 0

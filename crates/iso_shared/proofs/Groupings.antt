@@ -1,17 +1,10 @@
 -- The end of a group leaves an entry that is legal at its place.
-use Rattle.iso_shared.proofs.Words.{◌≡◌, ◌≢◌, ◌⊎◌, inl, inr, ⊎_elim, ℕ, ◌<◌, ◌≤◌, List, [], ◌∷◌, ◌++◌, Option, Some, None, Result, Ok, Err, IfErr, OnOk, length, map, refl, sym, ap, ◌∙◌, subst, arith, unwrap_or, append-nil, append_cancel_left, IsErrOf, AllByRecursion, AreDistinct, AreEach, AreHeld, Bool, IsJoined, Posted, Shared, Standing, View, Tx, cause_of, end_of, false, handed, held_after, is_down, is_some, members_in, numbers_in, returned, IsEnd, IsMember, MAX_GROUP, MayHaveMade, ShowsSince, hit_same, is_live, member_numbers, numbers_handed, suc, times, true, BlamesDisk, Core, StandsFor, disk_of, up, down, ShowsEither, ShowsLast, DiskState, LeavesOnly, StaysTold, weakened, Commit, CoreError, GroupEnd, GroupReply, bare_end, reply_in, group, group_is, decided, leave_all, leave_all_is, made_by, member_reply, numbers_told, ahead, end_step, with_commits, History, World, Live, Entry, Answers, IsGroup, IsLegal, Member, Holds, faults_of, with_lost, Start, State, after_group, commits_made, group_answers, lost_commits, members_of, replies_of, state_at, txs_of, with_world, ends_at, group_entry, members_at, IsPrefix}
+use Rattle.iso_shared.proofs.{Words.{◌≡◌, ◌≢◌, ◌⊎◌, inl, inr, ⊎_elim, ℕ, ◌<◌, ◌≤◌, List, [], ◌∷◌, ◌++◌, Option, Some, None, Result, Ok, Err, IfErr, OnOk, length, map, refl, sym, ap, ◌∙◌, subst, arith, unwrap_or, append-nil, append_cancel_left, IsErrOf, AllByRecursion, AreDistinct, AreEach, AreHeld, Bool, IsJoined, Posted, Shared, Standing, View, Tx, cause_of, end_of, false, handed, held_after, is_down, is_some, members_in, numbers_in, returned, IsEnd, IsMember, MAX_GROUP, MayHaveMade, ShowsSince, hit_same, is_live, member_numbers, numbers_handed, suc, times, true, BlamesDisk, Core, StandsFor, disk_of, up, down, ShowsEither, ShowsLast, DiskState, LeavesOnly, StaysTold, weakened, Commit, CoreError, GroupEnd, GroupReply, bare_end, reply_in, group, group_is, decided, leave_all, leave_all_is, made_by, member_reply, numbers_told, ahead, end_step, with_commits, History, World, Live, Entry, Answers, IsGroup, IsLegal, Member, Holds, faults_of, with_lost, Start, State, after_group, commits_made, group_answers, lost_commits, members_of, replies_of, state_at, txs_of, with_world, ends_at, group_entry, members_at, IsPrefix}, Cores.{Did, by_lost, holds_up, is_tx, refused_down, same_faults, same_told}, Ends.{may_have, work_of}, Giving.{Lends, live_lent, refused_holds}, Grouped.after_live, Growing.{since_after, since_last}, Mades.own_on, Standings.Moved}
 use Rattle.iso_model.specs.declared.access.GroupReply.TheVariants as member
 use Rattle.iso_model.specs.declared.core_error.CoreError.TheVariants as error
 use Rattle.iso_shared.specs.declared.entry.Call.TheVariants as call
 use Rattle.iso_shared.specs.declared.entry.Cause.TheVariants as cause
 use Rattle.iso_shared.specs.declared.entry.Entry.TheVariants as entry
-use Rattle.iso_shared.proofs.Cores.{Did, by_lost, holds_up, is_tx, refused_down, same_faults, same_told}
-use Rattle.iso_shared.proofs.Ends.{may_have, work_of}
-use Rattle.iso_shared.proofs.Giving.{Lends, live_lent, refused_holds}
-use Rattle.iso_shared.proofs.Grouped.{after_live}
-use Rattle.iso_shared.proofs.Growing.{since_after, since_last}
-use Rattle.iso_shared.proofs.Mades.{own_on}
-use Rattle.iso_shared.proofs.Standings.{Moved}
 
 -- ---- the members, before the call and after it
 

@@ -1,11 +1,8 @@
 -- What images show of the history while the list grows.
-use Rattle.iso_shared.proofs.Words.{◌≡◌, ℕ, ◌<◌, ◌≤◌, List, [], ◌∷◌, ◌++◌, Option, Some, None, refl, sym, ap, ◌∙◌, subst, arith, Access, Commit, EndReply, Committed, ReadOnly, Conflict, Geometry, History, last, with_commits, Shows, World, Extends, shows_any_form, shows_longer, extends_itself, extends_on, ShowsBetween, ShowsLast, leave_all_is, Call, Cause, Entry, Member, Answers, IsLegal, LegalFrom, MayRefuse, ShowsSince, whole, with_lost, Start, State, after, after_all, after_end, after_fault, after_group, after_refusal, lost_commit, lost_commits, members_of, opened, state_at, txs_of}
+use Rattle.iso_shared.proofs.{Words.{◌≡◌, ℕ, ◌<◌, ◌≤◌, List, [], ◌∷◌, ◌++◌, Option, Some, None, refl, sym, ap, ◌∙◌, subst, arith, Access, Commit, EndReply, Committed, ReadOnly, Conflict, Geometry, History, last, with_commits, Shows, World, Extends, shows_any_form, shows_longer, extends_itself, extends_on, ShowsBetween, ShowsLast, leave_all_is, Call, Cause, Entry, Member, Answers, IsLegal, LegalFrom, MayRefuse, ShowsSince, whole, with_lost, Start, State, after, after_all, after_end, after_fault, after_group, after_refusal, lost_commit, lost_commits, members_of, opened, state_at, txs_of}, Follows.{last_longer, one_more_commit}, Grouped.{after_live, behind_it}, Trace.after_snoc}
 use Rattle.iso_shared.specs.declared.entry.Call.TheVariants as call
 use Rattle.iso_shared.specs.declared.entry.Cause.TheVariants as cause
 use Rattle.iso_shared.specs.declared.entry.Entry.TheVariants as entry
-use Rattle.iso_shared.proofs.Follows.{last_longer, one_more_commit}
-use Rattle.iso_shared.proofs.Grouped.{after_live, behind_it}
-use Rattle.iso_shared.proofs.Trace.{after_snoc}
 
 -- the geometry stays but for the form, and the history grows
 pub record Grows (W V : World) : Type 0 where

@@ -1,10 +1,7 @@
 -- Numbers of members that a port holds, of which no pass holds one twice.
-use Rattle.iso_shared.proofs.Words.{◌≡◌, ℕ, ◌<◌, ◌≤◌, ◌==◌, Bool, true, false, cond, nat_tests, List, [], ◌∷◌, map, refl, subst, arith, AllByRecursion, AreDistinct, AreHeld, hit, hit_same, times, total, ◌+◌, ◌||◌, is_among, ◌++◌, length, Some, ap, ◌∙◌, View, times_append, prefix_trans, Entry, Shared, Tx, IsJoined, IsNote, IsNoteOf, held_in, Start, IsPrefix, times_without, both, kept_part, sym, suc, length-map, prefix_more, Doing, GroupEnd, Member, MemberEnd, ArePaired, IsBack, IsPartOf, IsSameTx, IsTaken, Made, MadeAll, answered, bare_end, end_of, ends_at, made_in, members_at, members_in, numbers_in, replies_of, Checked, IsAhead, IsLegal, IsOwn, state_at, units_of, unwrap_or, tx_view}
+use Rattle.iso_shared.{proofs.Words.{◌≡◌, ℕ, ◌<◌, ◌≤◌, ◌==◌, Bool, true, false, cond, nat_tests, List, [], ◌∷◌, map, refl, subst, arith, AllByRecursion, AreDistinct, AreHeld, hit, hit_same, times, total, ◌+◌, ◌||◌, is_among, ◌++◌, length, Some, ap, ◌∙◌, View, times_append, prefix_trans, Entry, Shared, Tx, IsJoined, IsNote, IsNoteOf, held_in, Start, IsPrefix, times_without, both, kept_part, sym, suc, length-map, prefix_more, Doing, GroupEnd, Member, MemberEnd, ArePaired, IsBack, IsPartOf, IsSameTx, IsTaken, Made, MadeAll, answered, bare_end, end_of, ends_at, made_in, members_at, members_in, numbers_in, replies_of, Checked, IsAhead, IsLegal, IsOwn, state_at, units_of, unwrap_or, tx_view}, specs.Ports.IsTx, proofs.Mades.{ahead_on, own_on}, proofs.Ends.{ahead_same, on_same, own_same}}
 use Rattle.turn_lock.specs.Numbers.{without}
 use Rattle.iso_model.specs.declared.access.GroupReply.TheVariants as member
-use Rattle.iso_shared.specs.Ports.{IsTx}
-use Rattle.iso_shared.proofs.Mades.{ahead_on, own_on}
-use Rattle.iso_shared.proofs.Ends.{ahead_same, on_same, own_same}
 
 pub distinct_by : (ns : List ℕ) → ((n : ℕ) → times n ns ≤ 1) → AreDistinct ns
 distinct_by [] alone = tt

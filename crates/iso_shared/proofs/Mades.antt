@@ -1,6 +1,5 @@
 -- What a call made, from what it took and gave.
-use Rattle.iso_shared.proofs.Words.{zero, suc, Bool, true, false, cond, nat_lt, length-append, ◌≡◌, ℕ, ◌+◌, ◌<◌, List, [], ◌∷◌, ◌++◌, length, refl, sym, ap, ◌∙◌, subst, arith, Checked, Doing, times, longer, count_up, places, View, prefix_more, prefix_trans, prefix_whole, times_append, nat_tests, Entry, IsLegal, IsAhead, IsOwn, Made, MadeBoth, Start, state_at, IsPrefix}
-use Rattle.iso_shared.proofs.Follows.{ahead_kept, follows_prefix, own_kept}
+use Rattle.iso_shared.proofs.{Words.{zero, suc, Bool, true, false, cond, nat_lt, length-append, ◌≡◌, ℕ, ◌+◌, ◌<◌, List, [], ◌∷◌, ◌++◌, length, refl, sym, ap, ◌∙◌, subst, arith, Checked, Doing, times, longer, count_up, places, View, prefix_more, prefix_trans, prefix_whole, times_append, nat_tests, Entry, IsLegal, IsAhead, IsOwn, Made, MadeBoth, Start, state_at, IsPrefix}, Follows.{ahead_kept, follows_prefix, own_kept}}
 
 -- t is the pass at its turn, w the pass after it
 pub made_by : (A : Start) (v u t w : View Entry) (e : Entry) → IsPrefix v.seen t.seen → IsPrefix u.seen t.seen → t.mine ≡ u.mine

@@ -1,13 +1,9 @@
 -- What stood before: a look finds what was posted and nothing has taken out since, and a begin is at or above each commit that was told of.
-use Rattle.iso_shared.proofs.Words.{◌≡◌, ◌⊎◌, inl, inr, ℕ, ◌+◌, ◌≤◌, ◌==◌, Bool, true, false, cond, List, [], ◌∷◌, ◌++◌, Option, Some, None, refl, sym, ap, ◌∙◌, subst, arith, bytes_eq, drop, option_map, slice_get, AllByRecursion, lookup, remove_entry, bytes_eq-Decides, hit, times, hit_same, Access, Call, Cause, Entry, Posting, Fits, IsLegal, LegalFrom, WasPosted, is_number, takes_out, Start, State, after, after_all, after_fault, after_refusal, opened, posting_of, racked, state_at, ◌-◌, ◌<◌, nat_lt, length-append, GroupReply, ahead, decided, group_is, made_by, member_reply, Clash, EndReply, Committed, ReadOnly, Conflict, Mode, CoreReply, LAST, clash, has_write, last, commit_from, commit_step, end_step, need, World, Live, used, MemberEnd, CommitsUpTo, IsMemberUpTo, IsReplyUpTo, members_of, replies_of, tx_of, txs_of}
+use Rattle.iso_shared.proofs.{Words.{◌≡◌, ◌⊎◌, inl, inr, ℕ, ◌+◌, ◌≤◌, ◌==◌, Bool, true, false, cond, List, [], ◌∷◌, ◌++◌, Option, Some, None, refl, sym, ap, ◌∙◌, subst, arith, bytes_eq, drop, option_map, slice_get, AllByRecursion, lookup, remove_entry, bytes_eq-Decides, hit, times, hit_same, Access, Call, Cause, Entry, Posting, Fits, IsLegal, LegalFrom, WasPosted, is_number, takes_out, Start, State, after, after_all, after_fault, after_refusal, opened, posting_of, racked, state_at, ◌-◌, ◌<◌, nat_lt, length-append, GroupReply, ahead, decided, group_is, made_by, member_reply, Clash, EndReply, Committed, ReadOnly, Conflict, Mode, CoreReply, LAST, clash, has_write, last, commit_from, commit_step, end_step, need, World, Live, used, MemberEnd, CommitsUpTo, IsMemberUpTo, IsReplyUpTo, members_of, replies_of, tx_of, txs_of}, Trace.{IsSound, first_parts, hits, hits_are, label_parts, legal_last, opened_sound, sound_next}, Begins.began_last, Follows.{follows_all, last_longer}, Grouped.{after_history, decided_extends}}
 use Rattle.iso_shared.specs.declared.entry.Call.TheVariants as call
 use Rattle.iso_shared.specs.declared.entry.Cause.TheVariants as cause
 use Rattle.iso_shared.specs.declared.entry.Entry.TheVariants as entry
 use Rattle.iso_model.specs.declared.core_reply.CoreReply.TheVariants as reply
-use Rattle.iso_shared.proofs.Trace.{IsSound, first_parts, hits, hits_are, label_parts, legal_last, opened_sound, sound_next}
-use Rattle.iso_shared.proofs.Begins.{began_last}
-use Rattle.iso_shared.proofs.Follows.{follows_all, last_longer}
-use Rattle.iso_shared.proofs.Grouped.{after_history, decided_extends}
 
 -- ---- what stands in a rack
 

@@ -1,13 +1,8 @@
 -- Transactions under labels: what they have kept, and what stands under the lock after a call on labels.
-use Rattle.iso_shared.proofs.Words.{◌≡◌, ℕ, ◌+◌, ◌<◌, ◌≤◌, ◌==◌, Bool, true, false, cond, List, [], ◌∷◌, ◌++◌, Option, Some, None, refl, sym, ap, ◌∙◌, subst, arith, bytes_eq, drop, option_map, lookup, remove_entry, AllByRecursion, lookup-map_values, Core, DiskState, Geometry, last, World, Live, IsLive, hit, times, hit_same, Entry, Posting, Posted, Call, Cause, Fits, LegalFrom, IsOwn, IsOn, StandsAt, posting_in, Start, State, after, after_all, after_refusal, is_live, live_of, opened, posting_of, racked, state_at, inl, Ok, Err, is_some, slice_get, map-append, held_after, PostError, Answers, handed, returned, Holds, postings, post_entry}
+use Rattle.iso_shared.proofs.{Words.{◌≡◌, ℕ, ◌+◌, ◌<◌, ◌≤◌, ◌==◌, Bool, true, false, cond, List, [], ◌∷◌, ◌++◌, Option, Some, None, refl, sym, ap, ◌∙◌, subst, arith, bytes_eq, drop, option_map, lookup, remove_entry, AllByRecursion, lookup-map_values, Core, DiskState, Geometry, last, World, Live, IsLive, hit, times, hit_same, Entry, Posting, Posted, Call, Cause, Fits, LegalFrom, IsOwn, IsOn, StandsAt, posting_in, Start, State, after, after_all, after_refusal, is_live, live_of, opened, posting_of, racked, state_at, inl, Ok, Err, is_some, slice_get, map-append, held_after, PostError, Answers, handed, returned, Holds, postings, post_entry}, Follows.{Follows, follows_all, follows_next}, Giving.{fault_keeps, Lends, live_lent}, Standings.{sound_at, MayLeave, Moved, stands_next}, Trace.{IsSound, loose_is, opened_sound, sound_next}, Cores.Did}
 use Rattle.iso_shared.specs.declared.entry.Entry.TheVariants as entry
 use Rattle.iso_shared.specs.declared.entry.Cause.TheVariants as cause
 use Rattle.tx_table.specs.declared.rack.PostError.TheVariants as post
-use Rattle.iso_shared.proofs.Follows.{Follows, follows_all, follows_next}
-use Rattle.iso_shared.proofs.Giving.{fault_keeps, Lends, live_lent}
-use Rattle.iso_shared.proofs.Standings.{sound_at, MayLeave, Moved, stands_next}
-use Rattle.iso_shared.proofs.Trace.{IsSound, loose_is, opened_sound, sound_next}
-use Rattle.iso_shared.proofs.Cores.{Did}
 
 -- it has the begin and the mode that it began with, in as far as it is still live
 pub record IsPosting (S : State) (p : Posting) : Type 0 where

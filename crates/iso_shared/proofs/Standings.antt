@@ -1,10 +1,8 @@
 -- What lies under the lock, with one entry more.
-use Rattle.iso_shared.proofs.Words.{◌≡◌, ◌⊎◌, inl, inr, ℕ, ◌<◌, true, List, [], ◌∷◌, ◌++◌, Option, Some, None, refl, sym, ap, ◌∙◌, subst, arith, option_to_list, AllByRecursion, Core, StandsFor, disk_of, up, shows_world, last, World, DiskState, IsLawful, LeavesOnly, joined, started, starts_unwritten, weakened, times, AreDistinct, AreFree, AreHeld, IsOut, Call, Cause, Entry, Posted, AreLoose, Answers, IsCall, IsLegal, ended, ended_by, handed, needed, returned, Came, Holds, IsOn, ShowsSince, StandsAt, postings, start_at, Start, State, after, is_live, opened, state_at}
+use Rattle.iso_shared.proofs.{Words.{◌≡◌, ◌⊎◌, inl, inr, ℕ, ◌<◌, true, List, [], ◌∷◌, ◌++◌, Option, Some, None, refl, sym, ap, ◌∙◌, subst, arith, option_to_list, AllByRecursion, Core, StandsFor, disk_of, up, shows_world, last, World, DiskState, IsLawful, LeavesOnly, joined, started, starts_unwritten, weakened, times, AreDistinct, AreFree, AreHeld, IsOut, Call, Cause, Entry, Posted, AreLoose, Answers, IsCall, IsLegal, ended, ended_by, handed, needed, returned, Came, Holds, IsOn, ShowsSince, StandsAt, postings, start_at, Start, State, after, is_live, opened, state_at}, Growing.since_next, Trace.{NotLoose, after_snoc, legal_last, legal_snoc, loose_is, not_loose, opened_sound, out_is, sound_all, IsSound}}
 use Rattle.iso_shared.specs.declared.entry.Call.TheVariants as call
 use Rattle.iso_shared.specs.declared.entry.Cause.TheVariants as cause
 use Rattle.iso_shared.specs.declared.entry.Entry.TheVariants as entry
-use Rattle.iso_shared.proofs.Growing.{since_next}
-use Rattle.iso_shared.proofs.Trace.{NotLoose, after_snoc, legal_last, legal_snoc, loose_is, not_loose, opened_sound, out_is, sound_all, IsSound}
 
 -- each number that a pass holds is out
 abbrev pub HoldsOut : List ℕ → List Entry → Type 0

@@ -1,6 +1,5 @@
 -- A list over the image of the tests may begin where a core stands for it.
-use Rattle.iso_shared.proofs.Words.{◌≡◌, Some, Result, Ok, Err, IfOk, refl, sym, subst, same_Some, result_ok, Core, StandsFor, disk_of, up, DiskState, IsLawful, empty_history, fresh, start_at, MayStart, small}
-use Rattle.iso_shared.proofs.Standings.{came_first, holds_first}
+use Rattle.iso_shared.proofs.{Words.{◌≡◌, Some, Result, Ok, Err, IfOk, refl, sym, subst, same_Some, result_ok, Core, StandsFor, disk_of, up, DiskState, IsLawful, empty_history, fresh, start_at, MayStart, small}, Standings.{came_first, holds_first}}
 
 -- what holds of an answer, once it was taken out of its result
 pub ok_has : {A E : Type 0} (P : A → Type 0) (r : Result A E) (x : A) → Some x ≡ result_ok r → IfOk r P → P x

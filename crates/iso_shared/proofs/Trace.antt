@@ -1,9 +1,8 @@
 -- What a legal list leads to: live transactions and labelled ones, as entries change them, are sound at each place.
-use Rattle.iso_shared.proofs.Words.{◌≡◌, ℕ, ◌+◌, ◌==◌, Bool, true, false, not, cond, List, [], ◌∷◌, ◌++◌, Option, Some, None, refl, ap, ◌∙◌, arith, drop, option_map, slice_get, lookup, remove_entry, nat_tests, Live, without, hit, times, Posting, is_live, live_of, racked, zero, suc, ◌<◌, ◌≤◌, ◌&&◌, ◌||◌, sym, subst, bytes_eq, option_to_list, is_among, out_next, out_from, is_out, hit_same, Access, EndReply, Committed, AllByRecursion, World, after_leaving, ahead, leave_all, Call, Cause, Entry, Member, Start, State, opened, is_loose, after, after_all, after_fault, after_group, after_refusal, after_sweep, lost_commits, member_numbers, members_of, state_at, tx_of, txs_of, with_world, AreLoose, Answers, Fits, LegalFrom, IsLegal, handed, returned, ended_by}
+use Rattle.iso_shared.proofs.{Words.{◌≡◌, ℕ, ◌+◌, ◌==◌, Bool, true, false, not, cond, List, [], ◌∷◌, ◌++◌, Option, Some, None, refl, ap, ◌∙◌, arith, drop, option_map, slice_get, lookup, remove_entry, nat_tests, Live, without, hit, times, Posting, is_live, live_of, racked, zero, suc, ◌<◌, ◌≤◌, ◌&&◌, ◌||◌, sym, subst, bytes_eq, option_to_list, is_among, out_next, out_from, is_out, hit_same, Access, EndReply, Committed, AllByRecursion, World, after_leaving, ahead, leave_all, Call, Cause, Entry, Member, Start, State, opened, is_loose, after, after_all, after_fault, after_group, after_refusal, after_sweep, lost_commits, member_numbers, members_of, state_at, tx_of, txs_of, with_world, AreLoose, Answers, Fits, LegalFrom, IsLegal, handed, returned, ended_by}, Grouped.after_is}
 use Rattle.iso_shared.specs.declared.entry.Call.TheVariants as call
 use Rattle.iso_shared.specs.declared.entry.Cause.TheVariants as cause
 use Rattle.iso_shared.specs.declared.entry.Entry.TheVariants as entry
-use Rattle.iso_shared.proofs.Grouped.{after_is}
 
 first_or : (a b : Bool) (l x : Bool) → x ≡ cond b true l → cond a true x ≡ cond b true (cond a true l)
 first_or true true l x e = refl

@@ -1,10 +1,9 @@
 -- What no legal list holds that a looser word would let in, and what the rows of the other file leave.
-use Rattle.iso_shared.proofs.Words.{◌≡◌, ◌≤◌, ℕ, ◌+◌, ◌-◌, zero, suc, true, false, List, [], ◌∷◌, ◌++◌, Some, None, ap, length, replicate, refl, sym, ◌∙◌, arith, length-replicate, Access, Committed, ReadOnly, Serial, Snapshot, LAST, MAX_ACCESSES, CoreReply, put, clash, runs, begin_step, commit_step, end_step, read_access, switch_step, write_access, versions, empty_history, fresh, Entry, Numbers, Fits, MayRefuse, numbers_at, IsIsolatedAt, most_steps, Start, opened, state_at}
+use Rattle.iso_shared.proofs.{Words.{◌≡◌, ◌≤◌, ℕ, ◌+◌, ◌-◌, zero, suc, true, false, List, [], ◌∷◌, ◌++◌, Some, None, ap, length, replicate, refl, sym, ◌∙◌, arith, length-replicate, Access, Committed, ReadOnly, Serial, Snapshot, LAST, MAX_ACCESSES, CoreReply, put, clash, runs, begin_step, commit_step, end_step, read_access, switch_step, write_access, versions, empty_history, fresh, Entry, Numbers, Fits, MayRefuse, numbers_at, IsIsolatedAt, most_steps, Start, opened, state_at}, Rows.{fallen, one_ended, one_put, posted, small, start, two_begun}}
 use Rattle.iso_model.specs.declared.core_reply.CoreReply.TheVariants as reply
 use Rattle.iso_shared.specs.declared.entry.Call.TheVariants as call
 use Rattle.iso_shared.specs.declared.entry.Cause.TheVariants as cause
 use Rattle.iso_shared.specs.declared.entry.Entry.TheVariants as entry
-use Rattle.iso_shared.proofs.Rows.{fallen, one_ended, one_put, posted, small, start, two_begun}
 
 -- where the disk tells nothing, a fetch may have any bytes
 abbrev untold : Start

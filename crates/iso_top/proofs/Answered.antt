@@ -1,6 +1,5 @@
 -- A script that was answered from the world that a call begins with.
-use Rattle.iso_top.proofs.Words.{ℕ, List, ◌++◌, Option, DiskState, SinkState, SourceState, Geometry, Core, disk_of, RunEnd, HasRun, HasCore, HasAnswered, HasBegun, PrintedEnd, files_answer, stores_answer}
-use Rattle.iso_top.proofs.Beginnings.{begun}
+use Rattle.iso_top.proofs.{Words.{ℕ, List, ◌++◌, Option, DiskState, SinkState, SourceState, Geometry, Core, disk_of, RunEnd, HasRun, HasCore, HasAnswered, HasBegun, PrintedEnd, files_answer, stores_answer}, Beginnings.begun}
 
 module _ {D : Type 0} (state : D → DiskState) (made : Option Geometry) (name : List ℕ) (disk new : D) (core : Core D) (has : HasCore state made name disk core)
     (input_old input_new : SourceState) (output_old replied : SinkState) (e : RunEnd)

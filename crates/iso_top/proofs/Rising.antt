@@ -1,10 +1,9 @@
 -- The count of faults along a legal list.
-use Rattle.iso_top.proofs.Words.{◌≡◌, ◌⊎◌, inl, inr, ℕ, ◌≤◌, Bool, true, false, cond, List, [], ◌∷◌, ◌++◌, Option, Some, None, IsSome, refl, sym, subst, arith, list_any, Rose, Commit, Line, Call, Cause, Entry, Fits, LegalFrom, MayRefuse, Start, State, after_all, after_fault, after_refusal, opened, state_at, status_of, stopped, wants, Told, Part}
+use Rattle.iso_top.proofs.{Words.{◌≡◌, ◌⊎◌, inl, inr, ℕ, ◌≤◌, Bool, true, false, cond, List, [], ◌∷◌, ◌++◌, Option, Some, None, IsSome, refl, sym, subst, arith, list_any, Rose, Commit, Line, Call, Cause, Entry, Fits, LegalFrom, MayRefuse, Start, State, after_all, after_fault, after_refusal, opened, state_at, status_of, stopped, wants, Told, Part}, Stops.{Blames, HasBlame, blame_left, parts_blame}}
 use Rattle.iso_shared.specs.declared.entry.Call.TheVariants as call
 use Rattle.iso_shared.specs.declared.entry.Cause.TheVariants as cause
 use Rattle.iso_shared.specs.declared.entry.Entry.TheVariants as entry
 use Rattle.iso_shared.specs.States.{after}
-use Rattle.iso_top.proofs.Stops.{Blames, HasBlame, blame_left, parts_blame}
 
 -- an entry leaves the count and whether the device is down, or it tells of a fault
 abbrev Quiet : State → State → Type 0

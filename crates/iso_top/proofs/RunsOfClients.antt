@@ -1,6 +1,5 @@
 -- What a run of clients over a core comes to, in the whole call.
-use Rattle.iso_top.proofs.Words.{◌≡◌, ◌⊎◌, inl, inr, ℕ, Bool, true, false, List, ◌++◌, Option, Some, None, refl, subst, arith, list_any, Rose, Core, StandsFor, disk_of, DiskState, SinkState, shows, Commit, Line, World, Entry, Holds, standing_of, Start, State, state_at, ParEnd, Ends, HasEnded, status_of, stopped, wants, Part, IsFront, IsOutput, PrintedClients, ShowsBehind, ShowsState, WereRun, Printed, WasCut, WroteWhole, PutOf, memory_text}
-use Rattle.iso_top.proofs.Rising.{fault_rose, status_by}
+use Rattle.iso_top.proofs.{Words.{◌≡◌, ◌⊎◌, inl, inr, ℕ, Bool, true, false, List, ◌++◌, Option, Some, None, refl, subst, arith, list_any, Rose, Core, StandsFor, disk_of, DiskState, SinkState, shows, Commit, Line, World, Entry, Holds, standing_of, Start, State, state_at, ParEnd, Ends, HasEnded, status_of, stopped, wants, Part, IsFront, IsOutput, PrintedClients, ShowsBehind, ShowsState, WereRun, Printed, WasCut, WroteWhole, PutOf, memory_text}, Rising.{fault_rose, status_by}}
 
 -- ---- the images of now
 

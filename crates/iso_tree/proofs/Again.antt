@@ -1,11 +1,5 @@
 -- The nodes that a put reads once more are those of its descent, and the way up over them is the put below the root.
-use Rattle.iso_tree.proofs.Words.{◌≡◌, ◌∙◌, sym, refl, ap, ℕ, zero, suc, ◌+◌, ◌<◌, ◌≤◌, true, List, [], ◌∷◌, map, take, length, Option, None, arith, inl, inr, AllByRecursion, flat_map, append-nil, Area, Array, own, IsIn, block_at, Program, accesses_of, cell_count, Cell, child_of, child_part, is_child, tree_at, nodes_in, IsOrdered, climb, climb_on, full_row, look_again, cells_in, AreNodes, AreWhole, all_append, in_cases}
-use Rattle.iso_tree.proofs.Climbs.{child_ordered}
-use Rattle.iso_tree.proofs.Facts.{child_below}
-use Rattle.iso_tree.proofs.Fits.{cells_few}
-use Rattle.iso_tree.proofs.Putting.{child_all, node_children}
-use Rattle.iso_tree.proofs.Shapes.{kids, child_for, put_below}
-use Rattle.iso_tree.proofs.Ways.{path_below, counts, climb_below, climb_take}
+use Rattle.iso_tree.proofs.{Words.{◌≡◌, ◌∙◌, sym, refl, ap, ℕ, zero, suc, ◌+◌, ◌<◌, ◌≤◌, true, List, [], ◌∷◌, map, take, length, Option, None, arith, inl, inr, AllByRecursion, flat_map, append-nil, Area, Array, own, IsIn, block_at, Program, accesses_of, cell_count, Cell, child_of, child_part, is_child, tree_at, nodes_in, IsOrdered, climb, climb_on, full_row, look_again, cells_in, AreNodes, AreWhole, all_append, in_cases}, Climbs.child_ordered, Facts.child_below, Fits.cells_few, Putting.{child_all, node_children}, Shapes.{kids, child_for, put_below}, Ways.{path_below, counts, climb_below, climb_take}}
 
 -- the nodes of these blocks
 abbrev pub nodes_at : (ℕ → List Cell) → List ℕ → List (ℕ × List Cell)

@@ -1,6 +1,5 @@
 -- Blocks that are reached once, and the trees that stay as they were.
-use Rattle.iso_tree.proofs.Words.{◌≡◌, ◌⊎◌, ◌∙◌, sym, refl, ap, subst, ℕ, zero, suc, true, false, cond, List, [], ◌∷◌, ◌++◌, inl, inr, flat_map, before, Cell, child_of, Tree, tree_at, nodes_in, put_after, IsApart, IsIn, in_front, in_back, in_cases}
-use Rattle.iso_tree.proofs.Shapes.{kids, chosen, set_chosen, IsAdded, IsGrown}
+use Rattle.iso_tree.proofs.{Words.{◌≡◌, ◌⊎◌, ◌∙◌, sym, refl, ap, subst, ℕ, zero, suc, true, false, cond, List, [], ◌∷◌, ◌++◌, inl, inr, flat_map, before, Cell, child_of, Tree, tree_at, nodes_in, put_after, IsApart, IsIn, in_front, in_back, in_cases}, Shapes.{kids, chosen, set_chosen, IsAdded, IsGrown}}
 
 pub apart_parts : (xs ys : List ℕ) → IsApart (xs ++ ys) → IsApart xs × IsApart ys × ((k : ℕ) → IsIn k xs → IsIn k ys → ⊥)
 apart_parts [] ys is = (tt, is, λ k left right. absurd left)

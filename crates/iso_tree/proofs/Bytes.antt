@@ -1,7 +1,5 @@
 -- The bytes of a node spell its cells.
-use Rattle.iso_tree.proofs.Words.{◌≡◌, ◌∙◌, sym, refl, ap, subst, ℕ, zero, suc, ◌+◌, ◌-◌, ◌*◌, ◌/◌, ◌%◌, ◌<◌, ◌≤◌, true, List, [], ◌∷◌, ◌++◌, take, drop, length, replicate, arith, inl, inr, flat_map, list_all, cases_eq, append_assoc, take_at, drop_at, length-append, length-replicate, drop-drop, drop-replicate, Area, Array, put, block_at, bytes_in, store_access, cell_count, keys_end, keys_mark, value_mark, text_of, key_at, key_part, is_zero, FitCells, count_of, Cell, node_bytes, cells_by, used_cells, cells_in, written_block, other_block, length-part, laid_whole}
-use Rattle.iso_tree.proofs.Shapes.{write_cells}
-use Rattle.iso_tree.proofs.Splits.{write_here, write_other}
+use Rattle.iso_tree.proofs.{Words.{◌≡◌, ◌∙◌, sym, refl, ap, subst, ℕ, zero, suc, ◌+◌, ◌-◌, ◌*◌, ◌/◌, ◌%◌, ◌<◌, ◌≤◌, true, List, [], ◌∷◌, ◌++◌, take, drop, length, replicate, arith, inl, inr, flat_map, list_all, cases_eq, append_assoc, take_at, drop_at, length-append, length-replicate, drop-drop, drop-replicate, Area, Array, put, block_at, bytes_in, store_access, cell_count, keys_end, keys_mark, value_mark, text_of, key_at, key_part, is_zero, FitCells, count_of, Cell, node_bytes, cells_by, used_cells, cells_in, written_block, other_block, length-part, laid_whole}, Shapes.write_cells, Splits.{write_here, write_other}}
 
 pub length-key_part : (key : List ℕ) → length key ≤ 28 → length (key_part key) ≡ 31
 length-key_part key short = length-part 30 key (omega arith)

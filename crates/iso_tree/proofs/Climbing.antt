@@ -1,8 +1,5 @@
 -- The way up, write by write.
-use Rattle.iso_tree.proofs.Words.{◌≡◌, ◌∙◌, sym, refl, ap, subst, ℕ, zero, suc, ◌+◌, ◌-◌, ◌*◌, ◌/◌, ◌<◌, ◌≤◌, ◌==◌, Bool, true, false, cond, nat_le, List, [], ◌∷◌, ◌++◌, length, take, drop, None, Result, Ok, arith, inl, inr, eq-eqb, ne_eqb, nat_tests, take_at, drop_at, Access, Area, StoreError, TxError, cell_count, keys_end, value_mark, Program, Done, Store, bytes_in, store_access, Tx, Device, with_accesses, HasRun, IsCut, IsCause, at_start, at_store, cut_at_store, run_from, Cell, child_part, count_of, node_bytes, used_cells, key_in_row, row_from, nodes_from, IsUsable, AreUsable, AreInside, AreBlocks, Put, first_key, emptied, half, halves, fit, Answer, Climb, climb, climb_on, full_row, need_of, placed, root_cells, store_nodes, cases_eq, room_after, Err, OnOk, IsFollowed, HasWritten, ran_at, length-placed}
-use Rattle.iso_tree.proofs.Enough.{fits_one}
-use Rattle.iso_tree.proofs.Filling.{row_split, length-row}
-use Rattle.iso_tree.proofs.Fits.{length-cells}
+use Rattle.iso_tree.proofs.{Words.{◌≡◌, ◌∙◌, sym, refl, ap, subst, ℕ, zero, suc, ◌+◌, ◌-◌, ◌*◌, ◌/◌, ◌<◌, ◌≤◌, ◌==◌, Bool, true, false, cond, nat_le, List, [], ◌∷◌, ◌++◌, length, take, drop, None, Result, Ok, arith, inl, inr, eq-eqb, ne_eqb, nat_tests, take_at, drop_at, Access, Area, StoreError, TxError, cell_count, keys_end, value_mark, Program, Done, Store, bytes_in, store_access, Tx, Device, with_accesses, HasRun, IsCut, IsCause, at_start, at_store, cut_at_store, run_from, Cell, child_part, count_of, node_bytes, used_cells, key_in_row, row_from, nodes_from, IsUsable, AreUsable, AreInside, AreBlocks, Put, first_key, emptied, half, halves, fit, Answer, Climb, climb, climb_on, full_row, need_of, placed, root_cells, store_nodes, cases_eq, room_after, Err, OnOk, IsFollowed, HasWritten, ran_at, length-placed}, Enough.fits_one, Filling.{row_split, length-row}, Fits.length-cells}
 
 -- one way on, with the node's writes
 abbrev on_from : (n : ℕ) → (key : List ℕ) → (level block : ℕ) → List (ℕ × List Cell) → Put → Climb

@@ -1,9 +1,5 @@
 -- A put below a node leaves one tree, or two with a separator, in the old ranges, with the new pair and the new blocks.
-use Rattle.iso_tree.proofs.Words.{◌≡◌, ◌≢◌, ◌∙◌, sym, refl, ap, subst, ℕ, zero, suc, ◌+◌, ◌<◌, ◌≤◌, true, false, cond, List, [], ◌∷◌, ◌++◌, length, map, Option, Some, None, arith, inl, inr, flat_map, AllByRecursion, and_parts, append_assoc, append-nil, text_of, before, Cell, child_of, in_range, Tree, tree_at, pairs_in, nodes_in, put_after, IsApart, AreAfter, AreChildren, IsOrdered, Put, half, fit, IsIn, in_front, in_back}
-use Rattle.iso_tree.proofs.Shapes.{kids, chosen, set_chosen, IsAdded, IsGrown, AreFrom, after_child, child_for, put_below, written, second_kid, IsFitCell, IsSized, AreSized}
-use Rattle.iso_tree.proofs.Order.{put_rise, set_ordered, set_grown, grown_front, grown_more, head_key, head_set, not_before_empty, all_left, all_right, length-put_after, all_put_after, set_all, length-set_chosen}
-use Rattle.iso_tree.proofs.Blocks.{apart_parts, apart_join, grown_apart, chosen_kid, chosen_in, set_one, set_two}
-use Rattle.iso_tree.proofs.Splits.{written_append, fit_leaf, fit_inner}
+use Rattle.iso_tree.proofs.{Words.{◌≡◌, ◌≢◌, ◌∙◌, sym, refl, ap, subst, ℕ, zero, suc, ◌+◌, ◌<◌, ◌≤◌, true, false, cond, List, [], ◌∷◌, ◌++◌, length, map, Option, Some, None, arith, inl, inr, flat_map, AllByRecursion, and_parts, append_assoc, append-nil, text_of, before, Cell, child_of, in_range, Tree, tree_at, pairs_in, nodes_in, put_after, IsApart, AreAfter, AreChildren, IsOrdered, Put, half, fit, IsIn, in_front, in_back}, Shapes.{kids, chosen, set_chosen, IsAdded, IsGrown, AreFrom, after_child, child_for, put_below, written, second_kid, IsFitCell, IsSized, AreSized}, Order.{put_rise, set_ordered, set_grown, grown_front, grown_more, head_key, head_set, not_before_empty, all_left, all_right, length-put_after, all_put_after, set_all, length-set_chosen}, Blocks.{apart_parts, apart_join, grown_apart, chosen_kid, chosen_in, set_one, set_two}, Splits.{written_append, fit_leaf, fit_inner}}
 
 -- the tree has no pair of the key
 abbrev pub Lacks : (key : List ℕ) → (level : ℕ) → Tree level → Type 0

@@ -1,16 +1,5 @@
 -- A removal is local.
-use Rattle.iso_tree.proofs.Words.{◌≡◌, ◌≢◌, ◌∙◌, sym, refl, ap, subst, ℕ, ◌+◌, ◌<◌, ◌≤◌, ◌==◌, Bool, true, false, not, cond, List, [], ◌∷◌, ◌++◌, length, Option, Some, None, Result, Ok, Err, option_map, is_some, arith, inl, inr, eq-eqb, ne_eqb, AllByRecursion, filter, bytes_eq, get, remove, cases_Bool, cases_eq, Area, StoreError, BadKey, Broken, Array, put, own, at_cell, is_key, del_op, block_at, Program, Done, bytes_in, then_do, accesses_of, answer_of, store_access, IsLocal, cell_count, keys_mark, value_mark, is_part, text_of, AreWhole, accesses_then, own_reads, whole_reads, IsCorrect, local_from, IsBlock, FitCells, Cell, cell_of, count_of, node_bytes, is_head, head_mark, Rise, in_range, tree_at, IsOrdered, Descent, AtLeaf, AtBroken, descend, with_head, without_key, edit_leaf, del_at, del_below, del_program, cells_in, root_of, level_of, IsTreeArea, IsTreeRegion, tree_pairs, tree_map, same_ok, found_in, length-filter_le, before, RiseAfter}
-use Rattle.iso_tree.proofs.Building.{filter_all}
-use Rattle.iso_tree.proofs.Bytes.{length-node_bytes}
-use Rattle.iso_tree.proofs.Edits.{leaf_of}
-use Rattle.iso_tree.proofs.Ending.{order_of, ends_of, answer_at, own_at, found_of}
-use Rattle.iso_tree.proofs.Facts.{head_parts}
-use Rattle.iso_tree.proofs.Fits.{area_block, cells_fit, cells_few, rise_strict}
-use Rattle.iso_tree.proofs.Gets.{descend_reads, map_gets, parts_all}
-use Rattle.iso_tree.proofs.Leaves.{EndsAtLeaf, leaf_rises, HasLanded, lands}
-use Rattle.iso_tree.proofs.Dels.{IsLeafEdit, leaf_written, edit_region, edit_pairs, edit_found, map_without, map_missing}
-use Rattle.iso_tree.proofs.Ranges.{low_of, range_within}
-use Rattle.iso_tree.proofs.Order.{before_trans}
+use Rattle.iso_tree.proofs.{Words.{◌≡◌, ◌≢◌, ◌∙◌, sym, refl, ap, subst, ℕ, ◌+◌, ◌<◌, ◌≤◌, ◌==◌, Bool, true, false, not, cond, List, [], ◌∷◌, ◌++◌, length, Option, Some, None, Result, Ok, Err, option_map, is_some, arith, inl, inr, eq-eqb, ne_eqb, AllByRecursion, filter, bytes_eq, get, remove, cases_Bool, cases_eq, Area, StoreError, BadKey, Broken, Array, put, own, at_cell, is_key, del_op, block_at, Program, Done, bytes_in, then_do, accesses_of, answer_of, store_access, IsLocal, cell_count, keys_mark, value_mark, is_part, text_of, AreWhole, accesses_then, own_reads, whole_reads, IsCorrect, local_from, IsBlock, FitCells, Cell, cell_of, count_of, node_bytes, is_head, head_mark, Rise, in_range, tree_at, IsOrdered, Descent, AtLeaf, AtBroken, descend, with_head, without_key, edit_leaf, del_at, del_below, del_program, cells_in, root_of, level_of, IsTreeArea, IsTreeRegion, tree_pairs, tree_map, same_ok, found_in, length-filter_le, before, RiseAfter}, Building.filter_all, Bytes.length-node_bytes, Edits.leaf_of, Ending.{order_of, ends_of, answer_at, own_at, found_of}, Facts.head_parts, Fits.{area_block, cells_fit, cells_few, rise_strict}, Gets.{descend_reads, map_gets, parts_all}, Leaves.{EndsAtLeaf, leaf_rises, HasLanded, lands}, Dels.{IsLeafEdit, leaf_written, edit_region, edit_pairs, edit_found, map_without, map_missing}, Ranges.{low_of, range_within}, Order.before_trans}
 pub use Rattle.tx_blocks.proofs.Programs.{HasBlocks, whole_append}
 
 -- A leaf without some of its cells still rises.

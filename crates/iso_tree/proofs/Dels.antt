@@ -1,10 +1,5 @@
 -- A removal takes the key out of the map of the region.
-use Rattle.iso_tree.proofs.Words.{◌≡◌, ◌≢◌, ◌∙◌, sym, refl, ap, subst, ℕ, suc, ◌+◌, ◌≤◌, ◌==◌, Bool, true, false, not, cond, IsTrue, List, [], ◌∷◌, ◌++◌, length, Option, Some, None, arith, inl, inr, ne_eqb, AllByRecursion, nat_cmp, eq_by_cmp, bytes_eq, slice_cmp, nat_list_cmp_total, nat_list_eq_equiv, from_entries, get, remove, get-from_entries, get-remove, same_map, slice_cmp-IsAntisymmetric, nat_cmp-IsAntisymmetric, cases_Bool, cases_eq, bytes_eq-Decides, Area, or_else, Array, put, IsIn, Pairs, block_at, bytes_in, store_access, cell_count, keys_mark, is_part, text_of, word_at, length-block_put, written_block, other_block, IsBlock, FitCells, Cell, is_node, used_cells, node_bytes, head_mark, tree_at, pairs_in, nodes_in, IsApart, in_range, Rise, IsOrdered, without_key, cells_in, root_of, level_of, IsNode, AreNodes, IsTreeRegion, tree_pairs, tree_nodes, found_in, find_append, ties, laid_whole}
-use Rattle.iso_tree.proofs.Bytes.{length-node_bytes}
-use Rattle.iso_tree.proofs.Edits.{leaf_of, leaf_pairs, IsSwapped, IsEdited, edit_is}
-use Rattle.iso_tree.proofs.Leaves.{found_leaf, leaf_stays}
-use Rattle.iso_tree.proofs.Fits.{nodes_after, one_level, leaf_is_node}
-use Rattle.iso_tree.proofs.Order.{not_before_empty}
+use Rattle.iso_tree.proofs.{Words.{◌≡◌, ◌≢◌, ◌∙◌, sym, refl, ap, subst, ℕ, suc, ◌+◌, ◌≤◌, ◌==◌, Bool, true, false, not, cond, IsTrue, List, [], ◌∷◌, ◌++◌, length, Option, Some, None, arith, inl, inr, ne_eqb, AllByRecursion, nat_cmp, eq_by_cmp, bytes_eq, slice_cmp, nat_list_cmp_total, nat_list_eq_equiv, from_entries, get, remove, get-from_entries, get-remove, same_map, slice_cmp-IsAntisymmetric, nat_cmp-IsAntisymmetric, cases_Bool, cases_eq, bytes_eq-Decides, Area, or_else, Array, put, IsIn, Pairs, block_at, bytes_in, store_access, cell_count, keys_mark, is_part, text_of, word_at, length-block_put, written_block, other_block, IsBlock, FitCells, Cell, is_node, used_cells, node_bytes, head_mark, tree_at, pairs_in, nodes_in, IsApart, in_range, Rise, IsOrdered, without_key, cells_in, root_of, level_of, IsNode, AreNodes, IsTreeRegion, tree_pairs, tree_nodes, found_in, find_append, ties, laid_whole}, Bytes.length-node_bytes, Edits.{leaf_of, leaf_pairs, IsSwapped, IsEdited, edit_is}, Leaves.{found_leaf, leaf_stays}, Fits.{nodes_after, one_level, leaf_is_node}, Order.not_before_empty}
 
 -- A leaf that is written, whole or in part, and the cells that it has then.
 pub record IsLeafEdit (a : Area) (A B : Array) (leaf : ℕ) (cs : List Cell) : Type 0 where

@@ -1,9 +1,5 @@
 -- One leaf edited, and no other block changed: what a put into a found cell and a del do to a tree.
-use Rattle.iso_tree.proofs.Words.{◌≡◌, ◌≢◌, ◌∙◌, sym, refl, ap, subst, ℕ, zero, suc, true, false, cond, List, [], ◌∷◌, ◌++◌, map, Option, inl, inr, flat_map, append_assoc, append-nil, text_of, before, Cell, child_of, in_range, Tree, tree_at, pairs_in, nodes_in, IsApart, AreChildren, Rise, IsOrdered, IsIn}
-use Rattle.iso_tree.proofs.Shapes.{kids, chosen, set_chosen, IsGrown, child_for}
-use Rattle.iso_tree.proofs.Order.{set_ordered, set_grown, head_set, not_before_empty}
-use Rattle.iso_tree.proofs.Blocks.{chosen_kid, chosen_in, set_one}
-use Rattle.iso_tree.proofs.Climbs.{children_from, chosen_apart, child_ordered}
+use Rattle.iso_tree.proofs.{Words.{◌≡◌, ◌≢◌, ◌∙◌, sym, refl, ap, subst, ℕ, zero, suc, true, false, cond, List, [], ◌∷◌, ◌++◌, map, Option, inl, inr, flat_map, append_assoc, append-nil, text_of, before, Cell, child_of, in_range, Tree, tree_at, pairs_in, nodes_in, IsApart, AreChildren, Rise, IsOrdered, IsIn}, Shapes.{kids, chosen, set_chosen, IsGrown, child_for}, Order.{set_ordered, set_grown, head_set, not_before_empty}, Blocks.{chosen_kid, chosen_in, set_one}, Climbs.{children_from, chosen_apart, child_ordered}}
 
 -- the leaf that the descent of a key ends at
 abbrev pub leaf_of : (ℕ → List Cell) → (key : List ℕ) → (level block : ℕ) → ℕ

@@ -1,8 +1,5 @@
 -- A call on a well-formed region whose tree is not empty: where its descent ends, and what comes after it.
-use Rattle.iso_tree.proofs.Words.{◌≡◌, ◌≢◌, ◌∙◌, ap, ℕ, ◌+◌, ◌<◌, Bool, false, cond, List, [], None, option_map, arith, inl, inr, ne_eqb, Area, Array, own, block_at, Program, bytes_in, then_do, accesses_of, answer_of, keys_mark, value_mark, text_of, accesses_then, answer_then, own_reads, own_append, cell_of, count_of, tree_at, pairs_in, IsOrdered, Descent, AtLeaf, descend, cells_in, root_of, level_of, AreNodes, IsTreeRegion, tree_pairs, found_in}
-use Rattle.iso_tree.proofs.Edits.{leaf_of}
-use Rattle.iso_tree.proofs.Gets.{descend_reads, leaf_finds}
-use Rattle.iso_tree.proofs.Leaves.{EndsAtLeaf, ends_at_leaf, found_leaf}
+use Rattle.iso_tree.proofs.{Words.{◌≡◌, ◌≢◌, ◌∙◌, ap, ℕ, ◌+◌, ◌<◌, Bool, false, cond, List, [], None, option_map, arith, inl, inr, ne_eqb, Area, Array, own, block_at, Program, bytes_in, then_do, accesses_of, answer_of, keys_mark, value_mark, text_of, accesses_then, answer_then, own_reads, own_append, cell_of, count_of, tree_at, pairs_in, IsOrdered, Descent, AtLeaf, descend, cells_in, root_of, level_of, AreNodes, IsTreeRegion, tree_pairs, found_in}, Edits.leaf_of, Gets.{descend_reads, leaf_finds}, Leaves.{EndsAtLeaf, ends_at_leaf, found_leaf}}
 
 module _ (a : Area) (key : List ℕ) (A : Array) (region : IsTreeRegion a A) (below : root_of a A < a.blocks) (some : root_of a A ≢ 0) where
   abbrev root : ℕ

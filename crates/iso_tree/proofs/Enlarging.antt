@@ -1,10 +1,6 @@
 -- A put that takes new blocks: what the code counts, and its writes in turn.
-use Rattle.iso_tree.proofs.Words.{◌≡◌, ◌≢◌, ◌∙◌, sym, refl, ap, subst, ℕ, zero, suc, ◌+◌, ◌-◌, ◌*◌, ◌<◌, ◌≤◌, ◌==◌, Bool, true, false, not, cond, List, [], ◌∷◌, length, map, take, get_or, Option, Some, None, Result, Ok, arith, inl, inr, eq-eqb, ne_eqb, AllByRecursion, filter, range_with_len, cases_eq, length-take-le, Area, StoreError, TxError, cell_count, keys_end, value_mark, bit_place, free_count, map_bit, map_bytes, map_mark, IsIn, Program, Done, Store, bytes_in, Tx, Device, with_accesses, room_of, HasRun, IsCut, IsCause, IsAt, at_start, at_store, at_reserve, full_at_reserve, cut_at_store, run_from, first_spans, first_bytes, first_access, Cell, count_of, used_cells, IsBlock, nodes_from, AreBlocks, AreUsable, IsUsable, Answer, Climb, climb, first_write, free_list, full_row, need_of, put_writes, store_nodes, with_used, IsTreeArea}
+use Rattle.iso_tree.proofs.{Words.{◌≡◌, ◌≢◌, ◌∙◌, sym, refl, ap, subst, ℕ, zero, suc, ◌+◌, ◌-◌, ◌*◌, ◌<◌, ◌≤◌, ◌==◌, Bool, true, false, not, cond, List, [], ◌∷◌, length, map, take, get_or, Option, Some, None, Result, Ok, arith, inl, inr, eq-eqb, ne_eqb, AllByRecursion, filter, range_with_len, cases_eq, length-take-le, Area, StoreError, TxError, cell_count, keys_end, value_mark, bit_place, free_count, map_bit, map_bytes, map_mark, IsIn, Program, Done, Store, bytes_in, Tx, Device, with_accesses, room_of, HasRun, IsCut, IsCause, IsAt, at_start, at_store, at_reserve, full_at_reserve, cut_at_store, run_from, first_spans, first_bytes, first_access, Cell, count_of, used_cells, IsBlock, nodes_from, AreBlocks, AreUsable, IsUsable, Answer, Climb, climb, first_write, free_list, full_row, need_of, put_writes, store_nodes, with_used, IsTreeArea}, Fits.length-cells, Growing.{climb_shape, count_same, list_same, take_used}, Ways.counts, Enough.row_most}
 use Rattle.store_model.specs.declared.stores.TxError.TheVariants as error
-use Rattle.iso_tree.proofs.Fits.{length-cells}
-use Rattle.iso_tree.proofs.Growing.{climb_shape, count_same, list_same, take_used}
-use Rattle.iso_tree.proofs.Ways.{counts}
-use Rattle.iso_tree.proofs.Enough.{row_most}
 
 -- THE NODES THAT WERE READ
 used_long : (size : ℕ) (node : List ℕ) (count : ℕ) → IsUsable size node count → length (used_cells size node) ≡ count

@@ -1,9 +1,5 @@
 -- How many blocks a put takes: one for each full node in a row from the leaf up.
-use Rattle.iso_tree.proofs.Words.{◌≡◌, ◌⊎◌, ◌∙◌, sym, refl, ap, subst, ℕ, zero, suc, ◌+◌, ◌<◌, ◌≤◌, ◌==◌, true, false, cond, nat_le, List, [], ◌∷◌, ◌++◌, length, Option, Some, None, arith, inl, inr, eq-eqb, ne_eqb, AllByRecursion, and_from, cases_eq, nat_tests, append_assoc, map-append, length-append, Cell, child_of, child_part, tree_at, AreChildren, IsOrdered, Put, put_after, halves, fit, full_row}
-use Rattle.iso_tree.proofs.Climbs.{child_ordered}
-use Rattle.iso_tree.proofs.Order.{all_left, all_right, length-put_after}
-use Rattle.iso_tree.proofs.Shapes.{kids, after_child, child_for, put_below}
-use Rattle.iso_tree.proofs.Ways.{path_below, counts}
+use Rattle.iso_tree.proofs.{Words.{◌≡◌, ◌⊎◌, ◌∙◌, sym, refl, ap, subst, ℕ, zero, suc, ◌+◌, ◌<◌, ◌≤◌, ◌==◌, true, false, cond, nat_le, List, [], ◌∷◌, ◌++◌, length, Option, Some, None, arith, inl, inr, eq-eqb, ne_eqb, AllByRecursion, and_from, cases_eq, nat_tests, append_assoc, map-append, length-append, Cell, child_of, child_part, tree_at, AreChildren, IsOrdered, Put, put_after, halves, fit, full_row}, Climbs.child_ordered, Order.{all_left, all_right, length-put_after}, Shapes.{kids, after_child, child_for, put_below}, Ways.{path_below, counts}}
 
 -- WHAT IS TAKEN AND WHAT IS LEFT
 fit_blocks : (n level block : ℕ) (cs : List Cell) (news : List ℕ) → news ≡ (fit n level block cs news).taken ++ (fit n level block cs news).left

@@ -1,8 +1,5 @@
 -- The bytes of a node that gets a cell, cell by cell.
-use Rattle.iso_tree.proofs.Words.{◌≡◌, ◌∙◌, sym, refl, ap, ℕ, zero, suc, ◌+◌, ◌-◌, ◌*◌, ◌/◌, ◌%◌, ◌<◌, ◌≤◌, ◌==◌, true, false, cond, List, [], ◌∷◌, ◌++◌, length, map, take, drop, replicate, arith, inl, inr, eq-eqb, ne_eqb, nat_lt, range_with_len, flat_map, cases_lt, cases_eq, nat_tests, append_assoc, length-take, length-drop, cell_count, keys_end, key_part, value_mark, key_at, are_key_parts, laid_at, bytes_in, before, Cell, FitCells, IsBlock, count_of, cells_by, used_cells, node_bytes, upto_from, key_in_row, part_in_row, row_from, put_after, placed}
-use Rattle.iso_tree.proofs.Building.{laid_mid}
-use Rattle.iso_tree.proofs.Bytes.{length-key_part}
-use Rattle.iso_tree.proofs.Fits.{key_short}
+use Rattle.iso_tree.proofs.{Words.{◌≡◌, ◌∙◌, sym, refl, ap, ℕ, zero, suc, ◌+◌, ◌-◌, ◌*◌, ◌/◌, ◌%◌, ◌<◌, ◌≤◌, ◌==◌, true, false, cond, List, [], ◌∷◌, ◌++◌, length, map, take, drop, replicate, arith, inl, inr, eq-eqb, ne_eqb, nat_lt, range_with_len, flat_map, cases_lt, cases_eq, nat_tests, append_assoc, length-take, length-drop, cell_count, keys_end, key_part, value_mark, key_at, are_key_parts, laid_at, bytes_in, before, Cell, FitCells, IsBlock, count_of, cells_by, used_cells, node_bytes, upto_from, key_in_row, part_in_row, row_from, put_after, placed}, Building.laid_mid, Bytes.length-key_part, Fits.key_short}
 
 -- STEPS OF THE LOOP OVER KEYS
 upto_step : (key keys : List ℕ) (i n : ℕ) → i < n → upto_from key keys i (n - i) ≡ cond (before key (key_at keys i)) 0 (suc (upto_from key keys (i + 1) (n - (i + 1))))

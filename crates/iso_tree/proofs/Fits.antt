@@ -1,8 +1,5 @@
 -- The cells of a node fit their places, and nodes stay nodes.
-use Rattle.iso_tree.proofs.Words.{◌≡◌, ◌⊎◌, ◌∙◌, sym, refl, ap, subst, ℕ, zero, suc, ◌+◌, ◌*◌, ◌<◌, ◌≤◌, ◌||◌, ◌==◌, Bool, true, List, [], ◌∷◌, length, drop, get_or, arith, inl, inr, AllByRecursion, and_parts, leb-true, cases_Bool, nat_tests, length-take, length-drop, Area, Array, block_at, bytes_in, cell_count, keys_end, keys_mark, key_mark, value_mark, key_at, is_part, are_key_parts, all_at, IsBlock, FitCells, Cell, child_of, count_of, is_node, cells_by, used_cells, node_bytes, Rise, RiseAfter, cells_in, IsNode, AreNodes, IsTreeArea, block_size_is}
-use Rattle.iso_tree.proofs.Bytes.{keys_are, cells_are, unused_values, count_is}
-use Rattle.iso_tree.proofs.Passes.{Strict, StrictFrom, node_passes}
-use Rattle.iso_tree.proofs.Facts.{node_parts}
+use Rattle.iso_tree.proofs.{Words.{◌≡◌, ◌⊎◌, ◌∙◌, sym, refl, ap, subst, ℕ, zero, suc, ◌+◌, ◌*◌, ◌<◌, ◌≤◌, ◌||◌, ◌==◌, Bool, true, List, [], ◌∷◌, length, drop, get_or, arith, inl, inr, AllByRecursion, and_parts, leb-true, cases_Bool, nat_tests, length-take, length-drop, Area, Array, block_at, bytes_in, cell_count, keys_end, keys_mark, key_mark, value_mark, key_at, is_part, are_key_parts, all_at, IsBlock, FitCells, Cell, child_of, count_of, is_node, cells_by, used_cells, node_bytes, Rise, RiseAfter, cells_in, IsNode, AreNodes, IsTreeArea, block_size_is}, Bytes.{keys_are, cells_are, unused_values, count_is}, Passes.{Strict, StrictFrom, node_passes}, Facts.node_parts}
 
 one_of : (size n : ℕ) (rest : Bool) → ((size == n) || rest) ≡ true → (size ≡ n) ⊎ (rest ≡ true)
 one_of size n rest is = elim (cases_Bool (size == n)) [

@@ -1,14 +1,5 @@
 -- A node that gets one more cell, or its two halves, as nodes of the array.
-use Rattle.iso_tree.proofs.Words.{◌≡◌, ◌≢◌, ◌⊎◌, ◌∙◌, sym, refl, ap, subst, ℕ, zero, suc, ◌+◌, ◌<◌, true, false, cond, nat_le, List, [], ◌∷◌, ◌++◌, take, drop, length, Option, Some, None, arith, inl, inr, AllByRecursion, flat_map, take-append-drop, map-append, flat_map-append, Area, Array, put, IsIn, block_at, store_access, cell_count, length-block_put, other_block, Cell, FitCells, IsBlock, child_of, used_cells, node_bytes, Tree, tree_at, nodes_in, IsApart, AreAfter, AreChildren, IsOrdered, Put, first_key, without_first, emptied, half, halves, fit, cells_in, is_part_at, IsNode, AreNodes, in_front, in_back}
-use Rattle.iso_tree.proofs.Blocks.{apart_parts}
-use Rattle.iso_tree.proofs.Bytes.{cells_are}
-use Rattle.iso_tree.proofs.Fits.{rise_strict}
-use Rattle.iso_tree.proofs.Order.{all_left, all_right}
-use Rattle.iso_tree.proofs.Passes.{Strict, StrictFrom}
-use Rattle.iso_tree.proofs.Shapes.{kids, written, second_kid, IsSized, AreSized, length-kids, same_some}
-use Rattle.iso_tree.proofs.Splits.{write_here, write_other}
-use Rattle.iso_tree.proofs.Stored.{stored, spots, block_written, row_same, IsRow, row_is_node}
-use Rattle.iso_tree.proofs.Writes.{FitWrite}
+use Rattle.iso_tree.proofs.{Words.{◌≡◌, ◌≢◌, ◌⊎◌, ◌∙◌, sym, refl, ap, subst, ℕ, zero, suc, ◌+◌, ◌<◌, true, false, cond, nat_le, List, [], ◌∷◌, ◌++◌, take, drop, length, Option, Some, None, arith, inl, inr, AllByRecursion, flat_map, take-append-drop, map-append, flat_map-append, Area, Array, put, IsIn, block_at, store_access, cell_count, length-block_put, other_block, Cell, FitCells, IsBlock, child_of, used_cells, node_bytes, Tree, tree_at, nodes_in, IsApart, AreAfter, AreChildren, IsOrdered, Put, first_key, without_first, emptied, half, halves, fit, cells_in, is_part_at, IsNode, AreNodes, in_front, in_back}, Blocks.apart_parts, Bytes.cells_are, Fits.rise_strict, Order.{all_left, all_right}, Passes.{Strict, StrictFrom}, Shapes.{kids, written, second_kid, IsSized, AreSized, length-kids, same_some}, Splits.{write_here, write_other}, Stored.{stored, spots, block_written, row_same, IsRow, row_is_node}, Writes.FitWrite}
 
 -- a value part of a level, of the length of one
 abbrev pub ArePartsAt : Area → (level : ℕ) → List Cell → Type 0

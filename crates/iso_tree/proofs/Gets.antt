@@ -1,10 +1,5 @@
 -- The descent finds what the map of the region has.
-use Rattle.iso_tree.proofs.Words.{◌≡◌, ◌∙◌, sym, refl, ap, subst, ℕ, zero, suc, ◌+◌, ◌-◌, ◌<◌, ◌≤◌, Bool, true, false, ◌&&◌, ◌==◌, cond, List, [], ◌∷◌, ◌++◌, map, Option, Some, None, Result, Ok, Err, option_map, arith, inl, inr, eq-eqb, ne_eqb, AllByRecursion, flat_map, nat_cmp, eq_by_cmp, bytes_eq, slice_cmp, nat_list_cmp_total, nat_list_eq_equiv, get, get-from_entries, and_parts, both_ways, cases_eq, append-nil, Area, StoreError, Broken, Array, or_else, first_from, block_at, AreReads, Program, Done, bytes_in, further_bytes, accesses_of, answer_of, then_do, IsLocal, keys_mark, value_mark, is_part, text_of, key_at, at_cell, is_key, get_op, before, count_of, place_from, place_of, is_child, is_node, Cell, child_of, head_mark, is_head, cells_by, cell_of, in_range, Tree, tree_at, pairs_in, AreAfter, AreChildren, Rise, RiseAfter, IsOrdered, with_head, inner_further, get_below, Descent, AtLeaf, AtBroken, descend, got, get_program, cells_in, root_of, level_of, AreNodes, tree_pairs, IsTreeRegion, tree_map, answer_then, own_reads, whole_reads, reads_then, IsCorrect, local_from, cond_reads, same_ok, found_in, find_append, ties, all_append}
-use Rattle.iso_tree.proofs.Shapes.{kids, chosen, child_for, same_some}
-use Rattle.iso_tree.proofs.Finding.{find_outside, at_test}
-use Rattle.iso_tree.proofs.Ranges.{low_of, range_within, range_cut, all_weaker}
-use Rattle.iso_tree.proofs.Blocks.{chosen_kid}
-use Rattle.iso_tree.proofs.Climbs.{child_ordered}
+use Rattle.iso_tree.proofs.{Words.{◌≡◌, ◌∙◌, sym, refl, ap, subst, ℕ, zero, suc, ◌+◌, ◌-◌, ◌<◌, ◌≤◌, Bool, true, false, ◌&&◌, ◌==◌, cond, List, [], ◌∷◌, ◌++◌, map, Option, Some, None, Result, Ok, Err, option_map, arith, inl, inr, eq-eqb, ne_eqb, AllByRecursion, flat_map, nat_cmp, eq_by_cmp, bytes_eq, slice_cmp, nat_list_cmp_total, nat_list_eq_equiv, get, get-from_entries, and_parts, both_ways, cases_eq, append-nil, Area, StoreError, Broken, Array, or_else, first_from, block_at, AreReads, Program, Done, bytes_in, further_bytes, accesses_of, answer_of, then_do, IsLocal, keys_mark, value_mark, is_part, text_of, key_at, at_cell, is_key, get_op, before, count_of, place_from, place_of, is_child, is_node, Cell, child_of, head_mark, is_head, cells_by, cell_of, in_range, Tree, tree_at, pairs_in, AreAfter, AreChildren, Rise, RiseAfter, IsOrdered, with_head, inner_further, get_below, Descent, AtLeaf, AtBroken, descend, got, get_program, cells_in, root_of, level_of, AreNodes, tree_pairs, IsTreeRegion, tree_map, answer_then, own_reads, whole_reads, reads_then, IsCorrect, local_from, cond_reads, same_ok, found_in, find_append, ties, all_append}, Shapes.{kids, chosen, child_for, same_some}, Finding.{find_outside, at_test}, Ranges.{low_of, range_within, range_cut, all_weaker}, Blocks.chosen_kid, Climbs.child_ordered}
 
 or_none : (o : Option (List ℕ)) → or_else o None ≡ o
 or_none None = refl

@@ -1,9 +1,6 @@
 -- A get, part by part.
-use Rattle.iso_tree.proofs.Words.{◌≡◌, ◌≢◌, ◌∙◌, sym, refl, ap, subst, ℕ, ◌+◌, Bool, true, false, cond, List, [], take, Option, Some, None, Result, Ok, Err, IfOk, option_map, ne_eqb, eq-eqb, Area, StoreError, own, Program, Done, Look, bytes_in, further_bytes, then_do, IsLocal, keys_end, value_mark, word_at, is_part, text_of, at_cell, is_key, get_op, Tx, Ran, HasRun, IsLocalCall, IsAt, at_start, at_then, ran_at, whole_run, run_from, Leaf, is_head, head_mark, Descent, AtLeaf, descend, got, get_below, get_program, with_head, tree_map, IsTreeRegion, head_program, HasDescended, IsLeaf, leaf_value, at_as, refused_then}
+use Rattle.iso_tree.proofs.{Words.{◌≡◌, ◌≢◌, ◌∙◌, sym, refl, ap, subst, ℕ, ◌+◌, Bool, true, false, cond, List, [], take, Option, Some, None, Result, Ok, Err, IfOk, option_map, ne_eqb, eq-eqb, Area, StoreError, own, Program, Done, Look, bytes_in, further_bytes, then_do, IsLocal, keys_end, value_mark, word_at, is_part, text_of, at_cell, is_key, get_op, Tx, Ran, HasRun, IsLocalCall, IsAt, at_start, at_then, ran_at, whole_run, run_from, Leaf, is_head, head_mark, Descent, AtLeaf, descend, got, get_below, get_program, with_head, tree_map, IsTreeRegion, head_program, HasDescended, IsLeaf, leaf_value, at_as, refused_then}, Descending.descent_refused, Facts.missing, Gets.get_local}
 use Rattle.store_model.specs.declared.stores.StoreError.TheVariants as store
-use Rattle.iso_tree.proofs.Descending.{descent_refused}
-use Rattle.iso_tree.proofs.Facts.{missing}
-use Rattle.iso_tree.proofs.Gets.{get_local}
 
 -- a call that reads root and level first
 abbrev after_head : {X : Type 0} → (ℕ → ℕ → Program (Result X StoreError)) → Result (ℕ × ℕ) StoreError → Program (Result X StoreError)

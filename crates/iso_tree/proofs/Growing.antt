@@ -1,8 +1,5 @@
 -- What is written where a put takes blocks: how many writes, which root, and the bytes of the map.
-use Rattle.iso_tree.proofs.Words.{◌≡◌, ◌≢◌, ◌∙◌, sym, refl, ap, ℕ, zero, suc, ◌+◌, ◌*◌, ◌%◌, ◌<◌, ◌≤◌, ◌==◌, Bool, true, false, not, cond, nat_le, List, [], ◌∷◌, length, take, get_or, set, Option, Some, None, arith, inl, inr, eq-eqb, ne_eqb, AllByRecursion, filter, range_with_len, bit_at, cases_eq, get_or-take, map_bit, free_count, with_bit, bit_place, set_bit, IsIn, Cell, child_part, Put, halves, fit, Climb, climb, climb_on, placed, full_row, need_of, with_used, length-placed}
-use Rattle.iso_tree.proofs.Climbing.{one_way}
-use Rattle.iso_tree.proofs.Ways.{counts}
-use Rattle.iso_tree.proofs.Order.{length-put_after}
+use Rattle.iso_tree.proofs.{Words.{◌≡◌, ◌≢◌, ◌∙◌, sym, refl, ap, ℕ, zero, suc, ◌+◌, ◌*◌, ◌%◌, ◌<◌, ◌≤◌, ◌==◌, Bool, true, false, not, cond, nat_le, List, [], ◌∷◌, length, take, get_or, set, Option, Some, None, arith, inl, inr, eq-eqb, ne_eqb, AllByRecursion, filter, range_with_len, bit_at, cases_eq, get_or-take, map_bit, free_count, with_bit, bit_place, set_bit, IsIn, Cell, child_part, Put, halves, fit, Climb, climb, climb_on, placed, full_row, need_of, with_used, length-placed}, Climbing.one_way, Ways.counts, Order.length-put_after}
 
 -- THE BITS OF A PART OF A BLOCK
 module _ (F : List ℕ) (m : ℕ) where

@@ -1,8 +1,6 @@
 -- A put, part by part.
-use Rattle.iso_tree.proofs.Words.{◌≡◌, ◌≢◌, ◌∙◌, sym, ap, subst, ℕ, suc, ◌+◌, ◌*◌, ◌<◌, ◌≤◌, Bool, true, false, cond, List, [], ◌∷◌, take, Option, Some, None, Result, Ok, Err, arith, ne_eqb, eq-eqb, nat_lt, nat_tests, Area, StoreError, at_cell, is_key, is_value, block_with, cell_count, keys_end, value_mark, value_part, Program, Done, Store, then_do, Tx, Ran, HasRead, HasRun, IsAt, at_start, at_then, ran_at, run_from, Leaf, AreShownUsable, put_after, Answer, Descent, descend, edit_leaf, full_row, need_of, put_at, put_below_root, put_program, with_head, with_map, HasDescended, IsLeaf, at_as, refl}
+use Rattle.iso_tree.proofs.{Words.{◌≡◌, ◌≢◌, ◌∙◌, sym, ap, subst, ℕ, suc, ◌+◌, ◌*◌, ◌<◌, ◌≤◌, Bool, true, false, cond, List, [], ◌∷◌, take, Option, Some, None, Result, Ok, Err, arith, ne_eqb, eq-eqb, nat_lt, nat_tests, Area, StoreError, at_cell, is_key, is_value, block_with, cell_count, keys_end, value_mark, value_part, Program, Done, Store, then_do, Tx, Ran, HasRead, HasRun, IsAt, at_start, at_then, ran_at, run_from, Leaf, AreShownUsable, put_after, Answer, Descent, descend, edit_leaf, full_row, need_of, put_at, put_below_root, put_program, with_head, with_map, HasDescended, IsLeaf, at_as, refl}, Descending.descent_refused, Usable.path_usable}
 use Rattle.store_model.specs.declared.stores.StoreError.TheVariants as store
-use Rattle.iso_tree.proofs.Descending.{descent_refused}
-use Rattle.iso_tree.proofs.Usable.{path_usable}
 
 -- the put below a root
 module _ (a : Area) (key value : List ℕ) (root level : ℕ) (some : root ≢ 0) (t u : Tx) where

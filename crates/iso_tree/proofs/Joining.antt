@@ -1,8 +1,5 @@
 -- A put that takes new blocks, joined from its parts.
-use Rattle.iso_tree.proofs.Words.{◌≡◌, ◌∙◌, sym, ap, subst, ℕ, suc, ◌+◌, ◌-◌, ◌<◌, ◌≤◌, ◌==◌, Bool, true, false, not, cond, List, [], ◌∷◌, length, map, take, None, Result, Err, arith, nat_lt, filter, range_with_len, nat_tests, Area, StoreError, NoBlocks, TxError, Array, own, block_at, cell_count, value_part, free_count, map_bit, map_mark, Program, Done, bytes_in, look_access, ForSome, Tx, Device, with_accesses, Ran, HasRead, HasRun, IsCause, IsCut, IsAt, at_join, at_look, at_start, ran_at, cut_at_look, read_base, run_from, Cell, nodes_from, ArePathUsable, AreShownUsable, IsUsable, Answer, climb, free_list, full_row, look_again, need_of, put_new, put_writes, with_map, IsTreeArea, at_as, Up, AreBlocks}
-use Rattle.iso_tree.proofs.Enlarging.{all_taken, blocks_from, free_same, taken_same}
-use Rattle.iso_tree.proofs.Taking.{AreTaken, taken_are}
-use Rattle.iso_tree.proofs.Usable.{shown_same}
+use Rattle.iso_tree.proofs.{Words.{◌≡◌, ◌∙◌, sym, ap, subst, ℕ, suc, ◌+◌, ◌-◌, ◌<◌, ◌≤◌, ◌==◌, Bool, true, false, not, cond, List, [], ◌∷◌, length, map, take, None, Result, Err, arith, nat_lt, filter, range_with_len, nat_tests, Area, StoreError, NoBlocks, TxError, Array, own, block_at, cell_count, value_part, free_count, map_bit, map_mark, Program, Done, bytes_in, look_access, ForSome, Tx, Device, with_accesses, Ran, HasRead, HasRun, IsCause, IsCut, IsAt, at_join, at_look, at_start, ran_at, cut_at_look, read_base, run_from, Cell, nodes_from, ArePathUsable, AreShownUsable, IsUsable, Answer, climb, free_list, full_row, look_again, need_of, put_new, put_writes, with_map, IsTreeArea, at_as, Up, AreBlocks}, Enlarging.{all_taken, blocks_from, free_same, taken_same}, Taking.{AreTaken, taken_are}, Usable.shown_same}
 
 pub shown_taken : (a : Area) (t : Tx) (n : ℕ) (rows path : List (ℕ × ℕ)) → rows ≡ take n path → AreShownUsable a t path → AreShownUsable a t rows
 shown_taken a t n rows path is usable =

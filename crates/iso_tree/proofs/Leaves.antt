@@ -1,13 +1,5 @@
 -- The leaf of a key: what it has of the tree, and where a descent ends.
-use Rattle.iso_tree.proofs.Words.{◌≡◌, ◌≢◌, ◌∙◌, sym, refl, ap, subst, ℕ, zero, suc, ◌+◌, ◌<◌, ◌≤◌, ◌&&◌, Bool, true, false, cond, List, [], ◌∷◌, ◌++◌, length, Option, Some, None, arith, flat_map, and_parts, append_assoc, map-append, Area, Array, IsIn, block_at, Program, Done, bytes_in, further_bytes, answer_of, keys_mark, value_mark, Cell, child_of, count_of, is_node, is_child, place_of, cells_by, Tree, tree_at, pairs_in, nodes_in, IsApart, Rise, AreChildren, IsOrdered, Descent, AtLeaf, AtBroken, descend, inner_further, leaf_further, cells_in, IsNode, AreNodes, found_in}
-use Rattle.iso_tree.proofs.Shapes.{kids, child_for}
-use Rattle.iso_tree.proofs.Facts.{child_below}
-use Rattle.iso_tree.proofs.Blocks.{chosen_kid}
-use Rattle.iso_tree.proofs.Climbs.{child_ordered}
-use Rattle.iso_tree.proofs.Edits.{leaf_of, leaf_pairs, leaf_in, child_once, child_reached}
-use Rattle.iso_tree.proofs.Fits.{length-cells}
-use Rattle.iso_tree.proofs.Ways.{path_below, counts}
-use Rattle.iso_tree.proofs.Gets.{found_chosen, ordered_in, parts_all, IsChosen, chosen_is}
+use Rattle.iso_tree.proofs.{Words.{◌≡◌, ◌≢◌, ◌∙◌, sym, refl, ap, subst, ℕ, zero, suc, ◌+◌, ◌<◌, ◌≤◌, ◌&&◌, Bool, true, false, cond, List, [], ◌∷◌, ◌++◌, length, Option, Some, None, arith, flat_map, and_parts, append_assoc, map-append, Area, Array, IsIn, block_at, Program, Done, bytes_in, further_bytes, answer_of, keys_mark, value_mark, Cell, child_of, count_of, is_node, is_child, place_of, cells_by, Tree, tree_at, pairs_in, nodes_in, IsApart, Rise, AreChildren, IsOrdered, Descent, AtLeaf, AtBroken, descend, inner_further, leaf_further, cells_in, IsNode, AreNodes, found_in}, Shapes.{kids, child_for}, Facts.child_below, Blocks.chosen_kid, Climbs.child_ordered, Edits.{leaf_of, leaf_pairs, leaf_in, child_once, child_reached}, Fits.length-cells, Ways.{path_below, counts}, Gets.{found_chosen, ordered_in, parts_all, IsChosen, chosen_is}}
 
 -- a key below an inner node stands below the child that is chosen
 child_found : (cells : ℕ → List Cell) (key : List ℕ) (level : ℕ) (low : List ℕ) (high : Option (List ℕ)) (cs : List Cell) → AreChildren (IsOrdered level) low high (kids cells level cs)

@@ -1,6 +1,5 @@
 -- No level of a region comes near the greatest one.
-use Rattle.iso_tree.proofs.Words.{◌≡◌, ◌≢◌, ◌∙◌, sym, refl, ap, subst, ℕ, zero, suc, ◌+◌, ◌-◌, ◌<◌, ◌≤◌, ◌==◌, true, false, cond, List, [], ◌∷◌, length, arith, inl, inr, eq-eqb, ne_eqb, cases_eq, cases_lt, IsIn, Tree, nodes_in, IsApart, ◌++◌, flat_map, length-append}
-use Rattle.iso_tree.proofs.Shapes.{IsSized}
+use Rattle.iso_tree.proofs.{Words.{◌≡◌, ◌≢◌, ◌∙◌, sym, refl, ap, subst, ℕ, zero, suc, ◌+◌, ◌-◌, ◌<◌, ◌≤◌, ◌==◌, true, false, cond, List, [], ◌∷◌, length, arith, inl, inr, eq-eqb, ne_eqb, cases_eq, cases_lt, IsIn, Tree, nodes_in, IsApart, ◌++◌, flat_map, length-append}, Shapes.IsSized}
 
 -- A tree of a level has at least 2 to that level nodes: no level of a region comes near 31.
 unfoldable pub doubled : (level : ℕ) → ℕ

@@ -1,23 +1,5 @@
 -- A put that takes blocks puts the pair into the region's map.
-use Rattle.iso_tree.proofs.Words.{◌≡◌, ◌≢◌, ◌∙◌, sym, refl, ap, subst, ℕ, suc, ◌+◌, ◌^◌, ◌<◌, ◌≤◌, ◌==◌, Bool, true, false, cond, List, [], ◌∷◌, ◌++◌, map, take, length, Option, Some, None, arith, inl, inr, eq-eqb, ne_eqb, AllByRecursion, flat_map, append-nil, map-append, length-append, Area, Array, put, IsIn, block_at, bytes_in, store_access, cell_count, is_part, text_of, value_part, map_mark, other_block, Cell, IsBlock, child_of, child_part, used_cells, node_bytes, Tree, tree_at, pairs_in, nodes_in, IsApart, IsOrdered, Put, half, Climb, climb, climb_on, full_row, need_of, root_cells, cells_in, root_of, level_of, IsNode, AreNodes, IsTreeArea, IsTreeRegion, tree_pairs, tree_nodes, first_access, length-part, part_is_part, part_text, all_append, in_front, in_back, in_cases}
-use Rattle.iso_tree.proofs.Again.{nodes_at, way_is, path_few, nodes_inside}
-use Rattle.iso_tree.proofs.Blocks.{apart_parts, grown_apart, grown_in}
-use Rattle.iso_tree.proofs.Bytes.{cells_are}
-use Rattle.iso_tree.proofs.Climbs.{Lacks, IsPut, put_is}
-use Rattle.iso_tree.proofs.Enough.{IsServed, put_served, put_blocks}
-use Rattle.iso_tree.proofs.Fits.{area_block}
-use Rattle.iso_tree.proofs.Fitted.{nodes_from}
-use Rattle.iso_tree.proofs.Levels.{level_low}
-use Rattle.iso_tree.proofs.Order.{not_before_empty}
-use Rattle.iso_tree.proofs.Putting.{HasPut, put_has, nodes_sized, child_part_is}
-use Rattle.iso_tree.proofs.Regions.{IsNewTree, HasPutInto, taken_apart, kept_root, new_root_put}
-use Rattle.iso_tree.proofs.Roots.{same_root, new_root}
-use Rattle.iso_tree.proofs.Shapes.{IsGrown, put_below, written, write_cells, second_kid}
-use Rattle.iso_tree.proofs.Splits.{written_append}
-use Rattle.iso_tree.proofs.Stored.{stored, spots, stored_append, stored_cells, stored_in, block_written, nodes_same, IsRow, row_is_node}
-use Rattle.iso_tree.proofs.Taking.{AreTaken}
-use Rattle.iso_tree.proofs.Ways.{path_below, counts}
-use Rattle.iso_tree.proofs.Writes.{FitWrite, child_named}
+use Rattle.iso_tree.proofs.{Words.{◌≡◌, ◌≢◌, ◌∙◌, sym, refl, ap, subst, ℕ, suc, ◌+◌, ◌^◌, ◌<◌, ◌≤◌, ◌==◌, Bool, true, false, cond, List, [], ◌∷◌, ◌++◌, map, take, length, Option, Some, None, arith, inl, inr, eq-eqb, ne_eqb, AllByRecursion, flat_map, append-nil, map-append, length-append, Area, Array, put, IsIn, block_at, bytes_in, store_access, cell_count, is_part, text_of, value_part, map_mark, other_block, Cell, IsBlock, child_of, child_part, used_cells, node_bytes, Tree, tree_at, pairs_in, nodes_in, IsApart, IsOrdered, Put, half, Climb, climb, climb_on, full_row, need_of, root_cells, cells_in, root_of, level_of, IsNode, AreNodes, IsTreeArea, IsTreeRegion, tree_pairs, tree_nodes, first_access, length-part, part_is_part, part_text, all_append, in_front, in_back, in_cases}, Again.{nodes_at, way_is, path_few, nodes_inside}, Blocks.{apart_parts, grown_apart, grown_in}, Bytes.cells_are, Climbs.{Lacks, IsPut, put_is}, Enough.{IsServed, put_served, put_blocks}, Fits.area_block, Fitted.nodes_from, Levels.level_low, Order.not_before_empty, Putting.{HasPut, put_has, nodes_sized, child_part_is}, Regions.{IsNewTree, HasPutInto, taken_apart, kept_root, new_root_put}, Roots.{same_root, new_root}, Shapes.{IsGrown, put_below, written, write_cells, second_kid}, Splits.written_append, Stored.{stored, spots, stored_append, stored_cells, stored_in, block_written, nodes_same, IsRow, row_is_node}, Taking.AreTaken, Ways.{path_below, counts}, Writes.{FitWrite, child_named}}
 
 -- what a key and a value part are
 pub record IsPair (key text : List ℕ) : Type 0 where

@@ -1,7 +1,5 @@
 -- Keys in a node: cutting a row of children in two, and putting two in place of one.
-use Rattle.iso_tree.proofs.Words.{◌≡◌, ◌≢◌, ◌∙◌, sym, refl, ap, subst, ℕ, suc, ◌+◌, true, false, not, cond, IsTrue, List, [], ◌∷◌, ◌++◌, length, Option, Some, None, arith, inl, inr, AllByRecursion, flat_map, nat_cmp, is_lt, Less, Equal, Greater, slice_cmp, nat_list_cmp_total, slice_cmp-IsAntisymmetric, nat_cmp-IsAntisymmetric, and_from, and_parts, cases_Bool, both_ways, append_assoc, append-nil, length-append, flat_map-append, before, Cell, in_range, AreAfter, RiseAfter, Rise, put_after, all_append}
-use Rattle.iso_tree.proofs.Shapes.{AreFrom, chosen, set_chosen, IsAdded, IsGrown}
-use Rattle.iso_tree.proofs.Ranges.{before_through, after_not, low_of, range_within, range_cut}
+use Rattle.iso_tree.proofs.{Words.{◌≡◌, ◌≢◌, ◌∙◌, sym, refl, ap, subst, ℕ, suc, ◌+◌, true, false, not, cond, IsTrue, List, [], ◌∷◌, ◌++◌, length, Option, Some, None, arith, inl, inr, AllByRecursion, flat_map, nat_cmp, is_lt, Less, Equal, Greater, slice_cmp, nat_list_cmp_total, slice_cmp-IsAntisymmetric, nat_cmp-IsAntisymmetric, and_from, and_parts, cases_Bool, both_ways, append_assoc, append-nil, length-append, flat_map-append, before, Cell, in_range, AreAfter, RiseAfter, Rise, put_after, all_append}, Shapes.{AreFrom, chosen, set_chosen, IsAdded, IsGrown}, Ranges.{before_through, after_not, low_of, range_within, range_cut}}
 
 pub irreflexive : (x : List ℕ) → before x x ≡ false
 irreflexive x = elim (cases_Bool (before x x)) [ inl less ↦ after_not x x less | inr is ↦ is ]

@@ -1,6 +1,5 @@
 -- The bytes of a node pass the tests of a descent.
-use Rattle.iso_tree.proofs.Words.{◌≡◌, ◌⊎◌, ◌∙◌, sym, refl, ap, ℕ, zero, suc, ◌+◌, ◌-◌, ◌*◌, ◌<◌, ◌≤◌, Bool, true, false, ◌&&◌, ◌||◌, ◌==◌, not, nat_le, List, [], ◌∷◌, ◌++◌, drop, length, get_or, replicate, arith, inl, inr, eq-eqb, ne_eqb, flat_map, list_all, and_from, or_left, or_right, nat_tests, append-nil, drop_at, bytes_in, cell_count, key_mark, is_part, is_zero, text_of, key_at, all_from, is_unused, are_key_parts, key_part, FitCells, before, count_of, has_head, is_node, Cell, first_key, zeros_are}
-use Rattle.iso_tree.proofs.Bytes.{head_of, keys_of, count_is, key_text, length-key_part, after_part, first_part}
+use Rattle.iso_tree.proofs.{Words.{◌≡◌, ◌⊎◌, ◌∙◌, sym, refl, ap, ℕ, zero, suc, ◌+◌, ◌-◌, ◌*◌, ◌<◌, ◌≤◌, Bool, true, false, ◌&&◌, ◌||◌, ◌==◌, not, nat_le, List, [], ◌∷◌, ◌++◌, drop, length, get_or, replicate, arith, inl, inr, eq-eqb, ne_eqb, flat_map, list_all, and_from, or_left, or_right, nat_tests, append-nil, drop_at, bytes_in, cell_count, key_mark, is_part, is_zero, text_of, key_at, all_from, is_unused, are_key_parts, key_part, FitCells, before, count_of, has_head, is_node, Cell, first_key, zeros_are}, Bytes.{head_of, keys_of, count_is, key_text, length-key_part, after_part, first_part}}
 
 -- keys that rise strictly
 abbrev pub StrictFrom : (last : List ℕ) → List Cell → Type 0

@@ -1,15 +1,5 @@
 -- A put is that of the region's map.
-use Rattle.iso_tree.proofs.Words.{◌≡◌, ◌≢◌, ◌∙◌, sym, refl, ap, subst, ℕ, suc, ◌+◌, ◌*◌, ◌-◌, ◌<◌, ◌≤◌, Bool, true, false, cond, nat_le, List, [], ◌∷◌, map, take, length, Option, Some, None, Result, Ok, Err, arith, inl, inr, eq-eqb, ne_eqb, nat_lt, AllByRecursion, cases_Bool, cases_eq, leb-true, ltb-true, nat_tests, Area, StoreError, BadKey, BadValue, Broken, NoBlocks, Array, put, own, at_cell, is_key, is_value, put_op, block_at, Program, Done, Store, bytes_in, then_do, accesses_of, answer_of, cell_count, keys_end, value_mark, value_part, block_with, map_mark, free_count, IsCorrect, Cell, cell_of, count_of, head_mark, put_after, AtLeaf, descend, with_head, look_again, climb, store_nodes, first_write, put_writes, with_map, edit_leaf, put_at, put_below_root, put_program, Answer, full_row, need_of, free_list, cells_in, root_of, level_of, IsTreeArea, IsTreeRegion, tree_pairs, tree_map, first_access}
-use Rattle.iso_tree.proofs.Again.{nodes_at, again_own}
-use Rattle.iso_tree.proofs.Ending.{at, keys, ends_of, answer_at, own_at}
-use Rattle.iso_tree.proofs.Facts.{head_parts, node_parts}
-use Rattle.iso_tree.proofs.Fits.{length-cells}
-use Rattle.iso_tree.proofs.NewBlocks.{IsPair, pair_is, empty_does, some_does}
-use Rattle.iso_tree.proofs.PutLeaf.{lacks, room_does, found_does}
-use Rattle.iso_tree.proofs.Regions.{HasPutInto}
-use Rattle.iso_tree.proofs.Stored.{stored, stored_own}
-use Rattle.iso_tree.proofs.Taking.{AreTaken, taken_are}
-use Rattle.iso_tree.proofs.Ways.{path_below, counts}
+use Rattle.iso_tree.proofs.{Words.{◌≡◌, ◌≢◌, ◌∙◌, sym, refl, ap, subst, ℕ, suc, ◌+◌, ◌*◌, ◌-◌, ◌<◌, ◌≤◌, Bool, true, false, cond, nat_le, List, [], ◌∷◌, map, take, length, Option, Some, None, Result, Ok, Err, arith, inl, inr, eq-eqb, ne_eqb, nat_lt, AllByRecursion, cases_Bool, cases_eq, leb-true, ltb-true, nat_tests, Area, StoreError, BadKey, BadValue, Broken, NoBlocks, Array, put, own, at_cell, is_key, is_value, put_op, block_at, Program, Done, Store, bytes_in, then_do, accesses_of, answer_of, cell_count, keys_end, value_mark, value_part, block_with, map_mark, free_count, IsCorrect, Cell, cell_of, count_of, head_mark, put_after, AtLeaf, descend, with_head, look_again, climb, store_nodes, first_write, put_writes, with_map, edit_leaf, put_at, put_below_root, put_program, Answer, full_row, need_of, free_list, cells_in, root_of, level_of, IsTreeArea, IsTreeRegion, tree_pairs, tree_map, first_access}, Again.{nodes_at, again_own}, Ending.{at, keys, ends_of, answer_at, own_at}, Facts.{head_parts, node_parts}, Fits.length-cells, NewBlocks.{IsPair, pair_is, empty_does, some_does}, PutLeaf.{lacks, room_does, found_does}, Regions.HasPutInto, Stored.{stored, stored_own}, Taking.{AreTaken, taken_are}, Ways.{path_below, counts}}
 
 pub first_own : {R : Type 0} (a : Area) (A : Array) (first taken : List ℕ) (root : Option (ℕ × ℕ)) (next : Program R)
     → own A (accesses_of (first_write a first taken root next) A) ≡ own (put A (first_access a first taken root)) (accesses_of next (put A (first_access a first taken root)))

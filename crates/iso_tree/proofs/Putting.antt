@@ -1,16 +1,5 @@
 -- A put below a node leaves nodes.
-use Rattle.iso_tree.proofs.Words.{◌≡◌, ◌⊎◌, ◌∙◌, sym, refl, ap, subst, ℕ, zero, suc, ◌+◌, ◌^◌, ◌<◌, ◌≤◌, true, false, cond, List, [], ◌∷◌, ◌++◌, length, replicate, Option, Some, None, arith, inl, inr, AllByRecursion, flat_map, and_parts, and_from, map-append, Area, Array, IsIn, block_at, bytes_in, cell_count, keys_mark, value_mark, is_part, before, Cell, FitCells, IsBlock, child_of, child_part, count_of, is_child, used_cells, in_range, tree_at, nodes_in, put_after, IsApart, AreAfter, AreChildren, IsOrdered, Put, half, fit, cells_in, is_part_at, IsNode, AreNodes, all_append, in_front, in_back, in_cases}
-use Rattle.iso_tree.proofs.Blocks.{apart_parts, chosen_in}
-use Rattle.iso_tree.proofs.Climbs.{Lacks, IsPut, put_is, rows_apart, child_apart, child_lacks, child_enough}
-use Rattle.iso_tree.proofs.Facts.{child_below, inner_many}
-use Rattle.iso_tree.proofs.Fits.{cells_fit, cells_few, length-cells}
-use Rattle.iso_tree.proofs.Fitted.{ArePartsAt, fit_has}
-use Rattle.iso_tree.proofs.Gets.{parts_all, child_holds}
-use Rattle.iso_tree.proofs.Order.{all_put_after, range_from, range_to}
-use Rattle.iso_tree.proofs.Shapes.{kids, chosen, child_for, after_child, put_below, written, second_kid, IsSized, AreSized, length-kids}
-use Rattle.iso_tree.proofs.Splits.{written_append}
-use Rattle.iso_tree.proofs.Stored.{stored, spots, stored_append, stored_kept, stored_cells, stored_in, row_kept}
-use Rattle.iso_tree.proofs.Writes.{FitWrite, child_named}
+use Rattle.iso_tree.proofs.{Words.{◌≡◌, ◌⊎◌, ◌∙◌, sym, refl, ap, subst, ℕ, zero, suc, ◌+◌, ◌^◌, ◌<◌, ◌≤◌, true, false, cond, List, [], ◌∷◌, ◌++◌, length, replicate, Option, Some, None, arith, inl, inr, AllByRecursion, flat_map, and_parts, and_from, map-append, Area, Array, IsIn, block_at, bytes_in, cell_count, keys_mark, value_mark, is_part, before, Cell, FitCells, IsBlock, child_of, child_part, count_of, is_child, used_cells, in_range, tree_at, nodes_in, put_after, IsApart, AreAfter, AreChildren, IsOrdered, Put, half, fit, cells_in, is_part_at, IsNode, AreNodes, all_append, in_front, in_back, in_cases}, Blocks.{apart_parts, chosen_in}, Climbs.{Lacks, IsPut, put_is, rows_apart, child_apart, child_lacks, child_enough}, Facts.{child_below, inner_many}, Fits.{cells_fit, cells_few, length-cells}, Fitted.{ArePartsAt, fit_has}, Gets.{parts_all, child_holds}, Order.{all_put_after, range_from, range_to}, Shapes.{kids, chosen, child_for, after_child, put_below, written, second_kid, IsSized, AreSized, length-kids}, Splits.written_append, Stored.{stored, spots, stored_append, stored_kept, stored_cells, stored_in, row_kept}, Writes.{FitWrite, child_named}}
 
 -- the child of a key, with a range that has it
 chosen_range : {X : Type 0} (P : List ℕ → Option (List ℕ) → X → Type 0) (key last low : List ℕ) (high : Option (List ℕ)) (c : X) (cs : List (List ℕ × X)) → AreAfter P last low high c cs → in_range low high key ≡ true

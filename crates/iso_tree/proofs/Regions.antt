@@ -1,11 +1,5 @@
 -- A region whose tree has a new pair is well formed, and its map has the pair.
-use Rattle.iso_tree.proofs.Words.{◌≡◌, ◌≢◌, ◌⊎◌, ◌∙◌, sym, refl, ap, subst, ℕ, ◌+◌, ◌*◌, ◌%◌, ◌^◌, ◌<◌, ◌≤◌, ◌||◌, ◌==◌, not, Bool, true, false, cond, nat_le, List, [], ◌∷◌, ◌++◌, take, length, Option, Some, None, arith, inl, inr, ne_eqb, nat_lt, AllByRecursion, list_all, w32, to_be_bytes, from_be_bytes, bit_at, nat_cmp, eq_by_cmp, slice_cmp, insert, and_from, or_left, both_ways, cases_eq, cases_Bool, nat_tests, append-nil, take_at, drop_at, get_or-take, from_be_bytes-to_be_bytes_4, bytes_eq-Decides, Area, Array, merged, put, IsIn, block_at, bytes_in, store_access, word_at, is_zero, map_bytes, map_bit, map_mark, bit_place, length-block_put, written_block, other_block, Cell, head_mark, is_head, node_bytes, used_cells, tree_at, pairs_in, nodes_in, IsApart, IsOrdered, cells_in, root_of, level_of, AreNodes, IsTreeArea, IsTreeRegion, tree_pairs, tree_nodes, tree_map, first_spans, first_bytes, first_access, found_in, ties, in_front, in_back, in_cases}
-use Rattle.iso_tree.proofs.Blocks.{grown_apart, grown_in, apart_join, tree_same}
-use Rattle.iso_tree.proofs.MapBits.{bits_after, zeros_after, head_kept, head_new}
-use Rattle.iso_tree.proofs.Roots.{map_put}
-use Rattle.iso_tree.proofs.Shapes.{IsAdded, IsGrown}
-use Rattle.iso_tree.proofs.Stored.{stored, spots, stored_kept, stored_shape, nodes_same}
-use Rattle.iso_tree.proofs.Taking.{AreTaken, up_apart}
+use Rattle.iso_tree.proofs.{Words.{◌≡◌, ◌≢◌, ◌⊎◌, ◌∙◌, sym, refl, ap, subst, ℕ, ◌+◌, ◌*◌, ◌%◌, ◌^◌, ◌<◌, ◌≤◌, ◌||◌, ◌==◌, not, Bool, true, false, cond, nat_le, List, [], ◌∷◌, ◌++◌, take, length, Option, Some, None, arith, inl, inr, ne_eqb, nat_lt, AllByRecursion, list_all, w32, to_be_bytes, from_be_bytes, bit_at, nat_cmp, eq_by_cmp, slice_cmp, insert, and_from, or_left, both_ways, cases_eq, cases_Bool, nat_tests, append-nil, take_at, drop_at, get_or-take, from_be_bytes-to_be_bytes_4, bytes_eq-Decides, Area, Array, merged, put, IsIn, block_at, bytes_in, store_access, word_at, is_zero, map_bytes, map_bit, map_mark, bit_place, length-block_put, written_block, other_block, Cell, head_mark, is_head, node_bytes, used_cells, tree_at, pairs_in, nodes_in, IsApart, IsOrdered, cells_in, root_of, level_of, AreNodes, IsTreeArea, IsTreeRegion, tree_pairs, tree_nodes, tree_map, first_spans, first_bytes, first_access, found_in, ties, in_front, in_back, in_cases}, Blocks.{grown_apart, grown_in, apart_join, tree_same}, MapBits.{bits_after, zeros_after, head_kept, head_new}, Roots.map_put, Shapes.{IsAdded, IsGrown}, Stored.{stored, spots, stored_kept, stored_shape, nodes_same}, Taking.{AreTaken, up_apart}}
 
 added_has : (x k : ℕ) (old new : List ℕ) → IsAdded x old new → (x ≡ k) ⊎ IsIn k old → IsIn k new
 added_has x k old new is has = subst (λ (l : List ℕ). IsIn k l) (sym is.3) (elim has [

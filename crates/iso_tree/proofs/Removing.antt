@@ -1,10 +1,7 @@
 -- A removal, part by part.
-use Rattle.iso_tree.proofs.Words.{◌≡◌, ◌≢◌, ◌∙◌, sym, ap, subst, ℕ, ◌+◌, ◌≤◌, Bool, true, false, cond, List, [], ◌∷◌, length, Option, Some, None, Result, Ok, Err, IfOk, ne_eqb, Access, Area, StoreError, TxError, own, at_cell, is_key, del_op, Done, Store, look_access, store_access, then_do, IsLocal, Tx, Device, IsTx, with_accesses, Ran, IsCut, IsCause, HasRun, IsLocalCall, IsAt, at_start, at_then, at_look_whole, at_store, ran_at, whole_run, cut_at_store, run_from, Leaf, Cell, used_cells, node_bytes, Descent, descend, edit_leaf, without_key, del_at, del_below, del_program, with_head, tree_map, IsTreeArea, IsTreeRegion, HasDescended, IsLeaf, AreBytesOf, at_as, refl}
+use Rattle.iso_tree.proofs.{Words.{◌≡◌, ◌≢◌, ◌∙◌, sym, ap, subst, ℕ, ◌+◌, ◌≤◌, Bool, true, false, cond, List, [], ◌∷◌, length, Option, Some, None, Result, Ok, Err, IfOk, ne_eqb, Access, Area, StoreError, TxError, own, at_cell, is_key, del_op, Done, Store, look_access, store_access, then_do, IsLocal, Tx, Device, IsTx, with_accesses, Ran, IsCut, IsCause, HasRun, IsLocalCall, IsAt, at_start, at_then, at_look_whole, at_store, ran_at, whole_run, cut_at_store, run_from, Leaf, Cell, used_cells, node_bytes, Descent, descend, edit_leaf, without_key, del_at, del_below, del_program, with_head, tree_map, IsTreeArea, IsTreeRegion, HasDescended, IsLeaf, AreBytesOf, at_as, refl}, Descending.descent_refused, DelCalls.del_local}
 use Rattle.store_model.specs.declared.stores.StoreError.TheVariants as store
-use Rattle.iso_tree.proofs.Descending.{descent_refused}
-use Rattle.iso_tree.proofs.DelCalls.{del_local}
-pub use Rattle.tx_blocks.proofs.Programs.{blocks_of as blocks_in}
-pub use Rattle.tx_blocks.proofs.Refusals.{cut_at_whole}
+pub use Rattle.tx_blocks.proofs.{Programs.{blocks_of as blocks_in}, Refusals.cut_at_whole}
 
 -- an edit of a leaf
 module _ {X : Type 0} (a : Area) (leaf : ℕ) (change : List Cell → List Cell) (r : Result X StoreError) (t u : Tx) where

@@ -1,6 +1,5 @@
 -- The nodes of a put are read once more.
-use Rattle.iso_tree.proofs.Words.{◌≡◌, ◌∙◌, sym, refl, ap, subst, ℕ, suc, ◌+◌, ◌*◌, ◌≤◌, List, [], ◌∷◌, ◌++◌, length, map, take, drop, Result, Ok, Err, OnOk, IfErr, arith, take_at, take-take, length-take-le, Area, StoreError, TxError, Array, own, laid_at, Program, bytes_in, look_access, laid_here, Tx, Device, with_accesses, IsCut, IsCause, HasRun, own_reads, IsAt, at_join, at_start, at_look_whole, own_append, run_from, Cell, used_cells, nodes_from, AreShownUsable, AreUsable, IsUsable, look_again, Answer, AreBytesOf, piece_of}
-use Rattle.iso_tree.proofs.Removing.{cut_at_whole}
+use Rattle.iso_tree.proofs.{Words.{◌≡◌, ◌∙◌, sym, refl, ap, subst, ℕ, suc, ◌+◌, ◌*◌, ◌≤◌, List, [], ◌∷◌, ◌++◌, length, map, take, drop, Result, Ok, Err, OnOk, IfErr, arith, take_at, take-take, length-take-le, Area, StoreError, TxError, Array, own, laid_at, Program, bytes_in, look_access, laid_here, Tx, Device, with_accesses, IsCut, IsCause, HasRun, own_reads, IsAt, at_join, at_start, at_look_whole, own_append, run_from, Cell, used_cells, nodes_from, AreShownUsable, AreUsable, IsUsable, look_again, Answer, AreBytesOf, piece_of}, Removing.cut_at_whole}
 
 pub map_ok : {X E P Q : Type 0} (r : Result X E) → (P → Q) → OnOk r P → OnOk r Q
 map_ok (Ok x) f h = f h

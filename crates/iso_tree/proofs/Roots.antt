@@ -1,10 +1,5 @@
 -- A put at the root: the tree that the region holds after it, and its map.
-use Rattle.iso_tree.proofs.Words.{◌≡◌, ◌≢◌, ◌∙◌, sym, refl, ap, subst, ℕ, suc, false, cond, not, List, [], ◌∷◌, ◌++◌, Option, Some, None, inl, inr, flat_map, AllByRecursion, nat_cmp, eq_by_cmp, slice_cmp, nat_list_cmp_total, FinMap, from_entries, insert, get-from_entries, get-insert, same_map, slice_cmp-IsAntisymmetric, nat_cmp-IsAntisymmetric, cases_Bool, bytes_eq-Decides, append-nil, or_else, text_of, Cell, child_of, Tree, tree_at, pairs_in, nodes_in, IsApart, AreAfter, IsOrdered, Put, IsIn, found_in, find_append, ties, not_bytes_eq, in_front, in_back}
-use Rattle.iso_tree.proofs.Shapes.{kids, IsAdded, IsGrown, write_cells, second_kid}
-use Rattle.iso_tree.proofs.Order.{grown_more, not_before_empty}
-use Rattle.iso_tree.proofs.Blocks.{apart_parts, grown_apart, tree_same}
-use Rattle.iso_tree.proofs.Splits.{write_here, write_other}
-use Rattle.iso_tree.proofs.Climbs.{IsPut}
+use Rattle.iso_tree.proofs.{Words.{◌≡◌, ◌≢◌, ◌∙◌, sym, refl, ap, subst, ℕ, suc, false, cond, not, List, [], ◌∷◌, ◌++◌, Option, Some, None, inl, inr, flat_map, AllByRecursion, nat_cmp, eq_by_cmp, slice_cmp, nat_list_cmp_total, FinMap, from_entries, insert, get-from_entries, get-insert, same_map, slice_cmp-IsAntisymmetric, nat_cmp-IsAntisymmetric, cases_Bool, bytes_eq-Decides, append-nil, or_else, text_of, Cell, child_of, Tree, tree_at, pairs_in, nodes_in, IsApart, AreAfter, IsOrdered, Put, IsIn, found_in, find_append, ties, not_bytes_eq, in_front, in_back}, Shapes.{kids, IsAdded, IsGrown, write_cells, second_kid}, Order.{grown_more, not_before_empty}, Blocks.{apart_parts, grown_apart, tree_same}, Splits.{write_here, write_other}, Climbs.IsPut}
 
 -- what a put leaves at the root
 pub record IsRooted (old_level : ℕ) (old : Tree old_level) (level : ℕ) (new : Tree level) (key value : List ℕ) (taken : List ℕ) : Type 0 where

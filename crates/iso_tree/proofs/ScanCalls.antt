@@ -1,9 +1,5 @@
 -- A scan is that of the region's map.
-use Rattle.iso_tree.proofs.Words.{◌≡◌, ◌∙◌, sym, ap, subst, ℕ, Bool, true, false, ◌&&◌, ◌==◌, cond, List, [], take, None, Result, Ok, Err, IfOk, inl, inr, eq-eqb, ne_eqb, entries, and_from, cases_eq, Access, Area, StoreError, BadKey, Broken, Array, own, is_key, AreReads, Program, Done, accesses_of, answer_of, IsLocal, Tx, HasRun, IsLocalCall, own_reads, whole_reads, IsCorrect, local_from, whole_run, tree_at, pairs_in, IsOrdered, scan_below, scan_from, scan_program, with_head, Scanned, cells_in, root_of, level_of, scan_op, tree_map, tree_pairs, AreNodes, IsTreeRegion, cond_reads, same_ok, take-nil}
-use Rattle.iso_tree.proofs.Gets.{head_reads}
-use Rattle.iso_tree.proofs.Scans.{within}
-use Rattle.iso_tree.proofs.ScanTrees.{scan_finds, scan_reads}
-use Rattle.iso_tree.proofs.Sorted.{sorted, entries_are, tree_sorted}
+use Rattle.iso_tree.proofs.{Words.{◌≡◌, ◌∙◌, sym, ap, subst, ℕ, Bool, true, false, ◌&&◌, ◌==◌, cond, List, [], take, None, Result, Ok, Err, IfOk, inl, inr, eq-eqb, ne_eqb, entries, and_from, cases_eq, Access, Area, StoreError, BadKey, Broken, Array, own, is_key, AreReads, Program, Done, accesses_of, answer_of, IsLocal, Tx, HasRun, IsLocalCall, own_reads, whole_reads, IsCorrect, local_from, whole_run, tree_at, pairs_in, IsOrdered, scan_below, scan_from, scan_program, with_head, Scanned, cells_in, root_of, level_of, scan_op, tree_map, tree_pairs, AreNodes, IsTreeRegion, cond_reads, same_ok, take-nil}, Gets.head_reads, Scans.within, ScanTrees.{scan_finds, scan_reads}, Sorted.{sorted, entries_are, tree_sorted}}
 
 -- what is wanted of an empty tree, and below a root
 module _ (a : Area) (A : Array) (region : IsTreeRegion a A) where

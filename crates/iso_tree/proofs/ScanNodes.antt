@@ -1,7 +1,5 @@
 -- What a scan reads of a node are the cells that it visits.
-use Rattle.iso_tree.proofs.Words.{◌≡◌, ◌∙◌, sym, refl, ap, ℕ, zero, suc, ◌+◌, ◌-◌, ◌*◌, ◌<◌, ◌≤◌, ◌==◌, Bool, true, false, not, ◌&&◌, cond, List, ◌∷◌, map, take, drop, Some, None, arith, inl, inr, ne_eqb, list_all, and_from, cases_eq, take-take, drop-take, drop-drop, Span, Area, key_at, keys_end, text_of, value_mark, bytes_in, further_bytes, before, below_from, cells_by, is_node, place_from, Cell, first_in, many_in, pairs_with, parts_of, scan_further}
-use Rattle.iso_tree.proofs.Edits.{leaf_pairs}
-use Rattle.iso_tree.proofs.Scans.{below_list, upto_list}
+use Rattle.iso_tree.proofs.{Words.{◌≡◌, ◌∙◌, sym, refl, ap, ℕ, zero, suc, ◌+◌, ◌-◌, ◌*◌, ◌<◌, ◌≤◌, ◌==◌, Bool, true, false, not, ◌&&◌, cond, List, ◌∷◌, map, take, drop, Some, None, arith, inl, inr, ne_eqb, list_all, and_from, cases_eq, take-take, drop-take, drop-drop, Span, Area, key_at, keys_end, text_of, value_mark, bytes_in, further_bytes, before, below_from, cells_by, is_node, place_from, Cell, first_in, many_in, pairs_with, parts_of, scan_further}, Edits.leaf_pairs, Scans.{below_list, upto_list}}
 
 -- COUNTS
 pub below_same : (key keys : List ℕ) (value : ℕ → List ℕ) (i n : ℕ) → below_from key keys i n ≡ below_list key (cells_by keys value i n)

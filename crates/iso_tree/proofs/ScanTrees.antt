@@ -1,12 +1,6 @@
 -- A scan finds the first pairs of its range.
-use Rattle.iso_tree.proofs.Words.{◌≡◌, ◌∙◌, sym, refl, ap, subst, ℕ, zero, suc, ◌+◌, ◌-◌, ◌<◌, ◌≤◌, Bool, true, ◌&&◌, cond, List, [], ◌∷◌, ◌++◌, length, map, take, drop, Option, Some, Ok, Err, arith, AllByRecursion, flat_map, list_all, and_from, append-nil, Area, Broken, Array, own, block_at, AreReads, Program, Done, bytes_in, further_bytes, accesses_of, answer_of, is_part, key_at, keys_mark, value_mark, accesses_then, answer_then, own_reads, reads_append, below_from, cells_by, count_of, is_child, is_node, place_from, Cell, child_of, tree_at, pairs_in, AreAfter, AreChildren, IsOrdered, and_then, first_in, many_in, parts_of, pairs_with, scan_children, scan_from, scan_further, Scanned, cells_in, AreNodes, cond_reads, row_less, take-nil}
+use Rattle.iso_tree.proofs.{Words.{◌≡◌, ◌∙◌, sym, refl, ap, subst, ℕ, zero, suc, ◌+◌, ◌-◌, ◌<◌, ◌≤◌, Bool, true, ◌&&◌, cond, List, [], ◌∷◌, ◌++◌, length, map, take, drop, Option, Some, Ok, Err, arith, AllByRecursion, flat_map, list_all, and_from, append-nil, Area, Broken, Array, own, block_at, AreReads, Program, Done, bytes_in, further_bytes, accesses_of, answer_of, is_part, key_at, keys_mark, value_mark, accesses_then, answer_then, own_reads, reads_append, below_from, cells_by, count_of, is_child, is_node, place_from, Cell, child_of, tree_at, pairs_in, AreAfter, AreChildren, IsOrdered, and_then, first_in, many_in, parts_of, pairs_with, scan_children, scan_from, scan_further, Scanned, cells_in, AreNodes, cond_reads, row_less, take-nil}, Edits.leaf_pairs, Enlarging.all_taken, Gets.ordered_in, ScanNodes.{below_same, place_same, upto_few, cells_cut, values_are, pairs_are, parts_hold}, Scans.{within, below_list, upto_list, row_within, visited}, Shapes.kids}
 use Rattle.std.proofs.Common.{append_assoc}
-use Rattle.iso_tree.proofs.Edits.{leaf_pairs}
-use Rattle.iso_tree.proofs.Enlarging.{all_taken}
-use Rattle.iso_tree.proofs.Gets.{ordered_in}
-use Rattle.iso_tree.proofs.ScanNodes.{below_same, place_same, upto_few, cells_cut, values_are, pairs_are, parts_hold}
-use Rattle.iso_tree.proofs.Scans.{within, below_list, upto_list, row_within, visited}
-use Rattle.iso_tree.proofs.Shapes.{kids}
 
 pub take_zero : {X : Type 0} (xs : List X) → ◌≡◌ {A = List X} (take 0 xs) []
 take_zero [] = refl

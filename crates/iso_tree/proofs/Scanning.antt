@@ -1,11 +1,8 @@
 -- A scan, node by node.
-use Rattle.iso_tree.proofs.Words.{◌≡◌, ◌⊎◌, inl, inr, ◌∙◌, sym, refl, ap, subst, ℕ, zero, suc, ◌+◌, ◌-◌, ◌<◌, ◌&&◌, Bool, true, false, cond, List, [], ◌∷◌, ◌++◌, length, map, take, Result, Ok, Err, IfOk, arith, eq-eqb, ne_eqb, list_all, AllByRecursion, and_parts, append-nil, Area, StoreError, is_key, Program, Done, Look, LookWhole, Reserve, Store, then_do, is_part, keys_mark, child_of, is_child, is_node, and_then, first_in, many_in, pairs_with, parts_of, scan_below, scan_children, scan_from, scan_further, scan_program, with_head, Scanned, scan_op, tree_map, IsTreeRegion, Tx, Ran, HasEnded, HasRun, IsLocalCall, WantsMemory, IsAt, at_start, at_then, began_at, ran_at, began_from, ended_from, run_from, scanned_ok, Visit, keys_of, node_read, scan_nodes, values_of, visit_program, AreIn, HasScanned, IsVisited, head_program, at_as, refused_then}
+use Rattle.iso_tree.proofs.{Words.{◌≡◌, ◌⊎◌, inl, inr, ◌∙◌, sym, refl, ap, subst, ℕ, zero, suc, ◌+◌, ◌-◌, ◌<◌, ◌&&◌, Bool, true, false, cond, List, [], ◌∷◌, ◌++◌, length, map, take, Result, Ok, Err, IfOk, arith, eq-eqb, ne_eqb, list_all, AllByRecursion, and_parts, append-nil, Area, StoreError, is_key, Program, Done, Look, LookWhole, Reserve, Store, then_do, is_part, keys_mark, child_of, is_child, is_node, and_then, first_in, many_in, pairs_with, parts_of, scan_below, scan_children, scan_from, scan_further, scan_program, with_head, Scanned, scan_op, tree_map, IsTreeRegion, Tx, Ran, HasEnded, HasRun, IsLocalCall, WantsMemory, IsAt, at_start, at_then, began_at, ran_at, began_from, ended_from, run_from, scanned_ok, Visit, keys_of, node_read, scan_nodes, values_of, visit_program, AreIn, HasScanned, IsVisited, head_program, at_as, refused_then}, Getting.head_at, ScanCalls.scan_call, Visiting.{children_in, inner_parts, parts_are}}
 use Rattle.std.proofs.Common.{append_assoc, length-append}
 use Rattle.store_model.specs.declared.stores.StoreError.TheVariants as store
 use Rattle.store_model.specs.declared.stores.TxError.TheVariants as error
-use Rattle.iso_tree.proofs.Getting.{head_at}
-use Rattle.iso_tree.proofs.ScanCalls.{scan_call}
-use Rattle.iso_tree.proofs.Visiting.{children_in, inner_parts, parts_are}
 
 -- PROGRAMS
 pub then_assoc : {R S Q : Type 0} (p : Program R) (f : R → Program S) (g : S → Program Q) → then_do (then_do p f) g ≡ then_do p (λ r. then_do (f r) g)

@@ -1,9 +1,5 @@
 -- The pairs of a range lie in the cells that a scan visits.
-use Rattle.iso_tree.proofs.Words.{◌≡◌, ◌∙◌, sym, refl, ap, ℕ, zero, suc, ◌+◌, ◌-◌, Bool, true, false, not, ◌&&◌, cond, List, [], ◌∷◌, ◌++◌, take, drop, Option, Some, arith, inl, inr, AllByRecursion, filter, flat_map, and_from, and_parts, cases_Bool, append-nil, filter-append, text_of, before, Cell, in_range, Rise, RiseAfter, AreAfter, is_within}
-use Rattle.iso_tree.proofs.Edits.{leaf_pairs}
-use Rattle.iso_tree.proofs.Gets.{pairs_after, rise_in}
-use Rattle.iso_tree.proofs.Order.{irreflexive, range_from}
-use Rattle.iso_tree.proofs.Ranges.{before_through, low_of, not_after_through}
+use Rattle.iso_tree.proofs.{Words.{◌≡◌, ◌∙◌, sym, refl, ap, ℕ, zero, suc, ◌+◌, ◌-◌, Bool, true, false, not, ◌&&◌, cond, List, [], ◌∷◌, ◌++◌, take, drop, Option, Some, arith, inl, inr, AllByRecursion, filter, flat_map, and_from, and_parts, cases_Bool, append-nil, filter-append, text_of, before, Cell, in_range, Rise, RiseAfter, AreAfter, is_within}, Edits.leaf_pairs, Gets.{pairs_after, rise_in}, Order.{irreflexive, range_from}, Ranges.{before_through, low_of, not_after_through}}
 
 -- the pairs of a range
 abbrev pub within : (from to : List ℕ) → List (List ℕ × List ℕ) → List (List ℕ × List ℕ)

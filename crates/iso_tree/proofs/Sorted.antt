@@ -1,9 +1,5 @@
 -- The pairs of an ordered tree rise: they are the entries of the region's map.
-use Rattle.iso_tree.proofs.Words.{◌≡◌, ◌∙◌, sym, refl, ap, subst, ℕ, zero, suc, Bool, true, List, [], ◌∷◌, ◌++◌, Option, Some, AllByRecursion, flat_map, nat_cmp, slice_cmp, nat_list_cmp_total, from_entries, from_sorted, entries, entries-from_sorted, get-from_entries, get-from_sorted, same_map, slice_cmp-IsAntisymmetric, nat_cmp-IsAntisymmetric, is_sorted, below_all, T, and_from, and_parts, append-nil, before, Cell, in_range, Tree, pairs_in, AreAfter, AreChildren, IsOrdered, Rise, RiseAfter}
-use Rattle.iso_tree.proofs.Edits.{leaf_pairs}
-use Rattle.iso_tree.proofs.Gets.{ordered_in, pairs_after}
-use Rattle.iso_tree.proofs.Order.{before_trans}
-use Rattle.iso_tree.proofs.Ranges.{all_weaker, before_through, low_of}
+use Rattle.iso_tree.proofs.{Words.{◌≡◌, ◌∙◌, sym, refl, ap, subst, ℕ, zero, suc, Bool, true, List, [], ◌∷◌, ◌++◌, Option, Some, AllByRecursion, flat_map, nat_cmp, slice_cmp, nat_list_cmp_total, from_entries, from_sorted, entries, entries-from_sorted, get-from_entries, get-from_sorted, same_map, slice_cmp-IsAntisymmetric, nat_cmp-IsAntisymmetric, is_sorted, below_all, T, and_from, and_parts, append-nil, before, Cell, in_range, Tree, pairs_in, AreAfter, AreChildren, IsOrdered, Rise, RiseAfter}, Edits.leaf_pairs, Gets.{ordered_in, pairs_after}, Order.before_trans, Ranges.{all_weaker, before_through, low_of}}
 
 abbrev pub sorted : List (List ℕ × List ℕ) → Bool
 sorted pairs = is_sorted (slice_cmp nat_cmp) pairs

@@ -1,8 +1,5 @@
 -- What a put makes of a tree.
-use Rattle.iso_tree.proofs.Words.{◌≡◌, ◌≢◌, ◌∙◌, sym, refl, ap, subst, ℕ, zero, suc, ◌<◌, ◌≤◌, true, false, cond, nat_le, IsTrue, List, [], ◌∷◌, ◌++◌, take, drop, length, map, Option, Some, None, arith, inl, inr, eq-eqb, ne_eqb, flat_map, AllByRecursion, nat_tests, append-nil, map-append, take-append-drop, length-take, length-drop, flat_map-append, text_of, before, Cell, child_of, in_range, Tree, tree_at, pairs_in, nodes_in, IsApart, AreAfter, AreChildren, Rise, IsOrdered, Put, first_key, without_first, half, halves, fit, IsIn, in_front, in_back}
-use Rattle.iso_tree.proofs.Shapes.{kids, IsGrown, write_cells, written, second_kid, IsFitCell, IsSized, IsLoose, AreSized, length-kids, same_some}
-use Rattle.iso_tree.proofs.Order.{cut_after, cut_above, cut_rise, all_left, all_right}
-use Rattle.iso_tree.proofs.Blocks.{apart_parts, kids_kept}
+use Rattle.iso_tree.proofs.{Words.{◌≡◌, ◌≢◌, ◌∙◌, sym, refl, ap, subst, ℕ, zero, suc, ◌<◌, ◌≤◌, true, false, cond, nat_le, IsTrue, List, [], ◌∷◌, ◌++◌, take, drop, length, map, Option, Some, None, arith, inl, inr, eq-eqb, ne_eqb, flat_map, AllByRecursion, nat_tests, append-nil, map-append, take-append-drop, length-take, length-drop, flat_map-append, text_of, before, Cell, child_of, in_range, Tree, tree_at, pairs_in, nodes_in, IsApart, AreAfter, AreChildren, Rise, IsOrdered, Put, first_key, without_first, half, halves, fit, IsIn, in_front, in_back}, Shapes.{kids, IsGrown, write_cells, written, second_kid, IsFitCell, IsSized, IsLoose, AreSized, length-kids, same_some}, Order.{cut_after, cut_above, cut_rise, all_left, all_right}, Blocks.{apart_parts, kids_kept}}
 
 pub write_here : (cells : ℕ → List Cell) (level block : ℕ) (cs : List Cell) → write_cells cells (block, level, cs) block ≡ cs
 write_here cells level block cs = ap (λ t. cond t cs (cells block)) (eq-eqb block block refl)

@@ -1,11 +1,5 @@
 -- The array after unmarked writes of nodes, and the nodes that stay as they were.
-use Rattle.iso_tree.proofs.Words.{◌≡◌, ◌⊎◌, ◌∙◌, sym, refl, ap, subst, ℕ, zero, suc, ◌+◌, ◌<◌, ◌≤◌, true, false, List, [], ◌∷◌, ◌++◌, map, length, arith, inl, inr, AllByRecursion, flat_map, Area, Array, put, own, IsIn, block_at, Done, bytes_in, store_access, accesses_of, cell_count, keys_mark, value_mark, length-block_put, written_block, other_block, Cell, FitCells, IsBlock, child_of, count_of, is_node, used_cells, node_bytes, tree_at, nodes_in, IsApart, first_key, store_nodes, cells_in, is_part_at, IsNode, AreNodes, laid_whole, in_front, in_back}
-use Rattle.iso_tree.proofs.Blocks.{apart_parts, chosen_in}
-use Rattle.iso_tree.proofs.Bytes.{keys_are, cells_are, unused_values, count_is, length-node_bytes}
-use Rattle.iso_tree.proofs.Fits.{cells_at}
-use Rattle.iso_tree.proofs.Passes.{Strict, node_passes}
-use Rattle.iso_tree.proofs.Shapes.{kids, chosen, written}
-use Rattle.iso_tree.proofs.Writes.{FitWrite, cells_written}
+use Rattle.iso_tree.proofs.{Words.{◌≡◌, ◌⊎◌, ◌∙◌, sym, refl, ap, subst, ℕ, zero, suc, ◌+◌, ◌<◌, ◌≤◌, true, false, List, [], ◌∷◌, ◌++◌, map, length, arith, inl, inr, AllByRecursion, flat_map, Area, Array, put, own, IsIn, block_at, Done, bytes_in, store_access, accesses_of, cell_count, keys_mark, value_mark, length-block_put, written_block, other_block, Cell, FitCells, IsBlock, child_of, count_of, is_node, used_cells, node_bytes, tree_at, nodes_in, IsApart, first_key, store_nodes, cells_in, is_part_at, IsNode, AreNodes, laid_whole, in_front, in_back}, Blocks.{apart_parts, chosen_in}, Bytes.{keys_are, cells_are, unused_values, count_is, length-node_bytes}, Fits.cells_at, Passes.{Strict, node_passes}, Shapes.{kids, chosen, written}, Writes.{FitWrite, cells_written}}
 
 -- the array after these writes
 abbrev pub stored : Area → Array → List (ℕ × ℕ × List Cell) → Array

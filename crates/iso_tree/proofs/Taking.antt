@@ -1,6 +1,5 @@
 -- The free blocks that a put takes.
-use Rattle.iso_tree.proofs.Words.{◌≡◌, refl, subst, ℕ, zero, suc, ◌+◌, ◌-◌, ◌<◌, ◌≤◌, Bool, true, false, not, cond, List, [], ◌∷◌, take, length, arith, inl, inr, filter, range_with_len, length-take-le, Area, IsIn, map_bit, free_count, IsApart, free_list, Up, free_are}
-use Rattle.iso_tree.proofs.MapBits.{up_in}
+use Rattle.iso_tree.proofs.{Words.{◌≡◌, refl, subst, ℕ, zero, suc, ◌+◌, ◌-◌, ◌<◌, ◌≤◌, Bool, true, false, not, cond, List, [], ◌∷◌, take, length, arith, inl, inr, filter, range_with_len, length-take-le, Area, IsIn, map_bit, free_count, IsApart, free_list, Up, free_are}, MapBits.up_in}
 
 up_less : (low mid : ℕ) (xs : List ℕ) → low ≤ mid → Up mid xs → Up low xs
 up_less low mid [] le up = tt

@@ -1,6 +1,5 @@
 -- The loop that takes free blocks, lowest first.
-use Rattle.iso_tree.proofs.Words.{◌≡◌, ◌∙◌, sym, refl, ap, ℕ, zero, suc, ◌+◌, ◌-◌, ◌<◌, ◌≤◌, ◌==◌, ◌||◌, Bool, true, false, not, cond, List, [], ◌∷◌, ◌++◌, take, length, Option, Some, None, arith, ne_eqb, set, filter, range_with_len, take_at, first_from, map_bit, with_bit, lowest_free, with_used}
-use Rattle.iso_tree.proofs.Shapes.{same_some}
+use Rattle.iso_tree.proofs.{Words.{◌≡◌, ◌∙◌, sym, refl, ap, ℕ, zero, suc, ◌+◌, ◌-◌, ◌<◌, ◌≤◌, ◌==◌, ◌||◌, Bool, true, false, not, cond, List, [], ◌∷◌, ◌++◌, take, length, Option, Some, None, arith, ne_eqb, set, filter, range_with_len, take_at, first_from, map_bit, with_bit, lowest_free, with_used}, Shapes.same_some}
 
 some_none : (i : ℕ) → ◌≡◌ {A = Option ℕ} (Some i) None → ⊥
 some_none i e = cc

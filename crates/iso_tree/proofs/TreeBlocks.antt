@@ -1,9 +1,5 @@
 -- A tree region depends on the blocks of its area alone.
-use Rattle.iso_tree.proofs.Words.{◌≡◌, ◌≢◌, ◌⊎◌, ◌∙◌, sym, ap, subst, ℕ, ◌+◌, ◌==◌, Bool, true, cond, List, [], length, None, arith, inl, inr, eq-eqb, list_all, from_entries, cases_eq, Area, Array, is_zero, word_at, map_bit, IsIn, block_at, bytes_in, head_mark, is_head, used_cells, IsApart, IsOrdered, nodes_in, pairs_in, tree_at, AreNodes, IsTreeArea, IsTreeRegion, cells_in, level_of, root_of, tree_map, tree_nodes, tree_pairs, in_area, same_block, same_first}
-use Rattle.iso_tree.proofs.Again.{nodes_inside}
-use Rattle.iso_tree.proofs.Blocks.{tree_same}
-use Rattle.iso_tree.proofs.Facts.{head_parts}
-use Rattle.iso_tree.proofs.Stored.{nodes_same}
+use Rattle.iso_tree.proofs.{Words.{◌≡◌, ◌≢◌, ◌⊎◌, ◌∙◌, sym, ap, subst, ℕ, ◌+◌, ◌==◌, Bool, true, cond, List, [], length, None, arith, inl, inr, eq-eqb, list_all, from_entries, cases_eq, Area, Array, is_zero, word_at, map_bit, IsIn, block_at, bytes_in, head_mark, is_head, used_cells, IsApart, IsOrdered, nodes_in, pairs_in, tree_at, AreNodes, IsTreeArea, IsTreeRegion, cells_in, level_of, root_of, tree_map, tree_nodes, tree_pairs, in_area, same_block, same_first}, Again.nodes_inside, Blocks.tree_same, Facts.head_parts, Stored.nodes_same}
 
 -- a choice by a number that is 0, where the other case is the same
 same_choice : {X : Type 0} (n : ℕ) (z x y : X) → (n ≢ 0 → x ≡ y) → cond (n == 0) z x ≡ cond (n == 0) z y

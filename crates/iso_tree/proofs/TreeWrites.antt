@@ -1,7 +1,5 @@
 -- The calls of the tree store write blocks of its area alone.
-use Rattle.iso_tree.proofs.Words.{ℕ, zero, suc, ◌-◌, ◌<◌, ◌==◌, ◌&&◌, Bool, true, false, cond, nat_le, List, [], ◌∷◌, length, map, take, Option, Some, None, Result, Ok, refl, inl, inr, arith, nat_lt, AllByRecursion, and_parts, nat_tests, Area, StoreError, cell_count, value_part, free_count, is_key, is_value, IsIn, Done, Program, then_do, AtBroken, AtLeaf, Climb, Descent, climb, climb_on, del_at, del_below, del_program, descend, first_write, free_list, full_row, look_again, placed, put_at, put_below_root, put_new, put_program, put_writes, store_nodes, with_head, with_map, Cell, cell_of, child_of, child_part, count_of, is_child, is_head, is_node, used_cells, IsTreeArea, Put, fit, halves, in_area, in_its_area, start_in, Answers, StoresIn, answers_cond, stores_cell, stores_cond, stores_if, stores_then, all_append}
-use Rattle.iso_tree.proofs.Facts.{child_below, head_parts}
-use Rattle.iso_tree.proofs.Taking.{taken_are}
+use Rattle.iso_tree.proofs.{Words.{ℕ, zero, suc, ◌-◌, ◌<◌, ◌==◌, ◌&&◌, Bool, true, false, cond, nat_le, List, [], ◌∷◌, length, map, take, Option, Some, None, Result, Ok, refl, inl, inr, arith, nat_lt, AllByRecursion, and_parts, nat_tests, Area, StoreError, cell_count, value_part, free_count, is_key, is_value, IsIn, Done, Program, then_do, AtBroken, AtLeaf, Climb, Descent, climb, climb_on, del_at, del_below, del_program, descend, first_write, free_list, full_row, look_again, placed, put_at, put_below_root, put_new, put_program, put_writes, store_nodes, with_head, with_map, Cell, cell_of, child_of, child_part, count_of, is_child, is_head, is_node, used_cells, IsTreeArea, Put, fit, halves, in_area, in_its_area, start_in, Answers, StoresIn, answers_cond, stores_cell, stores_cond, stores_if, stores_then, all_append}, Facts.{child_below, head_parts}, Taking.taken_are}
 
 -- blocks of the area: of a path, of nodes, and of writes
 abbrev PathIn : Area → List (ℕ × ℕ) → Type 0

@@ -1,6 +1,5 @@
 -- The nodes that a descent has passed are usable, on whatever array.
-use Rattle.iso_tree.proofs.Words.{◌≡◌, ◌∙◌, sym, refl, ap, subst, ℕ, zero, suc, ◌+◌, ◌≤◌, ◌&&◌, Bool, true, false, cond, List, [], ◌∷◌, Some, arith, and_parts, Area, Array, own, block_at, keys_mark, Program, Done, bytes_in, further_bytes, answer_of, Tx, Ran, HasRead, own_reads, own_append, whole_run, child_of, count_of, is_child, is_node, ArePathUsable, AreShownUsable, IsUsable, Descent, AtLeaf, AtBroken, descend, leaf_further, inner_further}
-use Rattle.iso_tree.proofs.Facts.{node_parts, inner_many}
+use Rattle.iso_tree.proofs.{Words.{◌≡◌, ◌∙◌, sym, refl, ap, subst, ℕ, zero, suc, ◌+◌, ◌≤◌, ◌&&◌, Bool, true, false, cond, List, [], ◌∷◌, Some, arith, and_parts, Area, Array, own, block_at, keys_mark, Program, Done, bytes_in, further_bytes, answer_of, Tx, Ran, HasRead, own_reads, own_append, whole_run, child_of, count_of, is_child, is_node, ArePathUsable, AreShownUsable, IsUsable, Descent, AtLeaf, AtBroken, descend, leaf_further, inner_further}, Facts.{node_parts, inner_many}}
 
 abbrev HasPassed : Area → Array → Descent → Type 0
 HasPassed a A (AtLeaf path leaf keys value) = ArePathUsable a A path × (is_node a.size 0 keys ≡ true) × (keys ≡ bytes_in (keys_mark a.size) (block_at A (a.start + leaf)))

@@ -1,10 +1,7 @@
 -- The read of a node that a scan visits, and what follows from its bytes.
-use Rattle.iso_tree.proofs.Words.{◌≡◌, ◌∙◌, sym, refl, ap, ℕ, zero, suc, ◌+◌, ◌-◌, ◌*◌, ◌<◌, ◌≤◌, ◌&&◌, ◌==◌, not, Bool, true, false, cond, List, [], ◌∷◌, ◌++◌, length, take, drop, slice_index, nat_le, Option, Some, None, Ok, Err, arith, inl, inr, eq-eqb, ne_eqb, list_all, AllByRecursion, ForSome, and_parts, cases_eq, leb-true, append-nil, drop-drop, Access, Span, Area, TxError, own, marked, block_at, Done, bytes_in, further_bytes, with_further, look_access, is_part, is_zero, key_at, keys_mark, text_of, is_child, is_node, child_of, first_in, many_in, pairs_with, parts_of, scan_further, is_part_at, Tx, Device, with_accesses, Ran, IsCause, IsCut, marked_access, at_start, cut_at_look, keys_of, node_read, values_mark, visit_program, are_key_parts, cell_count, count_of, take-nil}
+use Rattle.iso_tree.proofs.{Words.{◌≡◌, ◌∙◌, sym, refl, ap, ℕ, zero, suc, ◌+◌, ◌-◌, ◌*◌, ◌<◌, ◌≤◌, ◌&&◌, ◌==◌, not, Bool, true, false, cond, List, [], ◌∷◌, ◌++◌, length, take, drop, slice_index, nat_le, Option, Some, None, Ok, Err, arith, inl, inr, eq-eqb, ne_eqb, list_all, AllByRecursion, ForSome, and_parts, cases_eq, leb-true, append-nil, drop-drop, Access, Span, Area, TxError, own, marked, block_at, Done, bytes_in, further_bytes, with_further, look_access, is_part, is_zero, key_at, keys_mark, text_of, is_child, is_node, child_of, first_in, many_in, pairs_with, parts_of, scan_further, is_part_at, Tx, Device, with_accesses, Ran, IsCause, IsCut, marked_access, at_start, cut_at_look, keys_of, node_read, values_mark, visit_program, are_key_parts, cell_count, count_of, take-nil}, Facts.{child_below, inner_many, node_parts}, Looking.{looked, looked_so}, ScanTrees.take_zero}
 use Rattle.std.proofs.Common.{append_assoc, length-append}
 use Rattle.store_model.specs.declared.stores.StoreError.TheVariants as store
-use Rattle.iso_tree.proofs.Facts.{child_below, inner_many, node_parts}
-use Rattle.iso_tree.proofs.Looking.{looked, looked_so}
-use Rattle.iso_tree.proofs.ScanTrees.{take_zero}
 
 -- whether a value part is that of a cell of an inner node
 pub inner_part : (a : Area) (level : ℕ) (part : List ℕ) → (level ≡ 0 → ⊥) → is_part_at a level part ≡ is_child a.blocks part

@@ -1,7 +1,5 @@
 -- The way up of a put over the path of its descent is the put below the root.
-use Rattle.iso_tree.proofs.Words.{◌≡◌, ◌∙◌, sym, refl, ap, ℕ, zero, suc, ◌<◌, ◌≤◌, true, ◌&&◌, ◌==◌, cond, nat_le, List, [], ◌∷◌, ◌++◌, take, length, map, Option, Some, None, arith, inl, inr, eq-eqb, AllByRecursion, cases_eq, nat_tests, append_assoc, Cell, child_of, child_part, tree_at, AreChildren, IsOrdered, put_after, Put, halves, fit, Climb, placed, climb_on, climb, full_row, length-placed}
-use Rattle.iso_tree.proofs.Shapes.{kids, after_child, child_for, put_below}
-use Rattle.iso_tree.proofs.Climbs.{child_ordered}
+use Rattle.iso_tree.proofs.{Words.{◌≡◌, ◌∙◌, sym, refl, ap, ℕ, zero, suc, ◌<◌, ◌≤◌, true, ◌&&◌, ◌==◌, cond, nat_le, List, [], ◌∷◌, ◌++◌, take, length, map, Option, Some, None, arith, inl, inr, eq-eqb, AllByRecursion, cases_eq, nat_tests, append_assoc, Cell, child_of, child_part, tree_at, AreChildren, IsOrdered, put_after, Put, halves, fit, Climb, placed, climb_on, climb, full_row, length-placed}, Shapes.{kids, after_child, child_for, put_below}, Climbs.child_ordered}
 
 -- the nodes that the descent of a key passes, the leaf first
 abbrev pub path_below : (ℕ → List Cell) → (key : List ℕ) → (level block : ℕ) → List (ℕ × List Cell)

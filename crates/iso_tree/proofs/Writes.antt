@@ -1,7 +1,5 @@
 -- The writes of nodes on the array are the writes of cells, and a child's value part names it.
-use Rattle.iso_tree.proofs.Words.{◌≡◌, ◌∙◌, refl, ap, ℕ, ◌+◌, ◌-◌, ◌*◌, ◌^◌, ◌<◌, ◌≤◌, List, [], ◌∷◌, length, replicate, AllByRecursion, w32, to_be_bytes, from_be_bytes, take_at, from_be_bytes-to_be_bytes_4, Area, Array, put, own, block_at, Done, store_access, accesses_of, cell_count, FitCells, Cell, child_of, child_part, node_bytes, cells_in, store_nodes, length-block_put}
-use Rattle.iso_tree.proofs.Shapes.{written}
-use Rattle.iso_tree.proofs.Bytes.{cells_after}
+use Rattle.iso_tree.proofs.{Words.{◌≡◌, ◌∙◌, refl, ap, ℕ, ◌+◌, ◌-◌, ◌*◌, ◌^◌, ◌<◌, ◌≤◌, List, [], ◌∷◌, length, replicate, AllByRecursion, w32, to_be_bytes, from_be_bytes, take_at, from_be_bytes-to_be_bytes_4, Area, Array, put, own, block_at, Done, store_access, accesses_of, cell_count, FitCells, Cell, child_of, child_part, node_bytes, cells_in, store_nodes, length-block_put}, Shapes.written, Bytes.cells_after}
 
 pub child_named : (b : ℕ) → b < 2 ^ 32 → child_of (child_part b) ≡ b
 child_named b low = ap (from_be_bytes w32) (take_at (to_be_bytes w32 b) (replicate (32 - length (to_be_bytes w32 b)) 0) 4 refl) ∙ from_be_bytes-to_be_bytes_4 b low

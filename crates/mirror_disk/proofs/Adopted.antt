@@ -1,9 +1,5 @@
 -- What is known of two sides that were adopted.
-use Rattle.mirror_disk.proofs.Words.{◌≡◌, ◌≢◌, ◌⊎◌, inl, inr, ⊎_elim, ℕ, ◌+◌, ◌<◌, ◌≤◌, List, [], take, Option, Some, None, refl, sym, ◌∙◌, ap, subst, arith, IfSome, same_Some, DiskState, IsLawful, IsSettled, LeavesOnly, WritesNothing, at_end, Rose, Mark, Slot, Both, OnlyFirst, OnlySecond, AdoptFails, AdoptsFrom, AreAlike, OfChosen, OfOther, TellsOn, IsHeader, body, chosen, epoch, last_epoch, rising_first, ChosenOf, chosen_told, HasEpoch, KeepsBody, other, ArePair, AreBoth, FirstLeads, SecondLeads, Stands}
-use Rattle.mirror_disk.proofs.Choosing.{adopts_first, adopts_second}
-use Rattle.mirror_disk.proofs.Ended.{keeps_on}
-use Rattle.mirror_disk.proofs.Epochs.{chosen_first, chosen_second}
-use Rattle.mirror_disk.proofs.Stands.{some_told}
+use Rattle.mirror_disk.proofs.{Words.{◌≡◌, ◌≢◌, ◌⊎◌, inl, inr, ⊎_elim, ℕ, ◌+◌, ◌<◌, ◌≤◌, List, [], take, Option, Some, None, refl, sym, ◌∙◌, ap, subst, arith, IfSome, same_Some, DiskState, IsLawful, IsSettled, LeavesOnly, WritesNothing, at_end, Rose, Mark, Slot, Both, OnlyFirst, OnlySecond, AdoptFails, AdoptsFrom, AreAlike, OfChosen, OfOther, TellsOn, IsHeader, body, chosen, epoch, last_epoch, rising_first, ChosenOf, chosen_told, HasEpoch, KeepsBody, other, ArePair, AreBoth, FirstLeads, SecondLeads, Stands}, Choosing.{adopts_first, adopts_second}, Ended.keeps_on, Epochs.{chosen_first, chosen_second}, Stands.some_told}
 
 pub body_tells : {old new : DiskState} → KeepsBody old new → TellsOn old new
 body_tells keeps = record { told = keeps_on keeps; untold = keeps.untold }

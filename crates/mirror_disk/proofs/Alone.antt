@@ -1,10 +1,5 @@
 -- How a call ends on a mirror with one side in use.
-use Rattle.mirror_disk.proofs.Words.{◌≡◌, ◌≢◌, ◌⊎◌, inr, ⊎_elim, ℕ, ◌+◌, ◌≤◌, List, [], Some, refl, sym, ◌∙◌, ap, subst, arith, DiskState, IsLawful, IsSettled, TornFrom, LeavesOnly, Elapses, torn_from_old, at_end, called, started, weakened, Slot, Used, Plain, OnlyFirst, OnlySecond, Broken, Unbound, HasEnded, IsHeader, chosen, rising_first, chosen_told, mirrored, ArePair, FirstLeads, SecondLeads, IsPair}
-use Rattle.mirror_disk.proofs.Asked.{told_same}
-use Rattle.mirror_disk.proofs.Calls.{elapses_pair}
-use Rattle.mirror_disk.proofs.Ended.{tells_on}
-use Rattle.mirror_disk.proofs.Epochs.{chosen_first, chosen_second}
-use Rattle.mirror_disk.proofs.Stands.{header_torn, GoesOnTelling, epoch_of_torn, from_a, from_b, meets_first, meets_second, now_from_a, now_from_b, pair_on, some_told}
+use Rattle.mirror_disk.proofs.{Words.{◌≡◌, ◌≢◌, ◌⊎◌, inr, ⊎_elim, ℕ, ◌+◌, ◌≤◌, List, [], Some, refl, sym, ◌∙◌, ap, subst, arith, DiskState, IsLawful, IsSettled, TornFrom, LeavesOnly, Elapses, torn_from_old, at_end, called, started, weakened, Slot, Used, Plain, OnlyFirst, OnlySecond, Broken, Unbound, HasEnded, IsHeader, chosen, rising_first, chosen_told, mirrored, ArePair, FirstLeads, SecondLeads, IsPair}, Asked.told_same, Calls.elapses_pair, Ended.tells_on, Epochs.{chosen_first, chosen_second}, Stands.{header_torn, GoesOnTelling, epoch_of_torn, from_a, from_b, meets_first, meets_second, now_from_a, now_from_b, pair_on, some_told}}
 
 module _ {a b new_a : DiskState} (past : List (ℕ × ℕ)) (e : ℕ) (one two : Slot) (at n : ℕ) (law_a : IsLawful a) (law_b : IsLawful b) (law_a' : IsLawful new_a) (pair : ArePair a b past) (leads : FirstLeads a b past e)
     (run : LeavesOnly a new_a (TornFrom (64 + at) n a.now)) (on : GoesOnTelling a new_a) where

@@ -1,6 +1,5 @@
 -- Both sides were asked to write, or to sync.
-use Rattle.mirror_disk.proofs.Words.{◌≡◌, inl, ℕ, ◌+◌, ◌≤◌, Bool, true, List, length, Option, Some, None, Result, Ok, Err, OnOk, OnErr, is_ok, refl, sym, ◌∙◌, ap, arith, option_map, same_Some, DiskState, IsLawful, TornFrom, TellsTorn, Splices, Elapses, spliced, torn_same, length-contents, tells_spliced, torn_from_old, called, Slot, BothAsked, body, ArePair, AreBoth}
-use Rattle.mirror_disk.proofs.Telling.{body-spliced}
+use Rattle.mirror_disk.proofs.{Words.{◌≡◌, inl, ℕ, ◌+◌, ◌≤◌, Bool, true, List, length, Option, Some, None, Result, Ok, Err, OnOk, OnErr, is_ok, refl, sym, ◌∙◌, ap, arith, option_map, same_Some, DiskState, IsLawful, TornFrom, TellsTorn, Splices, Elapses, spliced, torn_same, length-contents, tells_spliced, torn_from_old, called, Slot, BothAsked, body, ArePair, AreBoth}, Telling.body-spliced}
 
 -- a write that was done or failed
 pub told_of : {T E : Type 0} (old new : DiskState) (k : ℕ) (bytes : List ℕ) → IsLawful old → k + length bytes ≤ old.size → (r : Result T E) → OnOk r (Splices k bytes old new) → OnErr r (TellsTorn k (length bytes) old new) → TellsTorn k (length bytes) old new

@@ -1,9 +1,5 @@
 -- Two sides that were just made.
-use Rattle.mirror_disk.proofs.Words.{◌≡◌, inl, inr, ℕ, ◌+◌, ◌-◌, List, [], ◌++◌, drop, replicate, Option, Some, None, refl, sym, ◌∙◌, ap, subst, arith, IfNone, IfSome, ForSome, cases_lt, drop-replicate, DiskState, IsLawful, IsSettled, Splices, settled_write, First, Used, blank_header, body, chosen, epoch, both_tell, ChosenOf, chosen_told, mirrored, HasEpoch, ArePair, AreBoth, IsPair, state_in}
-use Rattle.mirror_disk.proofs.Adopted.{both_alike}
-use Rattle.mirror_disk.proofs.Alone.{first_pair}
-use Rattle.mirror_disk.proofs.Mirrored.{state_pair}
-use Rattle.mirror_disk.proofs.Epochs.{chosen_first, chosen_second}
+use Rattle.mirror_disk.proofs.{Words.{◌≡◌, inl, inr, ℕ, ◌+◌, ◌-◌, List, [], ◌++◌, drop, replicate, Option, Some, None, refl, sym, ◌∙◌, ap, subst, arith, IfNone, IfSome, ForSome, cases_lt, drop-replicate, DiskState, IsLawful, IsSettled, Splices, settled_write, First, Used, blank_header, body, chosen, epoch, both_tell, ChosenOf, chosen_told, mirrored, HasEpoch, ArePair, AreBoth, IsPair, state_in}, Adopted.both_alike, Alone.first_pair, Mirrored.state_pair, Epochs.{chosen_first, chosen_second}}
 
 -- a blank header has epoch 1 in the first slot
 pub blank_mark : (rest : List ℕ) → HasEpoch First 1 (blank_header ++ rest)

@@ -1,6 +1,5 @@
 -- What is chosen at each moment of an adopt.
-use Rattle.mirror_disk.proofs.Words.{◌≡◌, ◌⊎◌, inl, inr, ⊎_elim, ℕ, ◌<◌, ◌≤◌, List, ◌∙◌, arith, cases_lt, body, chosen, epoch}
-use Rattle.mirror_disk.proofs.Epochs.{chosen_first, chosen_second}
+use Rattle.mirror_disk.proofs.{Words.{◌≡◌, ◌⊎◌, inl, inr, ⊎_elim, ℕ, ◌<◌, ◌≤◌, List, ◌∙◌, arith, cases_lt, body, chosen, epoch}, Epochs.{chosen_first, chosen_second}}
 
 -- The first side was chosen: its mirrored bytes stay, and the other side has no larger epoch, or the same bytes.
 pub adopts_first : (e : ℕ) (d x y : List ℕ) → e ≤ epoch x → body x ≡ body d → (epoch y ≤ e) ⊎ (body y ≡ body d) → chosen x y ≡ body d

@@ -1,9 +1,5 @@
 -- What a mirror tells after a call on its sides in use, and why the call failed.
-use Rattle.mirror_disk.proofs.Words.{◌≡◌, ◌≢◌, ◌⊎◌, inl, inr, ⊎_elim, ℕ, ◌+◌, ◌-◌, ◌≤◌, Bool, true, false, List, ◌∷◌, length, take, drop, Option, Some, None, Result, Ok, Err, OnOk, OnErr, is_ok, refl, sym, ◌∙◌, ap, arith, slice_range, option_map, drop-drop, DiskState, IsLawful, IsSettled, Torn, Splices, spliced, length-contents, HasCause, Rose, Slot, Becomes, MirrorBecomes, Used, Plain, Both, OnlyFirst, OnlySecond, Broken, Unbound, BothAsked, HasEnded, AllFailed, CannotLeave, HasFailed, HasLeft, body, chosen, both_tell, chosen_told, mirrored, KeepsBody, ArePair, AreBoth, FirstLeads, SecondLeads}
-use Rattle.mirror_disk.proofs.Alone.{settled_both, settled_first, settled_second}
-use Rattle.mirror_disk.proofs.Epochs.{chosen_first, chosen_second}
-use Rattle.mirror_disk.proofs.Stands.{now_from_a, now_from_b}
-use Rattle.mirror_disk.proofs.Telling.{becomes_raised, becomes_spliced, becomes_torn, told_alike, told_first, told_second, splices_of}
+use Rattle.mirror_disk.proofs.{Words.{◌≡◌, ◌≢◌, ◌⊎◌, inl, inr, ⊎_elim, ℕ, ◌+◌, ◌-◌, ◌≤◌, Bool, true, false, List, ◌∷◌, length, take, drop, Option, Some, None, Result, Ok, Err, OnOk, OnErr, is_ok, refl, sym, ◌∙◌, ap, arith, slice_range, option_map, drop-drop, DiskState, IsLawful, IsSettled, Torn, Splices, spliced, length-contents, HasCause, Rose, Slot, Becomes, MirrorBecomes, Used, Plain, Both, OnlyFirst, OnlySecond, Broken, Unbound, BothAsked, HasEnded, AllFailed, CannotLeave, HasFailed, HasLeft, body, chosen, both_tell, chosen_told, mirrored, KeepsBody, ArePair, AreBoth, FirstLeads, SecondLeads}, Alone.{settled_both, settled_first, settled_second}, Epochs.{chosen_first, chosen_second}, Stands.{now_from_a, now_from_b}, Telling.{becomes_raised, becomes_spliced, becomes_torn, told_alike, told_first, told_second, splices_of}}
 
 -- a call that was done, or was not
 pub by_done : {T E P : Type 0} (r : Result T E) → is_ok r ≡ true → OnOk r P → P

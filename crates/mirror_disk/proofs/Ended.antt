@@ -1,9 +1,6 @@
 -- How a call on both sides ends.
-use Rattle.mirror_disk.proofs.Words.{◌≡◌, ◌≢◌, inl, ⊎_elim, ℕ, ◌+◌, ◌≤◌, Bool, true, List, ◌∷◌, take, Some, None, sym, ◌∙◌, arith, DiskState, IsLawful, TornFrom, TellsTorn, LeavesOnly, take-torn, at_end, weakened, Slot, Both, Broken, BothAsked, HasEnded, IsHeader, epoch, slot_epoch, IsMarked, KeepsBody, place, ArePair, AreBoth, FromA, FromB}
+use Rattle.mirror_disk.proofs.{Words.{◌≡◌, ◌≢◌, inl, ⊎_elim, ℕ, ◌+◌, ◌≤◌, Bool, true, List, ◌∷◌, take, Some, None, sym, ◌∙◌, arith, DiskState, IsLawful, TornFrom, TellsTorn, LeavesOnly, take-torn, at_end, weakened, Slot, Both, Broken, BothAsked, HasEnded, IsHeader, epoch, slot_epoch, IsMarked, KeepsBody, place, ArePair, AreBoth, FromA, FromB}, Calls.elapses_pair, Epochs.slot-torn, Stands.{header_torn, GoesOnTelling, epoch_of_torn, from_a, from_b, meets_both, now_from_a, now_from_b, pair_on, some_told}}
 use Rattle.mirror_disk.specs.declared.slot.Slot.TheVariants as slot
-use Rattle.mirror_disk.proofs.Calls.{elapses_pair}
-use Rattle.mirror_disk.proofs.Epochs.{slot-torn}
-use Rattle.mirror_disk.proofs.Stands.{header_torn, GoesOnTelling, epoch_of_torn, from_a, from_b, meets_both, now_from_a, now_from_b, pair_on, some_told}
 
 -- a disk that fails in a write, or does it, goes on telling
 pub tells_on : {old new : DiskState} {k n : ℕ} → TellsTorn k n old new → GoesOnTelling old new

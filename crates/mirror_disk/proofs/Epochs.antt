@@ -1,6 +1,5 @@
 -- One image while a slot is written.
-use Rattle.mirror_disk.proofs.Words.{◌≡◌, ◌⊎◌, inl, inr, ⊎_elim, ◌≤◌, ◌<◌, ◌+◌, ℕ, List, take, drop, refl, ◌∙◌, ap, arith, nat_lt, ◌==◌, cond, slice_index, w64, from_be_bytes, cases_eq, cases_Bool, cases_lt, cond-true, cond-false, lt-ltb, le-ltb, eqb-true, eq-eqb, Torn, slice-torn, get_or-torn, drop-torn, IsClosed, IsOpen, Slot, First, Second, IsHeader, last_epoch, number_at, slot_epoch, larger, epoch, body, chosen, place, other, HasEpoch, HoldsEpoch}
-use Rattle.mirror_disk.proofs.Headers.{header_slot, slot_closed, slot_held, slot_in, slot_shut}
+use Rattle.mirror_disk.proofs.{Words.{◌≡◌, ◌⊎◌, inl, inr, ⊎_elim, ◌≤◌, ◌<◌, ◌+◌, ℕ, List, take, drop, refl, ◌∙◌, ap, arith, nat_lt, ◌==◌, cond, slice_index, w64, from_be_bytes, cases_eq, cases_Bool, cases_lt, cond-true, cond-false, lt-ltb, le-ltb, eqb-true, eq-eqb, Torn, slice-torn, get_or-torn, drop-torn, IsClosed, IsOpen, Slot, First, Second, IsHeader, last_epoch, number_at, slot_epoch, larger, epoch, body, chosen, place, other, HasEpoch, HoldsEpoch}, Headers.{header_slot, slot_closed, slot_held, slot_in, slot_shut}}
 
 -- the larger of two numbers
 pub larger_left : (m n : ℕ) → n ≤ m → larger m n ≡ m

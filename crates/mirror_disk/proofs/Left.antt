@@ -1,8 +1,5 @@
 -- How a call ends in which one side was left out.
-use Rattle.mirror_disk.proofs.Words.{◌≡◌, ◌≢◌, ◌⊎◌, inl, inr, ⊎_elim, ℕ, ◌+◌, Bool, List, ◌∷◌, Option, Some, None, refl, sym, ◌∙◌, subst, arith, same_Some, DiskState, IsLawful, Torn, TornFrom, TellsTorn, LeavesOnly, Elapses, at_end, joined, weakened, Slot, OnlyFirst, OnlySecond, Broken, BothAsked, HasEnded, body, epoch, ChosenOf, mirrored, HasEpoch, KeepsBody, Raising, other, ArePair, FirstLeads, SecondLeads, FromA, FromB}
-use Rattle.mirror_disk.proofs.Calls.{elapses_pair}
-use Rattle.mirror_disk.proofs.Ended.{heads_a, heads_b, from_now_a, from_now_b, keeps_on, tells_on}
-use Rattle.mirror_disk.proofs.Stands.{header_torn, Over, epoch_of_torn, from_a, from_b, meets_left, meets_over, pair_on}
+use Rattle.mirror_disk.proofs.{Words.{◌≡◌, ◌≢◌, ◌⊎◌, inl, inr, ⊎_elim, ℕ, ◌+◌, Bool, List, ◌∷◌, Option, Some, None, refl, sym, ◌∙◌, subst, arith, same_Some, DiskState, IsLawful, Torn, TornFrom, TellsTorn, LeavesOnly, Elapses, at_end, joined, weakened, Slot, OnlyFirst, OnlySecond, Broken, BothAsked, HasEnded, body, epoch, ChosenOf, mirrored, HasEpoch, KeepsBody, Raising, other, ArePair, FirstLeads, SecondLeads, FromA, FromB}, Calls.elapses_pair, Ended.{heads_a, heads_b, from_now_a, from_now_b, keeps_on, tells_on}, Stands.{header_torn, Over, epoch_of_torn, from_a, from_b, meets_left, meets_over, pair_on}}
 
 -- what is told after a write was told before it, and torn
 pub torn_told : {old new : DiskState} {k n : ℕ} → TellsTorn k n old new → (c : List ℕ) → new.contents ≡ Some c → (d : List ℕ) × (old.contents ≡ Some d) × Torn k n d c

@@ -1,6 +1,5 @@
 -- What a call on both sides comes to in the state of the mirror.
-use Rattle.mirror_disk.proofs.Words.{◌≡◌, ◌≢◌, ◌⊎◌, inl, inr, ⊎_elim, ℕ, List, ◌∷◌, Result, Ok, Err, OnErr, refl, sym, ◌∙◌, ap, subst, option_map, DiskState, Torn, TornFrom, TellsTorn, Splices, Elapses, spliced, Slot, Used, Plain, Both, OnlyFirst, OnlySecond, Broken, Unbound, MirrorBecomes, HasEnded, chosen_told, mirrored, IsPair, Stands, state_in}
-use Rattle.mirror_disk.proofs.Alone.{none_torn}
+use Rattle.mirror_disk.proofs.{Words.{◌≡◌, ◌≢◌, ◌⊎◌, inl, inr, ⊎_elim, ℕ, List, ◌∷◌, Result, Ok, Err, OnErr, refl, sym, ◌∙◌, ap, subst, option_map, DiskState, Torn, TornFrom, TellsTorn, Splices, Elapses, spliced, Slot, Used, Plain, Both, OnlyFirst, OnlySecond, Broken, Unbound, MirrorBecomes, HasEnded, chosen_told, mirrored, IsPair, Stands, state_in}, Alone.none_torn}
 
 -- these are the states of a pair
 pub of_pair : {used : Used} → (used ≡ Both) ⊎ ((used ≡ OnlyFirst) ⊎ ((used ≡ OnlySecond) ⊎ (used ≡ Broken))) → IsPair used

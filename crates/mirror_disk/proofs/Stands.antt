@@ -1,9 +1,5 @@
 -- What a call does to a mirror, by the sides that it asks.
-use Rattle.mirror_disk.proofs.Words.{◌≡◌, ◌≢◌, ◌⊎◌, inl, inr, ⊎_elim, ℕ, ◌+◌, ◌<◌, ◌≤◌, List, ◌∷◌, Option, Some, None, refl, sym, ◌∙◌, subst, arith, DiskState, IsLawful, Torn, TornFrom, LeavesOnly, Slot, IsHeader, body, epoch, at_before, at_most, rising_more, ChosenOf, IsRising, ArePair, AreBoth, FirstLeads, SecondLeads, FromA, FromB}
-use Rattle.mirror_disk.proofs.Calls.{Meet}
-use Rattle.mirror_disk.proofs.Epochs.{chosen_first, chosen_second, epoch-torn}
-use Rattle.mirror_disk.proofs.Headers.{header_behind}
-use Rattle.mirror_disk.proofs.Meets.{Some_a, Some_b, meet_first, meet_over, meet_second, torn_body}
+use Rattle.mirror_disk.proofs.{Words.{◌≡◌, ◌≢◌, ◌⊎◌, inl, inr, ⊎_elim, ℕ, ◌+◌, ◌<◌, ◌≤◌, List, ◌∷◌, Option, Some, None, refl, sym, ◌∙◌, subst, arith, DiskState, IsLawful, Torn, TornFrom, LeavesOnly, Slot, IsHeader, body, epoch, at_before, at_most, rising_more, ChosenOf, IsRising, ArePair, AreBoth, FirstLeads, SecondLeads, FromA, FromB}, Calls.Meet, Epochs.{chosen_first, chosen_second, epoch-torn}, Headers.header_behind, Meets.{Some_a, Some_b, meet_first, meet_over, meet_second, torn_body}}
 
 -- what is not untold is told
 pub some_told : (o : Option (List ℕ)) → o ≢ None → (c : List ℕ) × (o ≡ Some c)

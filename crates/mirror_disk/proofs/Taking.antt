@@ -1,9 +1,5 @@
 -- The other side while it is made as the one that was chosen.
-use Rattle.mirror_disk.proofs.Words.{◌≡◌, inl, inr, ⊎_elim, ℕ, ◌+◌, ◌≤◌, List, take, Some, None, sym, ◌∙◌, ap, subst, arith, same_Some, DiskState, IsLawful, IsSettled, LeavesOnly, TellsTorn, TornFrom, WritesNothing, at_end, joined, weakened, Slot, AreAlike, OfChosen, OfOther, body, epoch, HasEpoch, IsMarked, KeepsBody, Raising}
-use Rattle.mirror_disk.proofs.Ended.{marked_on, tells_on}
-use Rattle.mirror_disk.proofs.Epochs.{epoch-torn}
-use Rattle.mirror_disk.proofs.Headers.{header_behind}
-use Rattle.mirror_disk.proofs.Raises.{told_before}
+use Rattle.mirror_disk.proofs.{Words.{◌≡◌, inl, inr, ⊎_elim, ℕ, ◌+◌, ◌≤◌, List, take, Some, None, sym, ◌∙◌, ap, subst, arith, same_Some, DiskState, IsLawful, IsSettled, LeavesOnly, TellsTorn, TornFrom, WritesNothing, at_end, joined, weakened, Slot, AreAlike, OfChosen, OfOther, body, epoch, HasEpoch, IsMarked, KeepsBody, Raising}, Ended.{marked_on, tells_on}, Epochs.epoch-torn, Headers.header_behind, Raises.told_before}
 
 -- a settled side whose images have this epoch is marked
 pub marked_settled : {d : DiskState} (slot : Slot) (e : ℕ) → IsSettled d → ((x : List ℕ) → d.now x → HasEpoch slot e x) → IsMarked slot e d

@@ -1,7 +1,5 @@
 -- What a mirror tells after a call.
-use Rattle.mirror_disk.proofs.Words.{◌≡◌, inl, inr, ℕ, ◌+◌, ◌≤◌, List, length, take, Option, Some, None, refl, sym, ◌∙◌, ap, subst, option_map, cases_lt, drop-drop, DiskState, Torn, TellsTorn, Splices, spliced, spliced_torn, take-drop-spliced, torn_whole, Becomes, MirrorBecomes, body, chosen, epoch, both_tell, chosen_told}
-use Rattle.mirror_disk.proofs.Epochs.{chosen_first, chosen_second}
-use Rattle.mirror_disk.proofs.Meets.{torn_body}
+use Rattle.mirror_disk.proofs.{Words.{◌≡◌, inl, inr, ℕ, ◌+◌, ◌≤◌, List, length, take, Option, Some, None, refl, sym, ◌∙◌, ap, subst, option_map, cases_lt, drop-drop, DiskState, Torn, TellsTorn, Splices, spliced, spliced_torn, take-drop-spliced, torn_whole, Becomes, MirrorBecomes, body, chosen, epoch, both_tell, chosen_told}, Epochs.{chosen_first, chosen_second}, Meets.torn_body}
 
 -- bytes laid behind the header are laid in the mirrored bytes
 pub body-spliced : (c : List ℕ) (at : ℕ) (bytes : List ℕ) → 64 + at + length bytes ≤ length c → body (spliced c (64 + at) bytes) ≡ spliced (body c) at bytes

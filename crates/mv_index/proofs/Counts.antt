@@ -1,7 +1,5 @@
 -- An index has as many versions as the model counts of its history.
-use Rattle.mv_index.proofs.Words.{◌≡◌, ◌⊎◌, inl, inr, ◌∙◌, sym, refl, ap, ℕ, zero, suc, ◌+◌, ◌-◌, ◌<◌, ◌≤◌, ◌==◌, Bool, true, false, ◌&&◌, ◌||◌, not, cond, nat_le, nat_lt, List, [], ◌∷◌, ◌++◌, Option, Some, None, length, map, get_or, sum_by, arith, subst, AllByRecursion, filter, list_any, range_with_len, is_some, lt-leb, cases_eq, eq-eqb, ne_eqb, eqb-true, list_any-append, sum_by-cons, Commit, Geometry, Write, Run, in_span, or_else, record_length, runs, touches, AreRuns, IsRun, written, value_in, touches_where_effect, value_runs, are_runs, Version, BlockVersions, count_of, has, hides, shown_since, still_shows, versions_in, IsIndexOf, placed, version_of, versions_of, and-false}
-use Rattle.mv_index.proofs.Gathers.{any_same}
-use Rattle.mv_index.proofs.Layers.{or_else_none}
+use Rattle.mv_index.proofs.{Words.{◌≡◌, ◌⊎◌, inl, inr, ◌∙◌, sym, refl, ap, ℕ, zero, suc, ◌+◌, ◌-◌, ◌<◌, ◌≤◌, ◌==◌, Bool, true, false, ◌&&◌, ◌||◌, not, cond, nat_le, nat_lt, List, [], ◌∷◌, ◌++◌, Option, Some, None, length, map, get_or, sum_by, arith, subst, AllByRecursion, filter, list_any, range_with_len, is_some, lt-leb, cases_eq, eq-eqb, ne_eqb, eqb-true, list_any-append, sum_by-cons, Commit, Geometry, Write, Run, in_span, or_else, record_length, runs, touches, AreRuns, IsRun, written, value_in, touches_where_effect, value_runs, are_runs, Version, BlockVersions, count_of, has, hides, shown_since, still_shows, versions_in, IsIndexOf, placed, version_of, versions_of, and-false}, Gathers.any_same, Layers.or_else_none}
 
 -- how many of the runs count
 abbrev tally : (Run → Bool) → List Run → ℕ

@@ -1,7 +1,5 @@
 -- There are at most two pieces a version: each begins where another version begins or ends.
-use Rattle.mv_index.proofs.Words.{◌≡◌, inl, inr, sym, refl, ap, ℕ, ◌+◌, ◌-◌, ◌*◌, ◌<◌, ◌≤◌, Bool, true, false, ◌||◌, ◌==◌, List, [], ◌∷◌, length, map, arith, subst, AllByRecursion, IsDistinct, IsEquivalence, length-le_from_is_member, length-map, list_any, cases_eq, eq-eqb, eqb-true, ne_eqb, ArePieces, Follow, IsStart, Version, or_right}
-use Rattle.mv_index.proofs.Showing.{newest_in}
-use Rattle.mv_index.proofs.Sublists.{all_weaker}
+use Rattle.mv_index.proofs.{Words.{◌≡◌, inl, inr, sym, refl, ap, ℕ, ◌+◌, ◌-◌, ◌*◌, ◌<◌, ◌≤◌, Bool, true, false, ◌||◌, ◌==◌, List, [], ◌∷◌, length, map, arith, subst, AllByRecursion, IsDistinct, IsEquivalence, length-le_from_is_member, length-map, list_any, cases_eq, eq-eqb, eqb-true, ne_eqb, ArePieces, Follow, IsStart, Version, or_right}, Showing.newest_in, Sublists.all_weaker}
 
 abbrev ends_of : List Version → List ℕ
 ends_of [] = []

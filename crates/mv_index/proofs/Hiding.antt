@@ -1,7 +1,5 @@
 -- What it means that a version is hidden.
-use Rattle.mv_index.proofs.Words.{◌≡◌, ◌≢◌, ◌∙◌, refl, ap, ℕ, zero, suc, ◌+◌, ◌<◌, ◌≤◌, Bool, true, false, ◌&&◌, ◌||◌, not, nat_le, nat_lt, List, [], ◌∷◌, length, get_or, arith, list_any, range_with_len, and_parts, leb-true, ltb-true, ltb-false, le-leb, le-ltb, Version, IsHidden, has, hides, no_version, still_shows, or-true}
-use Rattle.mv_index.proofs.Again.{hidden_at, or_parts}
-use Rattle.mv_index.proofs.Orders.{has_it}
+use Rattle.mv_index.proofs.{Words.{◌≡◌, ◌≢◌, ◌∙◌, refl, ap, ℕ, zero, suc, ◌+◌, ◌<◌, ◌≤◌, Bool, true, false, ◌&&◌, ◌||◌, not, nat_le, nat_lt, List, [], ◌∷◌, length, get_or, arith, list_any, range_with_len, and_parts, leb-true, ltb-true, ltb-false, le-leb, le-ltb, Version, IsHidden, has, hides, no_version, still_shows, or-true}, Again.{hidden_at, or_parts}, Orders.has_it}
 
 -- a later version that has the byte
 pub record IsCover (t p : ℕ) (later : List Version) (i : ℕ) : Type 0 where

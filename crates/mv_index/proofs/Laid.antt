@@ -1,8 +1,5 @@
 -- Pieces over which a later version is laid.
-use Rattle.mv_index.proofs.Words.{◌≡◌, get_or-drop, get_or-take, length-take-le, length-drop, take-append-drop, take-set, drop-set, inl, inr, ◌∙◌, sym, refl, ap, ℕ, zero, suc, ◌+◌, ◌-◌, ◌<◌, ◌≤◌, Bool, true, false, cond, nat_lt, List, [], ◌∷◌, ◌++◌, filter, map, None, Option, Some, length, get_or, set, take, drop, arith, subst, cases_eq, cases_lt, le-leb, lt-leb, ltb-true, ltb-false, min, or_else, ArePieces, Follow, IsStart, Version, back_of, backs, begun, ended, front_of, fronts, laid, newest_with, no_version, place_in, place_of}
-use Rattle.mv_index.proofs.Layers.{newest_elsewhere, newest_here, or_else_none, or_else_twice, place_newest}
-use Rattle.mv_index.proofs.Orders.{apart_at, has_cases, has_it, has_not, place_none, place_own, sooner}
-use Rattle.mv_index.proofs.Sublists.{all_append, all_left, all_weaker}
+use Rattle.mv_index.proofs.{Words.{◌≡◌, get_or-drop, get_or-take, length-take-le, length-drop, take-append-drop, take-set, drop-set, inl, inr, ◌∙◌, sym, refl, ap, ℕ, zero, suc, ◌+◌, ◌-◌, ◌<◌, ◌≤◌, Bool, true, false, cond, nat_lt, List, [], ◌∷◌, ◌++◌, filter, map, None, Option, Some, length, get_or, set, take, drop, arith, subst, cases_eq, cases_lt, le-leb, lt-leb, ltb-true, ltb-false, min, or_else, ArePieces, Follow, IsStart, Version, back_of, backs, begun, ended, front_of, fronts, laid, newest_with, no_version, place_in, place_of}, Layers.{newest_elsewhere, newest_here, or_else_none, or_else_twice, place_newest}, Orders.{apart_at, has_cases, has_it, has_not, place_none, place_own, sooner}, Sublists.{all_append, all_left, all_weaker}}
 
 place_front : (x p : ℕ) (q : Version) → p < x → place_of p (front_of x q) ≡ place_of p q
 place_front x p q lt = elim (has_cases p q) [

@@ -1,6 +1,5 @@
 -- What versions show that stand one behind the other, and that hidden ones show nothing.
-use Rattle.mv_index.proofs.Words.{◌≡◌, ◌∙◌, sym, refl, ap, ℕ, ◌+◌, ◌-◌, ◌≤◌, Bool, true, false, ◌&&◌, ◌||◌, not, cond, nat_le, nat_lt, List, [], ◌∷◌, ◌++◌, Option, Some, None, get_or, arith, option_map, list_any, range_with_len, and_parts, leb-true, ltb-false, le-leb, or_else, Version, ShowTheSame, byte_in, byte_of, newest_with, place_in, place_of, has, hides, shown_since, still_shows, upto}
-use Rattle.mv_index.proofs.Again.{hidden_at, or_parts}
+use Rattle.mv_index.proofs.{Words.{◌≡◌, ◌∙◌, sym, refl, ap, ℕ, ◌+◌, ◌-◌, ◌≤◌, Bool, true, false, ◌&&◌, ◌||◌, not, cond, nat_le, nat_lt, List, [], ◌∷◌, ◌++◌, Option, Some, None, get_or, arith, option_map, list_any, range_with_len, and_parts, leb-true, ltb-false, le-leb, or_else, Version, ShowTheSame, byte_in, byte_of, newest_with, place_in, place_of, has, hides, shown_since, still_shows, upto}, Again.{hidden_at, or_parts}}
 
 pub or_else_twice : {A : Type 0} (x y z : Option A) → or_else x (or_else y z) ≡ or_else (or_else x y) z
 or_else_twice None y z = refl

@@ -1,7 +1,5 @@
 -- Of the pieces of a block those that have a byte of a range.
-use Rattle.mv_index.proofs.Words.{◌≡◌, ◌⊎◌, inl, inr, ◌∙◌, sym, refl, ap, ℕ, suc, ◌+◌, ◌-◌, ◌<◌, ◌≤◌, cond, List, [], ◌∷◌, None, Option, Some, length, get_or, take, drop, arith, length-drop, length-take-le, get_or-take, get_or-drop, take-append-drop, drop_split, slice_range, or_else, Version, byte_in, no_version}
-use Rattle.mv_index.proofs.Layers.{byte_in-append, or_else_none}
-use Rattle.mv_index.proofs.Orders.{has_not}
+use Rattle.mv_index.proofs.{Words.{◌≡◌, ◌⊎◌, inl, inr, ◌∙◌, sym, refl, ap, ℕ, suc, ◌+◌, ◌-◌, ◌<◌, ◌≤◌, cond, List, [], ◌∷◌, None, Option, Some, length, get_or, take, drop, arith, length-drop, length-take-le, get_or-take, get_or-drop, take-append-drop, drop_split, slice_range, or_else, Version, byte_in, no_version}, Layers.{byte_in-append, or_else_none}, Orders.has_not}
 
 none_in : (image : List ℕ) (p : ℕ) (versions : List Version) → ((k : ℕ) → k < length versions → (p < (get_or versions k no_version).off) ⊎ ((get_or versions k no_version).off + (get_or versions k no_version).len ≤ p)) → byte_in image versions p ≡ None
 none_in image p [] off = refl

@@ -1,9 +1,5 @@
 -- Versions that are moved show what they showed, and their pieces are moved with them.
-use Rattle.mv_index.proofs.Words.{◌≡◌, ◌⊎◌, inl, inr, ◌∙◌, sym, refl, ap, ℕ, suc, ◌+◌, ◌-◌, ◌^◌, ◌<◌, ◌≤◌, Bool, true, false, cond, nat_lt, List, [], ◌∷◌, None, Option, Some, length, map, get_or, arith, option_map, AllByRecursion, filter, cases_eq, cases_lt, le-leb, lt-leb, ltb-true, or_else, AreSplit, ArePieces, Follow, IsRow, IsStart, AllLie, Lies, Version, moved, moved_to, newest_with, no_version, place_in, has}
-use Rattle.mv_index.proofs.Layers.{or_else_none, place_is}
-use Rattle.mv_index.proofs.Orders.{has_it, inside_of, none_before, some_at, sooner}
-use Rattle.mv_index.proofs.Showing.{IsFrom, from_piece, newest_in}
-use Rattle.mv_index.proofs.Sublists.{Rises, all_at, all_left, all_of, rise_of, rises_of}
+use Rattle.mv_index.proofs.{Words.{◌≡◌, ◌⊎◌, inl, inr, ◌∙◌, sym, refl, ap, ℕ, suc, ◌+◌, ◌-◌, ◌^◌, ◌<◌, ◌≤◌, Bool, true, false, cond, nat_lt, List, [], ◌∷◌, None, Option, Some, length, map, get_or, arith, option_map, AllByRecursion, filter, cases_eq, cases_lt, le-leb, lt-leb, ltb-true, or_else, AreSplit, ArePieces, Follow, IsRow, IsStart, AllLie, Lies, Version, moved, moved_to, newest_with, no_version, place_in, has}, Layers.{or_else_none, place_is}, Orders.{has_it, inside_of, none_before, some_at, sooner}, Showing.{IsFrom, from_piece, newest_in}, Sublists.{Rises, all_at, all_left, all_of, rise_of, rises_of}}
 
 abbrev kept : ℕ → List Version → List Version
 kept from versions = filter (λ v. nat_lt from v.place) versions

@@ -1,9 +1,5 @@
 -- What the pieces of a block's versions show, and where they lie.
-use Rattle.mv_index.proofs.Words.{◌≡◌, inl, inr, ◌∙◌, sym, refl, ap, ℕ, ◌+◌, ◌-◌, ◌^◌, ◌<◌, ◌≤◌, Bool, true, false, cond, List, [], ◌∷◌, ◌++◌, None, Option, Some, length, get_or, arith, subst, option_map, AllByRecursion, cases_lt, get_or_append_left, get_or_push, length_push, or_else, AllLie, AreAtMost, ArePieces, IsRow, Lies, Rise, Version, has, newest_with, no_version, place_in, shown_since}
-use Rattle.mv_index.proofs.Laid.{pieces_kept}
-use Rattle.mv_index.proofs.Layers.{newest_kept, place_is}
-use Rattle.mv_index.proofs.Orders.{has_it, inside_of, own_at, some_at}
-use Rattle.mv_index.proofs.Sublists.{all_append, all_at, all_of, all_shown, shown_rise}
+use Rattle.mv_index.proofs.{Words.{◌≡◌, inl, inr, ◌∙◌, sym, refl, ap, ℕ, ◌+◌, ◌-◌, ◌^◌, ◌<◌, ◌≤◌, Bool, true, false, cond, List, [], ◌∷◌, ◌++◌, None, Option, Some, length, get_or, arith, subst, option_map, AllByRecursion, cases_lt, get_or_append_left, get_or_push, length_push, or_else, AllLie, AreAtMost, ArePieces, IsRow, Lies, Rise, Version, has, newest_with, no_version, place_in, shown_since}, Laid.pieces_kept, Layers.{newest_kept, place_is}, Orders.{has_it, inside_of, own_at, some_at}, Sublists.{all_append, all_at, all_of, all_shown, shown_rise}}
 
 -- the newest version with a byte is one of the versions, and has it
 newest_step : (P : Version → Type 0) (u : Version) (p : ℕ) (v : Version) (o : Option Version) → (o ≡ Some v → P v × (has p v ≡ true)) → P u → (b : Bool) → has p u ≡ b → or_else o (cond b (Some u) None) ≡ Some v → P v × (has p v ≡ true)

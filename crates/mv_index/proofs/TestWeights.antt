@@ -1,6 +1,5 @@
 -- Two versions of 64 bytes at most take few bytes.
-use Rattle.mv_index.proofs.Words.{◌≡◌, ◌∙◌, ℕ, suc, ◌+◌, ◌*◌, ◌^◌, ◌<◌, ◌≤◌, Bool, true, false, cond, nat_lt, List, [], ◌∷◌, length, arith, sum_by-cons, Version, AllLie, BlockVersions, versions_in, bytes_above, part_bytes_above}
-use Rattle.mv_index.proofs.Weights.{weight_first}
+use Rattle.mv_index.proofs.{Words.{◌≡◌, ◌∙◌, ℕ, suc, ◌+◌, ◌*◌, ◌^◌, ◌<◌, ◌≤◌, Bool, true, false, cond, nat_lt, List, [], ◌∷◌, length, arith, sum_by-cons, Version, AllLie, BlockVersions, versions_in, bytes_above, part_bytes_above}, Weights.weight_first}
 
 one_row : (n : ℕ) (index : List BlockVersions) → length index ≡ 1 → bytes_above n index ≡ part_bytes_above n (versions_in index 0)
 one_row n [] one = absurd (omega (arith, one))

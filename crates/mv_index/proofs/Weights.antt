@@ -1,7 +1,5 @@
 -- How many bytes the parts of versions take, of one block and over all blocks.
-use Rattle.mv_index.proofs.Words.{◌≡◌, inl, inr, ◌∙◌, sym, refl, ap, ℕ, zero, suc, ◌+◌, ◌<◌, ◌≤◌, ◌==◌, Bool, true, false, not, cond, nat_lt, List, [], ◌∷◌, ◌++◌, length, sum_by, arith, AllByRecursion, filter, list_any, range_with_len, cases_eq, eq-eqb, le-leb, le-ltb, ltb-false, ne_eqb, filter-append, sum_by-append, sum_by-cons, Run, Version, placed, version_of, hides, shown_since, still_shows, part_bytes_above}
-use Rattle.mv_index.proofs.Again.{or_parts}
-use Rattle.mv_index.proofs.Counts.{total, total_add, total_same, total_zero}
+use Rattle.mv_index.proofs.{Words.{◌≡◌, inl, inr, ◌∙◌, sym, refl, ap, ℕ, zero, suc, ◌+◌, ◌<◌, ◌≤◌, ◌==◌, Bool, true, false, not, cond, nat_lt, List, [], ◌∷◌, ◌++◌, length, sum_by, arith, AllByRecursion, filter, list_any, range_with_len, cases_eq, eq-eqb, le-leb, le-ltb, ltb-false, ne_eqb, filter-append, sum_by-append, sum_by-cons, Run, Version, placed, version_of, hides, shown_since, still_shows, part_bytes_above}, Again.or_parts, Counts.{total, total_add, total_same, total_zero}}
 
 -- how many bytes the part of one version takes
 abbrev pub weight : ℕ → Version → ℕ

@@ -1,8 +1,7 @@
 -- The rules answer a client alone on two arrays alike, where its operation reads the same blocks of both.
-use Rattle.par_calls.proofs.Words.{◌≡◌, ◌∙◌, sym, refl, ap, ℕ, ◌==◌, ◌&&◌, not, Bool, true, false, cond, nat_le, List, [], ◌∷◌, ◌++◌, length, replicate, slice_index, take, drop, Option, Some, None, eq-eqb, Access, Geometry, MarkError, Span, MAX_ACCESSES, Array, is_serial, is_outside, mark_fault, marked, get_access, put_access, read_access, shown_to, with_accesses, write_access, Live, World, Op, Reply, access_step, in_store, mark_refused, marked_step, fill_step, get_step, mark_step, put_step, read_step, step, write_step, Own, alone, live_of, own_among, SecondStore, Told, told_more, IsSecond}
+use Rattle.par_calls.proofs.{Words.{◌≡◌, ◌∙◌, sym, refl, ap, ℕ, ◌==◌, ◌&&◌, not, Bool, true, false, cond, nat_le, List, [], ◌∷◌, ◌++◌, length, replicate, slice_index, take, drop, Option, Some, None, eq-eqb, Access, Geometry, MarkError, Span, MAX_ACCESSES, Array, is_serial, is_outside, mark_fault, marked, get_access, put_access, read_access, shown_to, with_accesses, write_access, Live, World, Op, Reply, access_step, in_store, mark_refused, marked_step, fill_step, get_step, mark_step, put_step, read_step, step, write_step, Own, alone, live_of, own_among, SecondStore, Told, told_more, IsSecond}, Sound.{as_first, sound}}
 use Rattle.script_model.specs.declared.script.Op.TheVariants as op
 use Rattle.script_model.specs.declared.script.Reply.TheVariants as reply
-use Rattle.par_calls.proofs.Sound.{as_first, sound}
 
 module _ (S : SecondStore) (lawful : IsSecond S) (g : Geometry) (B C : Array) (t : Own) where
   -- the client alone with its transaction on the array B, and as the first one in a sound world on C

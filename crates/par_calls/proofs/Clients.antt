@@ -1,8 +1,5 @@
 -- From what clients were told a trace is made: their lines and entries in one order.
-use Rattle.par_calls.proofs.Words.{◌≡◌, ◌∙◌, sym, refl, ap, subst, ℕ, Bool, List, [], ◌∷◌, ◌++◌, append_assoc, append-nil, map, Option, Some, None, Ok, Err, AllByRecursion, Geometry, Line, Reply, Stop, Entry, ClientLines, Own, StopsAtLast, Walk, last_abort, Event, Made, Runs, Step, client_of, entries_in, lines_in, told_in}
-use Rattle.par_calls.specs.Trace.{Done}
-use Rattle.par_calls.proofs.OwnEntries.{AreOfOwn, of_own}
-use Rattle.par_calls.proofs.Events.{entries_joined}
+use Rattle.par_calls.{proofs.Words.{◌≡◌, ◌∙◌, sym, refl, ap, subst, ℕ, Bool, List, [], ◌∷◌, ◌++◌, append_assoc, append-nil, map, Option, Some, None, Ok, Err, AllByRecursion, Geometry, Line, Reply, Stop, Entry, ClientLines, Own, StopsAtLast, Walk, last_abort, Event, Made, Runs, Step, client_of, entries_in, lines_in, told_in}, specs.Trace.Done, proofs.OwnEntries.{AreOfOwn, of_own}, proofs.Events.entries_joined}
 
 abbrev pub AreMine : ℕ → List Event → Type 0
 AreMine c events = AllByRecursion (λ e. client_of e ≡ c) events

@@ -1,6 +1,5 @@
 -- Events of several clients, put together.
-use Rattle.par_calls.proofs.Words.{◌≡◌, ◌∙◌, sym, refl, ap, subst, cond, AreLines, ℕ, ◌==◌, Bool, true, false, List, [], ◌∷◌, ◌++◌, eq-eqb, eqb-true, IsOp, Event, Made, entries_in, events_of, lines_in}
-use Rattle.par_calls.specs.Trace.{Done}
+use Rattle.par_calls.{proofs.Words.{◌≡◌, ◌∙◌, sym, refl, ap, subst, cond, AreLines, ℕ, ◌==◌, Bool, true, false, List, [], ◌∷◌, ◌++◌, eq-eqb, eqb-true, IsOp, Event, Made, entries_in, events_of, lines_in}, specs.Trace.Done}
 
 -- lines of good operations
 abbrev pub AreOps : List Event → Type 0

@@ -1,10 +1,9 @@
 -- The history of a legal list is one of the image: each commit has accesses that a transaction may have made.
-use Rattle.par_calls.proofs.Words.{◌≡◌, ◌∙◌, sym, subst, ℕ, List, [], ◌∷◌, ◌++◌, Some, None, AllByRecursion, Commit, Committed, ReadOnly, Conflict, Geometry, GroupReply, leave_all, History, AreAccesses, IsHistory, Live, World, appended_is, Call, Cause, Entry, Member, Fits, LegalFrom, MayHaveMade, State, after, after_all, after_fault, after_refusal, commits_made, lost_commits, members_of, txs_of, follows_next, after_live, after_leaving}
+use Rattle.par_calls.proofs.{Words.{◌≡◌, ◌∙◌, sym, subst, ℕ, List, [], ◌∷◌, ◌++◌, Some, None, AllByRecursion, Commit, Committed, ReadOnly, Conflict, Geometry, GroupReply, leave_all, History, AreAccesses, IsHistory, Live, World, appended_is, Call, Cause, Entry, Member, Fits, LegalFrom, MayHaveMade, State, after, after_all, after_fault, after_refusal, commits_made, lost_commits, members_of, txs_of, follows_next, after_live, after_leaving}, Sound.accesses_in}
 use Rattle.iso_model.specs.declared.access.GroupReply.TheVariants as member
 use Rattle.iso_shared.specs.declared.entry.Call.TheVariants as call
 use Rattle.iso_shared.specs.declared.entry.Cause.TheVariants as cause
 use Rattle.iso_shared.specs.declared.entry.Entry.TheVariants as entry
-use Rattle.par_calls.proofs.Sound.{accesses_in}
 
 -- an image of these numbers, which an upgrade leaves
 pub record HasNumbers (g : Geometry) (U : State) : Type 0 where

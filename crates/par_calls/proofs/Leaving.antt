@@ -1,11 +1,7 @@
 -- What a line leaves of its client's transaction, and what is told of it then.
-use Rattle.par_calls.proofs.Words.{◌≡◌, ◌⊎◌, inl, inr, refl, ℕ, ◌-◌, Bool, true, IsTrue, List, [], ◌∷◌, Option, Some, None, Ok, AllByRecursion, Geometry, Mode, Array, is_valid, HasShape, Op, Reply, IsOp, step, Entry, Aborts, Begins, Compacts, Did, Does, Looks, LooksFor, Own, Stats, Trims, Upgrades, SecondStore, Told, SecondGoes, IsSecond, found_in}
+use Rattle.par_calls.proofs.{Words.{◌≡◌, ◌⊎◌, inl, inr, refl, ℕ, ◌-◌, Bool, true, IsTrue, List, [], ◌∷◌, Option, Some, None, Ok, AllByRecursion, Geometry, Mode, Array, is_valid, HasShape, Op, Reply, IsOp, step, Entry, Aborts, Begins, Compacts, Did, Does, Looks, LooksFor, Own, Stats, Trims, Upgrades, SecondStore, Told, SecondGoes, IsSecond, found_in}, Alike.{fill_alike, get_alike, mark_alike, put_alike, read_alike, write_alike}, Lines.{Leaves, compacts, ends, idle, in_tx, posts, reads, says, stats, trims, upgrades}, Sound.IsGood, StoreLines.{IsOfArray, store_line}}
 use Rattle.script_model.specs.declared.script.Op.TheVariants as op
 use Rattle.iso_shared.specs.declared.entry.Entry.TheVariants as entry
-use Rattle.par_calls.proofs.Alike.{fill_alike, get_alike, mark_alike, put_alike, read_alike, write_alike}
-use Rattle.par_calls.proofs.Lines.{Leaves, compacts, ends, idle, in_tx, posts, reads, says, stats, trims, upgrades}
-use Rattle.par_calls.proofs.Sound.{IsGood}
-use Rattle.par_calls.proofs.StoreLines.{IsOfArray, store_line}
 
 -- A CLIENT WITH A TRANSACTION
 module _ (S : SecondStore) (lawful : IsSecond S) (second : SecondGoes S) (g : Geometry) (valid : IsTrue (is_valid g)) (C : Array) (shape : HasShape g C) (t : Own) (told : Told S) (good : IsGood S g C t told) (tells : Bool) (all : tells ≡ true) where

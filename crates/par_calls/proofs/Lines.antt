@@ -1,11 +1,9 @@
 -- What is told of a client's transaction stays true by each of its lines.
-use Rattle.par_calls.proofs.Words.{◌≡◌, ◌∙◌, ◌⊎◌, inl, inr, sym, ap, subst, ℕ, ◌&&◌, IsTrue, List, [], ◌∷◌, length, drop, Option, Some, None, Result, Ok, and_parts, list_all, Access, Geometry, Array, is_valid, HasShape, with_accesses, Op, Reply, Stop, IsOp, step, Entry, Compacts, Ends, EndsThen, Fetches, Own, Posts, Reads, Says, Stats, Trims, Upgrades, WhereShown, answer, own_after, with_block, SecondStore, Told, spares_calls, spares_stores, told_more, SecondGoes, same_told, IsSecond, Answered, alone, live_of}
+use Rattle.par_calls.proofs.{Words.{◌≡◌, ◌∙◌, ◌⊎◌, inl, inr, sym, ap, subst, ℕ, ◌&&◌, IsTrue, List, [], ◌∷◌, length, drop, Option, Some, None, Result, Ok, and_parts, list_all, Access, Geometry, Array, is_valid, HasShape, with_accesses, Op, Reply, Stop, IsOp, step, Entry, Compacts, Ends, EndsThen, Fetches, Own, Posts, Reads, Says, Stats, Trims, Upgrades, WhereShown, answer, own_after, with_block, SecondStore, Told, spares_calls, spares_stores, told_more, SecondGoes, same_told, IsSecond, Answered, alone, live_of}, Sound.{IsGood, as_first, line_good, sound}, Alike.AreAlike}
 use Rattle.script_model.specs.declared.script.Op.TheVariants as op
 use Rattle.script_model.specs.declared.script.Reply.TheVariants as reply
 use Rattle.iso_shared.specs.declared.entry.Cause.TheVariants as cause
 use Rattle.iso_shared.specs.declared.entry.Entry.TheVariants as entry
-use Rattle.par_calls.proofs.Sound.{IsGood, as_first, line_good, sound}
-use Rattle.par_calls.proofs.Alike.{AreAlike}
 
 module _ (S : SecondStore) (lawful : IsSecond S) (second : SecondGoes S) (g : Geometry) (valid : IsTrue (is_valid g)) (C : Array) (shape : HasShape g C) (t : Own) (told : Told S) (good : IsGood S g C t told) where
   -- after a line that was answered so the client has the transaction with these accesses, and what is told of it then is true

@@ -1,8 +1,5 @@
 -- The events of several clients stand in one order, by whose each entry of the list is.
-use Rattle.par_calls.proofs.Words.{◌≡◌, ◌∙◌, sym, refl, ap, subst, ℕ, ◌==◌, ◌||◌, Bool, true, false, cond, List, [], ◌∷◌, ◌++◌, append-nil, length, arith, eq-eqb, eqb-true, AllByRecursion, list_any, Entry, entries_of, Event, Made, client_of, entries_in, events_of}
-use Rattle.par_calls.specs.Trace.{Done}
-use Rattle.par_calls.proofs.Clients.{AreMine}
-use Rattle.par_calls.proofs.Events.{entries_joined, swapped}
+use Rattle.par_calls.{proofs.Words.{◌≡◌, ◌∙◌, sym, refl, ap, subst, ℕ, ◌==◌, ◌||◌, Bool, true, false, cond, List, [], ◌∷◌, ◌++◌, append-nil, length, arith, eq-eqb, eqb-true, AllByRecursion, list_any, Entry, entries_of, Event, Made, client_of, entries_in, events_of}, specs.Trace.Done, proofs.Clients.AreMine, proofs.Events.{entries_joined, swapped}}
 
 -- the events of each client
 abbrev pub Dealt : Type 0

@@ -1,10 +1,9 @@
 -- The operations on stores of a client alone: one form for all of them.
-use Rattle.par_calls.proofs.Words.{◌≡◌, refl, ap, ℕ, zero, suc, ◌-◌, ◌+◌, cond, List, [], ◌++◌, length, take, Some, AllByRecursion, Access, Geometry, MAX_ACCESSES, Array, own, all_own, with_accesses, Live, World, attached, Op, Reply, array_of, found_reply, in_store, in_transaction, pairs_reply, removed_reply, file_delete_step, file_move_step, file_new_step, file_read_step, file_write_step, hash_delete_step, hash_get_step, hash_put_step, step, store_step, tree_delete_step, tree_get_step, tree_put_step, tree_scan_step, FileAreas, create_program, read_program, remove_program, rename_program, write_program, filed, is_empty_scan, store_areas, store_blocks, store_ended, stored, Own, alone, blocks_read, live_of, Commit}
+use Rattle.par_calls.proofs.{Words.{◌≡◌, refl, ap, ℕ, zero, suc, ◌-◌, ◌+◌, cond, List, [], ◌++◌, length, take, Some, AllByRecursion, Access, Geometry, MAX_ACCESSES, Array, own, all_own, with_accesses, Live, World, attached, Op, Reply, array_of, found_reply, in_store, in_transaction, pairs_reply, removed_reply, file_delete_step, file_move_step, file_new_step, file_read_step, file_write_step, hash_delete_step, hash_get_step, hash_put_step, step, store_step, tree_delete_step, tree_get_step, tree_put_step, tree_scan_step, FileAreas, create_program, read_program, remove_program, rename_program, write_program, filed, is_empty_scan, store_areas, store_blocks, store_ended, stored, Own, alone, blocks_read, live_of, Commit}, Agree.{Same, agrees}}
 use Rattle.script_model.specs.declared.script.Op.TheVariants as op
 use Rattle.script_model.specs.declared.script.Reply.TheVariants as reply
 use Rattle.store_model.specs.HashCalls as hash
 use Rattle.store_model.specs.TreeCalls as tree
-use Rattle.par_calls.proofs.Agree.{Same, agrees}
 
 abbrev pub CallsOne : Op → Type 0
 CallsOne (op.HashPut key value) = Unit {0}

@@ -1,13 +1,8 @@
 -- The calls that are told of each commit of a trace answer in order.
-use Rattle.par_calls.proofs.Words.{◌≡◌, ◌∙◌, sym, refl, ap, subst, ℕ, ◌<◌, Bool, true, IsTrue, List, [], ◌∷◌, ◌++◌, append_assoc, Option, Some, None, Access, Commit, Committed, Geometry, GroupReply, Array, is_valid, History, array_at, HasShape, Extends, Entry, Member, MemberEnd, AreLoose, Fits, LegalFrom, State, after, after_all, is_live, is_loose, member_numbers, members_of, follows_all, loose_is, Own, member_for, members_for, commit_at, commits_as, BothInOrder, IsOfBoth, MixedParts, firsts, seconds, answers_in, calls_in, run, IsToldOf, ToldInOrder, SecondStore, image_hash, second_store, Told, SecondGoes, all_are, all_parts, array_extends, IsSecond, AreByCalls, BothByMap, ToldByMap, ends_bare, begin_array, Mode, ReadOnly, map, EachBare, WhereBare, EachCommit, WhereCommitted, after_entry, after_line, notes_after, Event, Made, OfOwn, entries_in, events_of}
+use Rattle.par_calls.{proofs.Words.{◌≡◌, ◌∙◌, sym, refl, ap, subst, ℕ, ◌<◌, Bool, true, IsTrue, List, [], ◌∷◌, ◌++◌, append_assoc, Option, Some, None, Access, Commit, Committed, Geometry, GroupReply, Array, is_valid, History, array_at, HasShape, Extends, Entry, Member, MemberEnd, AreLoose, Fits, LegalFrom, State, after, after_all, is_live, is_loose, member_numbers, members_of, follows_all, loose_is, Own, member_for, members_for, commit_at, commits_as, BothInOrder, IsOfBoth, MixedParts, firsts, seconds, answers_in, calls_in, run, IsToldOf, ToldInOrder, SecondStore, image_hash, second_store, Told, SecondGoes, all_are, all_parts, array_extends, IsSecond, AreByCalls, BothByMap, ToldByMap, ends_bare, begin_array, Mode, ReadOnly, map, EachBare, WhereBare, EachCommit, WhereCommitted, after_entry, after_line, notes_after, Event, Made, OfOwn, entries_in, events_of}, specs.Notes.Notes, specs.Trace.Done, proofs.Events.AreOps, proofs.Running.{IsAt, IsClientAt, by_client, done_next, made_next}, proofs.Standing.{AllHeld, IsHeld, OptionHeld}}
 use Rattle.iso_model.specs.declared.access.GroupReply.TheVariants as member
 use Rattle.iso_shared.specs.declared.entry.Entry.TheVariants as entry
 use Rattle.iso_shared.specs.States.{live_of}
-use Rattle.par_calls.specs.Notes.{Notes}
-use Rattle.par_calls.specs.Trace.{Done}
-use Rattle.par_calls.proofs.Events.{AreOps}
-use Rattle.par_calls.proofs.Running.{IsAt, IsClientAt, by_client, done_next, made_next}
-use Rattle.par_calls.proofs.Standing.{AllHeld, IsHeld, OptionHeld}
 
 -- an entry that is no sweep stands in the trace
 abbrev pub IsNoSweep : Entry → Type 0

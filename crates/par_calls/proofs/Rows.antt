@@ -1,9 +1,8 @@
 -- Two clients whose calls of the tree store are told along one order: the one hands its transaction to the other.
-use Rattle.par_calls.proofs.Words.{◌≡◌, refl, ℕ, true, false, List, [], ◌∷◌, ◌++◌, Option, Some, None, Geometry, Serial, Op, Reply, look_access, store_access, Own, Get, Got, Put, WasPut, OnKey, the_tree, nothing_told, no_notes, notes_after, Event, Made, entries_in, events_of}
+use Rattle.par_calls.{proofs.Words.{◌≡◌, refl, ℕ, true, false, List, [], ◌∷◌, ◌++◌, Option, Some, None, Geometry, Serial, Op, Reply, look_access, store_access, Own, Get, Got, Put, WasPut, OnKey, the_tree, nothing_told, no_notes, notes_after, Event, Made, entries_in, events_of}, specs.Trace.Done}
 use Rattle.script_model.specs.declared.script.Op.TheVariants as op
 use Rattle.script_model.specs.declared.script.Reply.TheVariants as reply
 use Rattle.iso_shared.specs.declared.entry.Entry.TheVariants as entry
-use Rattle.par_calls.specs.Trace.{Done}
 
 abbrev stores : Geometry
 stores = record { block = 256; blocks = 8; log = 4096; mode = Serial; hash = 0; tree = 3; form = 1 }

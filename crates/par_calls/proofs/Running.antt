@@ -1,18 +1,9 @@
 -- What is known of clients stays true along a trace.
-use Rattle.par_calls.proofs.Words.{◌≡◌, ◌∙◌, ◌⊎◌, inl, inr, sym, refl, ap, subst, ℕ, ◌<◌, ◌==◌, Bool, true, false, cond, IsTrue, List, [], ◌∷◌, ◌++◌, append-nil, bytes_eq, Option, Some, None, Ok, arith, eq-eqb, eqb-true, AllByRecursion, lookup, remove_entry, Access, Geometry, is_valid, History, array_at, last, HasShape, Live, unattached, Extends, IsOp, Call, Cause, Entry, Posting, Fits, State, after, after_fault, after_refusal, is_live, posting_of, began_last, follows_next, IsSound, sound_next, Did, Own, SecondStore, Told, nothing_told, told_more, SecondGoes, begins_told, IsSecond, accesses_in, after_entry, after_line, first_or_nothing, if_some, put_at, Event, IsOfOwn, Made, OfOwn, Runs, Step, events_of, found_in}
+use Rattle.par_calls.{proofs.Words.{◌≡◌, ◌∙◌, ◌⊎◌, inl, inr, sym, refl, ap, subst, ℕ, ◌<◌, ◌==◌, Bool, true, false, cond, IsTrue, List, [], ◌∷◌, ◌++◌, append-nil, bytes_eq, Option, Some, None, Ok, arith, eq-eqb, eqb-true, AllByRecursion, lookup, remove_entry, Access, Geometry, is_valid, History, array_at, last, HasShape, Live, unattached, Extends, IsOp, Call, Cause, Entry, Posting, Fits, State, after, after_fault, after_refusal, is_live, posting_of, began_last, follows_next, IsSound, sound_next, Did, Own, SecondStore, Told, nothing_told, told_more, SecondGoes, begins_told, IsSecond, accesses_in, after_entry, after_line, first_or_nothing, if_some, put_at, Event, IsOfOwn, Made, OfOwn, Runs, Step, events_of, found_in}, specs.Notes.{Notes, told_by}, specs.Trace.Done, proofs.Events.swapped, proofs.Leaving.{HasBegun, Starts, with_tx, without_tx}, proofs.Lines.IsNext, proofs.OwnEntries.found_append, proofs.Sound.IsGood, proofs.Standing.{AllHeld, AreRacked, IsHeld, OptionHeld, Tells, all_on, all_tell_on, fetch_is, held_append, option_on, posting_is, racked_found, racked_less, racked_more, racked_on, refusal_keeps}, proofs.StoreLines.IsOfArray}
 use Rattle.iso_shared.specs.declared.entry.Call.TheVariants as call
 use Rattle.iso_shared.specs.declared.entry.Cause.TheVariants as cause
 use Rattle.iso_shared.specs.declared.entry.Entry.TheVariants as entry
 use Rattle.iso_shared.specs.States.{live_of}
-use Rattle.par_calls.specs.Notes.{Notes, told_by}
-use Rattle.par_calls.specs.Trace.{Done}
-use Rattle.par_calls.proofs.Events.{swapped}
-use Rattle.par_calls.proofs.Leaving.{HasBegun, Starts, with_tx, without_tx}
-use Rattle.par_calls.proofs.Lines.{IsNext}
-use Rattle.par_calls.proofs.OwnEntries.{found_append}
-use Rattle.par_calls.proofs.Sound.{IsGood}
-use Rattle.par_calls.proofs.Standing.{AllHeld, AreRacked, IsHeld, OptionHeld, Tells, all_on, all_tell_on, fetch_is, held_append, option_on, posting_is, racked_found, racked_less, racked_more, racked_on, refusal_keeps}
-use Rattle.par_calls.proofs.StoreLines.{IsOfArray}
 
 -- a new transaction is the last of those that are live
 of_new : (n : ℕ) (live : List Live) (t : Live) → t.number ≡ n → (is_live n live ≡ true → ⊥) → live_of n (live ++ t ∷ []) ≡ t

@@ -1,13 +1,8 @@
 -- What is told of a client's transaction stays true by a line that calls a store.
-use Rattle.par_calls.proofs.Words.{◌≡◌, ◌∙◌, sym, refl, ap, subst, ℕ, ◌-◌, ◌==◌, ◌&&◌, not, Bool, true, false, cond, eq-eqb, IsTrue, List, [], ◌∷◌, ◌++◌, length, map, Option, Some, None, Ok, append_cancel_left, AllByRecursion, Access, Geometry, MAX_ACCESSES, Array, is_serial, is_valid, HasShape, block_at, with_accesses, Live, World, Op, Reply, IsOp, in_store, step, FileAreas, is_empty_scan, store_areas, store_blocks, store_ended, Entry, CallsStore, Fetched, InStore, Own, Says, Where, alone, blocks_read, fetches, live_of, own_after, own_among, refused_fetch, SecondStore, Told, SecondGoes, IsSecond, written}
+use Rattle.par_calls.proofs.{Words.{◌≡◌, ◌∙◌, sym, refl, ap, subst, ℕ, ◌-◌, ◌==◌, ◌&&◌, not, Bool, true, false, cond, eq-eqb, IsTrue, List, [], ◌∷◌, ◌++◌, length, map, Option, Some, None, Ok, append_cancel_left, AllByRecursion, Access, Geometry, MAX_ACCESSES, Array, is_serial, is_valid, HasShape, block_at, with_accesses, Live, World, Op, Reply, IsOp, in_store, step, FileAreas, is_empty_scan, store_areas, store_blocks, store_ended, Entry, CallsStore, Fetched, InStore, Own, Says, Where, alone, blocks_read, fetches, live_of, own_after, own_among, refused_fetch, SecondStore, Told, SecondGoes, IsSecond, written}, Agree.Same, Alike.{AreAlike, grows_same, stays, store_in, store_stays}, Lines.{IsNext, by_rules, says}, OnStores.{CallsOne, ended_agrees, shown_alone, stores_step}, Sound.{IsGood, as_first, second_form, sound}}
 use Rattle.script_model.specs.declared.script.Op.TheVariants as op
 use Rattle.script_model.specs.declared.script.Reply.TheVariants as reply
 use Rattle.iso_shared.specs.declared.entry.Entry.TheVariants as entry
-use Rattle.par_calls.proofs.Agree.{Same}
-use Rattle.par_calls.proofs.Alike.{AreAlike, grows_same, stays, store_in, store_stays}
-use Rattle.par_calls.proofs.Lines.{IsNext, by_rules, says}
-use Rattle.par_calls.proofs.OnStores.{CallsOne, ended_agrees, shown_alone, stores_step}
-use Rattle.par_calls.proofs.Sound.{IsGood, as_first, second_form, sound}
 
 -- where the stores are is the same in an image of another form
 areas_same : (g : Geometry) (x : Op) → store_areas (second_form g) x ≡ store_areas g x

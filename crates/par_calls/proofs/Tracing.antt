@@ -1,12 +1,7 @@
 -- What clients were told is a trace, in which the calls that their lines tell answer in order.
-use Rattle.par_calls.proofs.Words.{◌≡◌, ◌∙◌, sym, refl, ap, subst, ℕ, zero, suc, ◌+◌, ◌≤◌, ◌==◌, ◌||◌, Bool, true, false, cond, List, [], ◌∷◌, ◌++◌, length, map, take, filter, is_some, append_assoc, None, arith, eq-eqb, eqb-true, AllByRecursion, list_any, range_with_len, Geometry, IsWorld, Line, AreLines, RisesFrom, Entry, IsIsolatedAt, Start, Part, ClientLines, FoundSome, entries_of, has_line, lines_of, lines_run, files_answer_at, stores_answer_at, files_second, tree_second, file_goes, tree_goes, the_files, the_tree, SecondStore, IsSecond, SecondGoes, AnswersWithAt, second_store, IsLegal, CallsAnswer, LinesTellCalls, Event, IsOfPart, IsOneOf, IsTrace, Runs, client_of, entries_in, events_of, lines_in}
+use Rattle.par_calls.proofs.{Words.{◌≡◌, ◌∙◌, sym, refl, ap, subst, ℕ, zero, suc, ◌+◌, ◌≤◌, ◌==◌, ◌||◌, Bool, true, false, cond, List, [], ◌∷◌, ◌++◌, length, map, take, filter, is_some, append_assoc, None, arith, eq-eqb, eqb-true, AllByRecursion, list_any, range_with_len, Geometry, IsWorld, Line, AreLines, RisesFrom, Entry, IsIsolatedAt, Start, Part, ClientLines, FoundSome, entries_of, has_line, lines_of, lines_run, files_answer_at, stores_answer_at, files_second, tree_second, file_goes, tree_goes, the_files, the_tree, SecondStore, IsSecond, SecondGoes, AnswersWithAt, second_store, IsLegal, CallsAnswer, LinesTellCalls, Event, IsOfPart, IsOneOf, IsTrace, Runs, client_of, entries_in, events_of, lines_in}, Clients.{OfClient, client_events}, Events.{AreOps, ops_each, ops_lines, swapped}, Merging.{AreAmong, Dealt, IsDealt, IsMerged, IsOf, merged}, Placed.AreSweeps, Whole.calls_answer}
 use Rattle.iso_shared.specs.declared.entry.Entry.TheVariants as entry
 use Rattle.par_script.specs.Told.{Told}
-use Rattle.par_calls.proofs.Clients.{OfClient, client_events}
-use Rattle.par_calls.proofs.Events.{AreOps, ops_each, ops_lines, swapped}
-use Rattle.par_calls.proofs.Merging.{AreAmong, Dealt, IsDealt, IsMerged, IsOf, merged}
-use Rattle.par_calls.proofs.Placed.{AreSweeps}
-use Rattle.par_calls.proofs.Whole.{calls_answer}
 
 -- some of good lines are good
 good_filter : (q : ℕ × Line → Bool) (lines : List (ℕ × Line)) → AreLines lines → AreLines (filter q lines)

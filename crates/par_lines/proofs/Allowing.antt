@@ -1,9 +1,8 @@
 -- Which accesses of a client are refused by its own state, and what the rules answer to them.
-use Rattle.par_lines.proofs.Words.{◌≡◌, ℕ, Bool, true, false, cond, [], Option, Some, None, ap, length, refl, subst, ◌∙◌, nat_le, is_some, accesses_of, with_access, Access, Geometry, MAX_ACCESSES, Op, Reply, TxError, Array, access_step, step, World, access_refusal, Own, alone, answer, live_of, own_after, own_among}
+use Rattle.par_lines.proofs.{Words.{◌≡◌, ℕ, Bool, true, false, cond, [], Option, Some, None, ap, length, refl, subst, ◌∙◌, nat_le, is_some, accesses_of, with_access, Access, Geometry, MAX_ACCESSES, Op, Reply, TxError, Array, access_step, step, World, access_refusal, Own, alone, answer, live_of, own_after, own_among}, Writing.{after, full, outside}}
 use Rattle.script_model.specs.declared.script.Reply.TheVariants as reply
 use Rattle.store_model.specs.declared.stores.TxError.TheVariants as error
 use Rattle.script_model.specs.Step as rules
-use Rattle.par_lines.proofs.Writing.{after, full, outside}
 
 -- why an access to a block is refused to a client with this transaction
 abbrev pub refusal : Geometry → Option Own → (block : ℕ) → Option TxError

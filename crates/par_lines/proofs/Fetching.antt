@@ -1,5 +1,5 @@
 -- Reads of a client: what the rules answer over the bytes that were fetched, and what the session does.
-use Rattle.par_lines.proofs.Words.{◌≡◌, ◌⊎◌, ℕ, zero, suc, ◌+◌, ◌-◌, Bool, true, false, cond, nat_le, List, [], ◌∷◌, ◌++◌, Option, Some, None, ap, drop, get_or, inl, inr, refl, replicate, sym, subst, take, ◌∙◌, Result, Ok, Err, length-replicate, get_or-append_seam, Session, access_answer, mark_answer, with_access, with_mark, HasMarked, HasRead, IsReadCause, Shows, Made, moves_made, moves_none, moves_on, moves_rested, Access, Commit, Geometry, Op, Reply, TxError, Array, all_own, is_outside, mark_fault, marked, block_at, access_step, get_step, read_step, step, get_access, read_access, marked_last, World, Cause, Entry, Start, Stop, IsRefused, span_at, Own, Did, Does, Fetches, Says, WhereShown, alone, answer, live_of, own_after, own_among, with_block, Answered}
+use Rattle.par_lines.proofs.{Words.{◌≡◌, ◌⊎◌, ℕ, zero, suc, ◌+◌, ◌-◌, Bool, true, false, cond, nat_le, List, [], ◌∷◌, ◌++◌, Option, Some, None, ap, drop, get_or, inl, inr, refl, replicate, sym, subst, take, ◌∙◌, Result, Ok, Err, length-replicate, get_or-append_seam, Session, access_answer, mark_answer, with_access, with_mark, HasMarked, HasRead, IsReadCause, Shows, Made, moves_made, moves_none, moves_on, moves_rested, Access, Commit, Geometry, Op, Reply, TxError, Array, all_own, is_outside, mark_fault, marked, block_at, access_step, get_step, read_step, step, get_access, read_access, marked_last, World, Cause, Entry, Start, Stop, IsRefused, span_at, Own, Did, Does, Fetches, Says, WhereShown, alone, answer, live_of, own_after, own_among, with_block, Answered}, Allowing.{allowed, by_tests, refusal, Allows, IsAllowed, Refuses}, Answering.{by_entry, by_none, same_own}, Marking.{mark_free, never_refused, takes_mark, Marked}, Writing.{outside, wrong_range}}
 use Rattle.handle_pass.specs.Sessions as handle
 use Rattle.script_model.specs.declared.script.Op.TheVariants as op
 use Rattle.script_model.specs.declared.script.Reply.TheVariants as reply
@@ -11,10 +11,6 @@ use Rattle.iso_shared.specs.declared.entry.Entry.TheVariants as entry
 use Rattle.script_model.specs.declared.stop.Stop.TheVariants as stop
 use Rattle.par_script.specs.Lines as lines
 use Rattle.par_lines.specs.Replies as say
-use Rattle.par_lines.proofs.Allowing.{allowed, by_tests, refusal, Allows, IsAllowed, Refuses}
-use Rattle.par_lines.proofs.Answering.{by_entry, by_none, same_own}
-use Rattle.par_lines.proofs.Marking.{mark_free, never_refused, takes_mark, Marked}
-use Rattle.par_lines.proofs.Writing.{outside, wrong_range}
 
 -- the block over this array, with the client's writes over it
 abbrev pub own_block : Array → Own → (block : ℕ) → List ℕ

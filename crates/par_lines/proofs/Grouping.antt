@@ -1,5 +1,5 @@
 -- What a group line makes: its looks, and the end of the group.
-use Rattle.par_lines.proofs.Words.{◌≡◌, ◌⊎◌, ℕ, ◌+◌, ◌<◌, ◌≤◌, List, [], ◌∷◌, ◌++◌, Option, Some, None, ap, inl, inr, get_or, length, map, refl, sym, subst, take, take_all, take_more, length-take-le, ◌∙◌, arith, append_assoc, append-nil, length-append, length-map, map-append, Result, Ok, Err, Session, Joined, MovesThrough, Split, own, own_in, own_of, moves_joined, moves_none, through_made, through_none, through_on, GroupReply, CoreError, Reply, Shared, Port, Entry, Member, Start, View, IsPort, IsTx, doing_of, number_of, port_view, posting_of_tx, tx_view, cause_of, members_of, replies_of, Stop, Own, Does, GroupEnds, GroupWants, Groups, found_ones, members_for, replies_to, AreMembers, HasGrouped, answered, found_in, group_of, marks_of, members_in, refused_by, spread, through_group, units_all, units_of, Answered, AreNew, HaveLooked, looks_for, told_of, IfNone, IfSome, MatchOption, units_of_port, PassMade}
+use Rattle.par_lines.proofs.{Words.{◌≡◌, ◌⊎◌, ℕ, ◌+◌, ◌<◌, ◌≤◌, List, [], ◌∷◌, ◌++◌, Option, Some, None, ap, inl, inr, get_or, length, map, refl, sym, subst, take, take_all, take_more, length-take-le, ◌∙◌, arith, append_assoc, append-nil, length-append, length-map, map-append, Result, Ok, Err, Session, Joined, MovesThrough, Split, own, own_in, own_of, moves_joined, moves_none, through_made, through_none, through_on, GroupReply, CoreError, Reply, Shared, Port, Entry, Member, Start, View, IsPort, IsTx, doing_of, number_of, port_view, posting_of_tx, tx_view, cause_of, members_of, replies_of, Stop, Own, Does, GroupEnds, GroupWants, Groups, found_ones, members_for, replies_to, AreMembers, HasGrouped, answered, found_in, group_of, marks_of, members_in, refused_by, spread, through_group, units_all, units_of, Answered, AreNew, HaveLooked, looks_for, told_of, IfNone, IfSome, MatchOption, units_of_port, PassMade}, Answering.refused_is}
 use Rattle.iso_shared.specs.declared.tx.Tx.{Tx}
 use Rattle.iso_model.specs.declared.core_error.CoreError.TheVariants as error
 use Rattle.script_model.specs.declared.script.Op.TheVariants as op
@@ -10,7 +10,6 @@ use Rattle.iso_shared.specs.declared.entry.Entry.TheVariants as entry
 use Rattle.group_commit.specs.Groups as commit
 use Rattle.par_script.specs.Lines as lines
 use Rattle.par_lines.specs.Replies as say
-use Rattle.par_lines.proofs.Answering.{refused_is}
 
 -- ---- the looks
 

@@ -1,12 +1,11 @@
 -- Marks of a client's last access: what the rules answer, and what the session does.
-use Rattle.par_lines.proofs.Words.{◌≡◌, Bool, ℕ, false, cond, eq-eqb, List, [], ◌∷◌, ◌++◌, Option, Some, None, ap, inl, refl, sym, subst, ◌∙◌, Result, Ok, Err, is_some, option_map, Session, accesses_of, mark_answer, with_mark, HasMarked, Rested, moves_rested, Access, Geometry, MarkError, Reply, TxError, is_outside, mark_fault, marked, marks_fault, mark_refused, mark_step, marked_step, step, World, Start, mark_refusal, marking, IsRefused, span_at, Own, Did, Does, alone, live_of, own_among, Answered}
+use Rattle.par_lines.proofs.{Words.{◌≡◌, Bool, ℕ, false, cond, eq-eqb, List, [], ◌∷◌, ◌++◌, Option, Some, None, ap, inl, refl, sym, subst, ◌∙◌, Result, Ok, Err, is_some, option_map, Session, accesses_of, mark_answer, with_mark, HasMarked, Rested, moves_rested, Access, Geometry, MarkError, Reply, TxError, is_outside, mark_fault, marked, marks_fault, mark_refused, mark_step, marked_step, step, World, Start, mark_refusal, marking, IsRefused, span_at, Own, Did, Does, alone, live_of, own_among, Answered}, Answering.{by_none, same_own}}
 use Rattle.handle_pass.specs.Sessions as handle
 use Rattle.iso_model.specs.declared.access.MarkError.TheVariants as mark
 use Rattle.script_model.specs.declared.script.Op.TheVariants as op
 use Rattle.script_model.specs.declared.script.Reply.TheVariants as reply
 use Rattle.store_model.specs.declared.stores.TxError.TheVariants as error
 use Rattle.par_lines.specs.Replies as say
-use Rattle.par_lines.proofs.Answering.{by_none, same_own}
 
 -- why a mark is refused to a client with this transaction
 abbrev mark_refused_to : Geometry → Option Own → (off len : ℕ) → Option TxError

@@ -1,15 +1,11 @@
 -- Bytes that are put into a block: a write of the block, and a mark over them.
-use Rattle.par_lines.proofs.Words.{◌≡◌, ℕ, ◌+◌, ◌-◌, Bool, true, false, List, [], ◌∷◌, ◌++◌, Option, Some, None, ap, inl, inr, length, refl, replicate, sym, subst, ◌∙◌, Result, Ok, Err, Session, access_answer, mark_answer, with_access, with_mark, HasMarked, HasWritten, IsWriteCause, moves_none, moves_on, moves_rested, Geometry, Reply, TxError, is_outside, mark_fault, marked, access_step, put_step, step, put_access, write_access, marked_last, Start, Stop, IsRefused, span_at, Own, Did, Does, alone, answer, live_of, own_after, Answered}
+use Rattle.par_lines.proofs.{Words.{◌≡◌, ℕ, ◌+◌, ◌-◌, Bool, true, false, List, [], ◌∷◌, ◌++◌, Option, Some, None, ap, inl, inr, length, refl, replicate, sym, subst, ◌∙◌, Result, Ok, Err, Session, access_answer, mark_answer, with_access, with_mark, HasMarked, HasWritten, IsWriteCause, moves_none, moves_on, moves_rested, Geometry, Reply, TxError, is_outside, mark_fault, marked, access_step, put_step, step, put_access, write_access, marked_last, Start, Stop, IsRefused, span_at, Own, Did, Does, alone, answer, live_of, own_after, Answered}, Allowing.{allowed, by_tests, refusal, Allows, IsAllowed, Refuses}, Answering.{by_none, same_own}, Marking.{mark_free, never_refused, takes_mark, Marked}, Writing.{wrong_bytes, IsAccessing}}
 use Rattle.handle_pass.specs.Sessions as handle
 use Rattle.script_model.specs.declared.script.Op.TheVariants as op
 use Rattle.script_model.specs.declared.script.Reply.TheVariants as reply
 use Rattle.store_model.specs.declared.stores.TxError.TheVariants as error
 use Rattle.script_model.specs.declared.stop.Stop.TheVariants as stop
 use Rattle.par_lines.specs.Replies as say
-use Rattle.par_lines.proofs.Allowing.{allowed, by_tests, refusal, Allows, IsAllowed, Refuses}
-use Rattle.par_lines.proofs.Answering.{by_none, same_own}
-use Rattle.par_lines.proofs.Marking.{mark_free, never_refused, takes_mark, Marked}
-use Rattle.par_lines.proofs.Writing.{wrong_bytes, IsAccessing}
 
 -- a put of these bytes is an access
 pub put_parts : (g : Geometry) (block off : ℕ) (bytes : List ℕ) (b : Bool) → is_outside g.block off (length bytes) ≡ b → IsAccessing g (op.Put block off bytes) block b (put_access g.block block off bytes)

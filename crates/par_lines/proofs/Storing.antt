@@ -1,5 +1,5 @@
 -- Lines that call a store: what the session did, and what the rules answer over the bytes that were fetched.
-use Rattle.par_lines.proofs.Words.{◌≡◌, ◌≢◌, ℕ, ◌+◌, ◌-◌, ◌<◌, ◌≤◌, ◌==◌, ◌&&◌, Bool, true, false, cond, not, nat_lt, List, [], ◌∷◌, ◌++◌, Option, Some, None, length, map, ap, eq-eqb, inl, refl, sym, subst, ◌∙◌, arith, IfOk, IsTrue, Result, Ok, Err, AllByRecursion, nat_tests, ne_eqb, append_cancel_left, append-nil, Session, accesses_of, tx_on, Moves, Failed, IsVisit, Seen, Visited, base_in, base_of, begin_array, seen_by, blocks_append, Access, Geometry, Mode, Serial, Snapshot, Op, Reply, FileAreas, FsRegion, Array, block_at, Entry, Cause, is_serial, is_valid, store_areas_are, store_areas_fit, all_own, array_at, array_of, file_delete_step, file_move_step, file_new_step, file_read_step, file_write_step, hash_delete_step, hash_get_step, hash_put_step, in_store, step, store_step, tree_delete_step, tree_get_step, tree_put_step, tree_scan_step, World, Live, Start, state_at, Stop, ForSome, Tx, room_of, with_accesses, areas_of, HasCalled, AreStoreAreas, Stops, is_empty_scan, placed, store_areas, store_blocks, store_ended, AnswersOn, CallsStore, Did, Does, InStore, Own, Says, StopsBy, Where, alone, answer, blocks_read, live_of, own_after, own_among, Answered, IsOnStore, settled}
+use Rattle.par_lines.proofs.{Words.{◌≡◌, ◌≢◌, ℕ, ◌+◌, ◌-◌, ◌<◌, ◌≤◌, ◌==◌, ◌&&◌, Bool, true, false, cond, not, nat_lt, List, [], ◌∷◌, ◌++◌, Option, Some, None, length, map, ap, eq-eqb, inl, refl, sym, subst, ◌∙◌, arith, IfOk, IsTrue, Result, Ok, Err, AllByRecursion, nat_tests, ne_eqb, append_cancel_left, append-nil, Session, accesses_of, tx_on, Moves, Failed, IsVisit, Seen, Visited, base_in, base_of, begin_array, seen_by, blocks_append, Access, Geometry, Mode, Serial, Snapshot, Op, Reply, FileAreas, FsRegion, Array, block_at, Entry, Cause, is_serial, is_valid, store_areas_are, store_areas_fit, all_own, array_at, array_of, file_delete_step, file_move_step, file_new_step, file_read_step, file_write_step, hash_delete_step, hash_get_step, hash_put_step, in_store, step, store_step, tree_delete_step, tree_get_step, tree_put_step, tree_scan_step, World, Live, Start, state_at, Stop, ForSome, Tx, room_of, with_accesses, areas_of, HasCalled, AreStoreAreas, Stops, is_empty_scan, placed, store_areas, store_blocks, store_ended, AnswersOn, CallsStore, Did, Does, InStore, Own, Says, StopsBy, Where, alone, answer, blocks_read, live_of, own_after, own_among, Answered, IsOnStore, settled}, Answering.by_none, Fetching.no_take}
 use Rattle.std.proofs.Common.{option_map}
 use Rattle.handle_pass.specs.Visits as visits
 use Rattle.handle_pass.specs.Sessions as handle
@@ -9,8 +9,6 @@ use Rattle.iso_model.specs.Effect.{own}
 use Rattle.iso_shared.specs.declared.entry.Cause.TheVariants as cause
 use Rattle.iso_model.specs.Step as rules
 use Rattle.script_model.specs.declared.stop.Stop.TheVariants as stop
-use Rattle.par_lines.proofs.Answering.{by_none}
-use Rattle.par_lines.proofs.Fetching.{no_take}
 
 blocks_same : (xs : List Access) → visits.blocks_read xs ≡ blocks_read xs
 blocks_same [] = refl

@@ -1,9 +1,7 @@
 -- Steps in a row.
 use Rattle.std.proofs.Common.{◌≡◌, ℕ, ◌+◌, List, [], ◌∷◌, ◌++◌, take, refl, sym, subst}
 use Rattle.script_model.specs.declared.script.Line.{Line}
-use Rattle.par_runner.specs.declared.job.Flow.{Flow}
-use Rattle.par_runner.specs.declared.job.Flow.TheVariants.{Go}
-use Rattle.par_runner.specs.Runs.{Went}
+use Rattle.par_runner.specs.{declared.job.Flow.Flow, declared.job.Flow.TheVariants.Go, Runs.Went}
 
 module _ {C : Type 0} (steps : C → ℕ → Line → Flow → C → Type 0) where
   pub went_snoc : (c m d : C) (ls : List (ℕ × Line)) (l : ℕ × Line) → Went steps c ls m → steps m l.0 l.1 Go d → Went steps c (ls ++ l ∷ []) d

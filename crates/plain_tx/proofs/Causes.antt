@@ -1,15 +1,10 @@
 -- Why the calls of a transaction are refused.
-use Rattle.std.proofs.Common.{◌≡◌, ◌∙◌, sym, refl, ap, ℕ, ◌+◌, ◌-◌, ◌*◌, ◌<◌, true, false, List, [], length, Some, None, Result, Ok, Err, take, drop, arith}
-use Rattle.std.proofs.lemmas.List.FromFn.{get_or-map-range_with_len}
-use Rattle.iso_model.specs.declared.access.MarkError.{MarkError}
+use Rattle.std.proofs.{Common.{◌≡◌, ◌∙◌, sym, refl, ap, ℕ, ◌+◌, ◌-◌, ◌*◌, ◌<◌, true, false, List, [], length, Some, None, Result, Ok, Err, take, drop, arith, OnOk}, lemmas.List.FromFn.get_or-map-range_with_len}
+use Rattle.iso_model.{specs.declared.access.MarkError.MarkError, specs.Marks.{mark_fault, marked}, specs.Premises.block_at, proofs.Accesses.length-marked}
 use Rattle.store_model.specs.declared.stores.TxError.{TxError}
-use Rattle.iso_model.specs.Marks.{mark_fault, marked}
-use Rattle.std.proofs.Common.{OnOk}
 use Rattle.tx_table.specs.Work.{Doing, span_at}
-use Rattle.iso_model.specs.Premises.{block_at}
 use Rattle.tx_blocks.specs.Tx.{Tx, mark_refusal, marking, IsRefused}
 use Rattle.plain_tx.specs.Plain.{blocks_of}
-use Rattle.iso_model.proofs.Accesses.{length-marked}
 
 pub mark_refused : (t : Tx) (off len : ℕ) (fault : MarkError) (e : TxError) → t.is_open ≡ true → mark_fault t.size off len t.accesses ≡ Some fault → marking fault ≡ e → IsRefused {T = Unit {0}} (mark_refusal t off len) (λ x. ⊥) (Err e)
 mark_refused t off len fault e is_open is same = rw (is_open, is, same) refl

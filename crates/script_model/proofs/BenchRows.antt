@@ -1,6 +1,5 @@
 -- Worked examples of the generator, of a bench and of what recovery prints.
-use Rattle.script_model.proofs.Words.{◌≡◌, [], ◌∷◌, ◌++◌, refl, codes, digits, sha256, digest_bytes, hash_after, compress, rounds, schedule, first_words, Serial, put, zeros, bench_output, bench_summary, bench_text, drawn, number_drawn, recover_output, round_text, clash, runs, step, put_step, get_step, put_access, begin_step, commit_step, end_step, words_of, number_of, hex_of, reply_text, script, operation_of, other_operation, empty_history}
-use Rattle.script_model.proofs.Small.{small, text, lines_of}
+use Rattle.script_model.proofs.{Words.{◌≡◌, [], ◌∷◌, ◌++◌, refl, codes, digits, sha256, digest_bytes, hash_after, compress, rounds, schedule, first_words, Serial, put, zeros, bench_output, bench_summary, bench_text, drawn, number_drawn, recover_output, round_text, clash, runs, step, put_step, get_step, put_access, begin_step, commit_step, end_step, words_of, number_of, hex_of, reply_text, script, operation_of, other_operation, empty_history}, Small.{small, text, lines_of}}
 
 -- The first number that is drawn from seed 0.
 pub the_first_draw_of_seed_0 : number_drawn (drawn 0) ≡ 335903614

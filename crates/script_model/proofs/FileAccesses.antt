@@ -1,11 +1,7 @@
 -- The accesses of the calls on files are accesses to the array, whatever its blocks hold.
-use Rattle.script_model.proofs.Words.{◌≡◌, ◌≢◌, ◌∙◌, refl, ap, subst, inl, inr, ℕ, zero, suc, ◌+◌, ◌-◌, ◌*◌, ◌/◌, ◌%◌, ◌<◌, ◌≤◌, ◌==◌, ◌&&◌, ◌||◌, ◌⊎◌, Bool, true, false, cond, IsTrue, List, [], ◌∷◌, ◌++◌, length, take, drop, replicate, slice_index, Option, Some, None, Result, Ok, Err, nat_le, nat_lt, arith, and_parts, or_parts, eqb-false, leb-true, ltb-false, ltb-true, cases_lt, nat_tests, AllByRecursion, all_append, first_below, Geometry, Area, FileAreas, StoreError, Call, Program, AreBytes, HasShape, IsAccess, IsSpan, block_at, limits, FitsOn, fits_cond, fits_then, IsTreeIn, tree_area_is, tree_get_fits, tree_put_fits, tree_del_fits, blocks_behind, file_blocks, files_area, least, is_key, is_many, goes_on, in_tree, look_map, at_file, create_program, write_program, read_program, rename_program, remove_program, bytes_in, store_access, block_with, bit_mark, bit_place, map_mark, set_bit, clear_bit, without_bit, lowest_free, free_count, free_list, changed_map, changed_mark, first_write, with_used, laid_bytes, length-laid_at, length-append, length-replicate, length-take, length-map-range_with_len, no_bytes, bytes_cons, bytes_drop, bytes_take, replicate_bytes, set_bytes, word_bytes, bit_small, or_lt, xor_lt, and_le_r, to_be_bytes, w32, ◌^◌, Array, is_valid, Span, NoBlocks, refuse, bits_mark, create_at, create_new, empty_writes, high_place, low_place, read_from, read_pieces, remove_file, remove_writes, rename_found, rename_free, with_new, without_bits, write_pieces, write_sized, write_to, blocks_for, bytes_of, data_count, entries_of, entry_at, file_block, is_file, is_number, most_bytes, piece_len, piece_mark}
-use Rattle.store_model.specs.TreeCalls.{get_program, put_program, del_program}
+use Rattle.script_model.proofs.{Words.{◌≡◌, ◌≢◌, ◌∙◌, refl, ap, subst, inl, inr, ℕ, zero, suc, ◌+◌, ◌-◌, ◌*◌, ◌/◌, ◌%◌, ◌<◌, ◌≤◌, ◌==◌, ◌&&◌, ◌||◌, ◌⊎◌, Bool, true, false, cond, IsTrue, List, [], ◌∷◌, ◌++◌, length, take, drop, replicate, slice_index, Option, Some, None, Result, Ok, Err, nat_le, nat_lt, arith, and_parts, or_parts, eqb-false, leb-true, ltb-false, ltb-true, cases_lt, nat_tests, AllByRecursion, all_append, first_below, Geometry, Area, FileAreas, StoreError, Call, Program, AreBytes, HasShape, IsAccess, IsSpan, block_at, limits, FitsOn, fits_cond, fits_then, IsTreeIn, tree_area_is, tree_get_fits, tree_put_fits, tree_del_fits, blocks_behind, file_blocks, files_area, least, is_key, is_many, goes_on, in_tree, look_map, at_file, create_program, write_program, read_program, rename_program, remove_program, bytes_in, store_access, block_with, bit_mark, bit_place, map_mark, set_bit, clear_bit, without_bit, lowest_free, free_count, free_list, changed_map, changed_mark, first_write, with_used, laid_bytes, length-laid_at, length-append, length-replicate, length-take, length-map-range_with_len, no_bytes, bytes_cons, bytes_drop, bytes_take, replicate_bytes, set_bytes, word_bytes, bit_small, or_lt, xor_lt, and_le_r, to_be_bytes, w32, ◌^◌, Array, is_valid, Span, NoBlocks, refuse, bits_mark, create_at, create_new, empty_writes, high_place, low_place, read_from, read_pieces, remove_file, remove_writes, rename_found, rename_free, with_new, without_bits, write_pieces, write_sized, write_to, blocks_for, bytes_of, data_count, entries_of, entry_at, file_block, is_file, is_number, most_bytes, piece_len, piece_mark}, ProgramAnswers.{Answers, FindsBytes, answers_any, answers_on, get_answers}, TakenBlocks.{AreBelow, RiseIn, count_free, last_rises, rise_below, taken_rise, used_bytes}, FileParts.{IsFileBlock, count_fits, file_block_bytes, file_block_is, length-file_block, piece_is, place_below}}
+use Rattle.store_model.specs.{TreeCalls.{get_program, put_program, del_program}, FileNodes.number_of}
 use Rattle.store_model.specs.declared.files.FsError.TheVariants as fs
-use Rattle.store_model.specs.FileNodes.{number_of}
-use Rattle.script_model.proofs.ProgramAnswers.{Answers, FindsBytes, answers_any, answers_on, get_answers}
-use Rattle.script_model.proofs.TakenBlocks.{AreBelow, RiseIn, count_free, last_rises, rise_below, taken_rise, used_bytes}
-use Rattle.script_model.proofs.FileParts.{IsFileBlock, count_fits, file_block_bytes, file_block_is, length-file_block, piece_is, place_below}
 
 -- the regions of files in an array of the image
 pub record IsFilesIn (g : Geometry) (a : FileAreas) (A : Array) : Type 0 where

@@ -1,6 +1,5 @@
 -- What the test of a file block says of its numbers, and the lengths of file blocks and pieces.
-use Rattle.script_model.proofs.Words.{◌≡◌, refl, ap, inl, inr, ℕ, zero, suc, ◌+◌, ◌-◌, ◌*◌, ◌/◌, ◌%◌, ◌<◌, ◌≤◌, Bool, true, false, cond, List, [], ◌∷◌, ◌++◌, length, flat_map, map, nat_le, nat_lt, arith, subst, AreBytes, range_with_len, Area, and_parts, leb-true, ltb-true, cases_lt, nat_tests, div-lt_iff_lt-mul, div-mul-le_self, le-div, mod-lt, to_be_bytes, w32, bytes_append, bytes_cons, no_bytes, replicate, replicate_bytes, word_bytes, length-append, length-replicate, all_from, are_entries, blocks_for, bytes_of, data_count, entries_of, entry_at, entry_count, file_block, has_zeros, is_file, is_handed, most_bytes, piece_len}
-use Rattle.script_model.proofs.TakenBlocks.{AreBelow}
+use Rattle.script_model.proofs.{Words.{◌≡◌, refl, ap, inl, inr, ℕ, zero, suc, ◌+◌, ◌-◌, ◌*◌, ◌/◌, ◌%◌, ◌<◌, ◌≤◌, Bool, true, false, cond, List, [], ◌∷◌, ◌++◌, length, flat_map, map, nat_le, nat_lt, arith, subst, AreBytes, range_with_len, Area, and_parts, leb-true, ltb-true, cases_lt, nat_tests, div-lt_iff_lt-mul, div-mul-le_self, le-div, mod-lt, to_be_bytes, w32, bytes_append, bytes_cons, no_bytes, replicate, replicate_bytes, word_bytes, length-append, length-replicate, all_from, are_entries, blocks_for, bytes_of, data_count, entries_of, entry_at, entry_count, file_block, has_zeros, is_file, is_handed, most_bytes, piece_len}, TakenBlocks.AreBelow}
 
 -- a file block that passed its test: how many bytes it may have, and that its numbers are those of blocks of the region
 pub record IsFileBlock (a : Area) (file : List ℕ) : Type 0 where

@@ -1,8 +1,7 @@
 -- Worked examples of the operations on files.
-use Rattle.script_model.proofs.Words.{◌≡◌, [], ◌∷◌, refl, codes, digits, map, Ok, Err, Geometry, Serial, begin_step, commit_step, end_step, put, clash, runs, operation_of, other_operation, store_operation, tree_operation, file_operation, file_blocks, step, store_step, tree_put_step, fill_step, Op, file_new_step, file_write_step, file_read_step, file_move_step, file_delete_step, create_program, write_program, read_program, rename_program, remove_program, words_of, number_of, hex_of, reply_text, FileNew, FileWrite, FileRead, FileMove, FileDelete, is_file, is_node}
+use Rattle.script_model.proofs.{Words.{◌≡◌, [], ◌∷◌, refl, codes, digits, map, Ok, Err, Geometry, Serial, begin_step, commit_step, end_step, put, clash, runs, operation_of, other_operation, store_operation, tree_operation, file_operation, file_blocks, step, store_step, tree_put_step, fill_step, Op, file_new_step, file_write_step, file_read_step, file_move_step, file_delete_step, create_program, write_program, read_program, rename_program, remove_program, words_of, number_of, hex_of, reply_text, FileNew, FileWrite, FileRead, FileMove, FileDelete, is_file, is_node}, Small.{made, text, answers}}
 use Rattle.store_model.specs.TreeCalls.{get_program, put_program, del_program}
 use Rattle.std.specs.Prelude.{ℕ, List, Result}
-use Rattle.script_model.proofs.Small.{made, text, answers}
 
 -- sixteen blocks, of which the first four are a tree store and the others the region of the files
 abbrev files : Geometry

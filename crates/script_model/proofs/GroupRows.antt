@@ -1,8 +1,7 @@
 -- Worked examples of groups, by their answers and as lines.
-use Rattle.script_model.proofs.Words.{◌≡◌, [], ◌∷◌, ◌++◌, refl, codes, Ok, Err, Some, None, digits, Geometry, Group, put, clash, runs, group_arguments, group_step, begin_step, commit_step, end_step, operation_of, other_operation, step, put_step, read_step, words_of, number_of, hex_of, label_text, replicate, reply_text}
+use Rattle.script_model.proofs.{Words.{◌≡◌, [], ◌∷◌, ◌++◌, refl, codes, Ok, Err, Some, None, digits, Geometry, Group, put, clash, runs, group_arguments, group_step, begin_step, commit_step, end_step, operation_of, other_operation, step, put_step, read_step, words_of, number_of, hex_of, label_text, replicate, reply_text}, Small.{small, made, text, answers, after_lines, zero_text}}
 use Rattle.std.specs.Prelude.{ℕ, List, length}
 use Rattle.iso_model.specs.declared.access.GroupReply.TheVariants as member
-use Rattle.script_model.proofs.Small.{small, made, text, answers, after_lines, zero_text}
 
 -- Each member is answered, and a label under which nothing is has no member.
 pub two_commits_and_no_member :

@@ -1,6 +1,5 @@
 -- Worked examples of handles under labels, of trimming, of compaction and of the two forms.
-use Rattle.script_model.proofs.Words.{◌≡◌, [], ◌∷◌, ◌++◌, refl, codes, digits, Geometry, put, clash, runs, begin_step, commit_step, end_step, switch_step, operation_of, other_operation, step, put_step, read_step, get_step, mark_step, numbers, words_of, number_of, hex_of, reply_text, versions}
-use Rattle.script_model.proofs.Small.{small, made, text, answers, after_lines, zero_text}
+use Rattle.script_model.proofs.{Words.{◌≡◌, [], ◌∷◌, ◌++◌, refl, codes, digits, Geometry, put, clash, runs, begin_step, commit_step, end_step, switch_step, operation_of, other_operation, step, put_step, read_step, get_step, mark_step, numbers, words_of, number_of, hex_of, reply_text, versions}, Small.{small, made, text, answers, after_lines, zero_text}}
 
 -- The snapshot moves with the handle.
 pub the_snapshot_moves_with_the_handle :

@@ -1,7 +1,6 @@
 -- Worked examples of limits that are too large to reach one by one.
-use Rattle.script_model.proofs.Words.{◌≡◌, ◌-◌, [], ◌∷◌, refl, replicate, Serial, LAST, Began, Compacted, TooManyTx, Worn, Done, TooManyAccesses, read_access, begin_step, switch_step, put_step, read_step, World, Live, label, unattached}
+use Rattle.script_model.proofs.{Words.{◌≡◌, ◌-◌, [], ◌∷◌, refl, replicate, Serial, LAST, Began, Compacted, TooManyTx, Worn, Done, TooManyAccesses, read_access, begin_step, switch_step, put_step, read_step, World, Live, label, unattached}, Small.{small, made}}
 use Rattle.std.specs.Prelude.{ℕ, ◌+◌}
-use Rattle.script_model.proofs.Small.{small, made}
 
 -- a transaction under a label
 abbrev released : Live

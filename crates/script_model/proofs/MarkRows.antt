@@ -1,6 +1,5 @@
 -- Worked examples of marks, of the accesses that they narrow, and of the two modes.
-use Rattle.script_model.proofs.Words.{◌≡◌, [], ◌∷◌, ◌++◌, refl, codes, replicate, digits, Snapshot, put, clash, runs, begin_step, commit_step, end_step, operation_of, other_operation, step, put_step, read_step, get_step, write_step, fill_step, mark_step, words_of, number_of, hex_of, reply_text}
-use Rattle.script_model.proofs.Small.{small, made, text, answers, zero_text}
+use Rattle.script_model.proofs.{Words.{◌≡◌, [], ◌∷◌, ◌++◌, refl, codes, replicate, digits, Snapshot, put, clash, runs, begin_step, commit_step, end_step, operation_of, other_operation, step, put_step, read_step, get_step, write_step, fill_step, mark_step, words_of, number_of, hex_of, reply_text}, Small.{small, made, text, answers, zero_text}}
 
 -- Two clients write two bytes of one block, and both commit.
 pub merge_on_one_block :

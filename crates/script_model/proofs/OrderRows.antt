@@ -1,7 +1,6 @@
 -- Worked examples of the order of refusals, and of what a switch of halves keeps.
-use Rattle.script_model.proofs.Words.{◌≡◌, ◌-◌, [], ◌∷◌, ◌++◌, refl, replicate, codes, None, Some, digits, Serial, Snapshot, LAST, Compact, Upgrade, Committed, Conflict, ModeFixed, TooManyTx, Worn, BadBlock, BadRange, TooManyAccesses, put, clash, runs, operation_of, other_operation, step, put_step, get_step, write_step, numbers, put_access, read_access, begin_step, commit_step, end_step, switch_step, words_of, number_of, hex_of, reply_text, versions, World, Live, label, unattached}
+use Rattle.script_model.proofs.{Words.{◌≡◌, ◌-◌, [], ◌∷◌, ◌++◌, refl, replicate, codes, None, Some, digits, Serial, Snapshot, LAST, Compact, Upgrade, Committed, Conflict, ModeFixed, TooManyTx, Worn, BadBlock, BadRange, TooManyAccesses, put, clash, runs, operation_of, other_operation, step, put_step, get_step, write_step, numbers, put_access, read_access, begin_step, commit_step, end_step, switch_step, words_of, number_of, hex_of, reply_text, versions, World, Live, label, unattached}, Small.{small, made, text, answers}}
 use Rattle.std.specs.Prelude.{ℕ, ◌+◌, List}
-use Rattle.script_model.proofs.Small.{small, made, text, answers}
 
 -- the small image after so many commits, which its base holds
 abbrev ended : ℕ → World

@@ -1,7 +1,6 @@
 -- What a program answers where each block that it reads is one of bytes, and the shape of the array that it leaves.
 use Rattle.script_model.proofs.Words.{◌∙◌, ◌&&◌, ◌==◌, ℕ, zero, suc, ◌+◌, Bool, true, false, cond, List, [], Option, Some, None, Result, Ok, Err, Access, Area, Geometry, StoreError, AreBytes, HasShape, IsAccess, block_at, FitsOn, Program, Look, LookWhole, Reserve, Store, bytes_in, further_bytes, store_access, then_do, at_cell, text_of, word_at, is_part, is_key, cell_of, put, no_bytes, bytes_drop, bytes_take, length-block_put, length-put, put_values, AtLeaf, Descent, descend, get_below, is_child, is_head, is_node, with_head, Array, Span, AtBroken, got, Broken, BadKey}
-use Rattle.store_model.specs.Stores.{Done}
-use Rattle.store_model.specs.TreeCalls.{get_program}
+use Rattle.store_model.specs.{Stores.Done, TreeCalls.get_program}
 
 -- each answer has Q, whatever bytes are read
 abbrev pub Answers : {R : Type 0} → (R → Type 0) → Program R → Type 0

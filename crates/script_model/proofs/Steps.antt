@@ -1,10 +1,9 @@
 -- Each step of a sound world leads to a sound one.
-use Rattle.script_model.proofs.Words.{◌≢◌, ℕ, ◌<◌, ◌≤◌, Bool, false, ◌&&◌, ◌==◌, not, IsTrue, List, length, Option, Result, nat_le, slice_index, arith, leb-false, eqb-false, eqb-true, not-false, length-append, length_push, length-replicate, Access, MarkError, Span, MAX_ACCESSES, Line, Op, Reply, StoreError, is_serial, del_program, get_program, put_program, is_key, array_at, IsAccess, AreBytes, HasShape, after, is_outside, marked, mark_fault, step, access_step, put_step, read_step, get_step, write_step, fill_step, mark_step, marked_step, release_step, takeover_step, with_access, out_of_transaction, in_transaction, array_of, store_step, in_store, hash_put_step, hash_get_step, hash_delete_step, found_reply, removed_reply, pairs_reply, tree_put_step, tree_get_step, tree_delete_step, tree_scan_step, store_refusal, file_refusal, file_step, file_new_step, file_write_step, file_read_step, file_move_step, file_delete_step, file_blocks, files_area, Call, create_program, write_program, read_program, rename_program, remove_program, put_access, read_access, get_access, write_access, shown_to, after_leaving, mode_named, begin_step, end_step, hash_area, tree_area, Program, outcome, scan_program, is_label, World, Live, client, label, attached, held, floor, is_under_label, IsLive, IsWorld, LeadsTo, as_step, IsOp, AreLines, limits, replicate_bytes, all_find, all_apart, all_apart_from_label, all_push, IsIn, del_fits, get_fits, hash_area_is, put_fits, array_shape, own_shape, AllFit, FitsOn, fits_on, outcome_fits, IsTreeIn, tree_area_is, tree_del_fits, tree_get_fits, tree_put_fits, tree_scan_fits, get_is_access, inside_block, length-marked, marked_are, put_is_access, read_is_access, write_is_access, begin_leads, end_leads, leads_on, stays, leaves, accesses_are, all_append, places, chosen, live_at, trim_leads, switch_leads, group_step_leads, Begin, End, Abort, Put, ReadBlock, Get, WriteBlock, Fill, Mark, Release, Takeover, Await, Group, Trim, Stat, Compact, Upgrade, HashPut, HashGet, HashDelete, TreePut, TreeGet, TreeDelete, TreeScan, FileNew, FileWrite, FileRead, FileMove, FileDelete}
+use Rattle.script_model.proofs.{Words.{◌≢◌, ℕ, ◌<◌, ◌≤◌, Bool, false, ◌&&◌, ◌==◌, not, IsTrue, List, length, Option, Result, nat_le, slice_index, arith, leb-false, eqb-false, eqb-true, not-false, length-append, length_push, length-replicate, Access, MarkError, Span, MAX_ACCESSES, Line, Op, Reply, StoreError, is_serial, del_program, get_program, put_program, is_key, array_at, IsAccess, AreBytes, HasShape, after, is_outside, marked, mark_fault, step, access_step, put_step, read_step, get_step, write_step, fill_step, mark_step, marked_step, release_step, takeover_step, with_access, out_of_transaction, in_transaction, array_of, store_step, in_store, hash_put_step, hash_get_step, hash_delete_step, found_reply, removed_reply, pairs_reply, tree_put_step, tree_get_step, tree_delete_step, tree_scan_step, store_refusal, file_refusal, file_step, file_new_step, file_write_step, file_read_step, file_move_step, file_delete_step, file_blocks, files_area, Call, create_program, write_program, read_program, rename_program, remove_program, put_access, read_access, get_access, write_access, shown_to, after_leaving, mode_named, begin_step, end_step, hash_area, tree_area, Program, outcome, scan_program, is_label, World, Live, client, label, attached, held, floor, is_under_label, IsLive, IsWorld, LeadsTo, as_step, IsOp, AreLines, limits, replicate_bytes, all_find, all_apart, all_apart_from_label, all_push, IsIn, del_fits, get_fits, hash_area_is, put_fits, array_shape, own_shape, AllFit, FitsOn, fits_on, outcome_fits, IsTreeIn, tree_area_is, tree_del_fits, tree_get_fits, tree_put_fits, tree_scan_fits, get_is_access, inside_block, length-marked, marked_are, put_is_access, read_is_access, write_is_access, begin_leads, end_leads, leads_on, stays, leaves, accesses_are, all_append, places, chosen, live_at, trim_leads, switch_leads, group_step_leads, Begin, End, Abort, Put, ReadBlock, Get, WriteBlock, Fill, Mark, Release, Takeover, Await, Group, Trim, Stat, Compact, Upgrade, HashPut, HashGet, HashDelete, TreePut, TreeGet, TreeDelete, TreeScan, FileNew, FileWrite, FileRead, FileMove, FileDelete}, FileAccesses.{IsFilesIn, files_area_is, create_fits, write_fits, read_fits, rename_fits, remove_fits}}
 use Rattle.std.proofs.Common.{◌≡◌, refl, ◌-◌, [], ◌∷◌, ◌++◌, Some, None, replicate}
 use Rattle.iso_model.specs.declared.core_reply.CoreReply.TheVariants as core
 use Rattle.script_model.specs.declared.script.Reply.TheVariants as reply
 use Rattle.store_model.specs.TreeCalls as tree
-use Rattle.script_model.proofs.FileAccesses.{IsFilesIn, files_area_is, create_fits, write_fits, read_fits, rename_fits, remove_fits}
 
 -- with one access more
 accesses_more : (W : World) (c : ℕ) (t : Live) (a : Access) → IsWorld W → attached W c ≡ Some t → IsLive W t → length t.accesses < MAX_ACCESSES

@@ -1,7 +1,6 @@
 -- Worked examples of the stores' operations.
-use Rattle.script_model.proofs.Words.{◌≡◌, [], ◌∷◌, refl, codes, digits, Geometry, Serial, begin_step, commit_step, end_step, switch_step, compress, digest_bytes, first_words, hash_after, rounds, schedule, sha256, bucket_of, is_linked, Pairs, put, clash, runs, walk, get_program, put_program, operation_of, other_operation, store_operation, tree_operation, step, store_step, hash_put_step, hash_get_step, hash_delete_step, tree_put_step, tree_get_step, tree_delete_step, tree_scan_step, scan_program, words_of, number_of, hex_of, reply_text}
+use Rattle.script_model.proofs.{Words.{◌≡◌, [], ◌∷◌, refl, codes, digits, Geometry, Serial, begin_step, commit_step, end_step, switch_step, compress, digest_bytes, first_words, hash_after, rounds, schedule, sha256, bucket_of, is_linked, Pairs, put, clash, runs, walk, get_program, put_program, operation_of, other_operation, store_operation, tree_operation, step, store_step, hash_put_step, hash_get_step, hash_delete_step, tree_put_step, tree_get_step, tree_delete_step, tree_scan_step, scan_program, words_of, number_of, hex_of, reply_text}, Small.{small, made, text, answers}}
 use Rattle.store_model.specs.TreeCalls as tree
-use Rattle.script_model.proofs.Small.{small, made, text, answers}
 
 -- eight blocks, of which the first three are a hash store
 abbrev stores : Geometry

@@ -1,6 +1,5 @@
 -- A commit that a reply tells is one of the world after it.
-use Rattle.script_runner.proofs.Words.{◌≡◌, ◌<◌, ◌≤◌, ◌+◌, ◌-◌, refl, ◌&&◌, ◌==◌, not, ℕ, Bool, true, false, cond, List, [], ◌∷◌, length, nat_le, nat_lt, Option, Some, None, Result, Ok, Err, inl, inr, drop, take, length-append, subst, sym, arith, Access, Clash, MarkError, Mode, Span, CoreReply, Line, Op, Reply, StoreError, LAST, MAX_ACCESSES, MAX_LIVE, clash, has_write, same_mode, del_program, get_program, put_program, History, last, mark_fault, after, access_step, after_store, array_of, fill_step, found_reply, get_step, hash_delete_step, hash_get_step, hash_put_step, in_store, in_transaction, mark_step, marked_step, numbers, out_of_transaction, put_step, read_step, release_step, removed_reply, step, store_step, takeover_step, write_step, pairs_reply, tree_put_step, tree_get_step, tree_delete_step, tree_scan_step, FsError, Call, store_refusal, file_refusal, file_step, file_new_step, file_write_step, file_read_step, file_move_step, file_delete_step, file_blocks, files_area, create_program, write_program, read_program, rename_program, remove_program, after_commit, begin_step, commit_step, end_step, switch_step, mode_named, need, read_access, shown_to, as_reply, as_step, as_either, hash_area, tree_area, Program, outcome, Live, Place, World, attached, client, floor, held, used, AreLines, IsWorld, after_leads, step_leads, AreRepliesTo, TellsCommit, Acknowledges, SameButShown, longer, GroupReply, IsAmongGrouped, SaysCommit, group_step, grouped, Begin, End, Abort, Put, ReadBlock, Get, WriteBlock, Fill, Mark, Release, Takeover, Await, Group, Trim, Stat, Compact, Upgrade, HashPut, HashGet, HashDelete, TreePut, TreeGet, TreeDelete, TreeScan, FileNew, FileWrite, FileRead, FileMove, FileDelete}
-use Rattle.script_runner.proofs.Grouped.{group_kept}
+use Rattle.script_runner.proofs.{Words.{◌≡◌, ◌<◌, ◌≤◌, ◌+◌, ◌-◌, refl, ◌&&◌, ◌==◌, not, ℕ, Bool, true, false, cond, List, [], ◌∷◌, length, nat_le, nat_lt, Option, Some, None, Result, Ok, Err, inl, inr, drop, take, length-append, subst, sym, arith, Access, Clash, MarkError, Mode, Span, CoreReply, Line, Op, Reply, StoreError, LAST, MAX_ACCESSES, MAX_LIVE, clash, has_write, same_mode, del_program, get_program, put_program, History, last, mark_fault, after, access_step, after_store, array_of, fill_step, found_reply, get_step, hash_delete_step, hash_get_step, hash_put_step, in_store, in_transaction, mark_step, marked_step, numbers, out_of_transaction, put_step, read_step, release_step, removed_reply, step, store_step, takeover_step, write_step, pairs_reply, tree_put_step, tree_get_step, tree_delete_step, tree_scan_step, FsError, Call, store_refusal, file_refusal, file_step, file_new_step, file_write_step, file_read_step, file_move_step, file_delete_step, file_blocks, files_area, create_program, write_program, read_program, rename_program, remove_program, after_commit, begin_step, commit_step, end_step, switch_step, mode_named, need, read_access, shown_to, as_reply, as_step, as_either, hash_area, tree_area, Program, outcome, Live, Place, World, attached, client, floor, held, used, AreLines, IsWorld, after_leads, step_leads, AreRepliesTo, TellsCommit, Acknowledges, SameButShown, longer, GroupReply, IsAmongGrouped, SaysCommit, group_step, grouped, Begin, End, Abort, Put, ReadBlock, Get, WriteBlock, Fill, Mark, Release, Takeover, Await, Group, Trim, Stat, Compact, Upgrade, HashPut, HashGet, HashDelete, TreePut, TreeGet, TreeDelete, TreeScan, FileNew, FileWrite, FileRead, FileMove, FileDelete}, Grouped.group_kept}
 use Rattle.iso_model.specs.declared.access.MarkError.TheVariants as mark
 use Rattle.iso_model.specs.declared.core_reply.CoreReply.TheVariants as core
 use Rattle.script_model.specs.declared.script.Reply.TheVariants as reply

@@ -1,10 +1,7 @@
 -- A line of the input, between those before it and what follows.
-use Rattle.script_runner.proofs.Words.{◌≡◌, ◌≤◌, ℕ, ◌+◌, Bool, List, [], ◌∷◌, ◌++◌, Some, Result, Ok, Err, IfErr, OnOk, inr, length, refl, sym, ap, subst, ◌∙◌, append_assoc, append-nil, length-append, arith, DiskState, SinkState, BadLine, Line, LineError, Parsed, Script, before_script, parse_whole, script_from, pieces, World, Gives, Halt, RunEnd, AnswersParsed, EndsAt, IsByStep, Ran, Reads, SaysFirst, behind, end_of, lines_of, AreFirst, AreLinesOf, Answered, HasNoFeed, Cause, NoMemory, Skip, Says}
+use Rattle.script_runner.proofs.{Words.{◌≡◌, ◌≤◌, ℕ, ◌+◌, Bool, List, [], ◌∷◌, ◌++◌, Some, Result, Ok, Err, IfErr, OnOk, inr, length, refl, sym, ap, subst, ◌∙◌, append_assoc, append-nil, length-append, arith, DiskState, SinkState, BadLine, Line, LineError, Parsed, Script, before_script, parse_whole, script_from, pieces, World, Gives, Halt, RunEnd, AnswersParsed, EndsAt, IsByStep, Ran, Reads, SaysFirst, behind, end_of, lines_of, AreFirst, AreLinesOf, Answered, HasNoFeed, Cause, NoMemory, Skip, Says}, Feeds.{no_feed-append, no_feed-nil}, Fronts.{before-parsed, says-more, script-line}, Steps.{ended_here, halted_more, ran_more}}
 use Rattle.script_runner.specs.declared.run_end.Halt.TheVariants as halt
 use Rattle.script_runner.specs.declared.run_end.RunEnd.TheVariants as end
-use Rattle.script_runner.proofs.Feeds.{no_feed-append, no_feed-nil}
-use Rattle.script_runner.proofs.Fronts.{before-parsed, says-more, script-line}
-use Rattle.script_runner.proofs.Steps.{ended_here, halted_more, ran_more}
 
 -- the script of the bytes taken, a line, its line feed and more
 line_script : (cut : Bool) (bytes front held line more : List ℕ) (number : ℕ) (done : List (ℕ × Line)) → bytes ≡ front ++ held → SaysFirst front number done

@@ -1,12 +1,8 @@
 -- How a run ends.
-use Rattle.script_runner.proofs.Words.{◌≡◌, ◌≢◌, ◌<◌, ◌≤◌, ℕ, ◌+◌, ◌-◌, Bool, true, false, List, [], ◌∷◌, ◌++◌, Option, Some, None, Result, Ok, Err, IfSome, length, take, nat_le, inl, refl, sym, ap, subst, ◌∙◌, append_assoc, append-nil, length-append, arith, eqb-false, eqb-true, lt-ltb, lt-leb, le-leb, take_all, take-append-add, prepend_known, Rose, DiskState, IsLawful, SinkState, SourceState, MetEnd, Took, prepend_known-append, prepend_known-nil, MAX_INPUT, MAX_LINE, BadLine, Line, LineError, Parsed, last, Shows, Script, bad_line, before_script, last_piece, no_lines, parse, parse_whole, script, script_from, is_empty, pieces, World, IsWorld, Gives, Halt, RunEnd, SourceCount, AnswersParsed, EndsAt, Gave, IsByStep, Ran, Reads, behind, end_of, in_front, lines_of, AreFirst, AreLinesOf, Answered, HasRun, Cause, NoMemory, Skip, Says}
+use Rattle.script_runner.proofs.{Words.{◌≡◌, ◌≢◌, ◌<◌, ◌≤◌, ℕ, ◌+◌, ◌-◌, Bool, true, false, List, [], ◌∷◌, ◌++◌, Option, Some, None, Result, Ok, Err, IfSome, length, take, nat_le, inl, refl, sym, ap, subst, ◌∙◌, append_assoc, append-nil, length-append, arith, eqb-false, eqb-true, lt-ltb, lt-leb, le-leb, take_all, take-append-add, prepend_known, Rose, DiskState, IsLawful, SinkState, SourceState, MetEnd, Took, prepend_known-append, prepend_known-nil, MAX_INPUT, MAX_LINE, BadLine, Line, LineError, Parsed, last, Shows, Script, bad_line, before_script, last_piece, no_lines, parse, parse_whole, script, script_from, is_empty, pieces, World, IsWorld, Gives, Halt, RunEnd, SourceCount, AnswersParsed, EndsAt, Gave, IsByStep, Ran, Reads, behind, end_of, in_front, lines_of, AreFirst, AreLinesOf, Answered, HasRun, Cause, NoMemory, Skip, Says}, Feeds.{HasFirst, no_feed-nil, one_piece, pieces-first, pieces_of}, Fronts.{before-parsed, says-nothing}, Steps.{ended_here, halted_more, ran_more, ran_none}, Answering.{first_none, first_of, step_lines, unheld_ends}}
 use Rattle.std.specs.Prelude.{◌==◌}
 use Rattle.script_runner.specs.declared.run_end.Halt.TheVariants as halt
 use Rattle.script_runner.specs.declared.run_end.RunEnd.TheVariants as end
-use Rattle.script_runner.proofs.Feeds.{HasFirst, no_feed-nil, one_piece, pieces-first, pieces_of}
-use Rattle.script_runner.proofs.Fronts.{before-parsed, says-nothing}
-use Rattle.script_runner.proofs.Steps.{ended_here, halted_more, ran_more, ran_none}
-use Rattle.script_runner.proofs.Answering.{first_none, first_of, step_lines, unheld_ends}
 
 -- the script of an input that begins with these bytes
 script_more : (bytes more : List ℕ) → length bytes ≤ MAX_INPUT

@@ -1,6 +1,5 @@
 -- What whole lines say, whatever follows them.
-use Rattle.script_runner.proofs.Words.{◌≡◌, ℕ, ◌+◌, Bool, List, [], ◌∷◌, ◌++◌, Result, Ok, refl, sym, ap, ◌∙◌, append_assoc, Line, Parsed, Script, before_script, parse_whole, script_from, pieces, Gives, SaysFirst, behind, lines_of, HasNoFeed, Skip, Says}
-use Rattle.script_runner.proofs.Feeds.{HasFirst, feed, pieces-first}
+use Rattle.script_runner.proofs.{Words.{◌≡◌, ℕ, ◌+◌, Bool, List, [], ◌∷◌, ◌++◌, Result, Ok, refl, sym, ap, ◌∙◌, append_assoc, Line, Parsed, Script, before_script, parse_whole, script_from, pieces, Gives, SaysFirst, behind, lines_of, HasNoFeed, Skip, Says}, Feeds.{HasFirst, feed, pieces-first}}
 
 pub behind-append : (xs ys : List (ℕ × Line)) (s : Script) → behind xs (behind ys s) ≡ behind (xs ++ ys) s
 behind-append xs ys s = ap (λ (lines : List (ℕ × Line)). let t : Script = record { lines = lines; bad = s.bad } in t) (sym (append_assoc xs ys s.lines))

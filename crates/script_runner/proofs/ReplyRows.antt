@@ -1,7 +1,6 @@
 -- What no run puts of the script of the tests, whatever its disk tells.
-use Rattle.script_runner.proofs.Words.{◌≡◌, ◌∙◌, ℕ, List, [], ◌∷◌, ◌++◌, Some, None, ap, subst, get_or, arith, codes, digits, same_Some, DiskState, SinkState, World, Line, End, Reply, reply_text, Done, rehearsed, AreRepliesTo, text_of, Answered, SameButShown}
+use Rattle.script_runner.proofs.{Words.{◌≡◌, ◌∙◌, ℕ, List, [], ◌∷◌, ◌++◌, Some, None, ap, subst, get_or, arith, codes, digits, same_Some, DiskState, SinkState, World, Line, End, Reply, reply_text, Done, rehearsed, AreRepliesTo, text_of, Answered, SameButShown}, Rehearsals.second_end}
 use Rattle.script_model.specs.declared.script.Reply.TheVariants as reply
-use Rattle.script_runner.proofs.Rehearsals.{second_end}
 
 -- the line that makes the first commit
 abbrev ending : List (ℕ × Line)

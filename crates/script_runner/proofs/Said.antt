@@ -1,6 +1,5 @@
 -- What a line says is an operation that a machine may be asked.
-use Rattle.script_runner.proofs.Words.{◌≡◌, refl, ap, ◌∙◌, subst, ℕ, ◌≤◌, IfOk, Bool, true, false, ◌&&◌, cond, List, [], ◌∷◌, Option, Some, None, Result, Ok, Err, nat_le, nat_lt, length, take, arith, and_parts, leb-true, ltb-false, lt-leb, take_all, list_all, MAX_INPUT, MAX_LINE, Line, LineError, Parsed, Script, before_script, client_in_range, is_printable, is_skipped, no_lines, operation_of, parse, parse_whole, said, script, script_from, without_return, is_empty, number_of, pieces, words_of, AreLines, IsOp, IfGiven, any_given, given_next, given_none, given_one, script_lines, Gives, IsLine, SaysLine, HasNoFeed, Skip, Says}
-use Rattle.script_runner.proofs.Feeds.{no_feed-cons, no_feed-nil, one_piece}
+use Rattle.script_runner.proofs.{Words.{◌≡◌, refl, ap, ◌∙◌, subst, ℕ, ◌≤◌, IfOk, Bool, true, false, ◌&&◌, cond, List, [], ◌∷◌, Option, Some, None, Result, Ok, Err, nat_le, nat_lt, length, take, arith, and_parts, leb-true, ltb-false, lt-leb, take_all, list_all, MAX_INPUT, MAX_LINE, Line, LineError, Parsed, Script, before_script, client_in_range, is_printable, is_skipped, no_lines, operation_of, parse, parse_whole, said, script, script_from, without_return, is_empty, number_of, pieces, words_of, AreLines, IsOp, IfGiven, any_given, given_next, given_none, given_one, script_lines, Gives, IsLine, SaysLine, HasNoFeed, Skip, Says}, Feeds.{no_feed-cons, no_feed-nil, one_piece}}
 
 record InRange (client : ℕ) : Type 0 where
   least : 1 ≤ client

@@ -1,8 +1,5 @@
 -- Lines that are answered one after the other.
-use Rattle.script_runner.proofs.Words.{◌≡◌, ◌≤◌, ℕ, List, [], ◌∷◌, ◌++◌, ap, refl, sym, subst, ◌∙◌, inl, inr, ⊎_elim, append_assoc, append-nil, IsSome, AllByRecursion, append_known, Rose, DiskState, IsLawful, LeavesOnly, started, weakened, at_end, SinkState, CountsStand, Wrote, append_known-nil, Geometry, Line, History, last, Shows, replies, after, step, reply_line, World, AreLines, IsOp, Extends, IsWorld, KeepsGeometry, LeadsTo, after_leads, step_leads, RunEnd, ShowsEither, ShowsBetween, DiskCount, SinkCounts, Ran, IfTold, IsPlain, StandsSo, PutReplies, PutRepliesBy, Replied, Answered, IfUp, IsBehind, leads_on, Disk, Output, Memory}
-use Rattle.script_runner.proofs.Acknowledged.{all_kept}
-use Rattle.script_runner.proofs.Replying.{IsQuiet, put_halted, put_more, put_none, put_quiet, quiet_replies, replied_on, wrote_on}
-use Rattle.script_runner.proofs.Histories.{between_since, runs_joined, shows_last, step_between}
+use Rattle.script_runner.proofs.{Words.{◌≡◌, ◌≤◌, ℕ, List, [], ◌∷◌, ◌++◌, ap, refl, sym, subst, ◌∙◌, inl, inr, ⊎_elim, append_assoc, append-nil, IsSome, AllByRecursion, append_known, Rose, DiskState, IsLawful, LeavesOnly, started, weakened, at_end, SinkState, CountsStand, Wrote, append_known-nil, Geometry, Line, History, last, Shows, replies, after, step, reply_line, World, AreLines, IsOp, Extends, IsWorld, KeepsGeometry, LeadsTo, after_leads, step_leads, RunEnd, ShowsEither, ShowsBetween, DiskCount, SinkCounts, Ran, IfTold, IsPlain, StandsSo, PutReplies, PutRepliesBy, Replied, Answered, IfUp, IsBehind, leads_on, Disk, Output, Memory}, Acknowledged.all_kept, Replying.{IsQuiet, put_halted, put_more, put_none, put_quiet, quiet_replies, replied_on, wrote_on}, Histories.{between_since, runs_joined, shows_last, step_between}}
 
 pub after-append : (W : World) (xs ys : List (ℕ × Line)) → after W (xs ++ ys) ≡ after (after W xs) ys
 after-append W [] ys = refl

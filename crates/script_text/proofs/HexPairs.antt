@@ -1,7 +1,6 @@
 -- Pairs of hexadecimal digits, read one after the other.
 use Rattle.script_text.proofs.Words.{◌≡◌, ℕ, ◌+◌, ◌*◌, ◌<◌, ◌≢◌, ◌≤◌, Bool, true, false, List, [], ◌∷◌, ◌++◌, length, take, drop, slice_index, slice_set, Option, Some, None, refl, ap, sym, ◌∙◌, arith, IfSome, if◌then◌else◌, ok_or, is_some, append-nil, drop_all, drop_more, take_all, take_more_set, hex_argument, hex_digit, hex_pair, hex_pairs, hex_of}
-use Rattle.std.specs.Prelude.{◌&&◌}
-use Rattle.std.proofs.lemmas.List.{append_assoc}
+use Rattle.std.{specs.Prelude.◌&&◌, proofs.lemmas.List.append_assoc}
 
 -- what is known of the bytes once those before a place are read, where each digit before it was one
 abbrev pub read_on : (good : Bool) (front : List ℕ) → Option (List ℕ) → Option (List ℕ)

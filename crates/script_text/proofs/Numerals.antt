@@ -1,8 +1,6 @@
 -- The words that are printed are read as what they are printed of.
-use Rattle.script_text.proofs.Words.{◌≡◌, ◌∙◌, ap, sym, refl, ℕ, zero, suc, ◌+◌, ◌*◌, ◌-◌, ◌/◌, ◌%◌, ◌<◌, ◌≤◌, ◌^◌, Bool, true, ◌&&◌, IsTrue, nat_le, List, [], ◌∷◌, length, Some, Ok, decimal, arith, list_all, cond-true, and_parts, leb-true, le-leb, agree_below_at, decimal_by_steps, decimal_digit, decimal_nonempty, first_decimal, list_all-append, fold-append, decode_of-encode_lower, AreBytes, hex_argument, label_argument, digit_of, hex_text, is_decimal, number_of, value_of, is_digit, is_label, is_label_byte, AreSome, is_word_byte}
+use Rattle.script_text.proofs.{Words.{◌≡◌, ◌∙◌, ap, sym, refl, ℕ, zero, suc, ◌+◌, ◌*◌, ◌-◌, ◌/◌, ◌%◌, ◌<◌, ◌≤◌, ◌^◌, Bool, true, ◌&&◌, IsTrue, nat_le, List, [], ◌∷◌, length, Some, Ok, decimal, arith, list_all, cond-true, and_parts, leb-true, le-leb, agree_below_at, decimal_by_steps, decimal_digit, decimal_nonempty, first_decimal, list_all-append, fold-append, decode_of-encode_lower, AreBytes, hex_argument, label_argument, digit_of, hex_text, is_decimal, number_of, value_of, is_digit, is_label, is_label_byte, AreSome, is_word_byte}, HexLemmas.{encode_lower-hex_text, hex_argument-ok}, WordLemmas.{is_decimal-by_all, number_of-decimal}}
 use Rattle.std.proofs.Common.{ok_or}
-use Rattle.script_text.proofs.HexLemmas.{encode_lower-hex_text, hex_argument-ok}
-use Rattle.script_text.proofs.WordLemmas.{is_decimal-by_all, number_of-decimal}
 
 pub record IsWord (word : List ℕ) : Type 0 where
   pub some : 0 < length word

@@ -1,8 +1,5 @@
 -- A printed line is read as that line, and as no other.
-use Rattle.script_text.proofs.Words.{◌≡◌, ◌∙◌, ap, sym, refl, bytes_eq, codes, ◌==◌, ◌&&◌, ◌/◌, ◌%◌, true, false, ℕ, ◌≤◌, ◌<◌, ◌^◌, IsTrue, List, [], ◌∷◌, length, Some, Result, Ok, Err, decimal, arith, Serial, Snapshot, MAX_LINE, Line, Op, Begin, Put, Read, Get, Write, Fill, Mark, Release, Takeover, Await, Group, HashPut, HashGet, HashDelete, TreePut, TreeGet, TreeDelete, TreeScan, FileNew, FileWrite, FileRead, FileMove, FileDelete, ◌>>=◌, client_in_range, group_arguments, key_and_value, labels_of, AllByRecursion, MAX_LABELS, le-leb, number_argument, number_and_bytes, one_key, one_label, one_number, operation_of, other_operation, store_argument, store_operation, tree_operation, file_operation, parse, put_arguments, read_arguments, write_arguments, said, scan_arguments, three_numbers, two_numbers, dashed, digit_of, hex_text, number_of, words_of, is_label, AreBytes, arguments_of, line_text, line_words, name_of, spaced, AreSome, IsLine, IsSayable, Says}
-use Rattle.script_text.proofs.LineLemmas.{parse-said}
-use Rattle.script_text.proofs.Numerals.{IsWord, decimal_digits, decimal_word, hex_argument-printed, hex_word, label_argument-printed, label_word, number_of-printed}
-use Rattle.script_text.proofs.Spaces.{AreWords, spaced_printable, spaced_says, words_of-spaced}
+use Rattle.script_text.proofs.{Words.{◌≡◌, ◌∙◌, ap, sym, refl, bytes_eq, codes, ◌==◌, ◌&&◌, ◌/◌, ◌%◌, true, false, ℕ, ◌≤◌, ◌<◌, ◌^◌, IsTrue, List, [], ◌∷◌, length, Some, Result, Ok, Err, decimal, arith, Serial, Snapshot, MAX_LINE, Line, Op, Begin, Put, Read, Get, Write, Fill, Mark, Release, Takeover, Await, Group, HashPut, HashGet, HashDelete, TreePut, TreeGet, TreeDelete, TreeScan, FileNew, FileWrite, FileRead, FileMove, FileDelete, ◌>>=◌, client_in_range, group_arguments, key_and_value, labels_of, AllByRecursion, MAX_LABELS, le-leb, number_argument, number_and_bytes, one_key, one_label, one_number, operation_of, other_operation, store_argument, store_operation, tree_operation, file_operation, parse, put_arguments, read_arguments, write_arguments, said, scan_arguments, three_numbers, two_numbers, dashed, digit_of, hex_text, number_of, words_of, is_label, AreBytes, arguments_of, line_text, line_words, name_of, spaced, AreSome, IsLine, IsSayable, Says}, LineLemmas.parse-said, Numerals.{IsWord, decimal_digits, decimal_word, hex_argument-printed, hex_word, label_argument-printed, label_word, number_of-printed}, Spaces.{AreWords, spaced_printable, spaced_says, words_of-spaced}}
 
 name_word : (op : Op) → IsWord (name_of op)
 name_word (Put block off bytes) = record { some = omega arith; bytes = refl }

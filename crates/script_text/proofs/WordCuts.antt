@@ -1,6 +1,5 @@
 -- Words that are cut off a line one after the other.
-use Rattle.script_text.proofs.Words.{◌≡◌, ◌≤◌, ◌+◌, drop_more, length-drop, get_or, ◌∙◌, sym, refl, ap, ℕ, ◌<◌, true, Bor, List, [], ◌∷◌, ◌++◌, length, take, drop, arith, append-nil, take-append-drop, take-map, list_all, is_printable, words_of, is_word_byte, texts, word_before}
-use Rattle.script_text.proofs.Spaces.{printable_cut, printable_last, words_of-cut, words_of-last}
+use Rattle.script_text.proofs.{Words.{◌≡◌, ◌≤◌, ◌+◌, drop_more, length-drop, get_or, ◌∙◌, sym, refl, ap, ℕ, ◌<◌, true, Bor, List, [], ◌∷◌, ◌++◌, length, take, drop, arith, append-nil, take-append-drop, take-map, list_all, is_printable, words_of, is_word_byte, texts, word_before}, Spaces.{printable_cut, printable_last, words_of-cut, words_of-last}}
 
 before_some : (word : List ℕ) (words : List (List ℕ)) → 0 < length word → word_before word words ≡ word ∷ words
 before_some [] words some = absurd (omega (arith, some))

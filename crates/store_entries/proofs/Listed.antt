@@ -1,9 +1,6 @@
 -- The calls of the transactions of a legal list answer in order.
-use Rattle.store_entries.proofs.Words.{◌≡◌, ◌∙◌, sym, refl, ap, subst, ℕ, ◌+◌, ◌-◌, ◌<◌, ◌≤◌, ◌==◌, true, false, IfSome, List, [], ◌∷◌, ◌++◌, length, length-append, append_assoc, Option, Some, slice_get, arith, and_parts, AllByRecursion, AnswersByOne, AreLoose, GroupReply, IsInPlace, MemberEnd, World, after_history, commits_as, commits_made, ends_bare, extends_itself, extends_on, group_is, lost_commits, member_numbers, members_of, replies_of, txs_of, Access, Commit, EndReply, Committed, ReadOnly, Array, has_write, own, History, array_at, last, appended, Live, Extends, IsWorld, slice_get_append_left, Entry, Fits, IsLegal, LegalFrom, IsIsolatedAt, Start, State, after, after_all, is_live, live_of, opened, racked, state_at, tx_of, follows_all, last_longer, after_append, legal_append, times, AreMixed, BothByMap, BothInOrder, BothWellFormed, IsByBoth, IsOfBoth, firsts, accesses_in, IsOfItsBlocks, MapStore, if_some, last_of, both_commits, both_live, both_read_only, both_well_formed, image_hash, image_tree, hash_blocks, tree_blocks, array_extends, AreByCalls, AreCallsInOrderAt, CommitsAreByCalls, StoresAnswerAt, FilesAnswerAt, file_blocks_are, image_files, StoresAreWell, begin_array, commit_at, world_at}
+use Rattle.store_entries.proofs.{Words.{◌≡◌, ◌∙◌, sym, refl, ap, subst, ℕ, ◌+◌, ◌-◌, ◌<◌, ◌≤◌, ◌==◌, true, false, IfSome, List, [], ◌∷◌, ◌++◌, length, length-append, append_assoc, Option, Some, slice_get, arith, and_parts, AllByRecursion, AnswersByOne, AreLoose, GroupReply, IsInPlace, MemberEnd, World, after_history, commits_as, commits_made, ends_bare, extends_itself, extends_on, group_is, lost_commits, member_numbers, members_of, replies_of, txs_of, Access, Commit, EndReply, Committed, ReadOnly, Array, has_write, own, History, array_at, last, appended, Live, Extends, IsWorld, slice_get_append_left, Entry, Fits, IsLegal, LegalFrom, IsIsolatedAt, Start, State, after, after_all, is_live, live_of, opened, racked, state_at, tx_of, follows_all, last_longer, after_append, legal_append, times, AreMixed, BothByMap, BothInOrder, BothWellFormed, IsByBoth, IsOfBoth, firsts, accesses_in, IsOfItsBlocks, MapStore, if_some, last_of, both_commits, both_live, both_read_only, both_well_formed, image_hash, image_tree, hash_blocks, tree_blocks, array_extends, AreByCalls, AreCallsInOrderAt, CommitsAreByCalls, StoresAnswerAt, FilesAnswerAt, file_blocks_are, image_files, StoresAreWell, begin_array, commit_at, world_at}, Members.{bare_at, decides, made_at}, Numbers.{end_is_next, end_writes_not}, Since.{IsBy, IsByAt, IsOf, IsSince, all_made, by_first, by_next, live_is}}
 use Rattle.iso_shared.specs.declared.entry.Entry.TheVariants as entry
-use Rattle.store_entries.proofs.Members.{bare_at, decides, made_at}
-use Rattle.store_entries.proofs.Numbers.{end_is_next, end_writes_not}
-use Rattle.store_entries.proofs.Since.{IsBy, IsByAt, IsOf, IsSince, all_made, by_first, by_next, live_is}
 
 -- a transaction that an end takes back is live
 ends_live : (S : State) (e : Entry) → Fits S e → (k : ℕ) (accesses : List Access) (r : EndReply) → e ≡ entry.End k accesses r → is_live k S.world.live ≡ true

@@ -1,7 +1,5 @@
 -- A call of the hash store or of the tree store, as a part of a transaction that calls both in disjoint areas.
-use Rattle.store_laws.proofs.Words.{◌≡◌, ℕ, true, false, List, [], ◌∷◌, ◌++◌, Result, Ok, arith, inl, inr, nat_tests, Area, StoreError, Array, Program, HasEnded, IsLocalCall, Tx, added, First, Second, IsMadeOfStores, StorePart, AreDisjoint, KeyCall, StoreAnswer, in_area, hash_store, TreeCall, tree_store, WriteWithin}
-use Rattle.store_laws.proofs.BothGrowth.{first_called, second_called}
-use Rattle.store_laws.proofs.Programs.{spare_where_apart}
+use Rattle.store_laws.proofs.{Words.{◌≡◌, ℕ, true, false, List, [], ◌∷◌, ◌++◌, Result, Ok, arith, inl, inr, nat_tests, Area, StoreError, Array, Program, HasEnded, IsLocalCall, Tx, added, First, Second, IsMadeOfStores, StorePart, AreDisjoint, KeyCall, StoreAnswer, in_area, hash_store, TreeCall, tree_store, WriteWithin}, BothGrowth.{first_called, second_called}, Programs.spare_where_apart}
 
 -- blocks of the one area are none of the other
 pub disjoint_blocks : (a b : Area) → AreDisjoint a b → (k : ℕ) → in_area a k ≡ true → in_area b k ≡ false

@@ -1,6 +1,5 @@
 -- A transaction grows by calls of two stores and by other accesses.
-use Rattle.store_laws.proofs.Words.{◌≡◌, ◌⊎◌, ◌∙◌, sym, refl, ap, subst, List, [], ◌∷◌, ◌++◌, append_assoc, append-nil, Some, Access, Commit, Serial, Array, own, History, array_at, added_is, own_append, HasRead, IsLocalCall, Tx, added, with_accesses, AreMixed, First, IsOfBoth, Mixed, MixedParts, Neither, Second, firsts, seconds, IsMadeOfBoth, accesses_in, calls_in, MapStore, SpareRegion}
-use Rattle.store_laws.proofs.Growth.{reads_spare}
+use Rattle.store_laws.proofs.{Words.{◌≡◌, ◌⊎◌, ◌∙◌, sym, refl, ap, subst, List, [], ◌∷◌, ◌++◌, append_assoc, append-nil, Some, Access, Commit, Serial, Array, own, History, array_at, added_is, own_append, HasRead, IsLocalCall, Tx, added, with_accesses, AreMixed, First, IsOfBoth, Mixed, MixedParts, Neither, Second, firsts, seconds, IsMadeOfBoth, accesses_in, calls_in, MapStore, SpareRegion}, Growth.reads_spare}
 
 module _ (s t : MapStore) where
   abbrev pub accesses_of_all : MixedParts s t → List Access

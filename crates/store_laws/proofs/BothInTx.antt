@@ -1,14 +1,9 @@
 -- Gets behind puts into a hash store and into a tree store, in one transaction.
-use Rattle.store_laws.proofs.Words.{◌≡◌, ◌∙◌, sym, ap, subst, ℕ, List, [], ◌∷◌, Option, Some, Ok, get, insert, Area, Region, Array, IsHashArea, IsHashRegion, get_op, hash_map, put_op, IsTreeArea, IsTreeRegion, tree_map, HasEnded, IsLocalCall, area_of, Tx, added, First, Second, StorePart, AreDisjoint, Get, Got, Put, WasPut, hash_store, hash_is_of_its_blocks, OnKey, tree_store, tree_is_of_its_blocks}
+use Rattle.store_laws.proofs.{Words.{◌≡◌, ◌∙◌, sym, ap, subst, ℕ, List, [], ◌∷◌, Option, Some, Ok, get, insert, Area, Region, Array, IsHashArea, IsHashRegion, get_op, hash_map, put_op, IsTreeArea, IsTreeRegion, tree_map, HasEnded, IsLocalCall, area_of, Tx, added, First, Second, StorePart, AreDisjoint, Get, Got, Put, WasPut, hash_store, hash_is_of_its_blocks, OnKey, tree_store, tree_is_of_its_blocks}, BothCalls.{hash_part, tree_part}, BothGrowth.both_begun, KeyCalls.{got_local, put_local}, PutAndGet.{gets_what_was_put, same_got}, TwoStores.both_live}
 use Rattle.store_model.specs.HashCalls as hash
 use Rattle.store_model.specs.TreeCalls as tree
-use Rattle.store_laws.proofs.BothCalls.{hash_part, tree_part}
-use Rattle.store_laws.proofs.BothGrowth.{both_begun}
 use Rattle.store_laws.proofs.HashWrites as hash_writes
-use Rattle.store_laws.proofs.KeyCalls.{got_local, put_local}
-use Rattle.store_laws.proofs.PutAndGet.{gets_what_was_put, same_got}
 use Rattle.store_laws.proofs.TreeWrites as tree_writes
-use Rattle.store_laws.proofs.TwoStores.{both_live}
 
 -- what the four calls promise of their answers
 pub record HavePutAndGot (a b : Area) (key one two : List ℕ) (t u v w x : Tx) (r s : Option (List ℕ)) : Type 0 where

@@ -1,7 +1,5 @@
 -- Regions of zeros are well-formed regions of the file store, and hold no file.
-use Rattle.store_laws.proofs.Words.{◌≡◌, ◌∙◌, sym, ap, subst, ℕ, zero, suc, ◌+◌, ◌<◌, ◌≤◌, true, false, List, Option, Some, None, length, take, replicate, arith, list_all, empty, get, both_ways, length-replicate, take-replicate, Array, is_zero, map_bit, block_at, zeros, tree_map, nat_list_cmp_total, option_map, nat_cmp, slice_cmp, get-empty, same_map, slice_cmp-IsAntisymmetric, nat_cmp-IsAntisymmetric, FileAreas, number_of, AreFileAreas, AreFileRegions, Uses, content, files, number_at, files_get}
-use Rattle.store_laws.proofs.TreeBlank.{blank_map, blank_region}
-use Rattle.store_laws.proofs.Zeros.{no_bit_in_zeros, zeros_blank}
+use Rattle.store_laws.proofs.{Words.{◌≡◌, ◌∙◌, sym, ap, subst, ℕ, zero, suc, ◌+◌, ◌<◌, ◌≤◌, true, false, List, Option, Some, None, length, take, replicate, arith, list_all, empty, get, both_ways, length-replicate, take-replicate, Array, is_zero, map_bit, block_at, zeros, tree_map, nat_list_cmp_total, option_map, nat_cmp, slice_cmp, get-empty, same_map, slice_cmp-IsAntisymmetric, nat_cmp-IsAntisymmetric, FileAreas, number_of, AreFileAreas, AreFileRegions, Uses, content, files, number_at, files_get}, TreeBlank.{blank_map, blank_region}, Zeros.{no_bit_in_zeros, zeros_blank}}
 
 no_value : {X : Type 0} (x : X) → ◌≡◌ {A = Option X} None (Some x) → ⊥
 no_value x e = cc

@@ -1,9 +1,5 @@
 -- A call of the hash store or of the file store, as a part of a transaction that calls both in disjoint areas; calls that read alone.
-use Rattle.store_laws.proofs.Words.{◌≡◌, ◌∙◌, sym, ap, subst, ℕ, ◌||◌, Bool, true, false, List, [], ◌∷◌, ◌++◌, Result, Ok, inl, inr, both_ways, Area, StoreError, Array, Program, HasEnded, IsLocalCall, Tx, added, First, Second, AreDisjoint, KeyCall, StoreAnswer, in_area, hash_store, WriteWithin, AreReads, MapStore, MixedParts, Neither, accesses_of, added_is, own, whole_run, with_accesses, cases_Bool, FileAreas, Call, HasRun, Ran, Mixed, FileAnswer, FileCall, file_store, in_areas, IsMadeOfBoth}
-use Rattle.store_laws.proofs.BothCalls.{disjoint_blocks}
-use Rattle.store_laws.proofs.BothGrowth.{both_other, first_called, second_called}
-use Rattle.store_laws.proofs.Growth.{reads_spare}
-use Rattle.store_laws.proofs.Programs.{spare_where_apart}
+use Rattle.store_laws.proofs.{Words.{◌≡◌, ◌∙◌, sym, ap, subst, ℕ, ◌||◌, Bool, true, false, List, [], ◌∷◌, ◌++◌, Result, Ok, inl, inr, both_ways, Area, StoreError, Array, Program, HasEnded, IsLocalCall, Tx, added, First, Second, AreDisjoint, KeyCall, StoreAnswer, in_area, hash_store, WriteWithin, AreReads, MapStore, MixedParts, Neither, accesses_of, added_is, own, whole_run, with_accesses, cases_Bool, FileAreas, Call, HasRun, Ran, Mixed, FileAnswer, FileCall, file_store, in_areas, IsMadeOfBoth}, BothCalls.disjoint_blocks, BothGrowth.{both_other, first_called, second_called}, Growth.reads_spare, Programs.spare_where_apart}
 
 -- a call that read alone, as other accesses of a transaction that calls two stores
 pub reads_beside : {E X : Type 0} (s t : MapStore) (p : Program (Result X E)) (A : Array) (x y : Tx) (parts : MixedParts s t) (r : X) → ((B : Array) → AreReads (accesses_of p B))

@@ -1,7 +1,6 @@
 -- The calls of the file store write blocks of its areas alone.
-use Rattle.store_laws.proofs.Words.{◌≡◌, refl, sym, ap, subst, ℕ, zero, suc, ◌+◌, ◌-◌, ◌<◌, ◌&&◌, ◌||◌, Bool, true, false, cond, nat_le, nat_lt, List, [], ◌∷◌, ◌++◌, length, take, Option, Some, None, Result, Ok, Err, arith, inl, inr, and_parts, both_ways, nat_tests, get_or, get_or_past, StoreError, Access, Span, Array, IsIn, Program, Done, Look, LookWhole, Reserve, Store, accesses_of, bytes_in, further_bytes, store_access, then_do, own, put, is_write, is_key, free_list, get_reads, taken_are, in_area, in_its_area, start_in, StoresIn, whole_run, Tx, added, WriteWithin, all_append, block_at, lowest_free, free_count, cases_lt, or_right, first_below, answer_of, FileAreas, blocks_for, bytes_of, data_count, entries_of, entry_at, is_file, is_handed, is_number, most_bytes, number_of, Call, at_file, create_at, create_new, create_program, goes_on, in_tree, is_many, read_program, remove_file, remove_program, remove_writes, rename_found, rename_free, rename_program, with_new, write_pieces, write_program, write_sized, write_to, AreFileAreas, accesses_then, del_program_stores, put_program_stores, HasRun, place_in, read_reads, entry_handed, file_parts, handed_is, in_range_map, file_store, in_areas}
+use Rattle.store_laws.proofs.{Words.{◌≡◌, refl, sym, ap, subst, ℕ, zero, suc, ◌+◌, ◌-◌, ◌<◌, ◌&&◌, ◌||◌, Bool, true, false, cond, nat_le, nat_lt, List, [], ◌∷◌, ◌++◌, length, take, Option, Some, None, Result, Ok, Err, arith, inl, inr, and_parts, both_ways, nat_tests, get_or, get_or_past, StoreError, Access, Span, Array, IsIn, Program, Done, Look, LookWhole, Reserve, Store, accesses_of, bytes_in, further_bytes, store_access, then_do, own, put, is_write, is_key, free_list, get_reads, taken_are, in_area, in_its_area, start_in, StoresIn, whole_run, Tx, added, WriteWithin, all_append, block_at, lowest_free, free_count, cases_lt, or_right, first_below, answer_of, FileAreas, blocks_for, bytes_of, data_count, entries_of, entry_at, is_file, is_handed, is_number, most_bytes, number_of, Call, at_file, create_at, create_new, create_program, goes_on, in_tree, is_many, read_program, remove_file, remove_program, remove_writes, rename_found, rename_free, rename_program, with_new, write_pieces, write_program, write_sized, write_to, AreFileAreas, accesses_then, del_program_stores, put_program_stores, HasRun, place_in, read_reads, entry_handed, file_parts, handed_is, in_range_map, file_store, in_areas}, Programs.{reads_within, writes_within}}
 use Rattle.store_model.specs.TreeCalls.{del_program, get_program, put_program}
-use Rattle.store_laws.proofs.Programs.{reads_within, writes_within}
 
 -- on each array it writes blocks of the areas alone
 pub record WritesIn {R : Type 0} (a : FileAreas) (p : Program R) : Type 0 where

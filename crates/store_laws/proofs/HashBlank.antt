@@ -1,6 +1,5 @@
 -- A region of zeros is a well-formed hash region, and its map is empty.
-use Rattle.store_laws.proofs.Words.{◌≡◌, ◌∙◌, sym, refl, ap, subst, ℕ, zero, suc, ◌+◌, ◌<◌, ◌≤◌, true, false, ◌==◌, cond, List, [], ◌∷◌, ◌++◌, length, get_or, take, replicate, arith, inl, inr, flat_map, list_all, range_with_len, from_be_bytes, w32, empty, from_entries, and_from, both_ways, length-replicate, take-replicate, Area, Array, are_key_parts, cell_count, is_part, is_unused, is_zero, key_mark, keys_end, keys_mark, value_mark, word_at, map_bit, AreLinked, IsHashArea, IsHashRegion, IsIn, IsOverflow, Stands, bucket_pairs, buckets, chain, chain_from, hash_map, is_linked, last_position, next_of, pairs_from, view_of, block_at, bytes_in, all_pass, piece_zero}
-use Rattle.store_laws.proofs.Zeros.{no_bit_in_zeros}
+use Rattle.store_laws.proofs.{Words.{◌≡◌, ◌∙◌, sym, refl, ap, subst, ℕ, zero, suc, ◌+◌, ◌<◌, ◌≤◌, true, false, ◌==◌, cond, List, [], ◌∷◌, ◌++◌, length, get_or, take, replicate, arith, inl, inr, flat_map, list_all, range_with_len, from_be_bytes, w32, empty, from_entries, and_from, both_ways, length-replicate, take-replicate, Area, Array, are_key_parts, cell_count, is_part, is_unused, is_zero, key_mark, keys_end, keys_mark, value_mark, word_at, map_bit, AreLinked, IsHashArea, IsHashRegion, IsIn, IsOverflow, Stands, bucket_pairs, buckets, chain, chain_from, hash_map, is_linked, last_position, next_of, pairs_from, view_of, block_at, bytes_in, all_pass, piece_zero}, Zeros.no_bit_in_zeros}
 
 no_pairs : (keys : List ℕ) (value : ℕ → List ℕ) (i n : ℕ) → ((j : ℕ) → i ≤ j → j < i + n → is_unused keys j ≡ true) → pairs_from keys value i n ≡ []
 no_pairs keys value i zero unused = refl

@@ -1,6 +1,5 @@
 -- The calls of the hash store write blocks of its area alone.
-use Rattle.store_laws.proofs.Words.{◌≡◌, refl, ℕ, zero, suc, ◌+◌, ◌<◌, Bool, true, false, ◌==◌, not, List, Option, Some, None, IfSome, Ok, arith, eqb-false, Area, Spot, Array, cell_with, unused_cell, lowest_free, map_bit, AtBroken, AtCell, AtEnd, Walked, at_cell, del_at, del_program, get_program, got, is_spent, put_at, put_new, put_program, spare_in, spot_in, walk, walk_from, IsHashArea, bucket_of, buckets, is_linked, last_position, next_of, Done, Program, HasEnded, Tx, added, head_of, next_in, bucket_below, first_below, in_its_area, start_in, in_area, hash_store, WriteWithin, Answers, StoresIn, answers_cond, stores_cell, stores_cond, stores_then}
-use Rattle.store_laws.proofs.Programs.{ended_within}
+use Rattle.store_laws.proofs.{Words.{◌≡◌, refl, ℕ, zero, suc, ◌+◌, ◌<◌, Bool, true, false, ◌==◌, not, List, Option, Some, None, IfSome, Ok, arith, eqb-false, Area, Spot, Array, cell_with, unused_cell, lowest_free, map_bit, AtBroken, AtCell, AtEnd, Walked, at_cell, del_at, del_program, get_program, got, is_spent, put_at, put_new, put_program, spare_in, spot_in, walk, walk_from, IsHashArea, bucket_of, buckets, is_linked, last_position, next_of, Done, Program, HasEnded, Tx, added, head_of, next_in, bucket_below, first_below, in_its_area, start_in, in_area, hash_store, WriteWithin, Answers, StoresIn, answers_cond, stores_cell, stores_cond, stores_then}, Programs.ended_within}
 
 -- where a walk ends lies in the area
 abbrev EndsIn : Area → Walked → Type 0

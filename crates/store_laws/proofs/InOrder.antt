@@ -1,6 +1,5 @@
 -- The calls of a transaction answer as one thread's calls on a map.
-use Rattle.store_laws.proofs.Words.{◌≡◌, ◌⊎◌, ◌∙◌, sym, refl, ap, subst, ℕ, ◌-◌, ◌<◌, ◌≤◌, Bool, true, false, cond, IsTrue, List, [], ◌∷◌, ◌++◌, Some, slice_get, inl, inr, both_ways, Access, Commit, Array, put, IsSerialAt, is_write, own, History, array_at, block_at, SameShape, other_block, own_append, IsOfItsBlocks, SameRegion, SpareRegion, MapStore, AnswerInOrder, AreMade, Called, Other, Part, accesses_in, calls_in, run}
-use Rattle.store_laws.proofs.SameReads.{SameReads, agree_where, array_next, next, reads_split, same_shape_at, same_shape_own, serial_reads}
+use Rattle.store_laws.proofs.{Words.{◌≡◌, ◌⊎◌, ◌∙◌, sym, refl, ap, subst, ℕ, ◌-◌, ◌<◌, ◌≤◌, Bool, true, false, cond, IsTrue, List, [], ◌∷◌, ◌++◌, Some, slice_get, inl, inr, both_ways, Access, Commit, Array, put, IsSerialAt, is_write, own, History, array_at, block_at, SameShape, other_block, own_append, IsOfItsBlocks, SameRegion, SpareRegion, MapStore, AnswerInOrder, AreMade, Called, Other, Part, accesses_in, calls_in, run}, SameReads.{SameReads, agree_where, array_next, next, reads_split, same_shape_at, same_shape_own, serial_reads}}
 
 spare_access : (s : MapStore) (a : Access) (test : Bool) (A : Array) (b : ℕ) → (IsTrue test → s.has_block a.block ≡ false) → s.has_block b ≡ true
     → block_at (cond test (put A a) A) b ≡ block_at A b

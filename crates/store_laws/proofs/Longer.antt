@@ -1,6 +1,5 @@
 -- A history stays one whose commits write a region, or two, by calls alone, as commits come to it.
-use Rattle.store_laws.proofs.Words.{◌≡◌, ◌⊎◌, ◌∙◌, sym, refl, ap, subst, ℕ, zero, suc, ◌+◌, ◌-◌, ◌<◌, ◌≤◌, IfSome, List, [], ◌∷◌, ◌++◌, length, Option, Some, slice_get, arith, inl, inr, cases_lt, length-append, take-append-le, Commit, Geometry, Serial, Array, History, all_own, array_at, last, HasSeen, IsIsolated, IsHistory, appended, slice_get_append_left, Tx, AreMixed, BothWellFormed, IsByBoth, IsOfBoth, IsMadeOf, AreMade, IsByCalls, IsOfCalls, Part, calls_in, MapStore}
-use Rattle.store_laws.proofs.Histories.{two_if}
+use Rattle.store_laws.proofs.{Words.{◌≡◌, ◌⊎◌, ◌∙◌, sym, refl, ap, subst, ℕ, zero, suc, ◌+◌, ◌-◌, ◌<◌, ◌≤◌, IfSome, List, [], ◌∷◌, ◌++◌, length, Option, Some, slice_get, arith, inl, inr, cases_lt, length-append, take-append-le, Commit, Geometry, Serial, Array, History, all_own, array_at, last, HasSeen, IsIsolated, IsHistory, appended, slice_get_append_left, Tx, AreMixed, BothWellFormed, IsByBoth, IsOfBoth, IsMadeOf, AreMade, IsByCalls, IsOfCalls, Part, calls_in, MapStore}, Histories.two_if}
 
 pub array_longer : (H : History) (c : Commit) (n : ℕ) → 0 < H.first → n ≤ last H → array_at (appended H c) n ≡ array_at H n
 array_longer H c n first before = ap (all_own H.base) (take-append-le (n + 1 - H.first) H.commits (c ∷ []) (omega arith))

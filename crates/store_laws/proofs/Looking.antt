@@ -1,9 +1,5 @@
 -- A transaction that calls a store and looks into another one: its calls answer in order, and each look by what it came to.
-use Rattle.store_laws.proofs.Words.{◌≡◌, sym, subst, ℕ, ◌-◌, ◌<◌, ◌≤◌, IfSome, List, [], ◌∷◌, inr, arith, slice_get, Access, Commit, Geometry, Mode, Serial, Array, own, History, array_at, last, HasSeen, IsIsolatedAt, IsSerialAt, SameShape, First, MixedParts, Neither, Second, firsts, AnswerInOrder, AreMade, IsByCalls, accesses_in, IsOfItsBlocks, MapStore, SameRegion, AreLooking, LooksAnswer}
-use Rattle.store_laws.proofs.Growth.{reads_spare}
-use Rattle.store_laws.proofs.Histories.{commit_follows, if_some, well_formed_at}
-use Rattle.store_laws.proofs.InOrder.{reads_same, region_stays, same_shape}
-use Rattle.store_laws.proofs.SameReads.{SameReads, agree_where, reads_split, same_shape_at, same_shape_own, serial_reads}
+use Rattle.store_laws.proofs.{Words.{◌≡◌, sym, subst, ℕ, ◌-◌, ◌<◌, ◌≤◌, IfSome, List, [], ◌∷◌, inr, arith, slice_get, Access, Commit, Geometry, Mode, Serial, Array, own, History, array_at, last, HasSeen, IsIsolatedAt, IsSerialAt, SameShape, First, MixedParts, Neither, Second, firsts, AnswerInOrder, AreMade, IsByCalls, accesses_in, IsOfItsBlocks, MapStore, SameRegion, AreLooking, LooksAnswer}, Growth.reads_spare, Histories.{commit_follows, if_some, well_formed_at}, InOrder.{reads_same, region_stays, same_shape}, SameReads.{SameReads, agree_where, reads_split, same_shape_at, same_shape_own, serial_reads}}
 
 module _ (s t : MapStore) (regional : IsOfItsBlocks s) (within : (A : Array) → s.IsWellFormed A → t.IsWellFormed A) where
   -- to the store, looks are other accesses

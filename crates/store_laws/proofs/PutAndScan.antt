@@ -1,9 +1,6 @@
 -- A scan behind a put, in one transaction.
-use Rattle.store_laws.proofs.Words.{◌≡◌, ◌⊎◌, sym, ap, subst, ℕ, List, [], ◌∷◌, Some, Ok, Err, IfOk, Result, insert, Area, Region, StoreError, Array, put_op, scan_program, IsTreeArea, IsTreeRegion, scan_op, tree_map, HasEnded, IsLocalCall, WantsMemory, area_of, scanned_ok, Tx, added, Found, Put, WasPut, Called, OnKey, Scan, tree_store, tree_is_of_its_blocks}
+use Rattle.store_laws.proofs.{Words.{◌≡◌, ◌⊎◌, sym, ap, subst, ℕ, List, [], ◌∷◌, Some, Ok, Err, IfOk, Result, insert, Area, Region, StoreError, Array, put_op, scan_program, IsTreeArea, IsTreeRegion, scan_op, tree_map, HasEnded, IsLocalCall, WantsMemory, area_of, scanned_ok, Tx, added, Found, Put, WasPut, Called, OnKey, Scan, tree_store, tree_is_of_its_blocks}, Growth.{begun, called}, InOrder.live_in_order, KeyCalls.{put_local, scan_local}}
 use Rattle.store_model.specs.TreeCalls.{put_program}
-use Rattle.store_laws.proofs.Growth.{begun, called}
-use Rattle.store_laws.proofs.InOrder.{live_in_order}
-use Rattle.store_laws.proofs.KeyCalls.{put_local, scan_local}
 
 -- what the second of two calls answered
 same_found : (xs ys : List (List ℕ × List ℕ)) → WasPut ∷ Found xs ∷ [] ≡ WasPut ∷ Found ys ∷ [] → xs ≡ ys

@@ -1,7 +1,5 @@
 -- Counters in the first bytes of blocks, as stores: what the laws say of additions, and what they refuse.
-use Rattle.store_laws.proofs.Words.{◌≡◌, ◌∙◌, sym, refl, ap, ℕ, zero, suc, ◌+◌, ◌==◌, true, false, List, [], ◌∷◌, length, replicate, slice_get, arith, inr, eq-eqb, get_or, Access, Commit, Serial, Span, Array, byte_at, put, zeros, IsSerialAt, own, History, array_at, block_at, IsLocal, depends, look_access, store_access, length-block_put, put_here, if_some_from, AnswerInOrder, AreMade, Called, Part, accesses_in, run, IsOfItsBlocks, SpareRegion, MapStore, BothInOrder, First, MixedParts, Second, firsts}
-use Rattle.store_laws.proofs.InOrder.{commit_by}
-use Rattle.store_laws.proofs.TwoStores.{both_live}
+use Rattle.store_laws.proofs.{Words.{◌≡◌, ◌∙◌, sym, refl, ap, ℕ, zero, suc, ◌+◌, ◌==◌, true, false, List, [], ◌∷◌, length, replicate, slice_get, arith, inr, eq-eqb, get_or, Access, Commit, Serial, Span, Array, byte_at, put, zeros, IsSerialAt, own, History, array_at, block_at, IsLocal, depends, look_access, store_access, length-block_put, put_here, if_some_from, AnswerInOrder, AreMade, Called, Part, accesses_in, run, IsOfItsBlocks, SpareRegion, MapStore, BothInOrder, First, MixedParts, Second, firsts}, InOrder.commit_by, TwoStores.both_live}
 
 -- a counter in the first byte of a block: a call adds a number, and answers what was there
 abbrev counter_in : ℕ → MapStore

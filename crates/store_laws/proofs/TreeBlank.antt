@@ -1,6 +1,5 @@
 -- A region of zeros is a well-formed tree region, and its map is empty.
-use Rattle.store_laws.proofs.Words.{◌≡◌, ◌∙◌, sym, ap, subst, ℕ, ◌+◌, ◌<◌, ◌≤◌, ◌==◌, Bool, true, false, cond, List, [], length, replicate, arith, inl, eq-eqb, list_all, from_be_bytes, w32, empty, from_entries, both_ways, nat_tests, length-replicate, Area, Array, is_zero, word_at, map_bit, IsIn, block_at, bytes_in, head_mark, is_head, IsApart, nodes_in, pairs_in, tree_at, IsTreeArea, IsTreeRegion, cells_in, level_of, root_of, tree_map, tree_nodes, piece_zero}
-use Rattle.store_laws.proofs.Zeros.{no_bit_in_zeros}
+use Rattle.store_laws.proofs.{Words.{◌≡◌, ◌∙◌, sym, ap, subst, ℕ, ◌+◌, ◌<◌, ◌≤◌, ◌==◌, Bool, true, false, cond, List, [], length, replicate, arith, inl, eq-eqb, list_all, from_be_bytes, w32, empty, from_entries, both_ways, nat_tests, length-replicate, Area, Array, is_zero, word_at, map_bit, IsIn, block_at, bytes_in, head_mark, is_head, IsApart, nodes_in, pairs_in, tree_at, IsTreeArea, IsTreeRegion, cells_in, level_of, root_of, tree_map, tree_nodes, piece_zero}, Zeros.no_bit_in_zeros}
 
 module _ (a : Area) (A : Array) (area : IsTreeArea a) (blank : (k : ℕ) → k < a.blocks → block_at A (a.start + k) ≡ replicate a.size 0) where
   blank_first : block_at A a.start ≡ replicate a.size 0

@@ -1,7 +1,6 @@
 -- The calls of the tree store write blocks of its area alone.
-use Rattle.store_laws.proofs.Words.{◌≡◌, ℕ, Bool, List, Option, Some, Ok, Area, Array, HasEnded, IsTreeArea, scan_program, Tx, added, get_reads, program_reads, tree_store, WriteWithin}
+use Rattle.store_laws.proofs.{Words.{◌≡◌, ℕ, Bool, List, Option, Some, Ok, Area, Array, HasEnded, IsTreeArea, scan_program, Tx, added, get_reads, program_reads, tree_store, WriteWithin}, Programs.{ended_within, read_within}}
 use Rattle.store_model.specs.TreeCalls.{del_program, get_program, put_program}
-use Rattle.store_laws.proofs.Programs.{ended_within, read_within}
 pub use Rattle.iso_tree.proofs.TreeWrites.{del_program_stores, put_program_stores}
 
 pub get_within : (a : Area) (key : List ℕ) (A : Array) (t u : Tx) (r : Option (List ℕ)) → t.base ≡ Some A → HasEnded (get_program a key) t u (Ok r) → WriteWithin (tree_store a) (added t u)

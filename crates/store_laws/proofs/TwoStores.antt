@@ -1,7 +1,5 @@
 -- What a transaction that calls two stores is to each of them.
-use Rattle.store_laws.proofs.Words.{◌≡◌, ◌∙◌, refl, ap, subst, ℕ, ◌-◌, ◌<◌, ◌≤◌, IfSome, false, List, [], ◌∷◌, ◌++◌, Some, slice_get, inl, inr, Access, Commit, Geometry, Array, IsSerialAt, has_write, own, History, array_at, last, AreMixed, BothByMap, BothInOrder, BothWellFormed, First, IsByBoth, IsOfBoth, MixedParts, Neither, Second, firsts, seconds, AnswerInOrder, AreMade, IsByCalls, IsOfCalls, accesses_in, IsOfItsBlocks, MapStore}
-use Rattle.store_laws.proofs.Histories.{commits_in_order, if_some, read_only_at, two_if, well_formed_at}
-use Rattle.store_laws.proofs.InOrder.{commit_by, live_in_order}
+use Rattle.store_laws.proofs.{Words.{◌≡◌, ◌∙◌, refl, ap, subst, ℕ, ◌-◌, ◌<◌, ◌≤◌, IfSome, false, List, [], ◌∷◌, ◌++◌, Some, slice_get, inl, inr, Access, Commit, Geometry, Array, IsSerialAt, has_write, own, History, array_at, last, AreMixed, BothByMap, BothInOrder, BothWellFormed, First, IsByBoth, IsOfBoth, MixedParts, Neither, Second, firsts, seconds, AnswerInOrder, AreMade, IsByCalls, IsOfCalls, accesses_in, IsOfItsBlocks, MapStore}, Histories.{commits_in_order, if_some, read_only_at, two_if, well_formed_at}, InOrder.{commit_by, live_in_order}}
 
 -- each store sees the same accesses
 pub same_accesses : (s t : MapStore) (parts : MixedParts s t) → accesses_in (seconds parts) ≡ accesses_in (firsts parts)

@@ -1,7 +1,6 @@
 -- Worked examples of the file store, by computation.
-use Rattle.store_model.proofs.Words.{Ok, Err, map, Access, Span, Kind, Read, Write, Array, zeros, put, own, is_node, accesses_of, answer_of, BadRange, Exists, FileAreas, is_file, Call, create_program, read_program, write_program, rename_program, remove_program}
+use Rattle.store_model.{proofs.Words.{Ok, Err, map, Access, Span, Kind, Read, Write, Array, zeros, put, own, is_node, accesses_of, answer_of, BadRange, Exists, FileAreas, is_file, Call, create_program, read_program, write_program, rename_program, remove_program}, specs.TreeCalls.{get_program, put_program, del_program}}
 use Rattle.std.specs.Prelude.{◌≡◌, ℕ, List, [], ◌∷◌, None, Some, true, refl}
-use Rattle.store_model.specs.TreeCalls.{get_program, put_program, del_program}
 
 abbrev place : FileAreas
 place = record { tree = record { size = 256; start = 0; blocks = 4 }; files = record { size = 256; start = 4; blocks = 12 } }

@@ -1,7 +1,5 @@
 -- The accesses of the hash store's calls are accesses to the array.
-use Rattle.store_model.proofs.Words.{◌≡◌, ◌≢◌, ◌∙◌, sym, refl, subst, inl, inr, ℕ, zero, suc, ◌+◌, ◌*◌, ◌%◌, ◌^◌, ◌<◌, ◌≤◌, Bool, true, false, ◌&&◌, ◌==◌, not, cond, IsTrue, List, [], ◌∷◌, length, Option, Some, None, IfSome, option_map, replicate, slice_index, arith, to_be_bytes, w32, and_parts, cases_Bool, false≢true, eqb-true, leb-true, ltb-true, or_cases, length-replicate, and_le_r, or_lt, xor_lt, mod-lt, mul-div-le, Geometry, Area, Spot, block_with, cell_count, cell_with, key_mark, key_part, keys_end, keys_mark, laid_at, next_mark, unused_cell, value_mark, value_part, first_from, bit_mark, bit_place, clear_bit, lowest_free, map_bit, map_mark, set_bit, is_valid, AtBroken, AtCell, AtEnd, Walked, at_cell, del_at, del_program, get_program, got, is_key, is_spent, is_value, new_block, put_at, put_new, put_program, spare_in, spot_in, walk, walk_from, walk_further, with_cell, IsHashArea, bucket_of, buckets, is_linked, last_position, next_of, AreBytes, IsAccess, IsSpan, hash_area, Done, Program, store_access, bytes_cons, no_bytes, replicate_bytes}
-use Rattle.store_model.proofs.Laying.{block_with_bytes, laid_bytes, length-block_with, length-laid_at, length-part, part_bytes, word_bytes}
-use Rattle.store_model.proofs.StoreAccesses.{AllFit, fit_cond, fit_then, stored_in}
+use Rattle.store_model.proofs.{Words.{◌≡◌, ◌≢◌, ◌∙◌, sym, refl, subst, inl, inr, ℕ, zero, suc, ◌+◌, ◌*◌, ◌%◌, ◌^◌, ◌<◌, ◌≤◌, Bool, true, false, ◌&&◌, ◌==◌, not, cond, IsTrue, List, [], ◌∷◌, length, Option, Some, None, IfSome, option_map, replicate, slice_index, arith, to_be_bytes, w32, and_parts, cases_Bool, false≢true, eqb-true, leb-true, ltb-true, or_cases, length-replicate, and_le_r, or_lt, xor_lt, mod-lt, mul-div-le, Geometry, Area, Spot, block_with, cell_count, cell_with, key_mark, key_part, keys_end, keys_mark, laid_at, next_mark, unused_cell, value_mark, value_part, first_from, bit_mark, bit_place, clear_bit, lowest_free, map_bit, map_mark, set_bit, is_valid, AtBroken, AtCell, AtEnd, Walked, at_cell, del_at, del_program, get_program, got, is_key, is_spent, is_value, new_block, put_at, put_new, put_program, spare_in, spot_in, walk, walk_from, walk_further, with_cell, IsHashArea, bucket_of, buckets, is_linked, last_position, next_of, AreBytes, IsAccess, IsSpan, hash_area, Done, Program, store_access, bytes_cons, no_bytes, replicate_bytes}, Laying.{block_with_bytes, laid_bytes, length-block_with, length-laid_at, length-part, part_bytes, word_bytes}, StoreAccesses.{AllFit, fit_cond, fit_then, stored_in}}
 
 -- the hash store of a valid image that has one
 pub hash_area_is : (g : Geometry) → IsTrue (is_valid g) → g.hash ≢ 0 → IsHashArea (hash_area g)

@@ -1,12 +1,6 @@
 -- The accesses of the tree store's calls are accesses to the array, whatever its blocks hold.
-use Rattle.store_model.proofs.Words.{◌≡◌, ◌≢◌, ◌⊎◌, ◌∙◌, sym, refl, ap, subst, inl, inr, ℕ, zero, suc, ◌+◌, ◌-◌, ◌*◌, ◌<◌, ◌≤◌, Bool, true, false, ◌&&◌, ◌==◌, not, cond, IsTrue, List, [], ◌∷◌, ◌++◌, length, take, drop, Option, Some, None, IfSome, Result, nat_le, nat_lt, option_map, slice_index, arith, eq-eqb, to_be_bytes, w32, AllByRecursion, list_all, range_with_len, bytes_eq, and_parts, eqb-false, eqb-true, leb-false, leb-true, ltb-false, ltb-true, not-true, or_cases, length-drop, length-take, or_lt, Geometry, Span, Area, StoreError, Broken, Array, block_with, cell_count, is_part, key_at, keys_end, keys_mark, laid_at, value_mark, value_part, bit_place, free_count, map_mark, set_bit, with_bit, is_valid, at_cell, is_key, is_value, AreBytes, HasShape, IsAccess, IsSpan, block_at, tree_area, Done, Program, bytes_in, further_bytes, store_access, Answer, AtLeaf, Climb, Descent, Scanned, and_then, changed_map, changed_mark, climb, climb_on, del_below, descend, edit_leaf, first_in, first_write, free_list, full_row, get_below, inner_further, last_of, leaf_further, look_again, many_in, need_of, pairs_with, parts_of, placed, put_below_root, put_writes, root_cells, scan_below, scan_children, scan_from, scan_further, scan_program, store_nodes, with_head, with_map, with_used, without_key, Cell, IsBlock, before, cell_of, child_of, child_part, count_of, head_mark, is_child, is_head, is_node, node_bytes, place_from, place_of, used_cells, IsTreeArea, Put, fit, half, halves, put_after, bytes_append, bytes_drop, bytes_take, no_bytes, set_bytes}
+use Rattle.store_model.{proofs.Words.{◌≡◌, ◌≢◌, ◌⊎◌, ◌∙◌, sym, refl, ap, subst, inl, inr, ℕ, zero, suc, ◌+◌, ◌-◌, ◌*◌, ◌<◌, ◌≤◌, Bool, true, false, ◌&&◌, ◌==◌, not, cond, IsTrue, List, [], ◌∷◌, ◌++◌, length, take, drop, Option, Some, None, IfSome, Result, nat_le, nat_lt, option_map, slice_index, arith, eq-eqb, to_be_bytes, w32, AllByRecursion, list_all, range_with_len, bytes_eq, and_parts, eqb-false, eqb-true, leb-false, leb-true, ltb-false, ltb-true, not-true, or_cases, length-drop, length-take, or_lt, Geometry, Span, Area, StoreError, Broken, Array, block_with, cell_count, is_part, key_at, keys_end, keys_mark, laid_at, value_mark, value_part, bit_place, free_count, map_mark, set_bit, with_bit, is_valid, at_cell, is_key, is_value, AreBytes, HasShape, IsAccess, IsSpan, block_at, tree_area, Done, Program, bytes_in, further_bytes, store_access, Answer, AtLeaf, Climb, Descent, Scanned, and_then, changed_map, changed_mark, climb, climb_on, del_below, descend, edit_leaf, first_in, first_write, free_list, full_row, get_below, inner_further, last_of, leaf_further, look_again, many_in, need_of, pairs_with, parts_of, placed, put_below_root, put_writes, root_cells, scan_below, scan_children, scan_from, scan_further, scan_program, store_nodes, with_head, with_map, with_used, without_key, Cell, IsBlock, before, cell_of, child_of, child_part, count_of, head_mark, is_child, is_head, is_node, node_bytes, place_from, place_of, used_cells, IsTreeArea, Put, fit, half, halves, put_after, bytes_append, bytes_drop, bytes_take, no_bytes, set_bytes}, specs.TreeCalls.{AtBroken, del_at, del_program, get_program, got, put_at, put_new, put_program}, proofs.HashAccesses.{bit_small, first_below}, proofs.Laying.{block_with_bytes, laid_bytes, length-block_with, length-laid_at, length-part, part_bytes, word_bytes}, proofs.StoreAccesses.{FitsOn, fits_cond, fits_more, fits_then, stored_in}, proofs.TreeWays.{RiseIn, rise_range, rise_filter, rise_take, last_rises, AreInside, rise_inside, free_are, Wrote, OnWay, half_less, half_rest, first_key_are, Fitting, row_less, length-placed}, proofs.TreeCells.{AreCells, IsCell, block_size_is, child_cell, drop_are, emptied_are, filter_are, length-emptied, length-filter_le, length-node, length-put, length-used, node_read, node_values, put_are, take_are, used_are, value_cell}}
 use Rattle.std.proofs.Common.{map, Ok, Err}
-use Rattle.store_model.specs.TreeCalls.{AtBroken, del_at, del_program, get_program, got, put_at, put_new, put_program}
-use Rattle.store_model.proofs.HashAccesses.{bit_small, first_below}
-use Rattle.store_model.proofs.Laying.{block_with_bytes, laid_bytes, length-block_with, length-laid_at, length-part, part_bytes, word_bytes}
-use Rattle.store_model.proofs.StoreAccesses.{FitsOn, fits_cond, fits_more, fits_then, stored_in}
-use Rattle.store_model.proofs.TreeWays.{RiseIn, rise_range, rise_filter, rise_take, last_rises, AreInside, rise_inside, free_are, Wrote, OnWay, half_less, half_rest, first_key_are, Fitting, row_less, length-placed}
-use Rattle.store_model.proofs.TreeCells.{AreCells, IsCell, block_size_is, child_cell, drop_are, emptied_are, filter_are, length-emptied, length-filter_le, length-node, length-put, length-used, node_read, node_values, put_are, take_are, used_are, value_cell}
 
 -- the tree store of a valid image that has one
 pub tree_area_is : (g : Geometry) → IsTrue (is_valid g) → g.tree ≢ 0 → IsTreeArea (tree_area g)

@@ -1,7 +1,6 @@
 -- The cells of nodes that are read and written: they fit their places, and are bytes.
-use Rattle.store_model.proofs.Words.{◌≡◌, ◌≢◌, ◌∙◌, sym, refl, ap, ℕ, zero, suc, ◌+◌, ◌-◌, ◌*◌, ◌/◌, ◌%◌, ◌<◌, ◌≤◌, Bool, true, false, ◌&&◌, ◌||◌, ◌==◌, cond, List, [], ◌∷◌, ◌++◌, length, take, drop, replicate, filter, flat_map, nat_le, get_or, inl, inr, arith, ne_eqb, AllByRecursion, to_be_bytes, w32, and_parts, cases_Bool, false≢true, leb-true, nat_tests, length-drop, length-replicate, length-take, mod-lt, all_from, are_key_parts, cell_count, is_part, key_at, key_mark, key_part, keys_end, keys_mark, value_mark, value_part, is_block_size, AreBytes, bytes_in, Cell, IsBlock, before, cells_by, child_part, count_of, has_head, has_level, is_node, node_bytes, used_cells, emptied, put_after, without_first, bytes_append, bytes_cons, bytes_drop, bytes_take, no_bytes, replicate_bytes}
+use Rattle.store_model.proofs.{Words.{◌≡◌, ◌≢◌, ◌∙◌, sym, refl, ap, ℕ, zero, suc, ◌+◌, ◌-◌, ◌*◌, ◌/◌, ◌%◌, ◌<◌, ◌≤◌, Bool, true, false, ◌&&◌, ◌||◌, ◌==◌, cond, List, [], ◌∷◌, ◌++◌, length, take, drop, replicate, filter, flat_map, nat_le, get_or, inl, inr, arith, ne_eqb, AllByRecursion, to_be_bytes, w32, and_parts, cases_Bool, false≢true, leb-true, nat_tests, length-drop, length-replicate, length-take, mod-lt, all_from, are_key_parts, cell_count, is_part, key_at, key_mark, key_part, keys_end, keys_mark, value_mark, value_part, is_block_size, AreBytes, bytes_in, Cell, IsBlock, before, cells_by, child_part, count_of, has_head, has_level, is_node, node_bytes, used_cells, emptied, put_after, without_first, bytes_append, bytes_cons, bytes_drop, bytes_take, no_bytes, replicate_bytes}, Laying.{length-part, part_bytes, word_bytes}}
 use Rattle.std.proofs.lemmas.List.{length-append}
-use Rattle.store_model.proofs.Laying.{length-part, part_bytes, word_bytes}
 
 -- the numbers of a block size
 size_is : (size n : ℕ) (rest : Bool) → 64 * (cell_count n + 1) ≡ n → n ≤ 4096 → ((size == n) || rest) ≡ true → (rest ≡ true → IsBlock size) → IsBlock size

@@ -1,7 +1,6 @@
 -- Worked examples of the tree store, by computation.
-use Rattle.store_model.proofs.Words.{Ok, Err, map, Access, Span, Kind, Read, Write, Area, NoBlocks, Array, zeros, own, accesses_of, answer_of, scan_program, tree_pairs, tree_nodes}
+use Rattle.store_model.{proofs.Words.{Ok, Err, map, Access, Span, Kind, Read, Write, Area, NoBlocks, Array, zeros, own, accesses_of, answer_of, scan_program, tree_pairs, tree_nodes}, specs.TreeCalls.{get_program, put_program, del_program}}
 use Rattle.std.specs.Prelude.{◌≡◌, ℕ, List, [], ◌∷◌, None, Some, refl}
-use Rattle.store_model.specs.TreeCalls.{get_program, put_program, del_program}
 
 abbrev area : ℕ → Area
 area blocks = record { start = 0; blocks = blocks; size = 256 }

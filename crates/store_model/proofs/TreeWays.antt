@@ -1,6 +1,5 @@
 -- Numbers that rise in a range, as those of free blocks, and what the nodes of a way up are.
-use Rattle.store_model.proofs.Words.{◌≡◌, refl, subst, ℕ, zero, suc, ◌+◌, ◌-◌, ◌<◌, ◌≤◌, Bool, true, false, not, cond, List, [], ◌∷◌, length, take, filter, IfSome, arith, AllByRecursion, range_with_len, Area, cell_count, free_count, map_bit, AreBytes, last_of, Cell, Put, first_key, half, no_bytes, below_from, placed, before, key_at}
-use Rattle.store_model.proofs.TreeCells.{AreCells, length-put}
+use Rattle.store_model.proofs.{Words.{◌≡◌, refl, subst, ℕ, zero, suc, ◌+◌, ◌-◌, ◌<◌, ◌≤◌, Bool, true, false, not, cond, List, [], ◌∷◌, length, take, filter, IfSome, arith, AllByRecursion, range_with_len, Area, cell_count, free_count, map_bit, AreBytes, last_of, Cell, Put, first_key, half, no_bytes, below_from, placed, before, key_at}, TreeCells.{AreCells, length-put}}
 
 -- numbers that rise in a range
 abbrev pub RiseIn : (low high : ℕ) → List ℕ → Type 0

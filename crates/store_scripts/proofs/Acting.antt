@@ -1,8 +1,7 @@
 -- The operations that call a store beside the hash store, and how calls are told.
-use Rattle.store_scripts.proofs.Words.{◌≡◌, refl, ℕ, Bool, true, false, List, Option, Some, None, Op, TreePut, TreeGet, TreeDelete, TreeScan, FileNew, FileWrite, FileRead, FileMove, FileDelete, Reply, StoreError, found_reply, removed_reply, store_refusal, tree_delete_step, tree_get_step, tree_put_step, tree_scan_step, file_new_step, file_write_step, file_read_step, file_move_step, file_delete_step, Live, World, attached, Got, WasThere, Notes, SecondStore, del_answer, get_answer, put_answer, scan_answer}
+use Rattle.store_scripts.proofs.{Words.{◌≡◌, refl, ℕ, Bool, true, false, List, Option, Some, None, Op, TreePut, TreeGet, TreeDelete, TreeScan, FileNew, FileWrite, FileRead, FileMove, FileDelete, Reply, StoreError, found_reply, removed_reply, store_refusal, tree_delete_step, tree_get_step, tree_put_step, tree_scan_step, file_new_step, file_write_step, file_read_step, file_move_step, file_delete_step, Live, World, attached, Got, WasThere, Notes, SecondStore, del_answer, get_answer, put_answer, scan_answer}, Noted.{Goes, IsNoted}}
 use Rattle.script_model.specs.declared.script.Reply.TheVariants as reply
 use Rattle.store_model.specs.declared.stores.StoreError.TheVariants as store
-use Rattle.store_scripts.proofs.Noted.{Goes, IsNoted}
 
 abbrev pub CallsSecond : Op → Type 0
 CallsSecond (TreePut key value) = Unit {0}

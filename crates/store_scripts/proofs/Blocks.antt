@@ -1,6 +1,5 @@
 -- The stores of an image depend on their blocks alone.
-use Rattle.store_scripts.proofs.Words.{◌≢◌, refl, ℕ, zero, suc, Bool, IsTrue, arith, Geometry, Array, is_valid, IsHashRegion, Pairs, hash_map, hash_area, tree_area, IsTreeRegion, tree_map, hash_area_is, tree_area_is, in_area, hash_is_of_its_blocks, IsOfItsBlocks, MapStore, tree_is_of_its_blocks, IfAny, image_hash, pairs_if_any, second_store, the_tree, the_files, true, false, cond, ◌==◌, ◌||◌, ◌≡◌, ◌-◌, ◌+◌, ◌*◌, ◌≤◌, ◌∙◌, sym, ap, inl, inr, disjoint_blocks, nat_lt, eqb-false, ltb-false, limits, cases_lt, Op, Reply, None, HashPut, HashGet, HashDelete, TreePut, TreeGet, TreeDelete, TreeScan, FileNew, FileWrite, FileRead, FileMove, FileDelete, blocks_behind, file_blocks, files_area, least, AreFileAreas, AreFileRegions, files, FileCall, FileAnswer, file_act, file_store, in_areas, files_are_of_their_blocks, SameRegion, Option, Some, option_map, CallsStore, answered, put_answer, get_answer, del_answer, nat_tests, KeyCall, StoreAnswer, TreeCall, key_act, tree_act, ne_eqb}
-use Rattle.store_scripts.proofs.Seconds.{CallsNone, IsSecond}
+use Rattle.store_scripts.proofs.{Words.{◌≢◌, refl, ℕ, zero, suc, Bool, IsTrue, arith, Geometry, Array, is_valid, IsHashRegion, Pairs, hash_map, hash_area, tree_area, IsTreeRegion, tree_map, hash_area_is, tree_area_is, in_area, hash_is_of_its_blocks, IsOfItsBlocks, MapStore, tree_is_of_its_blocks, IfAny, image_hash, pairs_if_any, second_store, the_tree, the_files, true, false, cond, ◌==◌, ◌||◌, ◌≡◌, ◌-◌, ◌+◌, ◌*◌, ◌≤◌, ◌∙◌, sym, ap, inl, inr, disjoint_blocks, nat_lt, eqb-false, ltb-false, limits, cases_lt, Op, Reply, None, HashPut, HashGet, HashDelete, TreePut, TreeGet, TreeDelete, TreeScan, FileNew, FileWrite, FileRead, FileMove, FileDelete, blocks_behind, file_blocks, files_area, least, AreFileAreas, AreFileRegions, files, FileCall, FileAnswer, file_act, file_store, in_areas, files_are_of_their_blocks, SameRegion, Option, Some, option_map, CallsStore, answered, put_answer, get_answer, del_answer, nat_tests, KeyCall, StoreAnswer, TreeCall, key_act, tree_act, ne_eqb}, Seconds.{CallsNone, IsSecond}}
 use Rattle.script_model.specs.declared.script.Reply.TheVariants as reply
 
 abbrev store_of : (Call Answer : Type 0) → (Call → Pairs → Answer × Pairs) → (ℕ → Bool) → (Array → Type 0) → (Array → Pairs) → MapStore

@@ -1,12 +1,6 @@
 -- The lines of a script that commit, by the history after all its lines.
-use Rattle.store_scripts.proofs.Words.{◌≡◌, ◌∙◌, sym, refl, ap, subst, ℕ, ◌-◌, ◌<◌, ◌≤◌, IsTrue, List, [], ◌∷◌, ◌++◌, Some, arith, Line, Op, End, Array, array_at, last, after, step, Live, World, attached, AreLines, IsOp, after_leads, step_leads, BeginsWell, ToldInOrder, CommitKeeps, CommitsKeep, Notes, no_notes, noted, notes_after, IsEndedAs, group_step, Begin, Abort, Put, Read, Get, Write, Fill, Mark, Release, Takeover, Await, Group, Trim, Stat, Compact, Upgrade, HashPut, HashGet, HashDelete, TreePut, TreeGet, TreeDelete, TreeScan, SecondStore, FileNew, FileWrite, FileRead, FileMove, FileDelete}
+use Rattle.store_scripts.proofs.{Words.{◌≡◌, ◌∙◌, sym, refl, ap, subst, ℕ, ◌-◌, ◌<◌, ◌≤◌, IsTrue, List, [], ◌∷◌, ◌++◌, Some, arith, Line, Op, End, Array, array_at, last, after, step, Live, World, attached, AreLines, IsOp, after_leads, step_leads, BeginsWell, ToldInOrder, CommitKeeps, CommitsKeep, Notes, no_notes, noted, notes_after, IsEndedAs, group_step, Begin, Abort, Put, Read, Get, Write, Fill, Mark, Release, Takeover, Await, Group, Trim, Stat, Compact, Upgrade, HashPut, HashGet, HashDelete, TreePut, TreeGet, TreeDelete, TreeScan, SecondStore, FileNew, FileWrite, FileRead, FileMove, FileDelete}, Lines.{noted_after, noted_begins}, Members.{array_extends, labels_told}, Noted.IsNoted, Order.{commit_told, committed_last}, Acting.SecondGoes, Seconds.IsSecond}
 use Rattle.script_model.specs.declared.script.Reply.TheVariants as reply
-use Rattle.store_scripts.proofs.Lines.{noted_after, noted_begins}
-use Rattle.store_scripts.proofs.Members.{array_extends, labels_told}
-use Rattle.store_scripts.proofs.Noted.{IsNoted}
-use Rattle.store_scripts.proofs.Order.{commit_told, committed_last}
-use Rattle.store_scripts.proofs.Acting.{SecondGoes}
-use Rattle.store_scripts.proofs.Seconds.{IsSecond}
 
 module _ (S : SecondStore) (lawful : IsSecond S) (second : SecondGoes S) where
   -- a script before a line, and after it

@@ -1,14 +1,9 @@
 -- Where the operations on files and on the tree store lead, with what is told of calls of the hash store and on files.
-use Rattle.store_scripts.proofs.Words.{◌≡◌, refl, ap, ℕ, ◌-◌, ◌==◌, ◌&&◌, length, option_map, List, Option, Some, None, Bool, true, false, Op, Reply, TreePut, TreeGet, TreeDelete, TreeScan, FileNew, FileWrite, FileRead, FileMove, FileDelete, Geometry, MAX_ACCESSES, array_at, array_shape, own_shape, live_at, HasShape, array_of, file_refusal, found_reply, pairs_reply, removed_reply, store_refusal, tree_delete_step, tree_get_step, tree_put_step, tree_scan_step, file_new_step, file_write_step, file_read_step, file_move_step, file_delete_step, file_blocks, files_area, tree_area, is_key, Live, World, attached, Notes, OfSecond, make_answer, read_answer, there_answer, the_files, FsError, create_program, read_program, remove_program, rename_program, write_program, FileMade, WasRead, FileThere, MakeFile, ReadFile, RemoveFile, RenameFile, WriteFile}
+use Rattle.store_scripts.proofs.{Words.{◌≡◌, refl, ap, ℕ, ◌-◌, ◌==◌, ◌&&◌, length, option_map, List, Option, Some, None, Bool, true, false, Op, Reply, TreePut, TreeGet, TreeDelete, TreeScan, FileNew, FileWrite, FileRead, FileMove, FileDelete, Geometry, MAX_ACCESSES, array_at, array_shape, own_shape, live_at, HasShape, array_of, file_refusal, found_reply, pairs_reply, removed_reply, store_refusal, tree_delete_step, tree_get_step, tree_put_step, tree_scan_step, file_new_step, file_write_step, file_read_step, file_move_step, file_delete_step, file_blocks, files_area, tree_area, is_key, Live, World, attached, Notes, OfSecond, make_answer, read_answer, there_answer, the_files, FsError, create_program, read_program, remove_program, rename_program, write_program, FileMade, WasRead, FileThere, MakeFile, ReadFile, RemoveFile, RenameFile, WriteFile}, Acting.SecondGoes, Blocks.files_second, Calls.{foreign_call, foreign_goes, foreign_in_store, second_call}, FileLocality.{file_was_made, file_was_read, file_was_removed, file_was_renamed, file_was_written}, Noted.{Goes, IsNoted, choose, stays}}
 use Rattle.script_model.specs.declared.script.Reply.TheVariants as reply
 use Rattle.store_model.specs.declared.files.FsError.TheVariants as fs
 use Rattle.store_model.specs.declared.stores.StoreError.TheVariants as store
 use Rattle.store_model.specs.TreeCalls as tree
-use Rattle.store_scripts.proofs.Acting.{SecondGoes}
-use Rattle.store_scripts.proofs.Blocks.{files_second}
-use Rattle.store_scripts.proofs.Calls.{foreign_call, foreign_goes, foreign_in_store, second_call}
-use Rattle.store_scripts.proofs.FileLocality.{file_was_made, file_was_read, file_was_removed, file_was_renamed, file_was_written}
-use Rattle.store_scripts.proofs.Noted.{Goes, IsNoted, choose, stays}
 
 -- no call on files is answered so
 record IsRefusal (r : Reply) : Type 0 where

@@ -1,9 +1,6 @@
 -- A call on files that a program answers Ok is local for the files of the image.
-use Rattle.store_scripts.proofs.Words.{◌≡◌, ◌≢◌, ℕ, ◌+◌, ◌&&◌, Bool, true, IsTrue, List, length, Option, Some, Ok, arith, Geometry, Array, is_valid, HasShape, is_key, accesses_of, outcome, answer_of, limits, spare_where_apart, SpareRegion, file_store, AreFileRegions, files, Call, file_blocks, files_area, image_hash, the_files, create_op, create_program, is_many, read_op, read_program, remove_op, remove_program, rename_op, rename_program, write_op, write_program, HaveBlocks, create_local, read_local, remove_local, rename_local, write_local, and_parts, FileMade, WasRead, FileThere, MakeFile, ReadFile, RemoveFile, RenameFile, WriteFile, WritesIn, create_in, read_in, remove_in, rename_in, write_in}
+use Rattle.store_scripts.proofs.{Words.{◌≡◌, ◌≢◌, ℕ, ◌+◌, ◌&&◌, Bool, true, IsTrue, List, length, Option, Some, Ok, arith, Geometry, Array, is_valid, HasShape, is_key, accesses_of, outcome, answer_of, limits, spare_where_apart, SpareRegion, file_store, AreFileRegions, files, Call, file_blocks, files_area, image_hash, the_files, create_op, create_program, is_many, read_op, read_program, remove_op, remove_program, rename_op, rename_program, write_op, write_program, HaveBlocks, create_local, read_local, remove_local, rename_local, write_local, and_parts, FileMade, WasRead, FileThere, MakeFile, ReadFile, RemoveFile, RenameFile, WriteFile, WritesIn, create_in, read_in, remove_in, rename_in, write_in}, Blocks.{HasFiles, files_apart, has_files}, Locality.{if_local, passed, second_call_is}, Seconds.IsSecondCall}
 use Rattle.store_model.specs.declared.files.FsError.TheVariants as fs
-use Rattle.store_scripts.proofs.Blocks.{HasFiles, files_apart, has_files}
-use Rattle.store_scripts.proofs.Locality.{if_local, passed, second_call_is}
-use Rattle.store_scripts.proofs.Seconds.{IsSecondCall}
 
 module _ (g : Geometry) (valid : IsTrue (is_valid g)) (some : file_blocks g ≢ 0) (B : Array) (shape : HasShape g B) (room : ℕ) where
   is_there : HasFiles g

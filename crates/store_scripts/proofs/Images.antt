@@ -1,8 +1,7 @@
 -- The stores of an image, where it has them.
-use Rattle.store_scripts.proofs.Words.{◌≡◌, ◌≢◌, ◌↔◌, refl, ℕ, zero, suc, ◌≤◌, IsTrue, arith, empty, Geometry, LAST, zeros, is_valid, IsHashRegion, Pairs, hash_area, tree_area, IsTreeRegion, empty_history, fresh, limits, empty_world_is, hash_area_is, tree_area_is, zeros_blank, BeginsWell, IfAny, pairs_if_any, file_blocks, files_area, AreFileRegions, the_files, the_tree, made_files}
+use Rattle.store_scripts.proofs.{Words.{◌≡◌, ◌≢◌, ◌↔◌, refl, ℕ, zero, suc, ◌≤◌, IsTrue, arith, empty, Geometry, LAST, zeros, is_valid, IsHashRegion, Pairs, hash_area, tree_area, IsTreeRegion, empty_history, fresh, limits, empty_world_is, hash_area_is, tree_area_is, zeros_blank, BeginsWell, IfAny, pairs_if_any, file_blocks, files_area, AreFileRegions, the_files, the_tree, made_files}, Blocks.has_files}
 use Rattle.store_laws.proofs.HashBlank as hash
 use Rattle.store_laws.proofs.TreeBlank as tree
-use Rattle.store_scripts.proofs.Blocks.{has_files}
 
 pub if_any_is : (n : ℕ) (P : Type 0) (m : Pairs) → n ≢ 0 → (IfAny n P ↔ P) × (pairs_if_any n m ≡ m)
 if_any_is zero P m some = absurd (some refl)

@@ -1,5 +1,5 @@
 -- A program of a store's call that answered Ok is local for its store, and spares the other.
-use Rattle.store_scripts.proofs.Words.{◌≡◌, ◌≢◌, refl, ap, subst, ℕ, zero, suc, ◌+◌, ◌<◌, ◌&&◌, Bool, true, false, cond, IsTrue, List, length, Option, Some, Result, Ok, Err, arith, and_parts, Access, Geometry, Area, BadKey, BadValue, Array, is_valid, is_key, is_value, IsHashRegion, Pairs, del_op, get_op, hash_map, put_op, HasShape, block_at, hash_area, tree_area, Done, IsLocal, Program, accesses_of, answer_of, outcome, IsTreeRegion, scan_op, tree_map, limits, hash_area_is, tree_area_is, outcome_whole, Del, Found, Got, WasPut, WasThere, OnKey, Scan, AreApart, SpareRegion, KeyCall, StoreAnswer, key_act, reads_spare, spare_where_apart, writes_within, IfAny, image_hash, pairs_if_any, SecondStore, second_store, the_tree, MapStore, sym, ◌∙◌}
+use Rattle.store_scripts.proofs.{Words.{◌≡◌, ◌≢◌, refl, ap, subst, ℕ, zero, suc, ◌+◌, ◌<◌, ◌&&◌, Bool, true, false, cond, IsTrue, List, length, Option, Some, Result, Ok, Err, arith, and_parts, Access, Geometry, Area, BadKey, BadValue, Array, is_valid, is_key, is_value, IsHashRegion, Pairs, del_op, get_op, hash_map, put_op, HasShape, block_at, hash_area, tree_area, Done, IsLocal, Program, accesses_of, answer_of, outcome, IsTreeRegion, scan_op, tree_map, limits, hash_area_is, tree_area_is, outcome_whole, Del, Found, Got, WasPut, WasThere, OnKey, Scan, AreApart, SpareRegion, KeyCall, StoreAnswer, key_act, reads_spare, spare_where_apart, writes_within, IfAny, image_hash, pairs_if_any, SecondStore, second_store, the_tree, MapStore, sym, ◌∙◌}, Blocks.tree_second, Seconds.{IsHashCall, IsSecond, IsSecondCall}}
 use Rattle.store_model.specs.HashCalls as hash
 use Rattle.store_model.specs.TreeCalls as tree
 use Rattle.iso_hash.proofs.Changes as hash_changes
@@ -11,8 +11,6 @@ use Rattle.iso_tree.proofs.ScanCalls as tree_scans
 use Rattle.store_laws.specs.Calls.{Get, Put}
 use Rattle.store_laws.proofs.HashWrites as hash_writes
 use Rattle.store_laws.proofs.TreeWrites as tree_writes
-use Rattle.store_scripts.proofs.Blocks.{tree_second}
-use Rattle.store_scripts.proofs.Seconds.{IsHashCall, IsSecond, IsSecondCall}
 
 -- what is local for a store is local for that of the image which has blocks, with the answer under its name
 pub if_local : {R X : Type 0} (n : ℕ) (Well : Array → Type 0) (map_of : Array → Pairs) (name : R → X) (op : Pairs → R × Pairs) (B : Array) (accesses : List Access) (r : R) → n ≢ 0

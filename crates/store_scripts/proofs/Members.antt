@@ -1,13 +1,8 @@
 -- Where a group leads, with what is told of the transactions: its members end one after the other, each as by an end of its own.
-use Rattle.store_scripts.proofs.Words.{◌≡◌, ◌∙◌, ◌⊎◌, sym, refl, ap, subst, ℕ, ◌+◌, ◌-◌, ◌<◌, ◌≤◌, ◌==◌, not, IsTrue, List, [], ◌∷◌, length, take, Option, Some, None, arith, inl, inr, take-append-le, length-append, AllByRecursion, all_filter, all_find, all_weaker, live_on, same_Some, Geometry, Commit, GroupReply, CoreReply, Stat, Reply, Array, History, all_own, array_at, last, after_member, after_look, ahead, decided, found_ones, group, group_is, group_leads, group_step, label_replies, leave_all, looks, made_by, member_leaves, member_reply, found_are_live, first_found, held_live, look_leads, looks_geometry, looks_history, after_commit, after_leaving, commit_from, end_step, as_reply, Live, World, held, is_under_label, unattached, Extends, IsLive, IsWorld, IsByBoth, ToldInOrder, image_hash, EndsAs, Notes, Told, SecondStore, second_store}
+use Rattle.store_scripts.proofs.{Words.{◌≡◌, ◌∙◌, ◌⊎◌, sym, refl, ap, subst, ℕ, ◌+◌, ◌-◌, ◌<◌, ◌≤◌, ◌==◌, not, IsTrue, List, [], ◌∷◌, length, take, Option, Some, None, arith, inl, inr, take-append-le, length-append, AllByRecursion, all_filter, all_find, all_weaker, live_on, same_Some, Geometry, Commit, GroupReply, CoreReply, Stat, Reply, Array, History, all_own, array_at, last, after_member, after_look, ahead, decided, found_ones, group, group_is, group_leads, group_step, label_replies, leave_all, looks, made_by, member_leaves, member_reply, found_are_live, first_found, held_live, look_leads, looks_geometry, looks_history, after_commit, after_leaving, commit_from, end_step, as_reply, Live, World, held, is_under_label, unattached, Extends, IsLive, IsWorld, IsByBoth, ToldInOrder, image_hash, EndsAs, Notes, Told, SecondStore, second_store}, Calls.end_goes, Noted.{Holds, IsKept, IsNoted}, Order.{committed_told, end_only}, Steps.places, Seconds.IsSecond}
 use Rattle.iso_model.specs.declared.access.GroupReply.TheVariants as member
 use Rattle.iso_model.specs.declared.core_reply.CoreReply.TheVariants as core
 use Rattle.script_model.specs.declared.script.Reply.TheVariants as reply
-use Rattle.store_scripts.proofs.Calls.{end_goes}
-use Rattle.store_scripts.proofs.Noted.{Holds, IsKept, IsNoted}
-use Rattle.store_scripts.proofs.Order.{committed_told, end_only}
-use Rattle.store_scripts.proofs.Steps.{places}
-use Rattle.store_scripts.proofs.Seconds.{IsSecond}
 
 pub array_extends : (H G : History) (n : ℕ) → 0 < H.first → Extends H G → n ≤ last H → array_at G n ≡ array_at H n
 array_extends H G n first more before =

@@ -1,8 +1,5 @@
 -- What is told of the live transactions of a world is true, and how it stays so.
-use Rattle.store_scripts.proofs.Words.{◌≡◌, ◌≢◌, ◌∙◌, sym, refl, ap, subst, ℕ, ◌≤◌, ◌==◌, ◌&&◌, ◌||◌, not, Bool, true, false, cond, IsTrue, List, [], ◌∷◌, ◌++◌, length, drop, Option, Some, None, arith, inl, inr, eq-eqb, ne_eqb, AllByRecursion, list_all, and_parts, cases_eq, Access, Geometry, Mode, Op, Reply, Array, has_write, is_write, History, array_at, last, hash_area, with_accesses, Live, World, attached, with, IsWorld, all_weaker, IsByBoth, in_area, SpareRegion, IsToldOf, ToldByMap, image_hash, Answered, Notes, Told, accesses_or_none, nothing_told, spares_calls, spares_stores, told_by, told_more, SecondStore, second_store}
-use Rattle.store_scripts.proofs.Finding.{attached_with}
-use Rattle.store_scripts.proofs.Growing.{other_told, same_told}
-use Rattle.store_scripts.proofs.Reading.{front_reads}
+use Rattle.store_scripts.proofs.{Words.{◌≡◌, ◌≢◌, ◌∙◌, sym, refl, ap, subst, ℕ, ◌≤◌, ◌==◌, ◌&&◌, ◌||◌, not, Bool, true, false, cond, IsTrue, List, [], ◌∷◌, ◌++◌, length, drop, Option, Some, None, arith, inl, inr, eq-eqb, ne_eqb, AllByRecursion, list_all, and_parts, cases_eq, Access, Geometry, Mode, Op, Reply, Array, has_write, is_write, History, array_at, last, hash_area, with_accesses, Live, World, attached, with, IsWorld, all_weaker, IsByBoth, in_area, SpareRegion, IsToldOf, ToldByMap, image_hash, Answered, Notes, Told, accesses_or_none, nothing_told, spares_calls, spares_stores, told_by, told_more, SecondStore, second_store}, Finding.attached_with, Growing.{other_told, same_told}, Reading.front_reads}
 
 pub drop_past : (xs ys : List Access) → drop (length xs) (xs ++ ys) ≡ ys
 drop_past [] ys = refl

@@ -1,17 +1,11 @@
 -- A refused call of a store leaves whether its transaction keeps to the stores.
-use Rattle.store_scripts.proofs.Words.{◌≡◌, ◌∙◌, sym, refl, ap, subst, ℕ, ◌-◌, ◌==◌, ◌&&◌, ◌||◌, not, Bool, true, false, cond, List, [], ◌∷◌, ◌++◌, length, drop, append-nil, Option, Some, None, Result, Ok, Err, list_all, Access, MAX_ACCESSES, Op, End, HashPut, HashGet, HashDelete, TreePut, TreeGet, TreeDelete, TreeScan, Reply, is_key, array_of, found_reply, hash_delete_step, hash_get_step, hash_put_step, in_store, in_transaction, pairs_reply, removed_reply, step, store_reply, store_step, tree_delete_step, tree_get_step, tree_put_step, tree_scan_step, hash_area, tree_area, with_accesses, is_serial, AreReads, Program, outcome, Live, World, attached, IsWorld, OnKey, Scan, Answered, CallsStore, Notes, OfHash, accesses_or_none, answered, noted, spares_calls, spares_stores, told_by, told_more, OfSecond, SecondStore, second_store, store_refusal, FileRead, file_read_step, file_refusal, file_blocks, files_area, Call, StoreAnswer, TreeCall, option_map, StoreError, Del, Found, GetKey, Got, PutKey, WasPut, WasThere, in_area, read_program, read_reads}
+use Rattle.store_scripts.proofs.{Words.{◌≡◌, ◌∙◌, sym, refl, ap, subst, ℕ, ◌-◌, ◌==◌, ◌&&◌, ◌||◌, not, Bool, true, false, cond, List, [], ◌∷◌, ◌++◌, length, drop, append-nil, Option, Some, None, Result, Ok, Err, list_all, Access, MAX_ACCESSES, Op, End, HashPut, HashGet, HashDelete, TreePut, TreeGet, TreeDelete, TreeScan, Reply, is_key, array_of, found_reply, hash_delete_step, hash_get_step, hash_put_step, in_store, in_transaction, pairs_reply, removed_reply, step, store_reply, store_step, tree_delete_step, tree_get_step, tree_put_step, tree_scan_step, hash_area, tree_area, with_accesses, is_serial, AreReads, Program, outcome, Live, World, attached, IsWorld, OnKey, Scan, Answered, CallsStore, Notes, OfHash, accesses_or_none, answered, noted, spares_calls, spares_stores, told_by, told_more, OfSecond, SecondStore, second_store, store_refusal, FileRead, file_read_step, file_refusal, file_blocks, files_area, Call, StoreAnswer, TreeCall, option_map, StoreError, Del, Found, GetKey, Got, PutKey, WasPut, WasThere, in_area, read_program, read_reads}, Finding.attached_with, Acting.{got_told, there_told}, TreeGoes.{found_named, tree_got_named, tree_there_named}, Seconds.IsSecond, Noted.drop_past, Refused.{IsRefusal, hash_del_last, hash_put_last, reads_so_far, refused_reads, tree_del_last, tree_put_last}}
 use Rattle.script_model.specs.declared.script.Reply.TheVariants as reply
 use Rattle.store_model.specs.HashCalls as hash
 use Rattle.store_model.specs.TreeCalls as tree
 use Rattle.iso_hash.proofs.Gets as hash_gets
 use Rattle.iso_tree.proofs.Gets as tree_gets
 use Rattle.iso_tree.proofs.ScanCalls as tree_scans
-use Rattle.store_scripts.proofs.Finding.{attached_with}
-use Rattle.store_scripts.proofs.Acting.{got_told, there_told}
-use Rattle.store_scripts.proofs.TreeGoes.{found_named, tree_got_named, tree_there_named}
-use Rattle.store_scripts.proofs.Seconds.{IsSecond}
-use Rattle.store_scripts.proofs.Noted.{drop_past}
-use Rattle.store_scripts.proofs.Refused.{IsRefusal, hash_del_last, hash_put_last, reads_so_far, refused_reads, tree_del_last, tree_put_last}
 
 pub got_named : (key : List ℕ) (r : Option (List ℕ)) → answered (HashGet key) (found_reply r) ≡ Some (OfHash (GetKey key) (Got r))
 got_named key r = ap (option_map (OfHash (GetKey key))) (got_told r)

@@ -1,13 +1,7 @@
 -- Where the operations on the tree store and on files lead, with what is told of calls of the hash store and the tree store.
-use Rattle.store_scripts.proofs.Words.{◌≡◌, refl, ap, ℕ, ◌-◌, ◌==◌, ◌&&◌, length, option_map, List, [], ◌∷◌, Option, Some, Bool, Op, TreePut, TreeGet, TreeDelete, TreeScan, FileNew, FileWrite, FileRead, FileMove, FileDelete, Geometry, MAX_ACCESSES, StoreError, array_at, array_shape, own_shape, live_at, HasShape, array_of, file_refusal, found_reply, pairs_reply, removed_reply, store_refusal, tree_delete_step, tree_get_step, tree_put_step, tree_scan_step, file_new_step, file_write_step, file_read_step, file_move_step, file_delete_step, file_blocks, files_area, tree_area, is_key, Live, World, attached, OnKey, Scan, Notes, OfSecond, answered, the_tree, create_program, read_program, remove_program, rename_program, write_program, Del, WasFound, GetKey, Got, PutKey, WasPut, WasThere}
+use Rattle.store_scripts.proofs.{Words.{◌≡◌, refl, ap, ℕ, ◌-◌, ◌==◌, ◌&&◌, length, option_map, List, [], ◌∷◌, Option, Some, Bool, Op, TreePut, TreeGet, TreeDelete, TreeScan, FileNew, FileWrite, FileRead, FileMove, FileDelete, Geometry, MAX_ACCESSES, StoreError, array_at, array_shape, own_shape, live_at, HasShape, array_of, file_refusal, found_reply, pairs_reply, removed_reply, store_refusal, tree_delete_step, tree_get_step, tree_put_step, tree_scan_step, file_new_step, file_write_step, file_read_step, file_move_step, file_delete_step, file_blocks, files_area, tree_area, is_key, Live, World, attached, OnKey, Scan, Notes, OfSecond, answered, the_tree, create_program, read_program, remove_program, rename_program, write_program, Del, WasFound, GetKey, Got, PutKey, WasPut, WasThere}, Acting.{SecondGoes, got_told, store_refused, there_told}, Blocks.tree_second, Calls.{foreign_call, in_store_goes, second_call, second_goes}, Locality.{tree_found, tree_got, tree_was_put, tree_was_there}, Noted.{Goes, IsNoted, choose, stays}, Seconds.AreRefusals}
 use Rattle.script_model.specs.declared.script.Reply.TheVariants as reply
 use Rattle.store_model.specs.TreeCalls as tree
-use Rattle.store_scripts.proofs.Acting.{SecondGoes, got_told, store_refused, there_told}
-use Rattle.store_scripts.proofs.Blocks.{tree_second}
-use Rattle.store_scripts.proofs.Calls.{foreign_call, in_store_goes, second_call, second_goes}
-use Rattle.store_scripts.proofs.Locality.{tree_found, tree_got, tree_was_put, tree_was_there}
-use Rattle.store_scripts.proofs.Noted.{Goes, IsNoted, choose, stays}
-use Rattle.store_scripts.proofs.Seconds.{AreRefusals}
 
 pub tree_got_named : (key : List ℕ) (r : Option (List ℕ)) → answered (TreeGet key) (found_reply r) ≡ Some (OfSecond (OnKey (GetKey key)) (Got r))
 tree_got_named key r = ap (option_map (OfSecond (OnKey (GetKey key)))) (got_told r)

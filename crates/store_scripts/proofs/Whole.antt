@@ -1,13 +1,5 @@
 -- The store theorem of the lines of a script, as one word.
-use Rattle.store_scripts.proofs.Words.{sym, subst, ℕ, ◌-◌, List, [], ◌∷◌, ◌++◌, Line, array_at, last, after, step, World, AreLines, ToldInOrder, CommitsKeep, Notes, no_notes, noted, notes_after, AnswersWith, SecondStore, FilesAnswer, the_tree, the_files, StoresAnswer}
-use Rattle.store_scripts.proofs.Commits.{commits_told, groups_told}
-use Rattle.store_scripts.proofs.Lines.{noted_after, noted_begins}
-use Rattle.store_scripts.proofs.Order.{live_told, read_only_told}
-use Rattle.store_scripts.proofs.Acting.{SecondGoes}
-use Rattle.store_scripts.proofs.Blocks.{files_second, tree_second}
-use Rattle.store_scripts.proofs.FileGoes.{file_goes}
-use Rattle.store_scripts.proofs.Seconds.{IsSecond}
-use Rattle.store_scripts.proofs.TreeGoes.{tree_goes}
+use Rattle.store_scripts.proofs.{Words.{sym, subst, ℕ, ◌-◌, List, [], ◌∷◌, ◌++◌, Line, array_at, last, after, step, World, AreLines, ToldInOrder, CommitsKeep, Notes, no_notes, noted, notes_after, AnswersWith, SecondStore, FilesAnswer, the_tree, the_files, StoresAnswer}, Commits.{commits_told, groups_told}, Lines.{noted_after, noted_begins}, Order.{live_told, read_only_told}, Acting.SecondGoes, Blocks.{files_second, tree_second}, FileGoes.file_goes, Seconds.IsSecond, TreeGoes.tree_goes}
 
 module _ (S : SecondStore) (lawful : IsSecond S) (second : SecondGoes S) where
   front_lines : (before later : List (ℕ × Line)) → AreLines (before ++ later) → AreLines before

@@ -1,15 +1,11 @@
 -- What a call of the file store leaves as it is.
-use Rattle.std.proofs.Common.{◌≡◌, ◌∙◌, ap, ℕ, Result, Ok, Err}
+use Rattle.std.proofs.Common.{◌≡◌, ◌∙◌, ap, ℕ, Result, Ok, Err, List}
 use Rattle.store_model.specs.declared.stores.StoreError.TheVariants as store
-use Rattle.store_model.specs.declared.stores.TxError.{TxError}
+use Rattle.store_model.specs.{declared.stores.TxError.TxError, declared.files.FsError.FsError, FileCalls.Call}
 use Rattle.store_model.specs.declared.stores.TxError.TheVariants as error
-use Rattle.store_model.specs.declared.files.FsError.{FsError}
 use Rattle.store_model.specs.declared.files.FsError.TheVariants as fs
-use Rattle.store_model.specs.FileCalls.{Call}
 use Rattle.iso_model.specs.declared.access.Access.{Access}
-use Rattle.std.proofs.Common.{List}
-use Rattle.tx_blocks.specs.Tx.{Tx, with_accesses}
-use Rattle.tx_blocks.specs.Runs.{IsCut}
+use Rattle.tx_blocks.specs.{Tx.{Tx, with_accesses}, Runs.IsCut}
 use Rattle.iso_fs.specs.Ends.{HasRun}
 use Rattle.store_tests.specs.Ready.{IsReady}
 

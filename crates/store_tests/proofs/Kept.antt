@@ -1,10 +1,7 @@
 -- What a call of a store leaves as it is.
 use Rattle.std.proofs.Common.{◌∙◌, ap, ℕ, Result}
-use Rattle.store_model.specs.declared.stores.StoreError.{StoreError}
-use Rattle.store_model.specs.Stores.{Program}
-use Rattle.tx_blocks.specs.Tx.{Tx}
-use Rattle.tx_blocks.specs.Runs.{HasEnded}
-use Rattle.tx_blocks.proofs.Parts.{ended_grows}
+use Rattle.store_model.specs.{declared.stores.StoreError.StoreError, Stores.Program}
+use Rattle.tx_blocks.{specs.Tx.Tx, specs.Runs.HasEnded, proofs.Parts.ended_grows}
 use Rattle.store_tests.specs.Ready.{IsReady}
 
 pub stays_ready : {X : Type 0} (blocks : ℕ) (p : Program (Result X StoreError)) (t u : Tx) (result : Result X StoreError) → HasEnded p t u result → IsReady blocks t → IsReady blocks u

@@ -1,9 +1,5 @@
 -- How tickets, places, numbers and units stay dealt among the passes.
-use Rattle.turn_lock.proofs.Words.{◌≡◌, ◌≢◌, ℕ, zero, suc, ◌+◌, ◌<◌, ◌≤◌, List, [], ◌∷◌, ◌++◌, length, set, Option, Some, None, IsSome, sym, refl, ap, ◌∙◌, subst, ⊎_elim, arith, length-append, at_set, at_snoc, set_else, LAST, View, Stage, Idle, Waits, Turns, total, hit, times, AllBelow, places, longer, option_to_list, IsOut, AreFree, AreHeld, fresh, spent, waits, turns, gave, kept_part, given_part, both, ticket_at, tickets_at, turns_at, Once, drawn_by, turning, placed_by, held_by, Whole, Knows, Dealt, IsPrefix, dite, some, some-ne-none, some-injective, ℕ_discrete, dec_le, dec_lt, get_elem?}
-use Rattle.turn_lock.proofs.Prefixes.{prefix_self, prefix_whole, prefix_length, prefix_more, longer_left, longer_right, prefix_longer, longer_whole}
-use Rattle.turn_lock.proofs.Totals.{total_set, total_at, total_two, total_append, total_only, total_le_at, hit_same, hit_other}
-use Rattle.turn_lock.proofs.Rising.{below_more, below_snoc, rises_snoc, times_above, times_append, times_merge, below_merge, merge_rises, all_places}
-use Rattle.turn_lock.proofs.Outs.{times_parted, held_on}
+use Rattle.turn_lock.proofs.{Words.{◌≡◌, ◌≢◌, ℕ, zero, suc, ◌+◌, ◌<◌, ◌≤◌, List, [], ◌∷◌, ◌++◌, length, set, Option, Some, None, IsSome, sym, refl, ap, ◌∙◌, subst, ⊎_elim, arith, length-append, at_set, at_snoc, set_else, LAST, View, Stage, Idle, Waits, Turns, total, hit, times, AllBelow, places, longer, option_to_list, IsOut, AreFree, AreHeld, fresh, spent, waits, turns, gave, kept_part, given_part, both, ticket_at, tickets_at, turns_at, Once, drawn_by, turning, placed_by, held_by, Whole, Knows, Dealt, IsPrefix, dite, some, some-ne-none, some-injective, ℕ_discrete, dec_le, dec_lt, get_elem?}, Prefixes.{prefix_self, prefix_whole, prefix_length, prefix_more, longer_left, longer_right, prefix_longer, longer_whole}, Totals.{total_set, total_at, total_two, total_append, total_only, total_le_at, hit_same, hit_other}, Rising.{below_more, below_snoc, rises_snoc, times_above, times_append, times_merge, below_merge, merge_rises, all_places}, Outs.{times_parted, held_on}}
 
 pub once_le : (from to n k : ℕ) → Once from to n k → k ≤ 1
 once_le from to n k o = dite {C = k ≤ 1} (dec_lt n from) (λ lt. let e = o.under lt in omega arith)

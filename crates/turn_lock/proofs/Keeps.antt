@@ -1,11 +1,6 @@
 -- Each step keeps the rule of the table, and tells what it is to tell.
-use Rattle.turn_lock.proofs.Words.{◌≡◌, ℕ, ◌+◌, ◌-◌, ◌%◌, ◌^◌, ◌<◌, ◌≤◌, ◌==◌, List, [], ◌∷◌, ◌++◌, length, set, get_or, Option, Some, None, IsSome, is_some, sym, refl, ap, ◌∙◌, subst, inl, inr, ⊎_elim, arith, rules, length-append, State, step, Act, keeps, takes, gives, stepped, Valid, Allows, Splits, Joins, Final, Seen, opening, put_back, rest, carried_after, set_again, exchanged, LAST, View, Idle, Waits, Turns, times, AllBelow, places, longer, option_to_list, IsOut, AreOut, AreFree, AreHeld, fresh, spent, waits, turns, gave, kept_part, given_part, both, turns_at, turning, Dealt, Rests, Fair, ticket_of, Sat, drew, Turned, looked, advanced, settled, stayed, IsPlaced, IsAtRest, IsAtTurn, Settled, dite, none, some, some-injective, ℕ_discrete, get_elem?, set-get_or, either}
+use Rattle.turn_lock.proofs.{Words.{◌≡◌, ℕ, ◌+◌, ◌-◌, ◌%◌, ◌^◌, ◌<◌, ◌≤◌, ◌==◌, List, [], ◌∷◌, ◌++◌, length, set, get_or, Option, Some, None, IsSome, is_some, sym, refl, ap, ◌∙◌, subst, inl, inr, ⊎_elim, arith, rules, length-append, State, step, Act, keeps, takes, gives, stepped, Valid, Allows, Splits, Joins, Final, Seen, opening, put_back, rest, carried_after, set_again, exchanged, LAST, View, Idle, Waits, Turns, times, AllBelow, places, longer, option_to_list, IsOut, AreOut, AreFree, AreHeld, fresh, spent, waits, turns, gave, kept_part, given_part, both, turns_at, turning, Dealt, Rests, Fair, ticket_of, Sat, drew, Turned, looked, advanced, settled, stayed, IsPlaced, IsAtRest, IsAtTurn, Settled, dite, none, some, some-injective, ℕ_discrete, get_elem?, set-get_or, either}, Prefixes.{prefix_length, prefix_whole, prefix_shorter, longer_left, longer_right}, Totals.{total_set, total_at}, Rising.{below_more, below_snoc, rises_snoc}, Outs.{handed_out, taken_free}, Dealing.{whole_at, deals_draw, deals_turn, none_turns, served_is_drawn, deals_entry, own_out, deals_split, deals_join, turning_join, turning_split, has_all_places, has_seen_all, none_turns_at_end, deals_first}}
 use mathlib.Core.Option as maybe
-use Rattle.turn_lock.proofs.Prefixes.{prefix_length, prefix_whole, prefix_shorter, longer_left, longer_right}
-use Rattle.turn_lock.proofs.Totals.{total_set, total_at}
-use Rattle.turn_lock.proofs.Rising.{below_more, below_snoc, rises_snoc}
-use Rattle.turn_lock.proofs.Outs.{handed_out, taken_free}
-use Rattle.turn_lock.proofs.Dealing.{whole_at, deals_draw, deals_turn, none_turns, served_is_drawn, deals_entry, own_out, deals_split, deals_join, turning_join, turning_split, has_all_places, has_seen_all, none_turns_at_end, deals_first}
 
 -- the next number, in 64 bits
 next_fits : (n t : ℕ) → n < t → t ≤ LAST → (n + 1) % 2 ^ 64 ≡ n + 1

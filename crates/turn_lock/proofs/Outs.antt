@@ -1,7 +1,5 @@
 -- Numbers that are handed out and taken back.
-use Rattle.turn_lock.proofs.Words.{◌≡◌, ℕ, zero, suc, ◌+◌, ◌<◌, ◌≤◌, ◌≢◌, Bool, true, false, not, ◌||◌, ◌==◌, cond, List, [], ◌∷◌, ◌++◌, Option, Some, None, refl, ap, ◌∙◌, subst, eq-eqb, arith, option_to_list, filter, AllByRecursion, nat_tests, hit, times, AreDistinct, is_among, out_next, out_from, is_out, IsOut, AreOut, AreFree, AreHeld, without, held_after}
-use Rattle.turn_lock.proofs.Totals.{hit_same, hit_other}
-use Rattle.turn_lock.proofs.Rising.{times_append}
+use Rattle.turn_lock.proofs.{Words.{◌≡◌, ℕ, zero, suc, ◌+◌, ◌<◌, ◌≤◌, ◌≢◌, Bool, true, false, not, ◌||◌, ◌==◌, cond, List, [], ◌∷◌, ◌++◌, Option, Some, None, refl, ap, ◌∙◌, subst, eq-eqb, arith, option_to_list, filter, AllByRecursion, nat_tests, hit, times, AreDistinct, is_among, out_next, out_from, is_out, IsOut, AreOut, AreFree, AreHeld, without, held_after}, Totals.{hit_same, hit_other}, Rising.times_append}
 
 -- what holds of all these numbers holds of one of them
 pub among_all : (P : ℕ → Type 0) (n : ℕ) (ms : List ℕ) → AllByRecursion P ms → is_among n ms ≡ true → P n

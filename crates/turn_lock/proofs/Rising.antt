@@ -1,6 +1,5 @@
 -- Rising lists of numbers, and how often a number stands in a list.
-use Rattle.turn_lock.proofs.Words.{◌≡◌, ℕ, zero, suc, ◌+◌, ◌<◌, ◌≤◌, ◌≢◌, Bool, true, false, nat_lt, cond, List, [], ◌∷◌, ◌++◌, refl, ap, sym, subst, arith, nat_tests, hit, times, RisesFrom, AllBelow, insert_rising, merge, count_up, places, dite, ℕ_discrete}
-use Rattle.turn_lock.proofs.Totals.{total_append, hit_same, hit_other}
+use Rattle.turn_lock.proofs.{Words.{◌≡◌, ℕ, zero, suc, ◌+◌, ◌<◌, ◌≤◌, ◌≢◌, Bool, true, false, nat_lt, cond, List, [], ◌∷◌, ◌++◌, refl, ap, sym, subst, arith, nat_tests, hit, times, RisesFrom, AllBelow, insert_rising, merge, count_up, places, dite, ℕ_discrete}, Totals.{total_append, hit_same, hit_other}}
 
 pub below_more : (n m : ℕ) (xs : List ℕ) → n ≤ m → AllBelow n xs → AllBelow m xs
 below_more n m [] le b = tt

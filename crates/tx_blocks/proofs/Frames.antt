@@ -1,6 +1,5 @@
 -- What a marked write leaves of the bytes in a span.
-use Rattle.tx_blocks.proofs.Words.{◌≡◌, ◌⊎◌, ◌∙◌, sym, refl, ap, ℕ, zero, suc, ◌+◌, ◌-◌, ◌≤◌, true, false, cond, List, [], ◌∷◌, ◌++◌, length, get_or, take, drop, replicate, arith, zero-add, inl, inr, nat_le, list_all, cases_lt, nat_tests, ext_get_or, get_or_past, get_or-take, get_or-drop, get_or_append_left, get_or-append-add, length-take-le, take-take, drop-take, take_at, drop_at, drop-replicate, take-replicate, Span, covered, in_span, merged, bytes_in, is_zero, is_part, text_of, part_of, laid_at, length-merged, merged_at, merged_kept, length-laid_at}
-use Rattle.tx_blocks.proofs.Programs.{same_bytes}
+use Rattle.tx_blocks.proofs.{Words.{◌≡◌, ◌⊎◌, ◌∙◌, sym, refl, ap, ℕ, zero, suc, ◌+◌, ◌-◌, ◌≤◌, true, false, cond, List, [], ◌∷◌, ◌++◌, length, get_or, take, drop, replicate, arith, zero-add, inl, inr, nat_le, list_all, cases_lt, nat_tests, ext_get_or, get_or_past, get_or-take, get_or-drop, get_or_append_left, get_or-append-add, length-take-le, take-take, drop-take, take_at, drop_at, drop-replicate, take-replicate, Span, covered, in_span, merged, bytes_in, is_zero, is_part, text_of, part_of, laid_at, length-merged, merged_at, merged_kept, length-laid_at}, Programs.same_bytes}
 
 -- spans that stand apart
 abbrev pub AreApart : Span → Span → Type 0

@@ -1,6 +1,5 @@
 -- A byte of the map in the first block, and that block with one byte of the map written.
-use Rattle.tx_blocks.proofs.Words.{◌≡◌, ◌≢◌, ◌∙◌, sym, refl, ap, ℕ, ◌+◌, ◌/◌, ◌<◌, ◌≤◌, false, List, [], ◌∷◌, ◌++◌, length, get_or, take, drop, replicate, arith, inl, inr, cases_lt, or_left, get_or-take, get_or-drop, get_or_at, length-replicate, length-take-le, take_at, drop_at, Area, merged, bytes_in, block_with, bit_place, bit_mark, map_mark, map_bytes}
-use Rattle.tx_blocks.proofs.Frames.{kept_1, laid_all}
+use Rattle.tx_blocks.proofs.{Words.{◌≡◌, ◌≢◌, ◌∙◌, sym, refl, ap, ℕ, ◌+◌, ◌/◌, ◌<◌, ◌≤◌, false, List, [], ◌∷◌, ◌++◌, length, get_or, take, drop, replicate, arith, inl, inr, cases_lt, or_left, get_or-take, get_or-drop, get_or_at, length-replicate, length-take-le, take_at, drop_at, Area, merged, bytes_in, block_with, bit_place, bit_mark, map_mark, map_bytes}, Frames.{kept_1, laid_all}}
 pub use Rattle.store_model.proofs.Laying.{length-block_with}
 
 -- the byte of the map that a call reads

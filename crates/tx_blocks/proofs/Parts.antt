@@ -1,10 +1,7 @@
 -- A call that is made of parts.
-use Rattle.tx_blocks.proofs.Words.{◌≡◌, ◌≢◌, ◌⊎◌, ◌<◌, ◌∙◌, sym, refl, ap, subst, ℕ, ◌+◌, ◌≤◌, List, [], ◌∷◌, ◌++◌, length, take, Option, Some, None, Result, Ok, Err, inl, inr, arith, length-append, Access, StoreError, TxError, own, Program, accesses_of, after, outcome, Tx, Device, IsLater, with_accesses, room_of, Ends, Ran, Began, Stopped, IsCut, HasRun, HasEnded, HasRead, IsCause, IsStoreCause, Behaves, WantsMemory, Done, then_do}
+use Rattle.tx_blocks.proofs.{Words.{◌≡◌, ◌≢◌, ◌⊎◌, ◌<◌, ◌∙◌, sym, refl, ap, subst, ℕ, ◌+◌, ◌≤◌, List, [], ◌∷◌, ◌++◌, length, take, Option, Some, None, Result, Ok, Err, inl, inr, arith, length-append, Access, StoreError, TxError, own, Program, accesses_of, after, outcome, Tx, Device, IsLater, with_accesses, room_of, Ends, Ran, Began, Stopped, IsCut, HasRun, HasEnded, HasRead, IsCause, IsStoreCause, Behaves, WantsMemory, Done, then_do}, Programs.reads_append, Progress.{IsAt, at_as, at_start, at_then, ran_at, same_base, with_more}, Refusals.{cut_as, cut_then, cause_earlier, cause_since, later_than, later_same}}
 use Rattle.store_model.specs.declared.stores.StoreError.TheVariants as store
 use Rattle.store_model.specs.declared.stores.TxError.TheVariants as error
-use Rattle.tx_blocks.proofs.Programs.{reads_append}
-use Rattle.tx_blocks.proofs.Progress.{IsAt, at_as, at_start, at_then, ran_at, same_base, with_more}
-use Rattle.tx_blocks.proofs.Refusals.{cut_as, cut_then, cause_earlier, cause_since, later_than, later_same}
 
 pub ends_from : {R : Type 0} (whole rest : Program R) (t u v : Tx) (end : Option R) → IsAt whole rest t u → Ends rest u v end → Ends whole t v end
 ends_from whole rest t u v end now ended = record {

@@ -1,7 +1,5 @@
 -- How far a call that follows a program has come.
-use Rattle.tx_blocks.proofs.Words.{◌≡◌, ◌∙◌, sym, refl, ap, subst, ℕ, zero, suc, ◌+◌, ◌-◌, ◌<◌, ◌≤◌, Bool, true, false, cond, List, [], ◌∷◌, ◌++◌, length, take, Option, Some, None, arith, nat_le, append_assoc, length-append, append-nil, take_at, drop_at, ForSome, nat_tests, Access, Span, Array, put, own, is_write, block_at, Program, Done, Look, LookWhole, Reserve, Store, bytes_in, further_bytes, with_further, look_access, store_access, accesses_of, answer_of, after, outcome, then_do, Tx, with_accesses, added, room_of, Began, Ends, Ran, Stopped, take-nil}
-use Rattle.tx_blocks.proofs.Programs.{accesses_then}
-use Rattle.tx_blocks.proofs.Outcomes.{IsWhole, outcome_whole, outcome_then, outcome_cut}
+use Rattle.tx_blocks.proofs.{Words.{◌≡◌, ◌∙◌, sym, refl, ap, subst, ℕ, zero, suc, ◌+◌, ◌-◌, ◌<◌, ◌≤◌, Bool, true, false, cond, List, [], ◌∷◌, ◌++◌, length, take, Option, Some, None, arith, nat_le, append_assoc, length-append, append-nil, take_at, drop_at, ForSome, nat_tests, Access, Span, Array, put, own, is_write, block_at, Program, Done, Look, LookWhole, Reserve, Store, bytes_in, further_bytes, with_further, look_access, store_access, accesses_of, answer_of, after, outcome, then_do, Tx, with_accesses, added, room_of, Began, Ends, Ran, Stopped, take-nil}, Programs.accesses_then, Outcomes.{IsWhole, outcome_whole, outcome_then, outcome_cut}}
 
 pub own_append : (A : Array) (xs ys : List Access) → own A (xs ++ ys) ≡ own (own A xs) ys
 own_append A [] ys = refl

@@ -1,9 +1,7 @@
 -- Where a call that follows a program is refused an access.
-use Rattle.tx_blocks.proofs.Words.{◌≡◌, ◌∙◌, sym, refl, ap, subst, ℕ, ◌≤◌, false, List, [], ◌∷◌, ◌++◌, length, Option, Result, Ok, Err, inl, inr, arith, append_assoc, append-nil, Rose, Access, Span, StoreError, TxError, is_write, Program, Look, Store, then_do, Tx, Device, IsLater, with_accesses, IsCut, IsCause, HasRead, IsStoreCause, IsUnwritten, Behaves, Passed, LookWhole, None, Ends, Stopped}
+use Rattle.tx_blocks.proofs.{Words.{◌≡◌, ◌∙◌, sym, refl, ap, subst, ℕ, ◌≤◌, false, List, [], ◌∷◌, ◌++◌, length, Option, Result, Ok, Err, inl, inr, arith, append_assoc, append-nil, Rose, Access, Span, StoreError, TxError, is_write, Program, Look, Store, then_do, Tx, Device, IsLater, with_accesses, IsCut, IsCause, HasRead, IsStoreCause, IsUnwritten, Behaves, Passed, LookWhole, None, Ends, Stopped}, Programs.reads_append, Progress.{IsAt, at_start, stopped_at, stopped_then, full_at_look, full_at_store, full_at_whole, full_then}}
 use Rattle.store_model.specs.declared.stores.StoreError.TheVariants as store
 use Rattle.store_model.specs.declared.stores.TxError.TheVariants as error
-use Rattle.tx_blocks.proofs.Programs.{reads_append}
-use Rattle.tx_blocks.proofs.Progress.{IsAt, at_start, stopped_at, stopped_then, full_at_look, full_at_store, full_at_whole, full_then}
 
 -- a refused access cuts the call short: it does not fit, or the call is stopped before it
 cut_so : {R : Type 0} (whole : Program R) (t u v : Tx) (before now : Device) (e : TxError) → (4096 ≤ length u.accesses → Ends whole t v None) → Stopped whole t v → v ≡ u → IsCause v 1 before now e → IsCut whole t v e

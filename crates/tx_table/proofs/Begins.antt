@@ -1,6 +1,5 @@
 -- Numbers that rise and begins that do not fall: the entry of a transaction, the least begin, one entry more or fewer.
-use Rattle.tx_table.proofs.Words.{◌≡◌, ◌≢◌, ◌∙◌, refl, sym, ap, ℕ, zero, suc, ◌+◌, ◌<◌, ◌≤◌, true, false, List, [], ◌∷◌, ◌++◌, length, get_or, drop, map, take, arith, min-eq_left, None, nat_eq, lookup, common_steps, floor_of, least_begin, Begun, AreBefore, BeginFrom, IsPlace, RisesFrom, at_work}
-use Rattle.tx_table.proofs.Blocks.{at_least}
+use Rattle.tx_table.proofs.{Words.{◌≡◌, ◌≢◌, ◌∙◌, refl, sym, ap, ℕ, zero, suc, ◌+◌, ◌<◌, ◌≤◌, true, false, List, [], ◌∷◌, ◌++◌, length, get_or, drop, map, take, arith, min-eq_left, None, nat_eq, lookup, common_steps, floor_of, least_begin, Begun, AreBefore, BeginFrom, IsPlace, RisesFrom, at_work}, Blocks.at_least}
 
 same_number : (tx : ℕ) (e : ℕ × Begun) → e.0 ≡ tx → nat_eq tx e.0 ≡ true
 same_number tx e same = grind (arith, common_steps)

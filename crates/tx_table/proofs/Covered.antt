@@ -1,7 +1,6 @@
 -- The bytes that rows cover.
-use Rattle.tx_table.proofs.Words.{◌≡◌, ◌∙◌, refl, sym, ap, ℕ, zero, suc, ◌+◌, ◌<◌, ◌≤◌, Bool, true, false, ◌==◌, ◌&&◌, ◌||◌, nat_le, nat_lt, List, [], ◌∷◌, ◌++◌, ◌-◌, length, get_or, map, take, drop, arith, length-drop, AllByRecursion, list_any, ltb-true, or-false, get_or_default, get_or-drop, take_all, take-append-drop, take-map, list_any-append, list_any_more, common_steps, Extent, touches, AreTouched, Access, Kind, Span, covered, in_span, covers, has_write, is_write, IsSpan, Row, access_of, IsRow, and_parts, eqb-true, or-true, or_parts}
+use Rattle.tx_table.proofs.{Words.{◌≡◌, ◌∙◌, refl, sym, ap, ℕ, zero, suc, ◌+◌, ◌<◌, ◌≤◌, Bool, true, false, ◌==◌, ◌&&◌, ◌||◌, nat_le, nat_lt, List, [], ◌∷◌, ◌++◌, ◌-◌, length, get_or, map, take, drop, arith, length-drop, AllByRecursion, list_any, ltb-true, or-false, get_or_default, get_or-drop, take_all, take-append-drop, take-map, list_any-append, list_any_more, common_steps, Extent, touches, AreTouched, Access, Kind, Span, covered, in_span, covers, has_write, is_write, IsSpan, Row, access_of, IsRow, and_parts, eqb-true, or-true, or_parts}, Applied.rows_more}
 use Rattle.iso_model.specs.Effect as model
-use Rattle.tx_table.proofs.Applied.{rows_more}
 
 -- what a settled work is
 pub settled_is : (n m k : ℕ) → ((n == m) && (k == m)) ≡ true → (n ≡ m) × (k ≡ m)

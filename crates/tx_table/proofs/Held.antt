@@ -1,7 +1,5 @@
 -- Patches in their slots: which block has which, and what clearing leaves.
-use Rattle.tx_table.proofs.Words.{◌≡◌, ◌≢◌, ◌∙◌, sym, ap, ℕ, ◌<◌, ◌≤◌, Bool, true, false, ◌==◌, ◌||◌, List, [], ◌∷◌, refl, inl, inr, length, get_or, arith, Option, None, replicate, cases_lt, length-replicate, AllByRecursion, has_patch, patch_at, AreBlankFrom, AreSlots, RisesFrom, entries_of}
-use Rattle.tx_table.proofs.Blocks.{found_at, found_none}
-use Rattle.tx_table.proofs.Slots.{all_from, all_there, entry_is, key_at, length-entries, rises_entries, slot_below}
+use Rattle.tx_table.proofs.{Words.{◌≡◌, ◌≢◌, ◌∙◌, sym, ap, ℕ, ◌<◌, ◌≤◌, Bool, true, false, ◌==◌, ◌||◌, List, [], ◌∷◌, refl, inl, inr, length, get_or, arith, Option, None, replicate, cases_lt, length-replicate, AllByRecursion, has_patch, patch_at, AreBlankFrom, AreSlots, RisesFrom, entries_of}, Blocks.{found_at, found_none}, Slots.{all_from, all_there, entry_is, key_at, length-entries, rises_entries, slot_below}}
 
 -- the block of a place has the patch in its slot
 held_at : (size b s i : ℕ) (slots : List (List (Option ℕ))) (order : List (ℕ × ℕ)) → RisesFrom 0 order → i < length order → get_or order i (b, s) ≡ (b, s)

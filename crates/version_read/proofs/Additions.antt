@@ -1,6 +1,5 @@
 -- Parts that are added to an index one by one.
-use Rattle.version_read.proofs.Words.{◌≡◌, ◌≢◌, inl, inr, ◌∙◌, sym, refl, ap, ℕ, ◌+◌, ◌<◌, ◌≤◌, ◌==◌, Bool, true, false, cond, List, [], ◌∷◌, ◌++◌, length, map, take, drop, get_or, get_or-drop, arith, subst, append_assoc, AllByRecursion, cases_eq, eq-eqb, ne_eqb, append-nil, drop_more, take_all, take_more, take-append-drop, length-drop, sum_by-append, sum_by-cons, Run, Version, AreAtMost, BlockVersions, IsAdded, block_of, count_of, no_version, room_of, versions_in, all_at, all_of, PartSpan, HasRoom, HasTaken, no_part, part_of, part_versions, parts_in, parts_length}
-use Rattle.version_read.proofs.Lying.{all_append, all_cond}
+use Rattle.version_read.proofs.{Words.{◌≡◌, ◌≢◌, inl, inr, ◌∙◌, sym, refl, ap, ℕ, ◌+◌, ◌<◌, ◌≤◌, ◌==◌, Bool, true, false, cond, List, [], ◌∷◌, ◌++◌, length, map, take, drop, get_or, get_or-drop, arith, subst, append_assoc, AllByRecursion, cases_eq, eq-eqb, ne_eqb, append-nil, drop_more, take_all, take_more, take-append-drop, length-drop, sum_by-append, sum_by-cons, Run, Version, AreAtMost, BlockVersions, IsAdded, block_of, count_of, no_version, room_of, versions_in, all_at, all_of, PartSpan, HasRoom, HasTaken, no_part, part_of, part_versions, parts_in, parts_length}, Lying.{all_append, all_cond}}
 
 abbrev pub size_of : PartSpan → ℕ
 size_of part = 8 + part.len

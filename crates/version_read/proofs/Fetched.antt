@@ -1,8 +1,5 @@
 -- A block that is read by the versions of a half's records is the block of the array after them.
-use Rattle.version_read.proofs.Words.{◌≡◌, ◌∙◌, sym, refl, ap, ℕ, zero, suc, ◌+◌, ◌-◌, ◌*◌, ◌<◌, ◌≤◌, ◌==◌, Bool, true, false, cond, nat_le, List, [], ◌∷◌, ◌++◌, length, take, drop, get_or, unwrap_or, arith, subst, length-drop, le-leb, lt-leb, get_or-take, get_or-drop, ext_get_or, take_all, length-map, length-take-le, filter-append, Commit, Geometry, Run, Array, byte_at, own, record_length, base_place, log_place, History, all_own, array_at, last, IsRecord, Written, blocks_of, commits_of, records, written, recorded, IsHistory, block_at, held_array, HasSize, own_size, Half, IsHeld, half_of, history_of, last_told, held_each, held_log, log_in_image, Version, IsIndexOf, placed, version_of, versions_of, ShowTheSame, byte_in, BlockVersions, shown_since, upto, versions_in, newest_kept, same_newest, since_same, IsOver}
-use Rattle.version_read.proofs.Lying.{all_first}
-use Rattle.version_read.proofs.Records.{records_show}
-use Rattle.version_read.proofs.Stands.{StandsAt, first_stand, log_stands}
+use Rattle.version_read.proofs.{Words.{◌≡◌, ◌∙◌, sym, refl, ap, ℕ, zero, suc, ◌+◌, ◌-◌, ◌*◌, ◌<◌, ◌≤◌, ◌==◌, Bool, true, false, cond, nat_le, List, [], ◌∷◌, ◌++◌, length, take, drop, get_or, unwrap_or, arith, subst, length-drop, le-leb, lt-leb, get_or-take, get_or-drop, ext_get_or, take_all, length-map, length-take-le, filter-append, Commit, Geometry, Run, Array, byte_at, own, record_length, base_place, log_place, History, all_own, array_at, last, IsRecord, Written, blocks_of, commits_of, records, written, recorded, IsHistory, block_at, held_array, HasSize, own_size, Half, IsHeld, half_of, history_of, last_told, held_each, held_log, log_in_image, Version, IsIndexOf, placed, version_of, versions_of, ShowTheSame, byte_in, BlockVersions, shown_since, upto, versions_in, newest_kept, same_newest, since_same, IsOver}, Lying.all_first, Records.records_show, Stands.{StandsAt, first_stand, log_stands}}
 
 -- the versions of a commit up to n, all of them
 low_step : (n b k at : ℕ) (run : Run) (parts : List Run) → nat_le k n ≡ true → upto n (placed b k (at + (8 + length run.bytes)) parts) ≡ placed b k (at + (8 + length run.bytes)) parts → (same : Bool)

@@ -1,7 +1,5 @@
 -- One stretch more of a block is filled, and what follows it was seen.
-use Rattle.version_read.proofs.Words.{◌≡◌, ◌∙◌, sym, refl, ap, ℕ, ◌+◌, ◌-◌, ◌<◌, ◌≤◌, Bool, true, false, ◌&&◌, ◌||◌, not, cond, nat_le, nat_lt, List, length, get_or, arith, and_parts, leb-true, ltb-true, and-false, is_seen, in_bytes, in_split, IsFilled}
-use Rattle.version_read.proofs.Overlays.{part_at, with_part}
-use Rattle.version_read.proofs.Wanted.{unseen, unseen_all, unseen_none, unseen_split}
+use Rattle.version_read.proofs.{Words.{◌≡◌, ◌∙◌, sym, refl, ap, ℕ, ◌+◌, ◌-◌, ◌<◌, ◌≤◌, Bool, true, false, ◌&&◌, ◌||◌, not, cond, nat_le, nat_lt, List, length, get_or, arith, and_parts, leb-true, ltb-true, and-false, is_seen, in_bytes, in_split, IsFilled}, Overlays.{part_at, with_part}, Wanted.{unseen, unseen_all, unseen_none, unseen_split}}
 
 taken : (a b s : Bool) (x y z : ℕ) → (a ≡ true → s ≡ false) → (a ≡ true → y ≡ x) → cond a y (cond (b && not s) x z) ≡ cond ((a || b) && not s) x z
 taken true b s x y z fresh same = same refl ∙ sym (ap (λ (t : Bool). cond (not t) x z) (fresh refl))

@@ -1,6 +1,5 @@
 -- What becomes of the index of the records of a log.
-use Rattle.version_read.proofs.Words.{◌≡◌, ◌⊎◌, inl, inr, ◌∙◌, sym, refl, ap, ℕ, zero, suc, ◌+◌, ◌-◌, ◌<◌, ◌≤◌, ◌==◌, Bool, true, false, cond, nat_lt, List, [], ◌∷◌, ◌++◌, length, take, drop, map, get_or, sum_by, arith, subst, append_assoc, AllByRecursion, filter, cases_lt, le-leb, lt-leb, append-nil, get_or_past, length-take-le, map-append, take-append-drop, filter-append, sum_by-cons, Geometry, Run, record_length, IsRecord, Written, records, length-records, Version, AreSplit, moved, moved_to, IsIndexOf, placed, version_of, versions_of, BlockVersions, no_version, no_versions, shown_since, still_shows, versions_in, above_stay, shown_again, shown_more, all_at, all_shown, HasTaken, part_of, part_versions}
-use Rattle.version_read.proofs.Lying.{all_append, all_cond, all_first, every_version}
+use Rattle.version_read.proofs.{Words.{◌≡◌, ◌⊎◌, inl, inr, ◌∙◌, sym, refl, ap, ℕ, zero, suc, ◌+◌, ◌-◌, ◌<◌, ◌≤◌, ◌==◌, Bool, true, false, cond, nat_lt, List, [], ◌∷◌, ◌++◌, length, take, drop, map, get_or, sum_by, arith, subst, append_assoc, AllByRecursion, filter, cases_lt, le-leb, lt-leb, append-nil, get_or_past, length-take-le, map-append, take-append-drop, filter-append, sum_by-cons, Geometry, Run, record_length, IsRecord, Written, records, length-records, Version, AreSplit, moved, moved_to, IsIndexOf, placed, version_of, versions_of, BlockVersions, no_version, no_versions, shown_since, still_shows, versions_in, above_stay, shown_again, shown_more, all_at, all_shown, HasTaken, part_of, part_versions}, Lying.{all_append, all_cond, all_first, every_version}}
 
 abbrev length_of : Written → ℕ
 length_of w = record_length w.parts

@@ -1,6 +1,5 @@
 -- Versions laid over bytes of a block one after the other, from the oldest version on.
-use Rattle.version_read.proofs.Words.{◌≡◌, ◌∙◌, inl, inr, sym, refl, ap, ℕ, ◌+◌, ◌-◌, ◌<◌, ◌≤◌, Bool, true, false, cond, List, [], ◌∷◌, take, max, min, Option, Some, None, length, get_or, unwrap_or, arith, cases_lt, take_more, or_else, Version, Lies, byte_in, has, no_version, byte_in-append, in_is, in_over, in_under, IsLaidIn, IsOverIn}
-use Rattle.version_read.proofs.Overlays.{before, behind, with_part, within}
+use Rattle.version_read.proofs.{Words.{◌≡◌, ◌∙◌, inl, inr, sym, refl, ap, ℕ, ◌+◌, ◌-◌, ◌<◌, ◌≤◌, Bool, true, false, cond, List, [], ◌∷◌, take, max, min, Option, Some, None, length, get_or, unwrap_or, arith, cases_lt, take_more, or_else, Version, Lies, byte_in, has, no_version, byte_in-append, in_is, in_over, in_under, IsLaidIn, IsOverIn}, Overlays.{before, behind, with_part, within}}
 
 under : (x y : Option ℕ) (z : ℕ) → unwrap_or x (unwrap_or y z) ≡ unwrap_or (or_else x y) z
 under (Some x) y z = refl

@@ -1,7 +1,6 @@
 -- The versions that the records of a log make show what the records tell.
-use Rattle.version_read.proofs.Words.{◌≡◌, ◌∙◌, sym, refl, ap, ℕ, ◌+◌, ◌-◌, ◌<◌, ◌≤◌, ◌==◌, Bool, true, false, ◌&&◌, cond, nat_le, nat_lt, List, [], ◌∷◌, ◌++◌, Option, Some, None, length, flat_map, get_or, unwrap_or, arith, subst, AllByRecursion, to_be_bytes, w16, w32, and_parts, leb-true, ltb-true, Geometry, Run, Array, byte_at, in_span, effect_at, or_else, own, record_length, all_own, AreRuns, IsRecord, Written, body_length, commits_of, kind_of, part, records, spell, recorded, HasBytes, value_in, own_at, length-part, length-spell, HasSize, effect_recorded, length-recorded, own_size, placed, version_of, versions_of, byte_in, byte_of, has, byte_in-append, or_else_none}
+use Rattle.version_read.proofs.{Words.{◌≡◌, ◌∙◌, sym, refl, ap, ℕ, ◌+◌, ◌-◌, ◌<◌, ◌≤◌, ◌==◌, Bool, true, false, ◌&&◌, cond, nat_le, nat_lt, List, [], ◌∷◌, ◌++◌, Option, Some, None, length, flat_map, get_or, unwrap_or, arith, subst, AllByRecursion, to_be_bytes, w16, w32, and_parts, leb-true, ltb-true, Geometry, Run, Array, byte_at, in_span, effect_at, or_else, own, record_length, all_own, AreRuns, IsRecord, Written, body_length, commits_of, kind_of, part, records, spell, recorded, HasBytes, value_in, own_at, length-part, length-spell, HasSize, effect_recorded, length-recorded, own_size, placed, version_of, versions_of, byte_in, byte_of, has, byte_in-append, or_else_none}, Stands.{StandsAt, stands_first, stands_rest}}
 use Rattle.std.specs.Int.{w64}
-use Rattle.version_read.proofs.Stands.{StandsAt, stands_first, stands_rest}
 
 pub or_unwrap : (x y : Option ℕ) (z : ℕ) → unwrap_or (or_else x y) z ≡ unwrap_or x (unwrap_or y z)
 or_unwrap None y z = refl

@@ -1,6 +1,5 @@
 -- The next record of a half may be taken in.
-use Rattle.version_read.proofs.Words.{◌≡◌, inl, inr, sym, ap, ℕ, zero, suc, ◌+◌, ◌*◌, ◌^◌, ◌<◌, ◌≤◌, IsTrue, List, [], ◌∷◌, ◌++◌, length, map, sum_by, arith, subst, AllByRecursion, length-map, sum_by-append, sum_by-cons, mul-le-mul_right, Geometry, Run, record_length, is_valid, log_place, AreRuns, IsRecord, IsRun, Written, records, limits, length-records, sum_by-map, Half, MayFollow, last_told, next_gate, told_bytes, log_inside, IsIndexOf, BlockVersions, no_version, versions_in, all_at, PartSpan, BlocksRise, IsPart, MayTake, no_part, part_of, parts_length}
-use Rattle.version_read.proofs.Lying.{count_le, numbers_below, runs_all}
+use Rattle.version_read.proofs.{Words.{◌≡◌, inl, inr, sym, ap, ℕ, zero, suc, ◌+◌, ◌*◌, ◌^◌, ◌<◌, ◌≤◌, IsTrue, List, [], ◌∷◌, ◌++◌, length, map, sum_by, arith, subst, AllByRecursion, length-map, sum_by-append, sum_by-cons, mul-le-mul_right, Geometry, Run, record_length, is_valid, log_place, AreRuns, IsRecord, IsRun, Written, records, limits, length-records, sum_by-map, Half, MayFollow, last_told, next_gate, told_bytes, log_inside, IsIndexOf, BlockVersions, no_version, versions_in, all_at, PartSpan, BlocksRise, IsPart, MayTake, no_part, part_of, parts_length}, Lying.{count_le, numbers_below, runs_all}}
 
 pub parts_all : (g : Geometry) (parts : List Run) → g.block ≤ 4096 → AllByRecursion (IsRun g) parts → AllByRecursion (IsPart g.blocks) (map part_of parts)
 parts_all g [] small all = tt

@@ -1,7 +1,5 @@
 -- An index without versions may take in a few parts.
-use Rattle.version_read.proofs.Words.{◌≡◌, sym, ℕ, ◌+◌, ◌*◌, ◌^◌, ◌<◌, ◌≤◌, List, [], ◌∷◌, length, map, arith, subst, AllByRecursion, sum_by-cons, Run, AreRuns, AreAtMost, BlockVersions, count_of, versions_in, PartSpan, IsPart, MayTake, part_of, parts_length, small}
-use Rattle.version_read.proofs.Lying.{runs_all}
-use Rattle.version_read.proofs.Taking.{parts_all}
+use Rattle.version_read.proofs.{Words.{◌≡◌, sym, ℕ, ◌+◌, ◌*◌, ◌^◌, ◌<◌, ◌≤◌, List, [], ◌∷◌, length, map, arith, subst, AllByRecursion, sum_by-cons, Run, AreRuns, AreAtMost, BlockVersions, count_of, versions_in, PartSpan, IsPart, MayTake, part_of, parts_length, small}, Lying.runs_all, Taking.parts_all}
 
 short : (n : ℕ) (parts : List PartSpan) → AllByRecursion (IsPart n) parts → parts_length parts ≤ length parts * 4104
 short n [] all = omega arith

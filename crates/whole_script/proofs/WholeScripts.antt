@@ -1,7 +1,6 @@
 -- The lines of a whole script.
-use Rattle.whole_script.proofs.Words.{◌≡◌, ◌≤◌, ◌+◌, ℕ, Bool, List, [], ◌∷◌, ◌++◌, None, Result, Ok, Err, refl, sym, ap, ◌∙◌, subst, length, nat_le, take, append_assoc, take_all, MAX_INPUT, Line, LineError, Parsed, Script, before_script, last_piece, parse_whole, script, script_from, pieces, Gives, SaysFirst, behind, HasNoFeed, one_piece, says-more, script-line, ScriptError, Adds, IsWhyOf, Stops}
+use Rattle.whole_script.proofs.{Words.{◌≡◌, ◌≤◌, ◌+◌, ℕ, Bool, List, [], ◌∷◌, ◌++◌, None, Result, Ok, Err, refl, sym, ap, ◌∙◌, subst, length, nat_le, take, append_assoc, take_all, MAX_INPUT, Line, LineError, Parsed, Script, before_script, last_piece, parse_whole, script, script_from, pieces, Gives, SaysFirst, behind, HasNoFeed, one_piece, says-more, script-line, ScriptError, Adds, IsWhyOf, Stops}, LastPieces.stops}
 use Rattle.whole_script.specs.declared.lines.ScriptError.TheVariants as error
-use Rattle.whole_script.proofs.LastPieces.{stops}
 
 -- the script of an input that is not too long
 pub script_is : (bytes : List ℕ) (cut : Bool) → length bytes ≤ MAX_INPUT → nat_le MAX_INPUT (length bytes) ≡ cut → script bytes ≡ script_from cut 1 (pieces 10 bytes)

@@ -1,5 +1,4 @@
-use Rattle.account_laws.proofs.Images.{opens_with_sum}
-use Rattle.account_laws.proofs.Walks.{sum_kept}
+use Rattle.account_laws.proofs.{Images.opens_with_sum, Walks.sum_kept}
 use Rattle.account_laws.proofs.laws.accounts_keep_their_sum.Goals as goal
 
 pub returns-clause-history : goal.returns-clause-history

@@ -1,5 +1,4 @@
-use Rattle.accounts.proofs.Words.{◌≡◌, [], ◌∷◌, List, Option, subst, ℕ, Get, Got, amount, area_of, Adds}
-use Rattle.accounts.proofs.Adding.{got_adds}
+use Rattle.accounts.proofs.{Words.{◌≡◌, [], ◌∷◌, List, Option, subst, ℕ, Get, Got, amount, area_of, Adds}, Adding.got_adds}
 use Rattle.accounts.proofs.amounts.amount_at.Goals as goal
 
 pub returns-in-Some-clause-got : goal.returns-in-Some-clause-got

@@ -1,5 +1,4 @@
-use Rattle.accounts.proofs.Words.{[], ◌∷◌, List, Option, subst, ℕ, Get, Got, area_of, Adds}
-use Rattle.accounts.proofs.Adding.{got_adds}
+use Rattle.accounts.proofs.{Words.{[], ◌∷◌, List, Option, subst, ℕ, Get, Got, area_of, Adds}, Adding.got_adds}
 use Rattle.accounts.proofs.amounts.is_free.Goals as goal
 
 pub returns-in-Ok-None-clause-got : goal.returns-in-Ok-None-clause-got

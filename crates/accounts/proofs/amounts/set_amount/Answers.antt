@@ -1,5 +1,4 @@
-use Rattle.accounts.proofs.Words.{[], ◌∷◌, List, subst, ℕ, Put, WasPut, area_of, Adds}
-use Rattle.accounts.proofs.Adding.{put_adds}
+use Rattle.accounts.proofs.{Words.{[], ◌∷◌, List, subst, ℕ, Put, WasPut, area_of, Adds}, Adding.put_adds}
 use Rattle.accounts.proofs.amounts.set_amount.Goals as goal
 
 pub returns-in-Ok-clause-put : goal.returns-in-Ok-clause-put

@@ -1,6 +1,4 @@
-use Rattle.accounts.proofs.Words.{own, port_view, times, opening_of}
-use Rattle.accounts.proofs.Covering.{covers_both, covers_on}
-use Rattle.accounts.proofs.Keeping.{finished}
+use Rattle.accounts.proofs.{Words.{own, port_view, times, opening_of}, Covering.{covers_both, covers_on}, Keeping.finished}
 use Rattle.accounts.proofs.gathered.gather.Goals as goal
 
 pub returns-clause-kept : goal.returns-clause-kept

@@ -1,5 +1,4 @@
-use Rattle.accounts.proofs.Words.{List, subst, sym, Area, area_of, Does, IsOpening, opening_of, to_be_bytes, w64, Account}
-use Rattle.accounts.proofs.Adding.{area_same, opened_more}
+use Rattle.accounts.proofs.{Words.{List, subst, sym, Area, area_of, Does, IsOpening, opening_of, to_be_bytes, w64, Account}, Adding.{area_same, opened_more}}
 use Rattle.accounts.proofs.moving.+open_all.Goals as goal
 
 pub returns-in_ok-open_all-in-Some : goal.returns-in_ok-open_all-in-Some

@@ -1,5 +1,4 @@
-use Rattle.accounts.proofs.Words.{area_of, IsPut, IsTaken, IsTransfer, to_be_bytes, w64}
-use Rattle.accounts.proofs.Adding.{completed, does_put, does_then}
+use Rattle.accounts.proofs.{Words.{area_of, IsPut, IsTaken, IsTransfer, to_be_bytes, w64}, Adding.{completed, does_put, does_then}}
 use Rattle.accounts.proofs.moving.move_amount.Goals as goal
 
 pub returns : goal.returns

@@ -1,5 +1,4 @@
-use Rattle.accounts.proofs.Words.{[], ◌∷◌, Put, WasPut, area_of, to_be_bytes, w64}
-use Rattle.accounts.proofs.Adding.{adds_on, opened_one}
+use Rattle.accounts.proofs.{Words.{[], ◌∷◌, Put, WasPut, area_of, to_be_bytes, w64}, Adding.{adds_on, opened_one}}
 use Rattle.accounts.proofs.moving.open_one.Goals as goal
 
 pub returns-clause-opened : goal.returns-clause-opened

@@ -1,5 +1,4 @@
-use Rattle.accounts.proofs.Words.{◌<◌, subst, sym, ℕ}
-use Rattle.accounts.proofs.Adding.{bytes_apart, taken}
+use Rattle.accounts.proofs.{Words.{◌<◌, subst, sym, ℕ}, Adding.{bytes_apart, taken}}
 use Rattle.accounts.proofs.moving.take_amount.Goals as goal
 
 pub returns-clause-taken : goal.returns-clause-taken

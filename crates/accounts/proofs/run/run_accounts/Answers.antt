@@ -1,5 +1,4 @@
-use Rattle.accounts.proofs.Words.{refl, ◌∙◌, ap, Geometry, port_view, planned}
-use Rattle.accounts.proofs.Whole.{has_run, ready_of}
+use Rattle.accounts.proofs.{Words.{refl, ◌∙◌, ap, Geometry, port_view, planned}, Whole.{has_run, ready_of}}
 use Rattle.accounts.proofs.run.run_accounts.Goals as goal
 
 pub run_on-report-requires-clause-store : goal.run_on-report-requires-clause-store

@@ -1,5 +1,4 @@
-use Rattle.accounts.proofs.Words.{Err, opening_of}
-use Rattle.accounts.proofs.Keeping.{aborted, ended, over}
+use Rattle.accounts.proofs.{Words.{Err, opening_of}, Keeping.{aborted, ended, over}}
 use Rattle.accounts.proofs.sessions.end.Goals as goal
 
 pub returns-in-Ok-clause-session : goal.returns-in-Ok-clause-session

@@ -1,6 +1,4 @@
-use Rattle.accounts.proofs.Words.{List, Ok, subst, ℕ, area_of, IsTakenFor, to_be_bytes, w64, HashPuts, HasCalled, passed, opening_of}
-use Rattle.accounts.proofs.Filling.{completes, may_put}
-use Rattle.accounts.proofs.Keeping.{aborted, took_over, visited}
+use Rattle.accounts.proofs.{Words.{List, Ok, subst, ℕ, area_of, IsTakenFor, to_be_bytes, w64, HashPuts, HasCalled, passed, opening_of}, Filling.{completes, may_put}, Keeping.{aborted, took_over, visited}}
 use Rattle.accounts.proofs.sessions.end_half.Goals as goal
 
 pub takeover_tx-requires-clause-handle : goal.takeover_tx-requires-clause-handle

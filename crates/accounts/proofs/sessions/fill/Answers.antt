@@ -1,6 +1,4 @@
-use Rattle.accounts.proofs.Words.{Some, Serial, calls_of, opening_of}
-use Rattle.accounts.proofs.Filling.{fills, may_call}
-use Rattle.accounts.proofs.Keeping.{aborted, begun, unbegun, visited}
+use Rattle.accounts.proofs.{Words.{Some, Serial, calls_of, opening_of}, Filling.{fills, may_call}, Keeping.{aborted, begun, unbegun, visited}}
 use Rattle.accounts.proofs.sessions.fill.Goals as goal
 
 pub returns-in-Err-clause-kept : goal.returns-in-Err-clause-kept

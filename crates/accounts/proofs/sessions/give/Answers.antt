@@ -1,6 +1,5 @@
-use Rattle.accounts.proofs.Words.{subst, sym, IsOfAccounts, tx_of, device, Shared, IsWhole, opening_of}
+use Rattle.accounts.proofs.{Words.{subst, sym, IsOfAccounts, tx_of, device, Shared, IsWhole, opening_of}, Keeping.{given, let_go}}
 use Rattle.iso_shared.specs.declared.tx.Tx.{Tx}
-use Rattle.accounts.proofs.Keeping.{given, let_go}
 use Rattle.accounts.proofs.sessions.give.Goals as goal
 
 pub returns-in-Ok-release_tx-clause-session : goal.returns-in-Ok-release_tx-clause-session

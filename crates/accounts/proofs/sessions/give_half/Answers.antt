@@ -1,5 +1,4 @@
-use Rattle.accounts.proofs.Words.{arith, subst, IsTakenFor, tx_of, Shared, IsGiven, opening_of}
-use Rattle.accounts.proofs.Keeping.{given, let_go}
+use Rattle.accounts.proofs.{Words.{arith, subst, IsTakenFor, tx_of, Shared, IsGiven, opening_of}, Keeping.{given, let_go}}
 use Rattle.accounts.proofs.sessions.give_half.Goals as goal
 
 pub returns-in-Ok-release_tx-clause-session : goal.returns-in-Ok-release_tx-clause-session

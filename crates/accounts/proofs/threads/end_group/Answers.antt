@@ -1,5 +1,4 @@
-use Rattle.accounts.proofs.Words.{port_view, opening_of}
-use Rattle.accounts.proofs.Grouping.{grouped, knows_on}
+use Rattle.accounts.proofs.{Words.{port_view, opening_of}, Grouping.{grouped, knows_on}}
 use Rattle.accounts.proofs.threads.end_group.Goals as goal
 
 pub returns-clause-kept : goal.returns-clause-kept

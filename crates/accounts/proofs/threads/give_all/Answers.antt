@@ -1,6 +1,5 @@
-use Rattle.accounts.proofs.Words.{◌≡◌, ◌∙◌, ◌+◌, ◌≤◌, ◌++◌, ◌∷◌, [], ap, arith, length, List, Option, subst, sym, ℕ, length-append, found_in, device, units, Shared, units_of, AreGiven, IsWhole, opening_of}
+use Rattle.accounts.proofs.{Words.{◌≡◌, ◌∙◌, ◌+◌, ◌≤◌, ◌++◌, ◌∷◌, [], ap, arith, length, List, Option, subst, sym, ℕ, length-append, found_in, device, units, Shared, units_of, AreGiven, IsWhole, opening_of}, Giving.{given_more, units_few, units_more}}
 use Rattle.iso_shared.specs.declared.tx.Tx.{Tx}
-use Rattle.accounts.proofs.Giving.{given_more, units_few, units_more}
 use Rattle.accounts.proofs.threads.give_all.Goals as goal
 
 pub give-member-requires-clause-units : goal.give-member-requires-clause-units

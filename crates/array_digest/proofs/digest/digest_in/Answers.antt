@@ -1,5 +1,4 @@
-use Rattle.array_digest.proofs.Words.{◌≡◌, ◌∙◌, ap, subst, ℕ, List, Option, arith, ForSome, disk_of, up, joined_unwritten, array_at, block_at, sha256}
-use Rattle.array_digest.proofs.Blocks.{all_held, block_count, more_held}
+use Rattle.array_digest.proofs.{Words.{◌≡◌, ◌∙◌, ap, subst, ℕ, List, Option, arith, ForSome, disk_of, up, joined_unwritten, array_at, block_at, sha256}, Blocks.{all_held, block_count, more_held}}
 use Rattle.array_digest.proofs.digest.digest_in.Goals as goal
 
 pub returns-in-Err-clause-same : goal.returns-in-Err-clause-same

@@ -1,5 +1,4 @@
-use Rattle.array_digest.proofs.Words.{◌≡◌, length, IsTx, StandsFor, disk_of, up, WritesNothing, World, Live}
-use Rattle.array_digest.proofs.Blocks.{HoldsFirst}
+use Rattle.array_digest.proofs.{Words.{◌≡◌, length, IsTx, StandsFor, disk_of, up, WritesNothing, World, Live}, Blocks.HoldsFirst}
 use Rattle.array_digest.proofs.digest.digest_in.Given as goal
 
 abbrev pub invariant-loop-number : goal.invariant-loop-number

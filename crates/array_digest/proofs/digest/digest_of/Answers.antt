@@ -1,6 +1,4 @@
-use Rattle.array_digest.proofs.Words.{◌≡◌, ◌∙◌, ap, subst, IfOk, ForSome, up, Geometry, array_bytes, array_at, last, after_begin, unattached, sha256}
-use Rattle.array_digest.proofs.Begun.{begun, is_begun, left_again, on_ok, only_memory}
-use Rattle.array_digest.proofs.digest.digest_of.Goals.{in-Memory, in_default-matches}
+use Rattle.array_digest.proofs.{Words.{◌≡◌, ◌∙◌, ap, subst, IfOk, ForSome, up, Geometry, array_bytes, array_at, last, after_begin, unattached, sha256}, Begun.{begun, is_begun, left_again, on_ok, only_memory}, digest.digest_of.Goals.{in-Memory, in_default-matches}}
 use Rattle.array_digest.proofs.digest.digest_of.Goals as goal
 
 pub digest_in-digest-requires : goal.digest_in-digest-requires

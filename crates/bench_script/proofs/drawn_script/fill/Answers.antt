@@ -1,6 +1,4 @@
-use Rattle.bench_script.proofs.Words.{ap, length, arith}
-use Rattle.bench_script.proofs.Pieces.{next_round, no_round}
-use Rattle.bench_script.proofs.drawn_script.fill.Goals.{else-at-text-via-then-at-text+else-rounds-gt0, else-at-text-via-else-at-text}
+use Rattle.bench_script.proofs.{Words.{ap, length, arith}, Pieces.{next_round, no_round}, drawn_script.fill.Goals.{else-at-text-via-then-at-text+else-rounds-gt0, else-at-text-via-else-at-text}}
 use Rattle.bench_script.proofs.drawn_script.fill.Goals as goal
 
 pub returns-then-rounds-gt0-clause-text : goal.returns-then-rounds-gt0-clause-text

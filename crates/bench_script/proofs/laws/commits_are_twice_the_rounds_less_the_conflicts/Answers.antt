@@ -1,5 +1,4 @@
-use Rattle.bench_script.proofs.Words.{answers_to, bench_text, bench_world, script}
-use Rattle.bench_script.proofs.RoundReplies.{bench_answered, both_are}
+use Rattle.bench_script.proofs.{Words.{answers_to, bench_text, bench_world, script}, RoundReplies.{bench_answered, both_are}}
 use Rattle.bench_script.proofs.laws.commits_are_twice_the_rounds_less_the_conflicts.Goals as goal
 
 pub returns : goal.returns

@@ -1,5 +1,4 @@
-use Rattle.bench_script.proofs.Words.{ap, Script}
-use Rattle.bench_script.proofs.GoodLines.{scripts_are, scripts_are_plain}
+use Rattle.bench_script.proofs.{Words.{ap, Script}, GoodLines.{scripts_are, scripts_are_plain}}
 use Rattle.bench_script.proofs.laws.drawn_scripts_are_good.Goals as goal
 
 pub returns-clause-good : goal.returns-clause-good

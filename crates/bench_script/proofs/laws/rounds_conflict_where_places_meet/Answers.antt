@@ -1,5 +1,4 @@
-use Rattle.bench_script.proofs.Words.{answers_to, bench_text, bench_world, script}
-use Rattle.bench_script.proofs.RoundReplies.{bench_answered, conflicts_are}
+use Rattle.bench_script.proofs.{Words.{answers_to, bench_text, bench_world, script}, RoundReplies.{bench_answered, conflicts_are}}
 use Rattle.bench_script.proofs.laws.rounds_conflict_where_places_meet.Goals as goal
 
 pub returns-clause-replies : goal.returns-clause-replies

@@ -1,6 +1,4 @@
-use Rattle.bench_script.proofs.Words.{◌∙◌, sym, List, ℕ, decimal, subst, arith, Contains, reply_text}
-use Rattle.bench_script.proofs.ReplyTexts.{other_than_digits}
-use Rattle.bench_script.proofs.Splits.{is_there, same_split}
+use Rattle.bench_script.proofs.{Words.{◌∙◌, sym, List, ℕ, decimal, subst, arith, Contains, reply_text}, ReplyTexts.other_than_digits, Splits.{is_there, same_split}}
 use Rattle.bench_script.proofs.line_kind.kind_of_line.Goals as goal
 
 pub returns-in-Some : goal.returns-in-Some

@@ -1,5 +1,4 @@
-use Rattle.bench_script.proofs.Words.{sym, ◌∙◌}
-use Rattle.bench_script.proofs.KindsOfReplies.{tested, tested_commit}
+use Rattle.bench_script.proofs.{Words.{sym, ◌∙◌}, KindsOfReplies.{tested, tested_commit}}
 use Rattle.bench_script.proofs.line_kind.kind_of_text.Goals as goal
 
 pub returns-then-starts_with : goal.returns-then-starts_with

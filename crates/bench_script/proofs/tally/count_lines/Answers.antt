@@ -1,5 +1,4 @@
-use Rattle.bench_script.proofs.Counting.{count_on}
-use Rattle.bench_script.proofs.Digesting.{last_bytes}
+use Rattle.bench_script.proofs.{Counting.count_on, Digesting.last_bytes}
 use Rattle.bench_script.proofs.tally.count_lines.Goals as goal
 
 pub loop-line-preserved : goal.loop-line-preserved

@@ -1,6 +1,5 @@
 -- A span is all there exactly where it lies in the first extent that ends behind its begin.
-use Rattle.byte_marks.proofs.Words.{◌≡◌, ℕ, ◌+◌, ◌<◌, ◌≤◌, false, IsTrue, ◌∙◌, ap, subst, arith, inl, inr, List, ◌∷◌, refl, leb, cases_lt, lt-leb, le-leb, nat_tests, OnFalse, in_span, Span, Extent, has, in_extent, AreApartFrom}
-use Rattle.byte_marks.proofs.Apart.{earlier, none_before}
+use Rattle.byte_marks.proofs.{Words.{◌≡◌, ℕ, ◌+◌, ◌<◌, ◌≤◌, false, IsTrue, ◌∙◌, ap, subst, arith, inl, inr, List, ◌∷◌, refl, leb, cases_lt, lt-leb, le-leb, nat_tests, OnFalse, in_span, Span, Extent, has, in_extent, AreApartFrom}, Apart.{earlier, none_before}}
 use Rattle.byte_marks.proofs.meet.has_all.Goals as goal
 
 spans_it : (p : ℕ) (s : Span) → s.off ≤ p → p < s.off + s.len → IsTrue (in_span p s)

@@ -1,8 +1,6 @@
 -- The earlier of two extents that do not meet meets nothing of the other list.
-use Rattle.byte_marks.proofs.Words.{◌≡◌, ℕ, ◌+◌, ◌<◌, ◌≤◌, ◌&&◌, false, ◌∙◌, sym, ap, subst, arith, inl, inr, List, ◌∷◌, max, and_left, and_right, cases_lt, Extent, has, AreApartFrom}
-use Rattle.byte_marks.proofs.Apart.{earlier, none_before, from_head, pass_over, pass_over_right}
+use Rattle.byte_marks.proofs.{Words.{◌≡◌, ℕ, ◌+◌, ◌<◌, ◌≤◌, ◌&&◌, false, ◌∙◌, sym, ap, subst, arith, inl, inr, List, ◌∷◌, max, and_left, and_right, cases_lt, Extent, has, AreApartFrom}, Apart.{earlier, none_before, from_head, pass_over, pass_over_right}, meet.least_common.Goals.{else-start-x-via-then-start-x+else-start-y, else-start-x-via-else-start-x}}
 use Rattle.byte_marks.proofs.meet.least_common.Goals as goal
-use Rattle.byte_marks.proofs.meet.least_common.Goals.{else-start-x-via-then-start-x+else-start-y, else-start-x-via-else-start-x}
 
 -- two lists and the first extent of each
 module _ (x y : Extent) (xs ys a b : List Extent) (a_is : a ≡ x ∷ xs) (b_is : b ≡ y ∷ ys) (a_apart : AreApartFrom 0 a) (b_apart : AreApartFrom 0 b) where

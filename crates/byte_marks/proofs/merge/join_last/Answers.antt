@@ -1,8 +1,6 @@
 -- The last extent with more bytes stands where it stood.
-use Rattle.byte_marks.proofs.Words.{◌≡◌, ◌∙◌, ◌<◌, ◌≤◌, ◌∷◌, ◌++◌, [], List, None, Option, Some, sym, subst, ap, arith, last_or, IfSome, Extent, AreApartFrom}
-use Rattle.byte_marks.proofs.Apart.{wider_last, last_inside, last_or-append}
+use Rattle.byte_marks.proofs.{Words.{◌≡◌, ◌∙◌, ◌<◌, ◌≤◌, ◌∷◌, ◌++◌, [], List, None, Option, Some, sym, subst, ap, arith, last_or, IfSome, Extent, AreApartFrom}, Apart.{wider_last, last_inside, last_or-append}, merge.join_last.Goals.{else-last-added-via-then-last-added+else-added-last, else-last-added-via-else-last-added}}
 use Rattle.byte_marks.proofs.merge.join_last.Goals as goal
-use Rattle.byte_marks.proofs.merge.join_last.Goals.{else-last-added-via-then-last-added+else-added-last, else-last-added-via-else-last-added}
 
 pub push_reserved-requires : goal.push_reserved-requires
 push_reserved-requires c =

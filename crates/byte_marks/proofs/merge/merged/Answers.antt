@@ -1,6 +1,5 @@
 -- The open run takes in what touches it; an extent further on closes it and is the next open run.
-use Rattle.byte_marks.proofs.Words.{◌≡◌, ◌<◌, ◌≤◌, ◌||◌, ◌∙◌, sym, ap, subst, arith, length, length-append, Bool, List, [], ◌∷◌, ◌++◌, Extent, has, in_extent, AreApartFrom, or_assoc}
-use Rattle.byte_marks.proofs.Apart.{earlier, AreApartFrom-append, next_free-append, joined_has, has-append, regroup}
+use Rattle.byte_marks.proofs.{Words.{◌≡◌, ◌<◌, ◌≤◌, ◌||◌, ◌∙◌, sym, ap, subst, arith, length, length-append, Bool, List, [], ◌∷◌, ◌++◌, Extent, has, in_extent, AreApartFrom, or_assoc}, Apart.{earlier, AreApartFrom-append, next_free-append, joined_has, has-append, regroup}}
 use Rattle.byte_marks.proofs.merge.merged.Goals as goal
 
 pub first_of-requires-in-loop-next-clause-a : goal.first_of-requires-in-loop-next-clause-a

@@ -1,6 +1,5 @@
 -- It is where the last of them ends, and one more.
-use Rattle.byte_marks.proofs.Words.{◌≤◌, ◌∙◌, ap, subst, sym, arith, List, Extent, next_free, AreApartFrom}
-use Rattle.byte_marks.proofs.Apart.{last_inside, next_free-append}
+use Rattle.byte_marks.proofs.{Words.{◌≤◌, ◌∙◌, ap, subst, sym, arith, List, Extent, next_free, AreApartFrom}, Apart.{last_inside, next_free-append}}
 use Rattle.byte_marks.proofs.merge.next_free.Goals as goal
 
 pub overflow_add-result : goal.overflow_add-result

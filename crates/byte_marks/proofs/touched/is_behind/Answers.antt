@@ -1,6 +1,5 @@
 -- No block is behind the last.
-use Rattle.byte_marks.proofs.Words.{◌≤◌, ◌<◌, ◌∷◌, ◌++◌, [], ℕ, List, arith, length, get_or, subst, sym, Extent, RisesFrom}
-use Rattle.byte_marks.proofs.Blocks.{last_block}
+use Rattle.byte_marks.proofs.{Words.{◌≤◌, ◌<◌, ◌∷◌, ◌++◌, [], ℕ, List, arith, length, get_or, subst, sym, Extent, RisesFrom}, Blocks.last_block}
 use Rattle.byte_marks.proofs.touched.is_behind.Goals as goal
 
 pub returns : goal.returns

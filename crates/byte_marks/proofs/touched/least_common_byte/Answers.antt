@@ -1,6 +1,5 @@
 -- The entry of the earlier block, or two of one block that do not meet, meet nothing of what is left.
-use Rattle.byte_marks.proofs.Words.{◌≡◌, ℕ, ◌+◌, ◌<◌, ◌&&◌, false, ◌∙◌, sym, ap, subst, arith, List, ◌∷◌, and_left, Extent, has, touches, RisesFrom}
-use Rattle.byte_marks.proofs.Blocks.{rises_earlier, none_before_block, pass_entry, pass_entry_right, pass_both}
+use Rattle.byte_marks.proofs.{Words.{◌≡◌, ℕ, ◌+◌, ◌<◌, ◌&&◌, false, ◌∙◌, sym, ap, subst, arith, List, ◌∷◌, and_left, Extent, has, touches, RisesFrom}, Blocks.{rises_earlier, none_before_block, pass_entry, pass_entry_right, pass_both}}
 use Rattle.byte_marks.proofs.touched.least_common_byte.Goals as goal
 
 -- two lists and the first entry of each

@@ -1,6 +1,5 @@
 -- Blocks that rise are parted by the test on the block.
-use Rattle.byte_marks.proofs.Words.{ℕ, arith, rules, List, ltb, ltb-true, ltb-false, IsPartitionPoint-from_clause, IsPartitionedBy-ltb, Extent}
-use Rattle.byte_marks.proofs.Blocks.{in_order}
+use Rattle.byte_marks.proofs.{Words.{ℕ, arith, rules, List, ltb, ltb-true, ltb-false, IsPartitionPoint-from_clause, IsPartitionedBy-ltb, Extent}, Blocks.in_order}
 use Rattle.byte_marks.proofs.touched.place_of.Goals as goal
 
 pub returns-clause-before : goal.returns-clause-before

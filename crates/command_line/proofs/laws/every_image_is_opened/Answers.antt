@@ -1,5 +1,4 @@
-use Rattle.command_line.proofs.Opened.{par_opens, recover_opens, run_opens}
-use Rattle.command_line.proofs.Words.{refl, clap_on_literals, request_of, rows_found, task_of}
+use Rattle.command_line.proofs.{Opened.{par_opens, recover_opens, run_opens}, Words.{refl, clap_on_literals, request_of, rows_found, task_of}}
 use Rattle.command_line.proofs.laws.every_image_is_opened.Goals as goal
 
 pub returns : goal.returns

@@ -1,5 +1,4 @@
-use Rattle.command_line.proofs.Words.{◌∙◌, arith}
-use Rattle.command_line.proofs.LongNumbers.{no_decimal, parsed}
+use Rattle.command_line.proofs.{Words.{◌∙◌, arith}, LongNumbers.{no_decimal, parsed}}
 use Rattle.command_line.proofs.long_number.long_number_of.Goals as goal
 
 pub returns-then-not-is_decimal : goal.returns-then-not-is_decimal

@@ -1,5 +1,4 @@
-use Rattle.command_line.proofs.Words.{◌≡◌, ◌∙◌, sym, true, false, app_of, kind_of, OutOfMemory, texts}
-use Rattle.command_line.proofs.Grammars.{taken, refused}
+use Rattle.command_line.proofs.{Words.{◌≡◌, ◌∙◌, sym, true, false, app_of, kind_of, OutOfMemory, texts}, Grammars.{taken, refused}}
 use Rattle.command_line.proofs.matching.matches_of.Goals as goal
 
 pub returns-in-Ok-try_get_matches_from : goal.returns-in-Ok-try_get_matches_from

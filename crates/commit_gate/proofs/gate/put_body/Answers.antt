@@ -1,6 +1,5 @@
 use Rattle.std.proofs.Common.{◌≡◌, ◌+◌, ◌-◌, length, take, drop, Result, Ok, Err, OnOk, ◌∙◌, arith}
-use Rattle.iso_disk.proofs.Images.{settled_write, length-contents}
-use Rattle.iso_disk.proofs.Bytes.{take-drop-spliced}
+use Rattle.iso_disk.proofs.{Images.{settled_write, length-contents}, Bytes.take-drop-spliced}
 use Rattle.commit_gate.proofs.gate.put_body.Goals as goal
 
 both : {T E P Q R : Type 0} (r : Result T E) → OnOk r P → OnOk r Q → (P → Q → R) → OnOk r R

@@ -1,6 +1,5 @@
 use Rattle.std.proofs.Common.{◌≡◌, ◌+◌, ◌≤◌, ℕ, List, length, Some, Ok, Err, OnErr, ◌∙◌, arith}
-use Rattle.iso_disk.specs.Disk.{TellsTorn}
-use Rattle.iso_disk.proofs.Images.{tells_spliced, length-contents}
+use Rattle.iso_disk.{specs.Disk.TellsTorn, proofs.Images.{tells_spliced, length-contents}}
 use Rattle.commit_gate.proofs.gate.put_down.Goals as goal
 
 pub returns-clause-failed : goal.returns-clause-failed

@@ -1,7 +1,5 @@
 -- The decision over the notes is the model's.
-use Rattle.conflict_rule.proofs.Words.{Bool, true, false, refl, has_write, ◌≡◌, ◌∙◌, ◌+◌, ◌-◌, Option, Some, None, ap, sym, subst, drop, rules, Clash, clash, clash_from, first_after, or_else, no_clash, above, guarded_bytes, up_to, Bytes, IsLeastMeeting}
-use Rattle.conflict_rule.proofs.Clashing.{clash_parts, has_write_where, no_write_where, untouched_where, wrote_where}
-use Rattle.conflict_rule.proofs.Meetings.{clash_of, guarded_are}
+use Rattle.conflict_rule.proofs.{Words.{Bool, true, false, refl, has_write, ◌≡◌, ◌∙◌, ◌+◌, ◌-◌, Option, Some, None, ap, sym, subst, drop, rules, Clash, clash, clash_from, first_after, or_else, no_clash, above, guarded_bytes, up_to, Bytes, IsLeastMeeting}, Clashing.{clash_parts, has_write_where, no_write_where, untouched_where, wrote_where}, Meetings.{clash_of, guarded_are}}
 use Rattle.conflict_rule.proofs.decision.decide.Goals as goal
 
 pub returns-then-is_empty-clause-exact : goal.returns-then-is_empty-clause-exact

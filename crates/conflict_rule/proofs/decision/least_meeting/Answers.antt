@@ -1,6 +1,5 @@
 -- A commit that meets nothing is passed over, and the first that meets is the answer.
-use Rattle.conflict_rule.proofs.Words.{◌≡◌, ◌∙◌, ℕ, ◌+◌, ◌==◌, true, false, List, ◌∷◌, ap, arith, length, sym, subst, Some, None, inl, inr, refl, ne_eqb, common_steps, same_Some, Note, note_of, RisesFrom, AreApart, Bytes, IsFirstMeet, IsLeastMeeting}
-use Rattle.conflict_rule.proofs.Numbers.{note_from, rises_earlier}
+use Rattle.conflict_rule.proofs.{Words.{◌≡◌, ◌∙◌, ℕ, ◌+◌, ◌==◌, true, false, List, ◌∷◌, ap, arith, length, sym, subst, Some, None, inl, inr, refl, ne_eqb, common_steps, same_Some, Note, note_of, RisesFrom, AreApart, Bytes, IsFirstMeet, IsLeastMeeting}, Numbers.{note_from, rises_earlier}}
 use Rattle.conflict_rule.proofs.decision.least_meeting.Goals as goal
 
 first_note : (x : Note) (xs : List Note) → note_of x.0 (x ∷ xs) ≡ Some x.1

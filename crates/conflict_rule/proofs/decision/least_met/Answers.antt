@@ -1,5 +1,4 @@
-use Rattle.conflict_rule.proofs.Words.{above, both_ways, touches}
-use Rattle.conflict_rule.proofs.Meetings.{none_met}
+use Rattle.conflict_rule.proofs.{Words.{above, both_ways, touches}, Meetings.none_met}
 use Rattle.conflict_rule.proofs.decision.least_met.Goals as goal
 
 pub returns-then-is_empty-clause-least : goal.returns-then-is_empty-clause-least

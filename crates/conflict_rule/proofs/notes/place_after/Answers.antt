@@ -1,6 +1,5 @@
 -- Numbers that rise are parted by the test on the number.
-use Rattle.conflict_rule.proofs.Words.{◌≡◌, true, false, arith, rules, leb, leb-false, leb-true, IsPartitionPoint, IsPartitionPoint-from_clause, IsPartitionedBy-leb, Note}
-use Rattle.conflict_rule.proofs.Numbers.{in_order}
+use Rattle.conflict_rule.proofs.{Words.{◌≡◌, true, false, arith, rules, leb, leb-false, leb-true, IsPartitionPoint, IsPartitionPoint-from_clause, IsPartitionedBy-leb, Note}, Numbers.in_order}
 use Rattle.conflict_rule.proofs.notes.place_after.Goals as goal
 
 point : (c : goal.After-partition_point) → IsPartitionPoint (λ e. leb e.0 c.args.number ≡ true) (λ e. leb e.0 c.args.number ≡ false) c.args.notes.now c.partition_point.result

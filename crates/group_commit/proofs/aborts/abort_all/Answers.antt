@@ -1,5 +1,4 @@
-use Rattle.group_commit.proofs.Words.{ap, arith, length, sym, ◌∙◌, ◌∷◌, ◌≡◌, [], into_iter_items, prefix_self, port_view, aborts_of}
-use Rattle.group_commit.proofs.Grouping.{all_gone, goes_on, knows_more, nothing_left}
+use Rattle.group_commit.proofs.{Words.{ap, arith, length, sym, ◌∙◌, ◌∷◌, ◌≡◌, [], into_iter_items, prefix_self, port_view, aborts_of}, Grouping.{all_gone, goes_on, knows_more, nothing_left}}
 use Rattle.group_commit.proofs.aborts.abort_all.Goals as goal
 
 pub loop-tx-preserved : goal.loop-tx-preserved

@@ -1,5 +1,4 @@
-use Rattle.group_commit.proofs.Words.{◌≡◌, length, into_iter_items, into_iter_len, port_view, AreTxs, aborts_of, units_all, IsPort}
-use Rattle.group_commit.proofs.Grouping.{GoesOn, KnowsMore}
+use Rattle.group_commit.proofs.{Words.{◌≡◌, length, into_iter_items, into_iter_len, port_view, AreTxs, aborts_of, units_all, IsPort}, Grouping.{GoesOn, KnowsMore}}
 use Rattle.group_commit.proofs.aborts.abort_all.Given as goal
 
 abbrev pub invariant-loop-tx : goal.invariant-loop-tx

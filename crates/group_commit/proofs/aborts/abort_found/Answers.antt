@@ -1,5 +1,4 @@
-use Rattle.group_commit.proofs.Words.{ap, arith, length, sym, None, Some, ◌∙◌, ◌∷◌, ◌≡◌, [], into_iter_items, prefix_self, port_view, aborts_of, found_in}
-use Rattle.group_commit.proofs.Grouping.{all_gone, goes_on, knows_more, nothing_left}
+use Rattle.group_commit.proofs.{Words.{ap, arith, length, sym, None, Some, ◌∙◌, ◌∷◌, ◌≡◌, [], into_iter_items, prefix_self, port_view, aborts_of, found_in}, Grouping.{all_gone, goes_on, knows_more, nothing_left}}
 use Rattle.group_commit.proofs.aborts.abort_found.Goals as goal
 
 pub loop-member-preserved-in-Some-member : goal.loop-member-preserved-in-Some-member

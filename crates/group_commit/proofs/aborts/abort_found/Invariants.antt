@@ -1,5 +1,4 @@
-use Rattle.group_commit.proofs.Words.{◌≡◌, length, into_iter_items, into_iter_len, port_view, AreMembers, aborts_of, found_in, units_all, IsPort}
-use Rattle.group_commit.proofs.Grouping.{GoesOn, KnowsMore}
+use Rattle.group_commit.proofs.{Words.{◌≡◌, length, into_iter_items, into_iter_len, port_view, AreMembers, aborts_of, found_in, units_all, IsPort}, Grouping.{GoesOn, KnowsMore}}
 use Rattle.group_commit.proofs.aborts.abort_found.Given as goal
 
 abbrev pub invariant-loop-member : goal.invariant-loop-member

@@ -1,5 +1,4 @@
-use Rattle.group_commit.proofs.Words.{[], Ok, ap, arith, nat_tests, is_some, length, map, refl, subst, sym, ◌∙◌, ◌≡◌, List, Tx, port_view, prefix_self, AreTxs, HasEnded, found_in, spread}
-use Rattle.group_commit.proofs.Grouping.{found_are, found_few, nothing_left, told_places}
+use Rattle.group_commit.proofs.{Words.{[], Ok, ap, arith, nat_tests, is_some, length, map, refl, subst, sym, ◌∙◌, ◌≡◌, List, Tx, port_view, prefix_self, AreTxs, HasEnded, found_in, spread}, Grouping.{found_are, found_few, nothing_left, told_places}}
 use Rattle.group_commit.proofs.commit.commit_group.Goals as goal
 
 pub returns-then-is_empty-clause-did : goal.returns-then-is_empty-clause-did

@@ -1,5 +1,4 @@
-use Rattle.group_commit.proofs.Words.{arith, port_view}
-use Rattle.group_commit.proofs.Grouping.{aborted_knows, back_are, back_units, group_answered, group_knows, refused_gone, refused_kept}
+use Rattle.group_commit.proofs.{Words.{arith, port_view}, Grouping.{aborted_knows, back_are, back_units, group_answered, group_knows, refused_gone, refused_kept}}
 use Rattle.group_commit.proofs.commit.end_all.Goals as goal
 
 pub abort_all-requires-clause-txs : goal.abort_all-requires-clause-txs

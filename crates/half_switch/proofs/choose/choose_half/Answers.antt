@@ -1,6 +1,5 @@
-use Rattle.half_switch.proofs.Words.{Bool, Some, cond, sym, ◌∙◌, ap, le-ltb, eq-eqb, ne_eqb, chosen_half}
+use Rattle.half_switch.proofs.{Words.{Bool, Some, cond, sym, ◌∙◌, ap, le-ltb, eq-eqb, ne_eqb, chosen_half}, Chosen.current_is}
 use Rattle.std.proofs.Common.{lt-ltb}
-use Rattle.half_switch.proofs.Chosen.{current_is}
 use Rattle.half_switch.proofs.choose.choose_half.Goals as goal
 
 pub returns-then-first-second-clause-current : goal.returns-then-first-second-clause-current

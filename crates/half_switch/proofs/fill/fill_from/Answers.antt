@@ -1,6 +1,4 @@
-use Rattle.half_switch.proofs.Words.{◌+◌, ◌-◌, length, arith, sym, ◌∙◌, on_ok_weaker, on_err_weaker, half_size, goes_on_still, starts_inside, runs_inside}
-use Rattle.half_switch.proofs.Filled.{laid_filled}
-use Rattle.half_switch.proofs.Tells.{on_err, tells_same, tells_more}
+use Rattle.half_switch.proofs.{Words.{◌+◌, ◌-◌, length, arith, sym, ◌∙◌, on_ok_weaker, on_err_weaker, half_size, goes_on_still, starts_inside, runs_inside}, Filled.laid_filled, Tells.{on_err, tells_same, tells_more}}
 use Rattle.half_switch.proofs.fill.fill_from.Goals as goal
 
 pub returns-in_err-read-clause-moments : goal.returns-in_err-read-clause-moments

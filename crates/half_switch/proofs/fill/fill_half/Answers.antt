@@ -1,6 +1,4 @@
-use Rattle.half_switch.proofs.Words.{arith, limits, at_end, started, weakened}
-use Rattle.half_switch.proofs.Filled.{filled_ready}
-use Rattle.half_switch.proofs.Kept.{kept_held}
+use Rattle.half_switch.proofs.{Words.{arith, limits, at_end, started, weakened}, Filled.filled_ready, Kept.kept_held}
 use Rattle.half_switch.proofs.fill.fill_half.Goals as goal
 
 pub zeros-requires-2 : goal.zeros-requires-2

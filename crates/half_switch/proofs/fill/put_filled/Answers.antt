@@ -1,5 +1,4 @@
-use Rattle.half_switch.proofs.Words.{◌≡◌, ◌+◌, ◌-◌, [], ◌∷◌, ◌++◌, length, take, drop, ◌∙◌, ap, arith, length-set, on_ok_weaker, half_size, records, filled_with}
-use Rattle.half_switch.proofs.Nexts.{rest_is, length-header}
+use Rattle.half_switch.proofs.{Words.{◌≡◌, ◌+◌, ◌-◌, [], ◌∷◌, ◌++◌, length, take, drop, ◌∙◌, ap, arith, length-set, on_ok_weaker, half_size, records, filled_with}, Nexts.{rest_is, length-header}}
 use Rattle.half_switch.proofs.fill.put_filled.Goals as goal
 
 pub returns-clause-moments : goal.returns-clause-moments

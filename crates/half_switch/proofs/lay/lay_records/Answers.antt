@@ -1,6 +1,4 @@
-use Rattle.half_switch.proofs.Words.{◌≡◌, ◌+◌, ◌-◌, List, length, take, sym, ◌∙◌, ap, arith, Written, limits, all_laid, laid}
-use Rattle.half_switch.proofs.Lays.{length-laid}
-use Rattle.half_switch.proofs.Nexts.{at_next, all_laid-push, length-more, same_parts, window_inside}
+use Rattle.half_switch.proofs.{Words.{◌≡◌, ◌+◌, ◌-◌, List, length, take, sym, ◌∙◌, ap, arith, Written, limits, all_laid, laid}, Lays.length-laid, Nexts.{at_next, all_laid-push, length-more, same_parts, window_inside}}
 use Rattle.half_switch.proofs.lay.lay_records.Goals as goal
 
 pub returns-in_default-clause-laid : goal.returns-in_default-clause-laid

@@ -1,5 +1,4 @@
-use Rattle.half_switch.proofs.Words.{◌+◌, ◌-◌, length, take, drop, arith, refl, on_ok_weaker, goes_on_still, starts_inside, writes_inside}
-use Rattle.half_switch.proofs.Tells.{on_err, put_whole, tells_same, tells_more, tells_still, tells_written}
+use Rattle.half_switch.proofs.{Words.{◌+◌, ◌-◌, length, take, drop, arith, refl, on_ok_weaker, goes_on_still, starts_inside, writes_inside}, Tells.{on_err, put_whole, tells_same, tells_more, tells_still, tells_written}}
 use Rattle.half_switch.proofs.put.put_half.Goals as goal
 
 pub returns-in_err-write-clause-moments : goal.returns-in_err-write-clause-moments

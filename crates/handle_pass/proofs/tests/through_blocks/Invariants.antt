@@ -2,8 +2,7 @@
 use Rattle.iso_core.specs.Core.{disk_of}
 use Rattle.iso_memdisk.specs.MemDisk.{state_of}
 use Rattle.iso_model.specs.World.{empty_history, fresh}
-use Rattle.iso_shared.specs.Standing.{start_at}
-use Rattle.iso_shared.specs.TestImage.{small}
+use Rattle.iso_shared.specs.{Standing.start_at, TestImage.small}
 use Rattle.handle_pass.proofs.tests.through_blocks.Given as goal
 
 abbrev pub ghosts-run_through : goal.ghosts-run_through

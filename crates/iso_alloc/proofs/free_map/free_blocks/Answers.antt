@@ -1,7 +1,5 @@
-use Rattle.iso_alloc.proofs.Words.{◌≡◌, ◌∙◌, sym, ap, ◌+◌, cond, Bool, arith, map_bit}
-use Rattle.iso_alloc.proofs.Loops.{count_on}
+use Rattle.iso_alloc.proofs.{Words.{◌≡◌, ◌∙◌, sym, ap, ◌+◌, cond, Bool, arith, map_bit}, Loops.count_on, free_map.free_blocks.Goals.{then-not-is_taken, else-not-is_taken}}
 use Rattle.iso_alloc.proofs.free_map.free_blocks.Goals as goal
-use Rattle.iso_alloc.proofs.free_map.free_blocks.Goals.{then-not-is_taken, else-not-is_taken}
 
 pub loop-block-preserved : goal.loop-block-preserved
 loop-block-preserved c =

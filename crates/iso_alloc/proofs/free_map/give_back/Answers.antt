@@ -1,5 +1,4 @@
-use Rattle.iso_alloc.proofs.Words.{◌∙◌, ap, ℕ, List, arith, map_bit}
-use Rattle.iso_alloc.proofs.Bits.{without_bits}
+use Rattle.iso_alloc.proofs.{Words.{◌∙◌, ap, ℕ, List, arith, map_bit}, Bits.without_bits}
 use Rattle.iso_alloc.proofs.free_map.give_back.Goals as goal
 
 pub returns-clause-bits : goal.returns-clause-bits

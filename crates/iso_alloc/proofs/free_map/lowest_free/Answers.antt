@@ -1,5 +1,4 @@
-use Rattle.iso_alloc.proofs.Words.{◌∙◌, sym, ap, not, map_bit}
-use Rattle.iso_alloc.proofs.Loops.{first_found, first_goes_on}
+use Rattle.iso_alloc.proofs.{Words.{◌∙◌, sym, ap, not, map_bit}, Loops.{first_found, first_goes_on}}
 use Rattle.iso_alloc.proofs.free_map.lowest_free.Goals as goal
 
 pub returns-then-not-is_taken-clause-value : goal.returns-then-not-is_taken-clause-value

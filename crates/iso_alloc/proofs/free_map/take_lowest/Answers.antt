@@ -1,5 +1,4 @@
-use Rattle.iso_alloc.proofs.Words.{◌∙◌, ap, ℕ, List, arith, map_bit}
-use Rattle.iso_alloc.proofs.Bits.{with_bits}
+use Rattle.iso_alloc.proofs.{Words.{◌∙◌, ap, ℕ, List, arith, map_bit}, Bits.with_bits}
 use Rattle.iso_alloc.proofs.free_map.take_lowest.Goals as goal
 
 pub returns-clause-bits : goal.returns-clause-bits

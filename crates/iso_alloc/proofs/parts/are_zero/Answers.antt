@@ -1,5 +1,4 @@
-use Rattle.iso_alloc.proofs.Words.{◌∙◌}
-use Rattle.iso_alloc.proofs.Zeros.{zeros_are_equal}
+use Rattle.iso_alloc.proofs.{Words.◌∙◌, Zeros.zeros_are_equal}
 use Rattle.iso_alloc.proofs.parts.are_zero.Goals as goal
 
 pub returns : goal.returns

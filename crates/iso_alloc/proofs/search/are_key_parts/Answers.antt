@@ -1,5 +1,4 @@
-use Rattle.iso_alloc.proofs.Words.{◌≡◌, ◌∙◌, sym, ap, true, false, arith, common_steps, is_part, key_mark, are_key_parts, bytes_in}
-use Rattle.iso_alloc.proofs.Loops.{all_fails, all_goes_on}
+use Rattle.iso_alloc.proofs.{Words.{◌≡◌, ◌∙◌, sym, ap, true, false, arith, common_steps, is_part, key_mark, are_key_parts, bytes_in}, Loops.{all_fails, all_goes_on}}
 use Rattle.iso_alloc.proofs.search.are_key_parts.Goals as goal
 
 pub returns-then-not-is_part : goal.returns-then-not-is_part

@@ -1,5 +1,4 @@
-use Rattle.iso_alloc.proofs.Words.{◌≡◌, ◌∙◌, sym, ap, ◌≤◌, ℕ, true, arith, List, get_or, and_parts, leb-true, bytes_eq, is_part, key_mark, key_at, text_of, cell_with, cell_count, bytes_in}
-use Rattle.iso_alloc.proofs.Loops.{first_found, first_goes_on, all_at}
+use Rattle.iso_alloc.proofs.{Words.{◌≡◌, ◌∙◌, sym, ap, ◌≤◌, ℕ, true, arith, List, get_or, and_parts, leb-true, bytes_eq, is_part, key_mark, key_at, text_of, cell_with, cell_count, bytes_in}, Loops.{first_found, first_goes_on, all_at}}
 use Rattle.iso_alloc.proofs.search.cell_with.Goals as goal
 
 pub text_of-requires : goal.text_of-requires

@@ -1,5 +1,4 @@
-use Rattle.iso_alloc.proofs.Words.{◌∙◌, sym, ◌==◌, ◌||◌, is_unused, is_alone}
-use Rattle.iso_alloc.proofs.Loops.{all_fails, all_goes_on}
+use Rattle.iso_alloc.proofs.{Words.{◌∙◌, sym, ◌==◌, ◌||◌, is_unused, is_alone}, Loops.{all_fails, all_goes_on}}
 use Rattle.iso_alloc.proofs.search.is_alone.Goals as goal
 
 pub returns-then-not-is_idle : goal.returns-then-not-is_idle

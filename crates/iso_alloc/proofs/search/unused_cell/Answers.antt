@@ -1,5 +1,4 @@
-use Rattle.iso_alloc.proofs.Words.{◌≡◌, ◌∙◌, sym, ap, ◌==◌, ℕ, List, get_or, eq-eqb, ne_eqb, key_mark, unused_cell, bytes_in}
-use Rattle.iso_alloc.proofs.Loops.{first_found, first_goes_on}
+use Rattle.iso_alloc.proofs.{Words.{◌≡◌, ◌∙◌, sym, ap, ◌==◌, ℕ, List, get_or, eq-eqb, ne_eqb, key_mark, unused_cell, bytes_in}, Loops.{first_found, first_goes_on}}
 use Rattle.iso_alloc.proofs.search.unused_cell.Goals as goal
 
 pub returns-then-key_part-eq0-clause-value : goal.returns-then-key_part-eq0-clause-value

@@ -1,5 +1,4 @@
-use Rattle.iso_core.proofs.Words.{half_of_world}
-use Rattle.iso_core.proofs.Nexts.{next_all}
+use Rattle.iso_core.proofs.{Words.half_of_world, Nexts.next_all}
 use Rattle.iso_core.proofs.append.append.Goals as goal
 
 pub returns-in-Ok-clause-moments : goal.returns-in-Ok-clause-moments

@@ -1,6 +1,4 @@
-use Rattle.iso_core.proofs.Words.{◌+◌, half_of_world}
-use Rattle.iso_core.proofs.Nexts.{next_all}
-use Rattle.iso_core.proofs.Staging.{told_so}
+use Rattle.iso_core.proofs.{Words.{◌+◌, half_of_world}, Nexts.next_all, Staging.told_so}
 use Rattle.iso_core.proofs.append.append_all.Goals as goal
 
 pub append_group-requires-clause-next : goal.append_group-requires-clause-next

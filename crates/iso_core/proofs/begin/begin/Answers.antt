@@ -1,9 +1,5 @@
-use Rattle.iso_core.proofs.Words.{◌≡◌, ◌∙◌, inr, sym, ap, ◌<◌, ◌≤◌, ◌+◌, [], ◌∷◌, ◌++◌, length, arith, Some, subst, unwrap_or, Geometry, Mode, LAST, MAX_LIVE, last, after_begin, begin_step, mode_named, unattached, all_weaker, may_have, IsLive, IsOf}
+use Rattle.iso_core.proofs.{Words.{◌≡◌, ◌∙◌, inr, sym, ap, ◌<◌, ◌≤◌, ◌+◌, [], ◌∷◌, ◌++◌, length, arith, Some, subst, unwrap_or, Geometry, Mode, LAST, MAX_LIVE, last, after_begin, begin_step, mode_named, unattached, all_weaker, may_have, IsLive, IsOf}, Begins.{begins_so, fixed, is_begun, is_fixed, is_full, is_worn}, Numbers.log_last, Stats.live_is, Transactions.kept_before}
 use Rattle.iso_model.specs.declared.core_reply.CoreReply.TheVariants as reply
-use Rattle.iso_core.proofs.Begins.{begins_so, fixed, is_begun, is_fixed, is_full, is_worn}
-use Rattle.iso_core.proofs.Numbers.{log_last}
-use Rattle.iso_core.proofs.Stats.{live_is}
-use Rattle.iso_core.proofs.Transactions.{kept_before}
 use Rattle.iso_core.proofs.begin.begin.Goals as goal
 
 pub returns-then-is_refused-clause-refused : goal.returns-then-is_refused-clause-refused

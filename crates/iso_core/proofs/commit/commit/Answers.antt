@@ -1,12 +1,7 @@
-use Rattle.iso_core.proofs.Words.{◌≡◌, ◌≢◌, ◌∙◌, inr, sym, ap, ℕ, ◌+◌, ◌-◌, ◌≤◌, [], ◌∷◌, length, arith, subst, Some, None, true, LeavesOnly, weakened, MayFollow, half_of_world, next_gate, with_records, extent_of, LAST, CoreReply, last, after_commit, commit_step, need, World, Live, used, IsWorld, Kept, AreOf, IsGrownBy, IsPrepared, IsSpelled, MayCommit, written_of, IsOf, up, ShowsEither}
+use Rattle.iso_core.proofs.{Words.{◌≡◌, ◌≢◌, ◌∙◌, inr, sym, ap, ℕ, ◌+◌, ◌-◌, ◌≤◌, [], ◌∷◌, length, arith, subst, Some, None, true, LeavesOnly, weakened, MayFollow, half_of_world, next_gate, with_records, extent_of, LAST, CoreReply, last, after_commit, commit_step, need, World, Live, used, IsWorld, Kept, AreOf, IsGrownBy, IsPrepared, IsSpelled, MayCommit, written_of, IsOf, up, ShowsEither}, Committing.{committed_core, down_on, fits_log, full_log, grown_by, lost_core, next_world, prepared_stage, spelled_stage}, Moments.{is_committed, is_full, is_worn, shows_either, stays_shown}, Numbers.log_last, Prepares.follows, commit.commit.Goals.{After-append, After-last-last}}
 use Rattle.iso_model.specs.declared.core_reply.CoreReply.TheVariants as reply
-use Rattle.iso_core.proofs.Committing.{committed_core, down_on, fits_log, full_log, grown_by, lost_core, next_world, prepared_stage, spelled_stage}
-use Rattle.iso_core.proofs.Moments.{is_committed, is_full, is_worn, shows_either, stays_shown}
-use Rattle.iso_core.proofs.Numbers.{log_last}
-use Rattle.iso_core.proofs.Prepares.{follows}
 use Rattle.iso_core.proofs.commit.commit.Given as given
 use Rattle.iso_core.proofs.commit.commit.Goals as goal
-use Rattle.iso_core.proofs.commit.commit.Goals.{After-append, After-last-last}
 
 -- what stands before the first call
 module _ (g : given.Over) (c : After-last-last g) (W : World) (t : Live) (of : AreOf (g.D.Disk.state c.args.disk.now) c.args.kept.now W up) where

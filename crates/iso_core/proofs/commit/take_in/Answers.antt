@@ -1,6 +1,4 @@
-use Rattle.iso_core.proofs.Words.{◌∙◌, ap, above}
-use Rattle.iso_core.proofs.Commits.{commits_so, may_take_in, notes_below}
-use Rattle.iso_core.proofs.Leaves.{is_live}
+use Rattle.iso_core.proofs.{Words.{◌∙◌, ap, above}, Commits.{commits_so, may_take_in, notes_below}, Leaves.is_live}
 use Rattle.iso_core.proofs.commit.take_in.Goals as goal
 
 pub add_parts-requires-clause-may : goal.add_parts-requires-clause-may

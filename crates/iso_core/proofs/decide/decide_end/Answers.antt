@@ -1,5 +1,4 @@
-use Rattle.iso_core.proofs.Words.{◌≡◌, ◌∙◌, sym, arith, subst, IsAsked, Mode, clash}
-use Rattle.iso_core.proofs.Decides.{asked, later_count, settled_of}
+use Rattle.iso_core.proofs.{Words.{◌≡◌, ◌∙◌, sym, arith, subst, IsAsked, Mode, clash}, Decides.{asked, later_count, settled_of}}
 use Rattle.iso_core.proofs.decide.decide_end.Goals as goal
 
 pub returns-clause-clash : goal.returns-clause-clash

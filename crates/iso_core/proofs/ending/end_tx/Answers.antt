@@ -1,6 +1,4 @@
-use Rattle.iso_core.proofs.Words.{◌≡◌, ◌∙◌, ◌⊎◌, sym, ap, subst, IfOk, IfErr, None, true, clash, commit_step, CoreReply, has_write, end_step, World, Live, LeavesOnly, Disk, Refuses, reply_of, AreOf, IsCheckedOf, IsTx, IsWorkOf, MayCommit, up, ShowsEither}
-use Rattle.iso_core.proofs.Endings.{ends_by, ends_in_conflict, ends_read_only, left_so, may_commit}
-use Rattle.iso_core.proofs.Moments.{stays_shown}
+use Rattle.iso_core.proofs.{Words.{◌≡◌, ◌∙◌, ◌⊎◌, sym, ap, subst, IfOk, IfErr, None, true, clash, commit_step, CoreReply, has_write, end_step, World, Live, LeavesOnly, Disk, Refuses, reply_of, AreOf, IsCheckedOf, IsTx, IsWorkOf, MayCommit, up, ShowsEither}, Endings.{ends_by, ends_in_conflict, ends_read_only, left_so, may_commit}, Moments.stays_shown}
 use Rattle.iso_core.proofs.ending.end_tx.Given as given
 use Rattle.iso_core.proofs.ending.end_tx.Goals as goal
 

@@ -1,6 +1,4 @@
-use Rattle.iso_core.proofs.Words.{◌≡◌, ◌∙◌, inl, inr, sym, ap, subst, ℕ, ◌+◌, ◌*◌, Option, arith, transport, unwrap_or, HalfPlace, Geometry, base_place, image_size, limits, AllLie, IsOverIn}
-use Rattle.iso_core.proofs.Fetches.{range_is, versions_lie}
-use Rattle.iso_core.proofs.Leaves.{begins_at}
+use Rattle.iso_core.proofs.{Words.{◌≡◌, ◌∙◌, inl, inr, sym, ap, subst, ℕ, ◌+◌, ◌*◌, Option, arith, transport, unwrap_or, HalfPlace, Geometry, base_place, image_size, limits, AllLie, IsOverIn}, Fetches.{range_is, versions_lie}, Leaves.begins_at}
 use Rattle.iso_core.proofs.fetch.fetch.Goals as goal
 
 pub versions_at-versions-requires-clause-within : goal.versions_at-versions-requires-clause-within

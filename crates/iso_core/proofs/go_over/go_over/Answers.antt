@@ -1,9 +1,6 @@
-use Rattle.iso_core.proofs.Words.{◌≡◌, ◌∙◌, sym, ◌+◌, ◌-◌, ◌*◌, ◌<◌, ◌≤◌, arith, subst, IsOf, after_switch, used}
+use Rattle.iso_core.proofs.{Words.{◌≡◌, ◌∙◌, sym, ◌+◌, ◌-◌, ◌*◌, ◌<◌, ◌≤◌, arith, subst, IsOf, after_switch, used}, Numbers.{log_room, log_used}, Switches.{above_floor, counted_small, gate_is, places, room_there, small, splits, switches_so, weighs}, go_over.go_over.Goals.After-bytes_above}
 use Rattle.iso_log.specs.Extent.{Extent}
-use Rattle.iso_core.proofs.Numbers.{log_room, log_used}
-use Rattle.iso_core.proofs.Switches.{above_floor, counted_small, gate_is, places, room_there, small, splits, switches_so, weighs}
 use Rattle.iso_core.proofs.go_over.go_over.Goals as goal
-use Rattle.iso_core.proofs.go_over.go_over.Goals.{After-bytes_above}
 
 pub bytes_above-requires : goal.bytes_above-requires
 bytes_above-requires c = counted_small c.args.kept.now c.requires.0 c.requires.1 c.args.floor c.requires.2

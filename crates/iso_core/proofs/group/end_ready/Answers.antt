@@ -1,10 +1,6 @@
-use Rattle.iso_core.proofs.Words.{◌≡◌, ◌≢◌, ◌∙◌, ◌⊎◌, sym, ap, ℕ, ◌+◌, ◌<◌, ◌++◌, [], ◌∷◌, List, length, map, subst, arith, DiskState, LeavesOnly, weakened, IsHeld, half_of_world, next_gate, with_records, extent_of, image_size, last, records, written, World, Live, GroupReply, Kept, AreOf, AreNextRecords, ahead, group, leave_all, IsOf, AreEach, IsGrownWith, IsPlannedFor, IsReady, up, ShowsEither}
-use Rattle.iso_core.proofs.Committing.{down_on, keeps_stand}
-use Rattle.iso_core.proofs.Grouping.{fits_kept, group_core, group_so, grown_with, history_so, leave_all_is, left_all, lost_group, many, next_records, none_ahead, other_history, ready_ahead, shows_group, shows_lost}
-use Rattle.iso_core.proofs.Moments.{stays_shown}
+use Rattle.iso_core.proofs.{Words.{◌≡◌, ◌≢◌, ◌∙◌, ◌⊎◌, sym, ap, ℕ, ◌+◌, ◌<◌, ◌++◌, [], ◌∷◌, List, length, map, subst, arith, DiskState, LeavesOnly, weakened, IsHeld, half_of_world, next_gate, with_records, extent_of, image_size, last, records, written, World, Live, GroupReply, Kept, AreOf, AreNextRecords, ahead, group, leave_all, IsOf, AreEach, IsGrownWith, IsPlannedFor, IsReady, up, ShowsEither}, Committing.{down_on, keeps_stand}, Grouping.{fits_kept, group_core, group_so, grown_with, history_so, leave_all_is, left_all, lost_group, many, next_records, none_ahead, other_history, ready_ahead, shows_group, shows_lost}, Moments.stays_shown, group.end_ready.Goals.After-as_slice}
 use Rattle.iso_core.proofs.group.end_ready.Given as given
 use Rattle.iso_core.proofs.group.end_ready.Goals as goal
-use Rattle.iso_core.proofs.group.end_ready.Goals.{After-as_slice}
 
 pub prepare_group-requires-clause-ready : goal.prepare_group-requires-clause-ready
 prepare_group-requires-clause-ready g c =

@@ -1,6 +1,4 @@
-use Rattle.iso_core.proofs.Words.{◌∙◌, refl, ap, [], Kept}
-use Rattle.iso_core.proofs.Committing.{buffer_on}
-use Rattle.iso_core.proofs.Grouping.{ahead_none, planned_for}
+use Rattle.iso_core.proofs.{Words.{◌∙◌, refl, ap, [], Kept}, Committing.buffer_on, Grouping.{ahead_none, planned_for}}
 use Rattle.iso_core.proofs.group.prepare_group.Goals as goal
 
 pub plan_members-requires : goal.plan_members-requires

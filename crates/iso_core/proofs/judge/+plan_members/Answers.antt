@@ -1,6 +1,4 @@
-use Rattle.iso_core.proofs.Words.{◌≡◌, ap, suc, length, arith, subst, List, ◌++◌, end_step, GroupEnd, ahead, made_by, member_reply, AreEach, IsReady, on_ok_weaker}
-use Rattle.iso_core.proofs.Committing.{buffer_on}
-use Rattle.iso_core.proofs.Judging.{none_ready, parted, planned_more, planned_none}
+use Rattle.iso_core.proofs.{Words.{◌≡◌, ap, suc, length, arith, subst, List, ◌++◌, end_step, GroupEnd, ahead, made_by, member_reply, AreEach, IsReady, on_ok_weaker}, Committing.buffer_on, Judging.{none_ready, parted, planned_more, planned_none}}
 use Rattle.iso_core.proofs.judge.+plan_members.Goals as goal
 
 pub plan_member-requires : goal.plan_member-requires

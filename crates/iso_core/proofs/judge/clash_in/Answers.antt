@@ -1,5 +1,4 @@
-use Rattle.iso_core.proofs.Words.{◌∙◌, sym, clash, ahead}
-use Rattle.iso_core.proofs.Judging.{asked_first, asked_second}
+use Rattle.iso_core.proofs.{Words.{◌∙◌, sym, clash, ahead}, Judging.{asked_first, asked_second}}
 use Rattle.iso_core.proofs.judge.clash_in.Goals as goal
 
 pub returns : goal.returns

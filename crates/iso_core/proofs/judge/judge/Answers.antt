@@ -1,6 +1,4 @@
-use Rattle.iso_core.proofs.Words.{◌≡◌, ◌∙◌, sym, ap, true, false, CoreReply, has_write, World, Live, Commit, List, ahead, member_reply, IsAhead, IsOf, IsReady, MayCommit}
-use Rattle.iso_core.proofs.Endings.{ends_in_conflict, ends_read_only}
-use Rattle.iso_core.proofs.Judging.{may_ahead}
+use Rattle.iso_core.proofs.{Words.{◌≡◌, ◌∙◌, sym, ap, true, false, CoreReply, has_write, World, Live, Commit, List, ahead, member_reply, IsAhead, IsOf, IsReady, MayCommit}, Endings.{ends_in_conflict, ends_read_only}, Judging.may_ahead}
 use Rattle.iso_core.proofs.judge.judge.Goals as goal
 
 pub returns-then-not-has_write-clause-answer : goal.returns-then-not-has_write-clause-answer

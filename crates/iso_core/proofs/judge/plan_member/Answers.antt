@@ -1,5 +1,4 @@
-use Rattle.iso_core.proofs.Words.{◌∙◌, ap, subst, [], ◌∷◌, ◌++◌, GroupReply, made_by, IsAhead}
-use Rattle.iso_core.proofs.Committing.{buffer_on}
+use Rattle.iso_core.proofs.{Words.{◌∙◌, ap, subst, [], ◌∷◌, ◌++◌, GroupReply, made_by, IsAhead}, Committing.buffer_on}
 use Rattle.iso_core.proofs.judge.plan_member.Goals as goal
 
 pub judge-requires : goal.judge-requires

@@ -1,10 +1,6 @@
-use Rattle.iso_core.proofs.Words.{◌≡◌, ◌≢◌, ◌∙◌, sym, refl, ap, ℕ, ◌+◌, ◌-◌, ◌<◌, ◌≤◌, [], ◌∷◌, List, length, arith, length_push, LAST, last, need, World, Live, Commit, used, ahead, member_reply, AreNextRecords, IsAhead, IsOf, MayCommit, written_of}
+use Rattle.iso_core.proofs.{Words.{◌≡◌, ◌≢◌, ◌∙◌, sym, refl, ap, ℕ, ◌+◌, ◌-◌, ◌<◌, ◌≤◌, [], ◌∷◌, List, length, arith, length_push, LAST, last, need, World, Live, Commit, used, ahead, member_reply, AreNextRecords, IsAhead, IsOf, MayCommit, written_of}, Committing.{buffer_on, next_world}, Judging.{commits_as, fits_ahead, free_ahead, full_so, number_ahead, worn_so}, Moments.record_needs, judge.room_for.Goals.{After-len, After-len-2}}
 use Rattle.iso_model.specs.declared.access.GroupReply.TheVariants as member
-use Rattle.iso_core.proofs.Committing.{buffer_on, next_world}
-use Rattle.iso_core.proofs.Judging.{commits_as, fits_ahead, free_ahead, full_so, number_ahead, worn_so}
-use Rattle.iso_core.proofs.Moments.{record_needs}
 use Rattle.iso_core.proofs.judge.room_for.Goals as goal
-use Rattle.iso_core.proofs.judge.room_for.Goals.{After-len, After-len-2}
 
 -- the number of the last commit before it
 number : (c : After-len) (W : World) (more : List Commit) → IsOf c.args.kept.now W → IsAhead W more c.args.plan.now → c.last.result + c.len.result ≡ last (ahead W more).history

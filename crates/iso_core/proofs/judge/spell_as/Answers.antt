@@ -1,5 +1,4 @@
-use Rattle.iso_core.proofs.Words.{◌∙◌, sym, ap, ◌++◌, map, arith, Spelled, part_of, runs, spell}
-use Rattle.iso_core.proofs.Judging.{runs_lie, same_runs, some_runs, spelled_so}
+use Rattle.iso_core.proofs.{Words.{◌∙◌, sym, ap, ◌++◌, map, arith, Spelled, part_of, runs, spell}, Judging.{runs_lie, same_runs, some_runs, spelled_so}}
 use Rattle.iso_core.proofs.judge.spell_as.Goals as goal
 
 pub spell-requires-clause-settled : goal.spell-requires-clause-settled

@@ -1,7 +1,4 @@
-use Rattle.iso_core.proofs.Words.{◌∙◌, sym, ap, ℕ, ◌+◌, ◌<◌, ◌≤◌, List, [], ◌∷◌, ◌++◌, arith, subst, All, AreTouched, Bytes, Note, PartSpan, Write, LAST, last, ahead}
-use Rattle.iso_core.proofs.Decides.{touched_by}
-use Rattle.iso_core.proofs.Commits.{numbers_from}
-use Rattle.iso_core.proofs.Judging.{last_ahead, number_ahead, staged_more}
+use Rattle.iso_core.proofs.{Words.{◌∙◌, sym, ap, ℕ, ◌+◌, ◌<◌, ◌≤◌, List, [], ◌∷◌, ◌++◌, arith, subst, All, AreTouched, Bytes, Note, PartSpan, Write, LAST, last, ahead}, Decides.touched_by, Commits.numbers_from, Judging.{last_ahead, number_ahead, staged_more}}
 use Rattle.iso_core.proofs.judge.stage.Goals as goal
 
 pub overflow_add-number : goal.overflow_add-number

@@ -1,5 +1,4 @@
-use Rattle.iso_core.proofs.Words.{◌∙◌, sym, ap, List, ◌++◌, OnOk, subst, append-nil, Commit, IsAhead}
-use Rattle.iso_core.proofs.Judging.{commits_then, makes_none, makes_one}
+use Rattle.iso_core.proofs.{Words.{◌∙◌, sym, ap, List, ◌++◌, OnOk, subst, append-nil, Commit, IsAhead}, Judging.{commits_then, makes_none, makes_one}}
 use Rattle.iso_core.proofs.judge.stage_if.Goals as goal
 
 pub returns-then-not-commits-clause-ahead : goal.returns-then-not-commits-clause-ahead

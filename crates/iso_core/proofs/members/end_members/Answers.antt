@@ -1,6 +1,4 @@
-use Rattle.iso_core.proofs.Words.{◌∙◌, sym, ap, List, length, GroupReply, group, IsReady}
-use Rattle.iso_core.proofs.Moments.{stays_shown}
-use Rattle.iso_core.proofs.Replied.{bare_replied, bare_settled, each_one, each_replied}
+use Rattle.iso_core.proofs.{Words.{◌∙◌, sym, ap, List, length, GroupReply, group, IsReady}, Moments.stays_shown, Replied.{bare_replied, bare_settled, each_one, each_replied}}
 use Rattle.iso_core.proofs.members.end_members.Goals as goal
 
 pub returns-in-Err-clause-members : goal.returns-in-Err-clause-members

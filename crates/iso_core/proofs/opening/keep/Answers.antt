@@ -1,5 +1,4 @@
-use Rattle.iso_core.proofs.Words.{refl}
-use Rattle.iso_core.proofs.Openings.{opens_so}
+use Rattle.iso_core.proofs.{Words.refl, Openings.opens_so}
 use Rattle.iso_core.proofs.opening.keep.Goals as goal
 
 pub returns-clause-kept : goal.returns-clause-kept

@@ -1,6 +1,4 @@
-use Rattle.iso_core.proofs.Words.{◌∙◌, ◌<◌, ap, length, sym, subst, List, AreTouched, Bytes, Write, PartSpan, HasRoom, Held}
-use Rattle.iso_core.proofs.Decides.{touched_by}
-use Rattle.iso_core.proofs.Prepares.{follows, keeps_on, parts_count, parts_lie, parts_order}
+use Rattle.iso_core.proofs.{Words.{◌∙◌, ◌<◌, ap, length, sym, subst, List, AreTouched, Bytes, Write, PartSpan, HasRoom, Held}, Decides.touched_by, Prepares.{follows, keeps_on, parts_count, parts_lie, parts_order}}
 use Rattle.iso_core.proofs.prepare.prepare.Goals as goal
 
 pub reserve_parts-requires-clause-blocks : goal.reserve_parts-requires-clause-blocks

@@ -1,5 +1,4 @@
-use Rattle.iso_core.proofs.Words.{◌∙◌, sym, ap, ℕ, ◌+◌, ◌++◌, Spelled, part_of, map, runs, spell}
-use Rattle.iso_core.proofs.Prepares.{runs_lie, same_runs, some_runs, spelled_next}
+use Rattle.iso_core.proofs.{Words.{◌∙◌, sym, ap, ℕ, ◌+◌, ◌++◌, Spelled, part_of, map, runs, spell}, Prepares.{runs_lie, same_runs, some_runs, spelled_next}}
 use Rattle.iso_core.proofs.prepare.spell_next.Goals as goal
 
 pub spell-requires-clause-runs : goal.spell-requires-clause-runs

@@ -1,7 +1,6 @@
-use Rattle.iso_core.proofs.Words.{◌≡◌, ◌∙◌, ◌⊎◌, inl, ap, arith, ℕ, ◌+◌, List, LeavesOnly, at_end, joined, weakened, Copies, Geometry, Half, HalfPlace, IsHeld, in_form, place_of, refilled, header_place, ◌<◌, AreHalves, end_inside, image_size}
+use Rattle.iso_core.proofs.{Words.{◌≡◌, ◌∙◌, ◌⊎◌, inl, ap, arith, ℕ, ◌+◌, List, LeavesOnly, at_end, joined, weakened, Copies, Geometry, Half, HalfPlace, IsHeld, in_form, place_of, refilled, header_place, ◌<◌, AreHalves, end_inside, image_size}, refill.refill.Goals.{After-close_half, After-fill_half, After-open_half}}
 use Rattle.iso_core.proofs.refill.refill.Given as given
 use Rattle.iso_core.proofs.refill.refill.Goals as goal
-use Rattle.iso_core.proofs.refill.refill.Goals.{After-close_half, After-fill_half, After-open_half}
 
 -- where the other half lies
 inside : (g : Geometry) (from to : HalfPlace) (size : ℕ) → AreHalves g from to → size ≡ image_size g → to.header < size

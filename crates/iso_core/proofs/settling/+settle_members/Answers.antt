@@ -1,5 +1,4 @@
-use Rattle.iso_core.proofs.Words.{◌∙◌, ap, map, arith, subst, sym, List, ◌∷◌, GroupEnd, AreEach, IsMember, unsettled}
-use Rattle.iso_core.proofs.Staging.{ready_more}
+use Rattle.iso_core.proofs.{Words.{◌∙◌, ap, map, arith, subst, sym, List, ◌∷◌, GroupEnd, AreEach, IsMember, unsettled}, Staging.ready_more}
 use Rattle.iso_core.proofs.settling.+settle_members.Goals as goal
 
 pub settle_members-requires : goal.settle_members-requires

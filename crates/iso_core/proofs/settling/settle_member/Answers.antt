@@ -1,5 +1,4 @@
-use Rattle.iso_core.proofs.Words.{arith}
-use Rattle.iso_core.proofs.Decides.{settled_of}
+use Rattle.iso_core.proofs.{Words.arith, Decides.settled_of}
 use Rattle.iso_core.proofs.settling.settle_member.Goals as goal
 
 pub returns-clause-ready : goal.returns-clause-ready

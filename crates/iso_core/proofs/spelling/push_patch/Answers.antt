@@ -1,5 +1,4 @@
-use Rattle.iso_core.proofs.Words.{◌≡◌, ◌∙◌, ◌++◌, sym, refl, ap, ℕ, List, map, subst, AllByRecursion, Run, Span, runs_from, piece, run_of, pieces_of_any_block, runs_back, part_of}
-use Rattle.iso_core.proofs.Spellings.{IsWhole, pieces_whole}
+use Rattle.iso_core.proofs.{Words.{◌≡◌, ◌∙◌, ◌++◌, sym, refl, ap, ℕ, List, map, subst, AllByRecursion, Run, Span, runs_from, piece, run_of, pieces_of_any_block, runs_back, part_of}, Spellings.{IsWhole, pieces_whole}}
 use Rattle.iso_core.proofs.spelling.push_patch.Goals as goal
 
 pub loop-span-init : goal.loop-span-init

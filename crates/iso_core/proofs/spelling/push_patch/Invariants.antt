@@ -1,6 +1,5 @@
 -- The pieces so far are pushed, and the others follow.
-use Rattle.iso_core.proofs.Words.{◌≡◌, ◌++◌, map, AllByRecursion, runs_from, run_of, part_of}
-use Rattle.iso_core.proofs.Spellings.{IsWhole}
+use Rattle.iso_core.proofs.{Words.{◌≡◌, ◌++◌, map, AllByRecursion, runs_from, run_of, part_of}, Spellings.IsWhole}
 use Rattle.iso_core.proofs.spelling.push_patch.Given as goal
 
 abbrev pub invariant-loop-span : goal.invariant-loop-span

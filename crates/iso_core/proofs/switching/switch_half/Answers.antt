@@ -1,12 +1,6 @@
-use Rattle.iso_core.proofs.Words.{◌≡◌, ◌≢◌, ◌∙◌, ◌⊎◌, inl, inr, sym, refl, ap, subst, ℕ, ◌+◌, ◌-◌, ◌≤◌, arith, Some, true, Err, LeavesOnly, at_end, started, weakened, Copies, FillPlan, place_of, HalfPlace, IsHeld, half_of_world, Geometry, LAST, CoreReply, image_size, log_place, after_switch, World, floor, floor_between, IsWorld, AreOf, up, ShowsLast, HasFormOr, IsForm}
-use Rattle.iso_core.proofs.Committing.{down_on}
-use Rattle.iso_core.proofs.Moments.{shows_world}
-use Rattle.iso_core.proofs.Numbers.{log_used}
-use Rattle.iso_core.proofs.Plans.{both, copies, either_half, form_either, is_switched, is_worn, new_half, next_world, shows_both, valid_form}
-use Rattle.iso_core.proofs.Trims.{floor_is}
+use Rattle.iso_core.proofs.{Words.{◌≡◌, ◌≢◌, ◌∙◌, ◌⊎◌, inl, inr, sym, refl, ap, subst, ℕ, ◌+◌, ◌-◌, ◌≤◌, arith, Some, true, Err, LeavesOnly, at_end, started, weakened, Copies, FillPlan, place_of, HalfPlace, IsHeld, half_of_world, Geometry, LAST, CoreReply, image_size, log_place, after_switch, World, floor, floor_between, IsWorld, AreOf, up, ShowsLast, HasFormOr, IsForm}, Committing.down_on, Moments.shows_world, Numbers.log_used, Plans.{both, copies, either_half, form_either, is_switched, is_worn, new_half, next_world, shows_both, valid_form}, Trims.floor_is, switching.switch_half.Goals.After-refill}
 use Rattle.iso_core.proofs.switching.switch_half.Given as given
 use Rattle.iso_core.proofs.switching.switch_half.Goals as goal
-use Rattle.iso_core.proofs.switching.switch_half.Goals.{After-refill}
 
 pub returns-then-kept-ge-LAST-clause-refused : goal.returns-then-kept-ge-LAST-clause-refused
 returns-then-kept-ge-LAST-clause-refused g c W answer of fits =

@@ -1,6 +1,4 @@
-use Rattle.iso_core.proofs.Words.{◌≡◌, sym, ap, suc, length, arith, subst, List, after_leaving, Live, GroupEnd, leave_all, IsOf, AreEach, IsReady}
-use Rattle.iso_core.proofs.Judging.{none_ready, parted}
-use Rattle.iso_core.proofs.Staging.{ready_left}
+use Rattle.iso_core.proofs.{Words.{◌≡◌, sym, ap, suc, length, arith, subst, List, after_leaving, Live, GroupEnd, leave_all, IsOf, AreEach, IsReady}, Judging.{none_ready, parted}, Staging.ready_left}
 use Rattle.iso_core.proofs.taking.+leave_each.Goals as goal
 
 pub leave-requires : goal.leave-requires

@@ -1,6 +1,5 @@
-use Rattle.iso_core.proofs.Words.{◌≡◌, ◌∙◌, sym, ap, suc, ◌+◌, length, map, arith, subst, List, ◌∷◌, [], ◌++◌, append_assoc, take-append-drop, with_records, Commit, record_length, log_place, Written, written, IsIndexOf, PartSpan, HasRoom, Staged, MayTakeAll}
+use Rattle.iso_core.proofs.{Words.{◌≡◌, ◌∙◌, sym, ap, suc, ◌+◌, length, map, arith, subst, List, ◌∷◌, [], ◌++◌, append_assoc, take-append-drop, with_records, Commit, record_length, log_place, Written, written, IsIndexOf, PartSpan, HasRoom, Staged, MayTakeAll}, Staging.{enough, none_staged, room_first, room_rest, staged_parted, takes_first, takes_rest}}
 use Rattle.std.proofs.lemmas.List.{append-nil}
-use Rattle.iso_core.proofs.Staging.{enough, none_staged, room_first, room_rest, staged_parted, takes_first, takes_rest}
 use Rattle.iso_core.proofs.taking.+take_staged.Goals as goal
 
 pub split_at-requires : goal.split_at-requires

@@ -1,6 +1,4 @@
-use Rattle.iso_core.proofs.Words.{◌∙◌}
-use Rattle.iso_core.proofs.Staging.{notes_dropped}
-use Rattle.iso_core.proofs.Trims.{floor_is}
+use Rattle.iso_core.proofs.{Words.◌∙◌, Staging.notes_dropped, Trims.floor_is}
 use Rattle.iso_core.proofs.taking.drop_notes.Goals as goal
 
 pub returns-clause-dropped : goal.returns-clause-dropped

@@ -1,5 +1,4 @@
-use Rattle.iso_core.proofs.Words.{arith, sym, subst, ℕ, List, Begun, IsOf, leave_all}
-use Rattle.iso_core.proofs.Staging.{none_left}
+use Rattle.iso_core.proofs.{Words.{arith, sym, subst, ℕ, List, Begun, IsOf, leave_all}, Staging.none_left}
 use Rattle.iso_core.proofs.taking.leave_all.Goals as goal
 
 pub leave_each-requires : goal.leave_each-requires

@@ -1,6 +1,4 @@
-use Rattle.iso_core.proofs.Words.{refl, ◌<◌, ◌^◌, ℕ, sym, subst, List, length, IsPermutation, AllByRecursion, PartSpan, BlocksRise, HasRoom, no_part}
-use Rattle.iso_core.proofs.Prepares.{keeps_on}
-use Rattle.iso_core.proofs.Reserving.{all_below, few_staged, room_sorted, sorted_below}
+use Rattle.iso_core.proofs.{Words.{refl, ◌<◌, ◌^◌, ℕ, sym, subst, List, length, IsPermutation, AllByRecursion, PartSpan, BlocksRise, HasRoom, no_part}, Prepares.keeps_on, Reserving.{all_below, few_staged, room_sorted, sorted_below}}
 use Rattle.iso_core.proofs.taking.reserve_plan.Goals as goal
 
 pub reserve_parts-requires-clause-blocks : goal.reserve_parts-requires-clause-blocks

@@ -1,5 +1,4 @@
-use Rattle.iso_core.proofs.Words.{◌∙◌, ◌≤◌, ◌++◌, length, RisesFrom, sym, ap, ◌+◌, ◌-◌, arith, subst, transport, List, half_of_world, MayTakeAll, PartSpan, HasRoom, Held}
-use Rattle.iso_core.proofs.Staging.{few_first, number_first, rising_notes, taken_in, takes_all}
+use Rattle.iso_core.proofs.{Words.{◌∙◌, ◌≤◌, ◌++◌, length, RisesFrom, sym, ap, ◌+◌, ◌-◌, arith, subst, transport, List, half_of_world, MayTakeAll, PartSpan, HasRoom, Held}, Staging.{few_first, number_first, rising_notes, taken_in, takes_all}}
 use Rattle.iso_core.proofs.taking.take_plan.Goals as goal
 
 pub overflow_sub-first : goal.overflow_sub-first

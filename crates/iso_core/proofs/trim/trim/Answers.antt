@@ -1,5 +1,4 @@
-use Rattle.iso_core.proofs.Words.{◌∙◌}
-use Rattle.iso_core.proofs.Trims.{floor_is, trims_so}
+use Rattle.iso_core.proofs.{Words.◌∙◌, Trims.{floor_is, trims_so}}
 use Rattle.iso_core.proofs.trim.trim.Goals as goal
 
 pub returns-clause-floor : goal.returns-clause-floor

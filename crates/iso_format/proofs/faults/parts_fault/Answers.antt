@@ -1,5 +1,4 @@
-use Rattle.iso_format.proofs.Words.{None, sym, arith, parts_fault}
-use Rattle.iso_format.proofs.FaultSteps.{part_stops, part_passes}
+use Rattle.iso_format.proofs.{Words.{None, sym, arith, parts_fault}, FaultSteps.{part_stops, part_passes}}
 use Rattle.iso_format.proofs.faults.parts_fault.Goals as goal
 
 pub returns-in-Some : goal.returns-in-Some

@@ -1,5 +1,4 @@
-use Rattle.iso_format.proofs.Words.{ap, ◌∙◌, arith, half_of}
-use Rattle.iso_format.proofs.HalfLaws.{half_again, half_spelled}
+use Rattle.iso_format.proofs.{Words.{ap, ◌∙◌, arith, half_of}, HalfLaws.{half_again, half_spelled}}
 use Rattle.iso_format.proofs.half.read_half.Goals as goal
 
 pub returns-clause-spelled : goal.returns-clause-spelled

@@ -1,5 +1,4 @@
-use Rattle.iso_format.proofs.Words.{sym, refl, ◌∙◌}
-use Rattle.iso_format.proofs.HalfLaws.{unclean_front, unclean_back, all_clean}
+use Rattle.iso_format.proofs.{Words.{sym, refl, ◌∙◌}, HalfLaws.{unclean_front, unclean_back, all_clean}}
 use Rattle.iso_format.proofs.half.unclean_place.Goals as goal
 
 pub returns-in-Some-clause-clean : goal.returns-in-Some-clause-clean

@@ -1,5 +1,4 @@
-use Rattle.iso_format.proofs.Words.{◌≡◌, length, refl, ap, arith, take_all, Run, spell, LieInAnImage}
-use Rattle.iso_format.proofs.Parts.{part_bound, length-spell}
+use Rattle.iso_format.proofs.{Words.{◌≡◌, length, refl, ap, arith, take_all, Run, spell, LieInAnImage}, Parts.{part_bound, length-spell}}
 use Rattle.iso_format.proofs.log_record.write_record.Goals as goal
 
 pub push_part-requires : goal.push_part-requires

@@ -1,5 +1,4 @@
-use Rattle.iso_format.proofs.Words.{arith}
-use Rattle.iso_format.proofs.RecordLaws.{ok_begins, begins_ok}
+use Rattle.iso_format.proofs.{Words.arith, RecordLaws.{ok_begins, begins_ok}}
 use Rattle.iso_format.proofs.record_view.read_record.Goals as goal
 
 pub returns-clause-spelled : goal.returns-clause-spelled

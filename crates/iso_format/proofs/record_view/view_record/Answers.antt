@@ -1,6 +1,4 @@
-use Rattle.iso_format.proofs.Words.{None, arith, w32, body_of, number_at}
-use Rattle.iso_format.proofs.PartLaws.{has_parts}
-use Rattle.iso_format.proofs.RecordLaws.{no_fault, window_fits}
+use Rattle.iso_format.proofs.{Words.{None, arith, w32, body_of, number_at}, PartLaws.has_parts, RecordLaws.{no_fault, window_fits}}
 use Rattle.iso_format.proofs.record_view.view_record.Goals as goal
 
 pub u64_at-requires : goal.u64_at-requires

@@ -1,5 +1,4 @@
-use Rattle.iso_format.proofs.Words.{ap, ◌∙◌, arith, super_of}
-use Rattle.iso_format.proofs.SuperLaws.{super_again, ok_spelled}
+use Rattle.iso_format.proofs.{Words.{ap, ◌∙◌, arith, super_of}, SuperLaws.{super_again, ok_spelled}}
 use Rattle.iso_format.proofs.superblock.read_super.Goals as goal
 
 pub returns-clause-spelled : goal.returns-clause-spelled

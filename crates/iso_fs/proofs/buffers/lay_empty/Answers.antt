@@ -1,5 +1,4 @@
-use Rattle.iso_fs.proofs.Words.{◌∙◌, ap, ℕ, List, set}
-use Rattle.iso_fs.proofs.NewFile.{laid_empty}
+use Rattle.iso_fs.proofs.{Words.{◌∙◌, ap, ℕ, List, set}, NewFile.laid_empty}
 use Rattle.iso_fs.proofs.buffers.lay_empty.Goals as goal
 
 pub returns : goal.returns

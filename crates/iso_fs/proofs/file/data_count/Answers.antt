@@ -1,5 +1,4 @@
-use Rattle.iso_fs.proofs.Words.{sym, subst, ◌≤◌, ℕ, most_bytes}
-use Rattle.iso_fs.proofs.Files.{count_fits}
+use Rattle.iso_fs.proofs.{Words.{sym, subst, ◌≤◌, ℕ, most_bytes}, Files.count_fits}
 use Rattle.iso_fs.proofs.file.data_count.Goals as goal
 
 pub returns-clause-fits : goal.returns-clause-fits

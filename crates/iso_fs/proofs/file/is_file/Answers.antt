@@ -1,5 +1,4 @@
-use Rattle.iso_fs.proofs.Words.{◌≡◌, ◌∙◌, sym, ap, true, false, ◌&&◌, leb-true, are_entries, bytes_of, data_count, has_zeros, most_bytes}
-use Rattle.iso_fs.proofs.Files.{file_is, file_not_kind, file_not_small}
+use Rattle.iso_fs.proofs.{Words.{◌≡◌, ◌∙◌, sym, ap, true, false, ◌&&◌, leb-true, are_entries, bytes_of, data_count, has_zeros, most_bytes}, Files.{file_is, file_not_kind, file_not_small}}
 use Rattle.iso_fs.proofs.file.is_file.Goals as goal
 
 pub data_count-count-requires-clause-small : goal.data_count-count-requires-clause-small

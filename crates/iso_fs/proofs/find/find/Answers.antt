@@ -1,6 +1,4 @@
-use Rattle.iso_fs.proofs.Words.{arith, None, read_join, get_program, at_file, found_file}
-use Rattle.iso_fs.proofs.Finding.{get_has}
-use Rattle.iso_fs.proofs.Parts.{tree_read, tree_stops}
+use Rattle.iso_fs.proofs.{Words.{arith, None, read_join, get_program, at_file, found_file}, Finding.get_has, Parts.{tree_read, tree_stops}}
 use Rattle.iso_fs.proofs.find.find.Goals as goal
 
 pub returns-in-Ok-clause-part : goal.returns-in-Ok-clause-part

@@ -1,8 +1,6 @@
-use Rattle.iso_fs.proofs.Words.{◌∙◌, ◌+◌, sym, refl}
+use Rattle.iso_fs.proofs.{Words.{◌∙◌, ◌+◌, sym, refl}, Finding.{file_broken, file_found}, Parts.{part_as, part_done, part_refused, read_kept, read_one, whole_read, whole_stops}}
 use Rattle.store_model.specs.declared.stores.StoreError.TheVariants as store
 use Rattle.store_model.specs.declared.files.FsError.TheVariants as fs
-use Rattle.iso_fs.proofs.Finding.{file_broken, file_found}
-use Rattle.iso_fs.proofs.Parts.{part_as, part_done, part_refused, read_kept, read_one, whole_read, whole_stops}
 use Rattle.iso_fs.proofs.find.look_file.Goals as goal
 
 pub returns-in-Err-clause-part : goal.returns-in-Err-clause-part

@@ -1,5 +1,4 @@
-use Rattle.iso_fs.proofs.Words.{read_none}
-use Rattle.iso_fs.proofs.Parts.{part_done}
+use Rattle.iso_fs.proofs.{Words.read_none, Parts.part_done}
 use Rattle.iso_fs.proofs.find.look_found.Goals as goal
 
 pub returns-in-None-clause-part : goal.returns-in-None-clause-part

@@ -1,8 +1,6 @@
-use Rattle.iso_fs.proofs.Words.{read_none}
+use Rattle.iso_fs.proofs.{Words.read_none, Finding.{value_bad, value_named}, Parts.{part_as, part_refused}}
 use Rattle.store_model.specs.declared.stores.StoreError.TheVariants as store
 use Rattle.store_model.specs.declared.files.FsError.TheVariants as fs
-use Rattle.iso_fs.proofs.Finding.{value_bad, value_named}
-use Rattle.iso_fs.proofs.Parts.{part_as, part_refused}
 use Rattle.iso_fs.proofs.find.look_value.Goals as goal
 
 pub returns-in-Some-clause-part : goal.returns-in-Some-clause-part

@@ -1,6 +1,4 @@
-use Rattle.iso_fs.proofs.Words.{◌≡◌, ◌∙◌, sym, ap, subst, ℕ, List, entries_of, high_place, low_place, ArePlaces}
-use Rattle.iso_fs.proofs.Files.{data_fits}
-use Rattle.iso_fs.proofs.RemoveSteps.{entries_all, places_are}
+use Rattle.iso_fs.proofs.{Words.{◌≡◌, ◌∙◌, sym, ap, subst, ℕ, List, entries_of, high_place, low_place, ArePlaces}, Files.data_fits, RemoveSteps.{entries_all, places_are}}
 use Rattle.iso_fs.proofs.left.ends.Goals as goal
 
 pub places-requires-clause-fits : goal.places-requires-clause-fits

@@ -1,6 +1,4 @@
-use Rattle.iso_fs.proofs.Words.{◌≡◌, ◌∙◌, sym, ap, arith, ℕ, List, ◌+◌, Region, without_bits, without_bit}
-use Rattle.iso_fs.proofs.Files.{data_fits, entry_handed, file_parts}
-use Rattle.iso_fs.proofs.RemoveSteps.{entries_from, entries_step}
+use Rattle.iso_fs.proofs.{Words.{◌≡◌, ◌∙◌, sym, ap, arith, ℕ, List, ◌+◌, Region, without_bits, without_bit}, Files.{data_fits, entry_handed, file_parts}, RemoveSteps.{entries_from, entries_step}}
 use Rattle.iso_fs.proofs.left.give_data.Goals as goal
 
 pub entry_at-requires : goal.entry_at-requires

@@ -1,5 +1,4 @@
-use Rattle.iso_fs.proofs.Words.{◌≡◌, length, without_bits, entries_of}
-use Rattle.iso_fs.proofs.RemoveSteps.{entries_from}
+use Rattle.iso_fs.proofs.{Words.{◌≡◌, length, without_bits, entries_of}, RemoveSteps.entries_from}
 use Rattle.iso_fs.proofs.left.give_data.Given as goal
 
 -- the blocks that are left are given back yet

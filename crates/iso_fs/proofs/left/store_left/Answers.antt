@@ -1,6 +1,4 @@
-use Rattle.iso_fs.proofs.Words.{◌≡◌, subst, [], ◌∷◌, OnOk, Access, with_accesses}
-use Rattle.iso_fs.proofs.Files.{file_parts}
-use Rattle.iso_fs.proofs.RemoveSteps.{left_access}
+use Rattle.iso_fs.proofs.{Words.{◌≡◌, subst, [], ◌∷◌, OnOk, Access, with_accesses}, Files.file_parts, RemoveSteps.left_access}
 use Rattle.iso_fs.proofs.left.store_left.Goals as goal
 
 pub data_count-count-requires-clause-small : goal.data_count-count-requires-clause-small

@@ -1,7 +1,4 @@
-use Rattle.iso_fs.proofs.Words.{◌∙◌, sym, create_program, areas_of}
-use Rattle.iso_fs.proofs.Ended.{no_memory}
-use Rattle.iso_fs.proofs.Existing.{create_exists}
-use Rattle.iso_fs.proofs.CreateSteps.{bad_name, create_call, create_has}
+use Rattle.iso_fs.proofs.{Words.{◌∙◌, sym, create_program, areas_of}, Ended.no_memory, Existing.create_exists, CreateSteps.{bad_name, create_call, create_has}}
 use Rattle.iso_fs.proofs.making.create.Goals as goal
 
 pub returns-then-not-is_key-clause-ended : goal.returns-then-not-is_key-clause-ended

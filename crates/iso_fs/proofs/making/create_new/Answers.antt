@@ -1,8 +1,6 @@
-use Rattle.iso_fs.proofs.Words.{◌≡◌, ◌∙◌, ◌-◌, ap, refl, ℕ, arith, Region, lowest_free}
+use Rattle.iso_fs.proofs.{Words.{◌≡◌, ◌∙◌, ◌-◌, ap, refl, ℕ, arith, Region, lowest_free}, CreateSteps.{none_free, one_free, with_map}, Parts.{map_read, map_stops, part_as, part_refused}}
 use Rattle.store_model.specs.declared.stores.StoreError.TheVariants as store
 use Rattle.store_model.specs.declared.files.FsError.TheVariants as fs
-use Rattle.iso_fs.proofs.CreateSteps.{none_free, one_free, with_map}
-use Rattle.iso_fs.proofs.Parts.{map_read, map_stops, part_as, part_refused}
 use Rattle.iso_fs.proofs.making.create_new.Goals as goal
 
 pub returns-in-Err : goal.returns-in-Err

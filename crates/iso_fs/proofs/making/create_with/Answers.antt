@@ -1,7 +1,4 @@
-use Rattle.iso_fs.proofs.Words.{arith, get_program, create_new}
-use Rattle.iso_fs.proofs.CreateSteps.{create_as}
-use Rattle.iso_fs.proofs.Finding.{get_has}
-use Rattle.iso_fs.proofs.Parts.{part_as, tree_read, tree_stops}
+use Rattle.iso_fs.proofs.{Words.{arith, get_program, create_new}, CreateSteps.create_as, Finding.get_has, Parts.{part_as, tree_read, tree_stops}}
 use Rattle.iso_fs.proofs.making.create_with.Goals as goal
 
 pub returns-in-Ok : goal.returns-in-Ok

@@ -1,7 +1,4 @@
-use Rattle.iso_fs.proofs.Words.{ap, sym, refl, empty_writes, put_program}
-use Rattle.iso_fs.proofs.CreateSteps.{naming}
-use Rattle.iso_fs.proofs.Finding.{put_has}
-use Rattle.iso_fs.proofs.Parts.{part_as, put_stops, tree_wrote}
+use Rattle.iso_fs.proofs.{Words.{ap, sym, refl, empty_writes, put_program}, CreateSteps.naming, Finding.put_has, Parts.{part_as, put_stops, tree_wrote}}
 use Rattle.iso_fs.proofs.making.name_file.Goals as goal
 
 pub returns-in-Ok : goal.returns-in-Ok

@@ -1,5 +1,4 @@
-use Rattle.iso_fs.proofs.Words.{refl, arith}
-use Rattle.iso_fs.proofs.Parts.{part_done, store_done, store_stops}
+use Rattle.iso_fs.proofs.{Words.{refl, arith}, Parts.{part_done, store_done, store_stops}}
 use Rattle.iso_fs.proofs.making.store_file.Goals as goal
 
 pub returns-in-Err-clause-part : goal.returns-in-Err-clause-part

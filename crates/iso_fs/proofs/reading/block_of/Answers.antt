@@ -1,5 +1,4 @@
-use Rattle.iso_fs.proofs.Words.{sym, subst, ℕ, ◌<◌, arith}
-use Rattle.iso_fs.proofs.ReadSteps.{entry_below, entry_fits}
+use Rattle.iso_fs.proofs.{Words.{sym, subst, ℕ, ◌<◌, arith}, ReadSteps.{entry_below, entry_fits}}
 use Rattle.iso_fs.proofs.reading.block_of.Goals as goal
 
 pub entry_at-requires : goal.entry_at-requires

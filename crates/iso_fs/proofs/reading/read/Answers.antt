@@ -1,6 +1,4 @@
-use Rattle.iso_fs.proofs.Words.{◌∙◌, sym, ap, ℕ, List, Ok, option_map, take, with_items_is, read_program, areas_of}
-use Rattle.iso_fs.proofs.Ended.{no_memory}
-use Rattle.iso_fs.proofs.ReadSteps.{read_answer, read_bad_name, read_bad_range, read_call, read_has}
+use Rattle.iso_fs.proofs.{Words.{◌∙◌, sym, ap, ℕ, List, Ok, option_map, take, with_items_is, read_program, areas_of}, Ended.no_memory, ReadSteps.{read_answer, read_bad_name, read_bad_range, read_call, read_has}}
 use Rattle.iso_fs.proofs.reading.read.Goals as goal
 
 pub returns-then-not-is_key-clause-ended : goal.returns-then-not-is_key-clause-ended

@@ -1,5 +1,4 @@
-use Rattle.iso_fs.proofs.Words.{read_none}
-use Rattle.iso_fs.proofs.Parts.{part_done}
+use Rattle.iso_fs.proofs.{Words.read_none, Parts.part_done}
 use Rattle.iso_fs.proofs.reading.read_found.Goals as goal
 
 pub returns-in-Some-clause-part : goal.returns-in-Some-clause-part

@@ -1,7 +1,5 @@
-use Rattle.iso_fs.proofs.Words.{◌∙◌, ap, arith, ℕ, ◌+◌, ◌-◌, cond, nat_lt, read_none}
+use Rattle.iso_fs.proofs.{Words.{◌∙◌, ap, arith, ℕ, ◌+◌, ◌-◌, cond, nat_lt, read_none}, Parts.{part_as, part_refused}, ReadSteps.{range_bad, range_is}}
 use Rattle.store_model.specs.declared.files.FsError.TheVariants as fs
-use Rattle.iso_fs.proofs.Parts.{part_as, part_refused}
-use Rattle.iso_fs.proofs.ReadSteps.{range_bad, range_is}
 use Rattle.iso_fs.proofs.reading.read_from.Goals as goal
 
 pub returns-then-bytes-off-clause-part : goal.returns-then-bytes-off-clause-part

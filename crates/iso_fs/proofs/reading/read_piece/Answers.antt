@@ -1,7 +1,4 @@
-use Rattle.iso_fs.proofs.Words.{◌∙◌, ◌+◌, ap, refl, arith, take}
-use Rattle.iso_fs.proofs.Ended.{done_so, refused_access}
-use Rattle.iso_fs.proofs.Parts.{read_kept, read_one}
-use Rattle.iso_fs.proofs.ReadSteps.{code_piece, more_read, piece_refused}
+use Rattle.iso_fs.proofs.{Words.{◌∙◌, ◌+◌, ap, refl, arith, take}, Ended.{done_so, refused_access}, Parts.{read_kept, read_one}, ReadSteps.{code_piece, more_read, piece_refused}}
 use Rattle.iso_fs.proofs.reading.read_piece.Goals as goal
 
 pub returns-in-Err-clause-refused : goal.returns-in-Err-clause-refused

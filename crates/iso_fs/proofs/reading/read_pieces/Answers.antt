@@ -1,7 +1,4 @@
-use Rattle.iso_fs.proofs.Words.{◌≡◌, ◌∙◌, refl, arith, ◌+◌, ◌-◌, Err, take, read_join, later_same, later_than, read_none}
-use Rattle.iso_fs.proofs.Lefts.{piece_less, piece_stops}
-use Rattle.iso_fs.proofs.ReadSteps.{all_done, left_first}
-use Rattle.iso_fs.proofs.Ended.{behaves_after, done_so}
+use Rattle.iso_fs.proofs.{Words.{◌≡◌, ◌∙◌, refl, arith, ◌+◌, ◌-◌, Err, take, read_join, later_same, later_than, read_none}, Lefts.{piece_less, piece_stops}, ReadSteps.{all_done, left_first}, Ended.{behaves_after, done_so}}
 use Rattle.iso_fs.proofs.reading.read_pieces.Goals as goal
 
 pub loop-at-init : goal.loop-at-init

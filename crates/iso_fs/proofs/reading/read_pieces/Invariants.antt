@@ -1,5 +1,4 @@
-use Rattle.iso_fs.proofs.Words.{◌≡◌, ◌-◌, ◌≤◌, [], take, IsLater, HasRead, read_pieces}
-use Rattle.iso_fs.proofs.Lefts.{HasLeft}
+use Rattle.iso_fs.proofs.{Words.{◌≡◌, ◌-◌, ◌≤◌, [], take, IsLater, HasRead, read_pieces}, Lefts.HasLeft}
 use Rattle.iso_fs.proofs.reading.read_pieces.Given as goal
 
 -- the pieces that are left are what is left of the read

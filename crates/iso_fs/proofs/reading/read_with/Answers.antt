@@ -1,7 +1,4 @@
-use Rattle.iso_fs.proofs.Words.{None, read_from, read_join}
-use Rattle.iso_fs.proofs.Finding.{found_part, found_stops}
-use Rattle.iso_fs.proofs.Parts.{part_as}
-use Rattle.iso_fs.proofs.ReadSteps.{read_as}
+use Rattle.iso_fs.proofs.{Words.{None, read_from, read_join}, Finding.{found_part, found_stops}, Parts.part_as, ReadSteps.read_as}
 use Rattle.iso_fs.proofs.reading.read_with.Goals as goal
 
 pub returns-in-Ok-clause-part : goal.returns-in-Ok-clause-part

@@ -1,6 +1,4 @@
-use Rattle.iso_fs.proofs.Words.{arith, map_mark, bytes_in, del_program, remove_writes}
-use Rattle.iso_fs.proofs.Finding.{del_has}
-use Rattle.iso_fs.proofs.Parts.{tree_stops, tree_wrote}
+use Rattle.iso_fs.proofs.{Words.{arith, map_mark, bytes_in, del_program, remove_writes}, Finding.del_has, Parts.{tree_stops, tree_wrote}}
 use Rattle.iso_fs.proofs.removing.drop_file.Goals as goal
 
 pub returns-in-Ok : goal.returns-in-Ok

@@ -1,5 +1,4 @@
-use Rattle.iso_fs.proofs.Words.{arith}
-use Rattle.iso_fs.proofs.Parts.{part_done, store_done, store_stops}
+use Rattle.iso_fs.proofs.{Words.arith, Parts.{part_done, store_done, store_stops}}
 use Rattle.iso_fs.proofs.removing.give_file.Goals as goal
 
 pub returns-in-Ok-clause-part : goal.returns-in-Ok-clause-part

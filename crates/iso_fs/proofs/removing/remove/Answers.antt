@@ -1,6 +1,4 @@
-use Rattle.iso_fs.proofs.Words.{◌∙◌, sym, remove_program, areas_of}
-use Rattle.iso_fs.proofs.Ended.{no_memory}
-use Rattle.iso_fs.proofs.RemoveSteps.{remove_bad, remove_call, remove_has}
+use Rattle.iso_fs.proofs.{Words.{◌∙◌, sym, remove_program, areas_of}, Ended.no_memory, RemoveSteps.{remove_bad, remove_call, remove_has}}
 use Rattle.iso_fs.proofs.removing.remove.Goals as goal
 
 pub returns-then-not-is_key-clause-ended : goal.returns-then-not-is_key-clause-ended

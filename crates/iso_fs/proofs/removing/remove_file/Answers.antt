@@ -1,5 +1,4 @@
-use Rattle.iso_fs.proofs.Words.{arith, with_dropped}
-use Rattle.iso_fs.proofs.Parts.{map_read, map_stops}
+use Rattle.iso_fs.proofs.{Words.{arith, with_dropped}, Parts.{map_read, map_stops}}
 use Rattle.iso_fs.proofs.removing.remove_file.Goals as goal
 
 pub returns-in-Err : goal.returns-in-Err

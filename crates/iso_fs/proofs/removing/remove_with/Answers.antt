@@ -1,7 +1,4 @@
-use Rattle.iso_fs.proofs.Words.{false, remove_file}
-use Rattle.iso_fs.proofs.Finding.{found_part, found_stops}
-use Rattle.iso_fs.proofs.Parts.{part_as}
-use Rattle.iso_fs.proofs.RemoveSteps.{remove_as}
+use Rattle.iso_fs.proofs.{Words.{false, remove_file}, Finding.{found_part, found_stops}, Parts.part_as, RemoveSteps.remove_as}
 use Rattle.iso_fs.proofs.removing.remove_with.Goals as goal
 
 pub returns-in-Ok : goal.returns-in-Ok

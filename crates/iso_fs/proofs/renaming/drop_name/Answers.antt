@@ -1,7 +1,4 @@
-use Rattle.iso_fs.proofs.Words.{arith, Done, Ok, true, del_program}
-use Rattle.iso_fs.proofs.Finding.{del_has}
-use Rattle.iso_fs.proofs.Parts.{part_done, tree_stops, tree_wrote}
-use Rattle.iso_fs.proofs.RenameSteps.{tree_follows}
+use Rattle.iso_fs.proofs.{Words.{arith, Done, Ok, true, del_program}, Finding.del_has, Parts.{part_done, tree_stops, tree_wrote}, RenameSteps.tree_follows}
 use Rattle.iso_fs.proofs.renaming.drop_name.Goals as goal
 
 pub returns-in-Ok-clause-part : goal.returns-in-Ok-clause-part

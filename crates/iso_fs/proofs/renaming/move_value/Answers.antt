@@ -1,7 +1,4 @@
-use Rattle.iso_fs.proofs.Words.{sym, ◌∙◌, arith, drop_name, put_program}
-use Rattle.iso_fs.proofs.Finding.{put_has}
-use Rattle.iso_fs.proofs.Parts.{part_more, put_stops, tree_wrote}
-use Rattle.iso_fs.proofs.RenameSteps.{memory_value}
+use Rattle.iso_fs.proofs.{Words.{sym, ◌∙◌, arith, drop_name, put_program}, Finding.put_has, Parts.{part_more, put_stops, tree_wrote}, RenameSteps.memory_value}
 use Rattle.iso_fs.proofs.renaming.move_value.Goals as goal
 
 pub returns-in-Ok : goal.returns-in-Ok

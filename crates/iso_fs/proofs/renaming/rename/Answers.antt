@@ -1,8 +1,5 @@
-use Rattle.iso_fs.proofs.Words.{◌≡◌, ◌∙◌, ◌&&◌, sym, true, false, is_key, areas_of}
-use Rattle.iso_fs.proofs.Existing.{rename_exists}
-use Rattle.iso_fs.proofs.RenameSteps.{old_bad, new_bad, rename_bad, rename_call}
+use Rattle.iso_fs.proofs.{Words.{◌≡◌, ◌∙◌, ◌&&◌, sym, true, false, is_key, areas_of}, Existing.rename_exists, RenameSteps.{old_bad, new_bad, rename_bad, rename_call}, renaming.rename.Goals.{then-not-is_key-via-then-not-is_key, then-not-is_key-via-else-not-is_key+then-not-is_key-2}}
 use Rattle.iso_fs.proofs.renaming.rename.Goals as goal
-use Rattle.iso_fs.proofs.renaming.rename.Goals.{then-not-is_key-via-then-not-is_key, then-not-is_key-via-else-not-is_key+then-not-is_key-2}
 
 pub returns-then-not-is_key-clause-ended : goal.returns-then-not-is_key-clause-ended
 returns-then-not-is_key-clause-ended g c =

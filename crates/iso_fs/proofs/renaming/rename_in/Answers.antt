@@ -1,7 +1,4 @@
-use Rattle.iso_fs.proofs.Words.{arith, get_program, rename_found}
-use Rattle.iso_fs.proofs.Finding.{get_has}
-use Rattle.iso_fs.proofs.Parts.{part_as, tree_read, tree_stops}
-use Rattle.iso_fs.proofs.RenameSteps.{rename_as}
+use Rattle.iso_fs.proofs.{Words.{arith, get_program, rename_found}, Finding.get_has, Parts.{part_as, tree_read, tree_stops}, RenameSteps.rename_as}
 use Rattle.iso_fs.proofs.renaming.rename_in.Goals as goal
 
 pub returns-in-Ok : goal.returns-in-Ok

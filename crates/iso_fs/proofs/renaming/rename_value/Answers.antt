@@ -1,6 +1,4 @@
-use Rattle.iso_fs.proofs.Words.{arith, get_program, rename_free}
-use Rattle.iso_fs.proofs.Finding.{get_has}
-use Rattle.iso_fs.proofs.Parts.{tree_read, tree_stops}
+use Rattle.iso_fs.proofs.{Words.{arith, get_program, rename_free}, Finding.get_has, Parts.{tree_read, tree_stops}}
 use Rattle.iso_fs.proofs.renaming.rename_value.Goals as goal
 
 pub returns-in-Ok : goal.returns-in-Ok

@@ -1,5 +1,4 @@
-use Rattle.iso_fs.proofs.Words.{◌∙◌, ◌+◌, ◌*◌, length, laid_at}
-use Rattle.iso_fs.proofs.Sizing.{laid_entry}
+use Rattle.iso_fs.proofs.{Words.{◌∙◌, ◌+◌, ◌*◌, length, laid_at}, Sizing.laid_entry}
 use Rattle.iso_fs.proofs.sized.add_entry.Goals as goal
 
 pub returns : goal.returns

@@ -1,5 +1,4 @@
-use Rattle.iso_fs.proofs.Words.{◌≡◌, ◌∙◌, ◌++◌, ◌∷◌, [], sym, ap, arith, ℕ, length, map, range_with_len, length-map-range_with_len, entry_at, file_block}
-use Rattle.iso_fs.proofs.Sizing.{one_more}
+use Rattle.iso_fs.proofs.{Words.{◌≡◌, ◌∙◌, ◌++◌, ◌∷◌, [], sym, ap, arith, ℕ, length, map, range_with_len, length-map-range_with_len, entry_at, file_block}, Sizing.one_more}
 use Rattle.iso_fs.proofs.sized.add_old.Goals as goal
 
 pub loop-i-preserved : goal.loop-i-preserved

@@ -1,5 +1,4 @@
-use Rattle.iso_fs.proofs.Words.{◌∙◌, length, laid_at}
-use Rattle.iso_fs.proofs.Sizing.{laid_size}
+use Rattle.iso_fs.proofs.{Words.{◌∙◌, length, laid_at}, Sizing.laid_size}
 use Rattle.iso_fs.proofs.sized.start_file.Goals as goal
 
 pub returns : goal.returns

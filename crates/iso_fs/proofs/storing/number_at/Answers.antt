@@ -1,6 +1,4 @@
-use Rattle.iso_fs.proofs.Words.{◌∙◌, sym, subst, arith, ℕ, ◌<◌, ◌-◌}
-use Rattle.iso_fs.proofs.Files.{data_fits}
-use Rattle.iso_fs.proofs.WriteSteps.{news_below, number_new, number_old, old_below}
+use Rattle.iso_fs.proofs.{Words.{◌∙◌, sym, subst, arith, ℕ, ◌<◌, ◌-◌}, Files.data_fits, WriteSteps.{news_below, number_new, number_old, old_below}}
 use Rattle.iso_fs.proofs.storing.number_at.Goals as goal
 
 pub entry_at-requires : goal.entry_at-requires

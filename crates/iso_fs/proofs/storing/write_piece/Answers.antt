@@ -1,6 +1,4 @@
-use Rattle.iso_fs.proofs.Words.{◌+◌, length, ◌∙◌, ◌++◌, ap, refl, arith, take, ℕ, block_with, entries_of, Device, later_same}
-use Rattle.iso_fs.proofs.Ended.{done_so, refused_store}
-use Rattle.iso_fs.proofs.WriteSteps.{piece_done, piece_refused, place_covered}
+use Rattle.iso_fs.proofs.{Words.{◌+◌, length, ◌∙◌, ◌++◌, ap, refl, arith, take, ℕ, block_with, entries_of, Device, later_same}, Ended.{done_so, refused_store}, WriteSteps.{piece_done, piece_refused, place_covered}}
 use Rattle.iso_fs.proofs.storing.write_piece.Goals as goal
 
 pub number_at-number-requires-clause-place : goal.number_at-number-requires-clause-place

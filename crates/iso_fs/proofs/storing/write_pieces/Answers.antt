@@ -1,7 +1,4 @@
-use Rattle.iso_fs.proofs.Words.{◌∙◌, ◌++◌, refl, subst, arith, ℕ, ◌-◌, List, drop, Err, suc, write_pieces, entries_of, later_same, later_than, HasRun}
-use Rattle.iso_fs.proofs.Ended.{behaves_behind, done_so}
-use Rattle.iso_fs.proofs.Lefts.{piece_less, piece_stops}
-use Rattle.iso_fs.proofs.WriteSteps.{all_written, left_whole, rest_is, rest_more}
+use Rattle.iso_fs.proofs.{Words.{◌∙◌, ◌++◌, refl, subst, arith, ℕ, ◌-◌, List, drop, Err, suc, write_pieces, entries_of, later_same, later_than, HasRun}, Ended.{behaves_behind, done_so}, Lefts.{piece_less, piece_stops}, WriteSteps.{all_written, left_whole, rest_is, rest_more}}
 use Rattle.iso_fs.proofs.storing.write_pieces.Goals as goal
 
 pub loop-at-init : goal.loop-at-init

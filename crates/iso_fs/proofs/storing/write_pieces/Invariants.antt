@@ -1,5 +1,4 @@
-use Rattle.iso_fs.proofs.Words.{◌≡◌, ◌-◌, ◌≤◌, ◌++◌, drop, length, IsLater, write_pieces, entries_of}
-use Rattle.iso_fs.proofs.Lefts.{HasLeft}
+use Rattle.iso_fs.proofs.{Words.{◌≡◌, ◌-◌, ◌≤◌, ◌++◌, drop, length, IsLater, write_pieces, entries_of}, Lefts.HasLeft}
 use Rattle.iso_fs.proofs.storing.write_pieces.Given as goal
 
 -- the pieces that are left are what is left of the write

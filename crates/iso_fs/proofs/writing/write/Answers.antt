@@ -1,6 +1,4 @@
-use Rattle.iso_fs.proofs.Words.{◌∙◌, sym, write_program, areas_of}
-use Rattle.iso_fs.proofs.Ended.{no_memory}
-use Rattle.iso_fs.proofs.WriteSteps.{write_bad_name, write_bad_range, write_call, write_has}
+use Rattle.iso_fs.proofs.{Words.{◌∙◌, sym, write_program, areas_of}, Ended.no_memory, WriteSteps.{write_bad_name, write_bad_range, write_call, write_has}}
 use Rattle.iso_fs.proofs.writing.write.Goals as goal
 
 pub returns-then-not-is_key-clause-ended : goal.returns-then-not-is_key-clause-ended

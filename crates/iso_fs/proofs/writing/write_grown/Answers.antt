@@ -1,6 +1,4 @@
-use Rattle.iso_fs.proofs.Words.{◌∙◌, ◌+◌, ap, arith, ℕ, length}
-use Rattle.iso_fs.proofs.Parts.{part_as, store_done, store_stops}
-use Rattle.iso_fs.proofs.WriteSteps.{as_grown, covered_by}
+use Rattle.iso_fs.proofs.{Words.{◌∙◌, ◌+◌, ap, arith, ℕ, length}, Parts.{part_as, store_done, store_stops}, WriteSteps.{as_grown, covered_by}}
 use Rattle.iso_fs.proofs.writing.write_grown.Goals as goal
 
 pub returns-in-Err-clause-part : goal.returns-in-Err-clause-part

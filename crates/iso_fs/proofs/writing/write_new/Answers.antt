@@ -1,6 +1,4 @@
-use Rattle.iso_fs.proofs.Words.{arith, write_sized, with_taken}
-use Rattle.iso_fs.proofs.Parts.{map_read, map_stops, part_as}
-use Rattle.iso_fs.proofs.WriteSteps.{new_as}
+use Rattle.iso_fs.proofs.{Words.{arith, write_sized, with_taken}, Parts.{map_read, map_stops, part_as}, WriteSteps.new_as}
 use Rattle.iso_fs.proofs.writing.write_new.Goals as goal
 
 pub returns-in-Err : goal.returns-in-Err

@@ -1,5 +1,4 @@
-use Rattle.iso_fs.proofs.Words.{arith}
-use Rattle.iso_fs.proofs.Parts.{store_done, store_stops}
+use Rattle.iso_fs.proofs.{Words.arith, Parts.{store_done, store_stops}}
 use Rattle.iso_fs.proofs.writing.write_news.Goals as goal
 
 pub returns-in-Err-clause-part : goal.returns-in-Err-clause-part

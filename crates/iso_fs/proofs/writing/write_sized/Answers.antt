@@ -1,7 +1,4 @@
-use Rattle.iso_fs.proofs.Words.{◌+◌, ◌≤◌, arith, length, bytes_of}
-use Rattle.iso_fs.proofs.Files.{file_parts}
-use Rattle.iso_fs.proofs.Parts.{part_as}
-use Rattle.iso_fs.proofs.WriteSteps.{as_kept, covered_old}
+use Rattle.iso_fs.proofs.{Words.{◌+◌, ◌≤◌, arith, length, bytes_of}, Files.file_parts, Parts.part_as, WriteSteps.{as_kept, covered_old}}
 use Rattle.iso_fs.proofs.writing.write_sized.Goals as goal
 
 pub data_count-old-requires-clause-small : goal.data_count-old-requires-clause-small

@@ -1,8 +1,6 @@
-use Rattle.iso_fs.proofs.Words.{arith, take, map_mark, bytes_in, write_sized, used_same}
+use Rattle.iso_fs.proofs.{Words.{arith, take, map_mark, bytes_in, write_sized, used_same}, Parts.{part_as, part_refused}, WriteSteps.{few_is, new_are}}
 use Rattle.store_model.specs.declared.stores.StoreError.TheVariants as store
 use Rattle.store_model.specs.declared.files.FsError.TheVariants as fs
-use Rattle.iso_fs.proofs.Parts.{part_as, part_refused}
-use Rattle.iso_fs.proofs.WriteSteps.{few_is, new_are}
 use Rattle.iso_fs.proofs.writing.write_taken.Goals as goal
 
 pub returns-then-free-need : goal.returns-then-free-need

@@ -1,9 +1,5 @@
-use Rattle.iso_fs.proofs.Words.{◌∙◌, ◌+◌, sym, arith, length, nat_le, bytes_of, most_bytes}
+use Rattle.iso_fs.proofs.{Words.{◌∙◌, ◌+◌, sym, arith, length, nat_le, bytes_of, most_bytes}, Files.file_parts, Parts.{part_as, part_refused}, WriteCalls.most_is, WriteSteps.{off_bad, range_bad, size_bad}}
 use Rattle.store_model.specs.declared.files.FsError.TheVariants as fs
-use Rattle.iso_fs.proofs.Files.{file_parts}
-use Rattle.iso_fs.proofs.Parts.{part_as, part_refused}
-use Rattle.iso_fs.proofs.WriteCalls.{most_is}
-use Rattle.iso_fs.proofs.WriteSteps.{off_bad, range_bad, size_bad}
 use Rattle.iso_fs.proofs.writing.write_to.Goals as goal
 
 pub returns-then-bytes_of-off : goal.returns-then-bytes_of-off

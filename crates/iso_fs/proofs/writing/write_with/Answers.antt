@@ -1,7 +1,4 @@
-use Rattle.iso_fs.proofs.Words.{false, write_to}
-use Rattle.iso_fs.proofs.Finding.{found_part, found_stops}
-use Rattle.iso_fs.proofs.Parts.{part_as}
-use Rattle.iso_fs.proofs.WriteSteps.{many_is, write_as}
+use Rattle.iso_fs.proofs.{Words.{false, write_to}, Finding.{found_part, found_stops}, Parts.part_as, WriteSteps.{many_is, write_as}}
 use Rattle.iso_fs.proofs.writing.write_with.Goals as goal
 
 pub returns-in-Ok : goal.returns-in-Ok

@@ -1,5 +1,4 @@
-use Rattle.iso_hash.proofs.Words.{◌∙◌, sym, area_of}
-use Rattle.iso_hash.proofs.Storing.{put_bad_key, put_bad_value, put_in_area, put_call_in}
+use Rattle.iso_hash.proofs.{Words.{◌∙◌, sym, area_of}, Storing.{put_bad_key, put_bad_value, put_in_area, put_call_in}}
 use Rattle.iso_hash.proofs.insert.put.Goals as goal
 
 pub returns-then-not-is_key-clause-ended : goal.returns-then-not-is_key-clause-ended

@@ -1,6 +1,4 @@
-use Rattle.iso_hash.proofs.Words.{false, arith, refused_so, behaves_after, behaves_more, store_cause}
-use Rattle.iso_hash.proofs.Getting.{walked_cell, walked_end, walk_known}
-use Rattle.iso_hash.proofs.Storing.{put_from, put_error}
+use Rattle.iso_hash.proofs.{Words.{false, arith, refused_so, behaves_after, behaves_more, store_cause}, Getting.{walked_cell, walked_end, walk_known}, Storing.{put_from, put_error}}
 use Rattle.iso_hash.proofs.insert.put_with.Goals as goal
 
 pub returns-in-Ok-AtCell-clause-run : goal.returns-in-Ok-AtCell-clause-run

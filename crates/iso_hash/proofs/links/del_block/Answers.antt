@@ -1,6 +1,4 @@
-use Rattle.iso_hash.proofs.Words.{◌≡◌, ◌∙◌, refl, ap, [], ◌∷◌, None, get_or, arith, Span, map_mark, bit_place, clear_bit, look_access, with_accesses, at_start, cut_at_look, read_none, read_more, read_same, behaves_after, refused_reading}
-use Rattle.iso_hash.proofs.Changes.{give_back_block}
-use Rattle.iso_hash.proofs.Storing.{shrinking, given_back}
+use Rattle.iso_hash.proofs.{Words.{◌≡◌, ◌∙◌, refl, ap, [], ◌∷◌, None, get_or, arith, Span, map_mark, bit_place, clear_bit, look_access, with_accesses, at_start, cut_at_look, read_none, read_more, read_same, behaves_after, refused_reading}, Changes.give_back_block, Storing.{shrinking, given_back}}
 use Rattle.iso_hash.proofs.links.del_block.Goals as goal
 
 pub returns-in-Err-clause-run : goal.returns-in-Err-clause-run

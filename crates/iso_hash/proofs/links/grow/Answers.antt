@@ -1,5 +1,4 @@
-use Rattle.iso_hash.proofs.Words.{◌∙◌, ap, ◌+◌, [], ◌∷◌, Ok, arith, w32, to_be_bytes, next_mark, block_with, bit_mark, bit_place, new_block, bucket_of, Done, Tx, at_store, ran_at, cut_at_store, refused_memory, done_so}
-use Rattle.iso_hash.proofs.Storing.{first, second, third, growing, grow_at_first, grow_at_second, grow_at_third, reserve_refused, room_less}
+use Rattle.iso_hash.proofs.{Words.{◌∙◌, ap, ◌+◌, [], ◌∷◌, Ok, arith, w32, to_be_bytes, next_mark, block_with, bit_mark, bit_place, new_block, bucket_of, Done, Tx, at_store, ran_at, cut_at_store, refused_memory, done_so}, Storing.{first, second, third, growing, grow_at_first, grow_at_second, grow_at_third, reserve_refused, room_less}}
 use Rattle.iso_hash.proofs.links.grow.Goals as goal
 
 pub returns-in-Err-clause-run : goal.returns-in-Err-clause-run

@@ -1,6 +1,5 @@
-use Rattle.iso_hash.proofs.Words.{◌≡◌, ◌∙◌, refl, ap, [], ◌∷◌, None, arith, Span, map_mark, look_access, with_accesses, at_start, cut_at_look, read_none, read_more, read_same, behaves_after, refused_reading, refused_so}
+use Rattle.iso_hash.proofs.{Words.{◌≡◌, ◌∙◌, refl, ap, [], ◌∷◌, None, arith, Span, map_mark, look_access, with_accesses, at_start, cut_at_look, read_none, read_more, read_same, behaves_after, refused_reading, refused_so}, Storing.{new_program, with_new, new_none, new_some}}
 use Rattle.store_model.specs.declared.stores.StoreError.TheVariants as store
-use Rattle.iso_hash.proofs.Storing.{new_program, with_new, new_none, new_some}
 use Rattle.iso_hash.proofs.links.put_block.Goals as goal
 
 pub returns-in-Err-clause-run : goal.returns-in-Err-clause-run

@@ -1,5 +1,4 @@
-use Rattle.iso_hash.proofs.Words.{◌∙◌, ap, ◌+◌, [], ◌∷◌, Ok, true, replicate, arith, next_mark, block_with, bit_mark, bit_place, Done, Tx, cut_at_store, refused_memory, done_so}
-use Rattle.iso_hash.proofs.Storing.{cleared, unlinked, shrinking, shrink_at_first, shrink_at_second, reserve_refused, room_less}
+use Rattle.iso_hash.proofs.{Words.{◌∙◌, ap, ◌+◌, [], ◌∷◌, Ok, true, replicate, arith, next_mark, block_with, bit_mark, bit_place, Done, Tx, cut_at_store, refused_memory, done_so}, Storing.{cleared, unlinked, shrinking, shrink_at_first, shrink_at_second, reserve_refused, room_less}}
 use Rattle.iso_hash.proofs.links.shrink.Goals as goal
 
 pub returns-in-Err-clause-run : goal.returns-in-Err-clause-run

@@ -1,5 +1,4 @@
-use Rattle.iso_hash.proofs.Words.{◌∙◌, sym, area_of}
-use Rattle.iso_hash.proofs.Getting.{bad_key}
+use Rattle.iso_hash.proofs.{Words.{◌∙◌, sym, area_of}, Getting.bad_key}
 use Rattle.iso_hash.proofs.lookup.get.Goals as goal
 
 pub returns-then-not-is_key-clause-ended : goal.returns-then-not-is_key-clause-ended

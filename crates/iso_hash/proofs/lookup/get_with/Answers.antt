@@ -1,5 +1,4 @@
-use Rattle.iso_hash.proofs.Words.{◌∙◌, sym, ap, true, Some, None, is_part, text_of}
-use Rattle.iso_hash.proofs.Getting.{walked_cell, walked_end, get_at_end, get_error, call_local, part_is, answers_value, answers_broken, walk_known}
+use Rattle.iso_hash.proofs.{Words.{◌∙◌, sym, ap, true, Some, None, is_part, text_of}, Getting.{walked_cell, walked_end, get_at_end, get_error, call_local, part_is, answers_value, answers_broken, walk_known}}
 use Rattle.iso_hash.proofs.lookup.get_with.Goals as goal
 
 pub returns-then-not-is_part-clause-ended : goal.returns-then-not-is_part-clause-ended

@@ -1,5 +1,4 @@
-use Rattle.iso_hash.proofs.Words.{◌∙◌, sym, area_of}
-use Rattle.iso_hash.proofs.Storing.{del_bad_key, del_in_area, del_call_in}
+use Rattle.iso_hash.proofs.{Words.{◌∙◌, sym, area_of}, Storing.{del_bad_key, del_in_area, del_call_in}}
 use Rattle.iso_hash.proofs.remove.del.Goals as goal
 
 pub returns-then-not-is_key-clause-ended : goal.returns-then-not-is_key-clause-ended

@@ -1,7 +1,5 @@
-use Rattle.iso_hash.proofs.Words.{◌∙◌, sym, ap, false, ◌+◌, ◌*◌, ℕ, Bool, [], Ok, take, Result, arith, StoreError, keys_end, is_spent, Program, Done, refused_so, behaves_after, ran_at, at_start, behaves_more, store_cause}
+use Rattle.iso_hash.proofs.{Words.{◌∙◌, sym, ap, false, ◌+◌, ◌*◌, ℕ, Bool, [], Ok, take, Result, arith, StoreError, keys_end, is_spent, Program, Done, refused_so, behaves_after, ran_at, at_start, behaves_more, store_cause}, Getting.{walked_cell, walked_end, walk_known}, Storing.{del_from, del_error, del_spent, del_kept}}
 use Rattle.store_model.specs.HashCalls as hash
-use Rattle.iso_hash.proofs.Getting.{walked_cell, walked_end, walk_known}
-use Rattle.iso_hash.proofs.Storing.{del_from, del_error, del_spent, del_kept}
 use Rattle.iso_hash.proofs.remove.del_with.Goals as goal
 
 pub returns-then-is_spent-clause-run : goal.returns-then-is_spent-clause-run

@@ -1,7 +1,5 @@
-use Rattle.iso_hash.proofs.Words.{arith, ◌≡◌, ◌∙◌, sym, ap, subst, ◌+◌, ◌*◌, true, [], ◌∷◌, take, refl, word_at, walk, look_access, Tx, may_mark, marked_access, cause_earlier, later_than, read_none, read_more, read_same, read_size}
-use Rattle.iso_hash.proofs.Walking.{walk_begins, read_refused, next_inside, linked_parts, spare_is, spare_inside, missing, with_value_mark, without_value_mark, ends_broken, ends_past, goes_on, ends_at_cell}
+use Rattle.iso_hash.proofs.{Words.{arith, ◌≡◌, ◌∙◌, sym, ap, subst, ◌+◌, ◌*◌, true, [], ◌∷◌, take, refl, word_at, walk, look_access, Tx, may_mark, marked_access, cause_earlier, later_than, read_none, read_more, read_same, read_size}, Walking.{walk_begins, read_refused, next_inside, linked_parts, spare_is, spare_inside, missing, with_value_mark, without_value_mark, ends_broken, ends_past, goes_on, ends_at_cell}, walk.walk.Goals.{then-with_value, else-with_value}}
 use Rattle.iso_hash.proofs.walk.walk.Goals as goal
-use Rattle.iso_hash.proofs.walk.walk.Goals.{then-with_value, else-with_value}
 
 pub loop-position-init : goal.loop-position-init
 loop-position-init g c = record {

@@ -1,7 +1,4 @@
-use Rattle.iso_image.proofs.Adds.{log_in_image, next_inside, next_closed, held_each, held_last}
-use Rattle.iso_image.proofs.Frames.{held_half}
-use Rattle.iso_image.proofs.Others.{gate_open}
-use Rattle.iso_image.proofs.Standing.{record_stands}
+use Rattle.iso_image.proofs.{Adds.{log_in_image, next_inside, next_closed, held_each, held_last}, Frames.held_half, Others.gate_open, Standing.record_stands}
 use Rattle.iso_image.proofs.laws.held_halves_stand_in_the_image.Goals as goal
 
 pub returns-clause-at : goal.returns-clause-at

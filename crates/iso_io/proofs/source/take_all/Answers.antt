@@ -1,6 +1,4 @@
-use Rattle.std.proofs.Common.{arith, length}
-use Rattle.std.proofs.lemmas.Result.{err_from_is_err_and}
-use Rattle.std.proofs.lemmas.Grind.{common_steps}
+use Rattle.std.proofs.{Common.{arith, length}, lemmas.Result.err_from_is_err_and, lemmas.Grind.common_steps}
 use Rattle.iso_io.proofs.Told.{lost_after}
 use Rattle.iso_io.proofs.source.take_all.Goals as goal
 

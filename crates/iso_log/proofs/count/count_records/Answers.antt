@@ -1,6 +1,5 @@
-use Rattle.iso_log.proofs.Words.{◌≡◌, ◌+◌, ◌-◌, min, ℕ, List, length, drop, sym, ap, ◌∙◌, subst, arith, record_window}
+use Rattle.iso_log.proofs.{Words.{◌≡◌, ◌+◌, ◌-◌, min, ℕ, List, length, drop, sym, ap, ◌∙◌, subst, arith, record_window}, Counts.{AreLeft, none_counted, one_counted, all_counted}}
 use Rattle.std.proofs.lemmas.List.{length-drop}
-use Rattle.iso_log.proofs.Counts.{AreLeft, none_counted, one_counted, all_counted}
 use Rattle.iso_log.proofs.count.count_records.Goals as goal
 
 pub loop-rest-init : goal.loop-rest-init

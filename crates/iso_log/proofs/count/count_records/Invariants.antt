@@ -1,5 +1,4 @@
-use Rattle.iso_log.proofs.Words.{◌≡◌, ◌++◌, ◌+◌, ◌≤◌, [], ◌∷◌, ℕ, List, length, Geometry, Written, records}
-use Rattle.iso_log.proofs.Counts.{AreLeft}
+use Rattle.iso_log.proofs.{Words.{◌≡◌, ◌++◌, ◌+◌, ◌≤◌, [], ◌∷◌, ℕ, List, length, Geometry, Written, records}, Counts.AreLeft}
 use Rattle.iso_log.proofs.count.count_records.Given as goal
 
 abbrev pub invariant-loop-rest : goal.invariant-loop-rest

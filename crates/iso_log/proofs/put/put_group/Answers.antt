@@ -1,5 +1,4 @@
-use Rattle.iso_log.proofs.Words.{◌+◌, ◌≤◌, ℕ, List, length, arith, on_ok_weaker, length-image, joined, weakened, at_end}
-use Rattle.iso_log.proofs.Appends.{body_moment, gate_moment, appended}
+use Rattle.iso_log.proofs.{Words.{◌+◌, ◌≤◌, ℕ, List, length, arith, on_ok_weaker, length-image, joined, weakened, at_end}, Appends.{body_moment, gate_moment, appended}}
 use Rattle.iso_log.proofs.put.put_group.Goals as goal
 
 pub returns-in_err-put_body-clause-moments : goal.returns-in_err-put_body-clause-moments

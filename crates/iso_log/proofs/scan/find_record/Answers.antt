@@ -1,5 +1,4 @@
-use Rattle.iso_log.proofs.Words.{◌≡◌, ◌+◌, ◌≤◌, ◌<◌, ℕ, List, length, get_or, arith, ap, sym, ◌∙◌, length-contents, joined_unwritten, Short, record_window, StandAt}
-use Rattle.iso_log.proofs.Finds.{first_is, place_is, gate_later, window_later, no_head, no_body, test_before}
+use Rattle.iso_log.proofs.{Words.{◌≡◌, ◌+◌, ◌≤◌, ◌<◌, ℕ, List, length, get_or, arith, ap, sym, ◌∙◌, length-contents, joined_unwritten, Short, record_window, StandAt}, Finds.{first_is, place_is, gate_later, window_later, no_head, no_body, test_before}}
 use Rattle.iso_log.proofs.scan.find_record.Goals as goal
 
 pub returns-in-Ok-clause-unwritten : goal.returns-in-Ok-clause-unwritten

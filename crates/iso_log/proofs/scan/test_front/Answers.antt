@@ -1,6 +1,5 @@
 -- The bytes that are tested are the front of those that were read.
-use Rattle.iso_log.proofs.Words.{◌≡◌, List, ℕ, take, arith, ap, sym, ◌∙◌, subst, BeginsWith, Recorded, fault_of, recorded}
-use Rattle.iso_log.proofs.Finds.{fault_inside, first_is, found_record, says_same}
+use Rattle.iso_log.proofs.{Words.{◌≡◌, List, ℕ, take, arith, ap, sym, ◌∙◌, subst, BeginsWith, Recorded, fault_of, recorded}, Finds.{fault_inside, first_is, found_record, says_same}}
 use Rattle.iso_log.proofs.scan.test_front.Goals as goal
 
 pub returns-in-Ok-clause-found : goal.returns-in-Ok-clause-found

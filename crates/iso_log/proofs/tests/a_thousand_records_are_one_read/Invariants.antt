@@ -1,7 +1,6 @@
 use Rattle.std.proofs.Common.{◌≡◌, ◌≤◌}
 use Rattle.iso_memdisk.specs.MemDisk.{state_of}
-use Rattle.iso_log.specs.Ready.{IsReady}
-use Rattle.iso_log.specs.TestRecords.{small}
+use Rattle.iso_log.specs.{Ready.IsReady, TestRecords.small}
 use Rattle.iso_log.proofs.tests.a_thousand_records_are_one_read.Given as goal
 
 abbrev pub invariant-loop-number : goal.invariant-loop-number

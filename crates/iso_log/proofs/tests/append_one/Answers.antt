@@ -1,9 +1,7 @@
 use Rattle.std.proofs.Common.{[], ◌∷◌, ◌++◌, ◌+◌, ℕ, ap, ◌∙◌}
 use Rattle.iso_model.specs.Image.{spell}
 use Rattle.iso_format.specs.Spelled.{Spelled}
-use Rattle.iso_log.specs.Log.{IsNext}
-use Rattle.iso_log.specs.TestRecords.{put, small}
-use Rattle.iso_log.proofs.Puts.{one, one_next, still_ready}
+use Rattle.iso_log.{specs.Log.IsNext, specs.TestRecords.{put, small}, proofs.Puts.{one, one_next, still_ready}}
 use Rattle.iso_log.proofs.tests.append_one.Goals as goal
 
 pub append-requires-clause-next : goal.append-requires-clause-next

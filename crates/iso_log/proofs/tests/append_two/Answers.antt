@@ -1,10 +1,7 @@
-use Rattle.std.proofs.Common.{[], ◌∷◌, ◌++◌, ◌+◌, ap, ◌∙◌}
-use Rattle.std.proofs.lemmas.Result.{on_ok_weaker}
+use Rattle.std.proofs.{Common.{[], ◌∷◌, ◌++◌, ◌+◌, ap, ◌∙◌}, lemmas.Result.on_ok_weaker}
 use Rattle.iso_model.specs.Image.{spell}
 use Rattle.iso_format.specs.Spelled.{Spelled}
-use Rattle.iso_log.specs.Extent.{Extent}
-use Rattle.iso_log.specs.TestRecords.{put, small}
-use Rattle.iso_log.proofs.Puts.{one, two_next, still_ready}
+use Rattle.iso_log.{specs.Extent.Extent, specs.TestRecords.{put, small}, proofs.Puts.{one, two_next, still_ready}}
 use Rattle.iso_log.proofs.tests.append_two.Goals as goal
 
 pub append_group-requires-clause-next : goal.append_group-requires-clause-next

@@ -1,6 +1,5 @@
-use Rattle.iso_machine.proofs.Words.{◌∙◌, refl, ap, length, replicate, slice_index, ◌++◌, ◌∷◌, [], ℕ, List, not, ◌==◌, None, false, write_access, fill_step, Doing}
+use Rattle.iso_machine.proofs.{Words.{◌∙◌, refl, ap, length, replicate, slice_index, ◌++◌, ◌∷◌, [], ℕ, List, not, ◌==◌, None, false, write_access, fill_step, Doing}, Accesses.{step_allowed, step_refused, fill_is}}
 use Rattle.script_model.specs.declared.script.Reply.TheVariants as reply
-use Rattle.iso_machine.proofs.Accesses.{step_allowed, step_refused, fill_is}
 use Rattle.iso_machine.proofs.accessing.fill.Goals as goal
 
 pub returns-in-Some-clause-given : goal.returns-in-Some-clause-given

@@ -1,5 +1,4 @@
-use Rattle.iso_machine.proofs.Words.{◌∙◌, sym, refl, ap, subst, ℕ, false, Reply, is_outside, mark_refused, mark_step, Doing, IsGiven}
-use Rattle.iso_machine.proofs.Accesses.{mark_done, mark_outside, mark_refused_is}
+use Rattle.iso_machine.proofs.{Words.{◌∙◌, sym, refl, ap, subst, ℕ, false, Reply, is_outside, mark_refused, mark_step, Doing, IsGiven}, Accesses.{mark_done, mark_outside, mark_refused_is}}
 use Rattle.iso_machine.proofs.accessing.mark.Goals as goal
 
 pub returns-then-is_outside : goal.returns-then-is_outside

@@ -1,6 +1,5 @@
-use Rattle.iso_machine.proofs.Words.{◌≡◌, ◌∙◌, sym, refl, ap, arith, length, replicate, ◌+◌, ◌-◌, ◌++◌, ◌∷◌, [], ℕ, List, None, false, Access, Write, Span, is_outside, mark_fault, marked, put_access, write_access, put_step, marked_last, Doing, span_at}
+use Rattle.iso_machine.proofs.{Words.{◌≡◌, ◌∙◌, sym, refl, ap, arith, length, replicate, ◌+◌, ◌-◌, ◌++◌, ◌∷◌, [], ℕ, List, None, false, Access, Write, Span, is_outside, mark_fault, marked, put_access, write_access, put_step, marked_last, Doing, span_at}, Accesses.{may_mark, put_is, small_block, step_allowed, step_refused, within}}
 use Rattle.script_model.specs.declared.script.Reply.TheVariants as reply
-use Rattle.iso_machine.proofs.Accesses.{may_mark, put_is, small_block, step_allowed, step_refused, within}
 use Rattle.iso_machine.proofs.accessing.put.Goals as goal
 
 pub returns-in-Some-clause-given : goal.returns-in-Some-clause-given

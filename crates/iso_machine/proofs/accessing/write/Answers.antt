@@ -1,6 +1,5 @@
-use Rattle.iso_machine.proofs.Words.{◌∙◌, sym, refl, ap, length, ◌++◌, ◌∷◌, [], ℕ, not, ◌==◌, None, false, write_access, write_step, Doing}
+use Rattle.iso_machine.proofs.{Words.{◌∙◌, sym, refl, ap, length, ◌++◌, ◌∷◌, [], ℕ, not, ◌==◌, None, false, write_access, write_step, Doing}, Accesses.{step_allowed, step_refused, write_is}}
 use Rattle.script_model.specs.declared.script.Reply.TheVariants as reply
-use Rattle.iso_machine.proofs.Accesses.{step_allowed, step_refused, write_is}
 use Rattle.iso_machine.proofs.accessing.write.Goals as goal
 
 pub returns-in-Some-clause-given : goal.returns-in-Some-clause-given

@@ -1,7 +1,6 @@
-use Rattle.iso_machine.proofs.Words.{◌≡◌, ◌⊎◌, inl, inr, ℕ, List, ap, Option, Mode, Op, World, Live, disk_of, act_step}
+use Rattle.iso_machine.proofs.{Words.{◌≡◌, ◌⊎◌, inl, inr, ℕ, List, ap, Option, Mode, Op, World, Live, disk_of, act_step}, Accesses.{refused, shown_given}}
 use Rattle.script_model.specs.declared.script.Op.TheVariants as op
 use Rattle.script_model.specs.declared.script.Reply.TheVariants as reply
-use Rattle.iso_machine.proofs.Accesses.{refused, shown_given}
 use Rattle.iso_machine.proofs.acting.act.Goals as goal
 
 -- any other operation

@@ -1,5 +1,4 @@
-use Rattle.iso_machine.proofs.Words.{◌∙◌, sym, is_under_label}
-use Rattle.iso_machine.proofs.Whereabouts.{nobody_there}
+use Rattle.iso_machine.proofs.{Words.{◌∙◌, sym, is_under_label}, Whereabouts.nobody_there}
 use Rattle.iso_machine.proofs.attached.claim.Goals as goal
 
 pub returns-in_default-clause-found : goal.returns-in_default-clause-found

@@ -1,5 +1,4 @@
-use Rattle.iso_machine.proofs.Words.{◌∙◌, sym, ap, get_or_default, Attached, place_of, is_at_client}
-use Rattle.iso_machine.proofs.Whereabouts.{client_lone, found_there, nobody_there}
+use Rattle.iso_machine.proofs.{Words.{◌∙◌, sym, ap, get_or_default, Attached, place_of, is_at_client}, Whereabouts.{client_lone, found_there, nobody_there}}
 use Rattle.iso_machine.proofs.attached.index_at_client.Goals as goal
 
 pub returns-in_default : goal.returns-in_default

@@ -1,5 +1,4 @@
-use Rattle.iso_machine.proofs.Words.{◌∙◌, sym, ap, get_or_default, Attached, place_of, is_under_label}
-use Rattle.iso_machine.proofs.Whereabouts.{label_lone, found_there, nobody_there}
+use Rattle.iso_machine.proofs.{Words.{◌∙◌, sym, ap, get_or_default, Attached, place_of, is_under_label}, Whereabouts.{label_lone, found_there, nobody_there}}
 use Rattle.iso_machine.proofs.attached.index_under_label.Goals as goal
 
 pub returns-in_default : goal.returns-in_default

@@ -1,5 +1,4 @@
-use Rattle.iso_machine.proofs.Words.{◌∙◌, up}
-use Rattle.iso_machine.proofs.Endings.{nothing_ahead}
+use Rattle.iso_machine.proofs.{Words.{◌∙◌, up}, Endings.nothing_ahead}
 use Rattle.iso_machine.proofs.ending.end_whole.Goals as goal
 
 pub end-requires : goal.end-requires

@@ -1,5 +1,4 @@
-use Rattle.iso_machine.proofs.Words.{arith, take}
-use Rattle.iso_machine.proofs.Taking.{nothing_taken, on_both, still_distinct}
+use Rattle.iso_machine.proofs.{Words.{arith, take}, Taking.{nothing_taken, on_both, still_distinct}}
 use Rattle.iso_machine.proofs.grouping.+take_members.Goals as goal
 
 pub returns-in_default-clause-taken : goal.returns-in_default-clause-taken

@@ -1,9 +1,6 @@
-use Rattle.iso_machine.proofs.Words.{◌≡◌, ◌∙◌, sym, refl, take, ◌+◌, subst, ◌<◌, List, [], ◌∷◌, ◌++◌, ap, get_or, length, map, true, set, remove, find, is_under_label, AllByRecursion, Option, Some, None, GroupReply, Attached, AreKnown, AreListed, IsOff, live_of, place_of}
+use Rattle.iso_machine.proofs.{Words.{◌≡◌, ◌∙◌, sym, refl, take, ◌+◌, subst, ◌<◌, List, [], ◌∷◌, ◌++◌, ap, get_or, length, map, true, set, remove, find, is_under_label, AllByRecursion, Option, Some, None, GroupReply, Attached, AreKnown, AreListed, IsOff, live_of, place_of}, Lists.{all_remove, remove_set}, Taking.{none_taken, one_taken}, Whereabouts.{all_off, alone, is_there, label_lone, listed_less}}
 use Rattle.iso_model.specs.declared.access.GroupReply.TheVariants as member
 use Rattle.iso_machine.specs.declared.attached.Spot.TheVariants as spot
-use Rattle.iso_machine.proofs.Lists.{all_remove, remove_set}
-use Rattle.iso_machine.proofs.Taking.{none_taken, one_taken}
-use Rattle.iso_machine.proofs.Whereabouts.{all_off, alone, is_there, label_lone, listed_less}
 use Rattle.iso_machine.proofs.grouping.take_member.Goals as goal
 
 pub index_under_label-requires-clause-distinct : goal.index_under_label-requires-clause-distinct

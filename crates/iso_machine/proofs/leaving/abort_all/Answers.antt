@@ -1,5 +1,4 @@
-use Rattle.iso_machine.proofs.Words.{◌≡◌, ◌∙◌, inl, sym, refl, subst, List, ◌∷◌, map, eq-eqb, with_live, World, Live, without, AreDistinct, IsTx, StandsFor, up, Attached, live_of}
-use Rattle.iso_machine.proofs.Lists.{without_others}
+use Rattle.iso_machine.proofs.{Words.{◌≡◌, ◌∙◌, inl, sym, refl, subst, List, ◌∷◌, map, eq-eqb, with_live, World, Live, without, AreDistinct, IsTx, StandsFor, up, Attached, live_of}, Lists.without_others}
 use Rattle.iso_machine.proofs.leaving.abort_all.Goals as goal
 
 first_is_tx : (W : World) (a : Attached) (others rest : List Attached) → rest ≡ a ∷ others → IsTx (with_live W (map live_of rest)) a.tx (live_of a)

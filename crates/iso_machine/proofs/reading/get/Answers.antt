@@ -1,6 +1,5 @@
-use Rattle.iso_machine.proofs.Words.{arith, ℕ, List, take, drop, length, ◌≡◌, ◌∙◌, sym, refl, ap, ◌++◌, ◌∷◌, [], None, Some, false, Access, Span, is_outside, mark_fault, marked, get_access, read_access, shown_to, get_step, with_access, marked_last, disk_of, Doing, span_at}
+use Rattle.iso_machine.proofs.{Words.{arith, ℕ, List, take, drop, length, ◌≡◌, ◌∙◌, sym, refl, ap, ◌++◌, ◌∷◌, [], None, Some, false, Access, Span, is_outside, mark_fault, marked, get_access, read_access, shown_to, get_step, with_access, marked_last, disk_of, Doing, span_at}, Accesses.{get_is, may_mark, one_more, shown_bytes, shown_given, step_is, step_refused, still_work, take_front}}
 use Rattle.script_model.specs.declared.script.Reply.TheVariants as reply
-use Rattle.iso_machine.proofs.Accesses.{get_is, may_mark, one_more, shown_bytes, shown_given, step_is, step_refused, still_work, take_front}
 use Rattle.iso_machine.proofs.reading.get.Goals as goal
 
 pub returns-in-Some-clause-given : goal.returns-in-Some-clause-given

@@ -1,7 +1,5 @@
-use Rattle.iso_machine.proofs.Words.{arith, ℕ, List, drop, length, ◌∙◌, ◌≡◌, sym, whole_range, refl, ap, ◌++◌, ◌∷◌, [], None, Some, false, read_access, shown_to, read_step, with_access, disk_of, Doing}
+use Rattle.iso_machine.proofs.{Words.{arith, ℕ, List, drop, length, ◌∙◌, ◌≡◌, sym, whole_range, refl, ap, ◌++◌, ◌∷◌, [], None, Some, false, read_access, shown_to, read_step, with_access, disk_of, Doing}, Accesses.{one_more, read_is, shown_bytes, shown_given, step_is, step_refused, still_work, take_front}, Ranges.length-shown}
 use Rattle.script_model.specs.declared.script.Reply.TheVariants as reply
-use Rattle.iso_machine.proofs.Accesses.{one_more, read_is, shown_bytes, shown_given, step_is, step_refused, still_work, take_front}
-use Rattle.iso_machine.proofs.Ranges.{length-shown}
 use Rattle.iso_machine.proofs.reading.read.Goals as goal
 
 pub returns-in-Some-clause-given : goal.returns-in-Some-clause-given

@@ -1,6 +1,5 @@
 -- The range as it stood at the begin, and the own writes over it.
-use Rattle.iso_machine.proofs.Words.{◌∙◌, ap, arith, List, Access, block_at, own, up}
-use Rattle.iso_machine.proofs.Ranges.{shown_range, when_told}
+use Rattle.iso_machine.proofs.{Words.{◌∙◌, ap, arith, List, Access, block_at, own, up}, Ranges.{shown_range, when_told}}
 use Rattle.iso_machine.proofs.reading.read_into.Goals as goal
 
 pub returns-in-Ok-clause-shown : goal.returns-in-Ok-clause-shown

@@ -1,5 +1,4 @@
-use Rattle.iso_machine.proofs.Words.{ap, subst, Seen, tx_of, areas_of, Tx, HasCalled, Stops, store_ended, disk_of}
-use Rattle.iso_machine.proofs.Calls.{blames, device}
+use Rattle.iso_machine.proofs.{Words.{ap, subst, Seen, tx_of, areas_of, Tx, HasCalled, Stops, store_ended, disk_of}, Calls.{blames, device}}
 use Rattle.iso_machine.proofs.storing.call_from.Goals as goal
 
 pub returns-clause-called : goal.returns-clause-called

@@ -1,6 +1,5 @@
-use Rattle.iso_machine.proofs.Words.{◌≡◌, ◌≢◌, ◌∙◌, sym, subst, arith, Geometry, Op, FsRegion, disk_of, up, store_areas}
+use Rattle.iso_machine.proofs.{Words.{◌≡◌, ◌≢◌, ◌∙◌, sym, subst, arith, Geometry, Op, FsRegion, disk_of, up, store_areas}, Stored.{may_store, store_fits, stored_if, without_mode, without_pairs, without_store}}
 use Rattle.store_calls.specs.Calls.{placed}
-use Rattle.iso_machine.proofs.Stored.{may_store, store_fits, stored_if, without_mode, without_pairs, without_store}
 use Rattle.iso_machine.proofs.storing.store.Goals as goal
 
 -- the store's place in the world's geometry

@@ -1,5 +1,4 @@
-use Rattle.iso_memdisk.proofs.Words.{List, length, ◌∙◌, ap, subst, take_rest, Call, written, TornBy, AllFit-take}
-use Rattle.iso_memdisk.proofs.Crash.{crash_image, crash_written}
+use Rattle.iso_memdisk.proofs.{Words.{List, length, ◌∙◌, ap, subst, take_rest, Call, written, TornBy, AllFit-take}, Crash.{crash_image, crash_written}}
 use Rattle.iso_memdisk.proofs.record.crash.Goals as goal
 
 pub returns-clause-image : goal.returns-clause-image

@@ -1,7 +1,5 @@
-use Rattle.iso_memdisk.proofs.Words.{◌+◌, ℕ, sym, subst, arith}
-use Rattle.iso_memdisk.proofs.Steps.{IsStable, stable_sync, stable_write, no_sync_left}
+use Rattle.iso_memdisk.proofs.{Words.{◌+◌, ℕ, sym, subst, arith}, Steps.{IsStable, stable_sync, stable_write, no_sync_left}, record.stable_calls.Goals.{in-Sync, in_default}}
 use Rattle.iso_memdisk.proofs.record.stable_calls.Goals as goal
-use Rattle.iso_memdisk.proofs.record.stable_calls.Goals.{in-Sync, in_default}
 
 pub loop-i-preserved : goal.loop-i-preserved
 loop-i-preserved c =

@@ -1,7 +1,5 @@
-use Rattle.iso_memdisk.proofs.Words.{◌≡◌, ◌+◌, ℕ, List, length, refl, sym, ◌∙◌, ap, subst, arith, rules, spliced, Torn, torn_same, spliced_torn}
-use Rattle.iso_memdisk.proofs.Steps.{IsTornSoFar, torn_write, fits_at, no_sync_at}
+use Rattle.iso_memdisk.proofs.{Words.{◌≡◌, ◌+◌, ℕ, List, length, refl, sym, ◌∙◌, ap, subst, arith, rules, spliced, Torn, torn_same, spliced_torn}, Steps.{IsTornSoFar, torn_write, fits_at, no_sync_at}, record.tear.Goals.{in-Write+in-0, in-Write+in-1, in-Write+in_default-pick, in_default}}
 use Rattle.iso_memdisk.proofs.record.tear.Goals as goal
-use Rattle.iso_memdisk.proofs.record.tear.Goals.{in-Write+in-0, in-Write+in-1, in-Write+in_default-pick, in_default}
 
 pub loop-call-preserved : goal.loop-call-preserved
 loop-call-preserved c =

@@ -1,5 +1,4 @@
-use Rattle.iso_model.proofs.Growth.{empty_is, appended_is}
-use Rattle.iso_model.proofs.Recorded.{array_shape}
+use Rattle.iso_model.proofs.{Growth.{empty_is, appended_is}, Recorded.array_shape}
 use Rattle.iso_model.proofs.laws.histories_grow.Goals as goal
 
 pub returns-clause-empty : goal.returns-clause-empty

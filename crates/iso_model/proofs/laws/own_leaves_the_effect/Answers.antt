@@ -1,5 +1,4 @@
-use Rattle.iso_model.proofs.Words.{◌∙◌, sym, refl, length, block_at}
-use Rattle.iso_model.proofs.Bytes.{own_at, touches_where_effect, length-own, length-block_own}
+use Rattle.iso_model.proofs.{Words.{◌∙◌, sym, refl, length, block_at}, Bytes.{own_at, touches_where_effect, length-own, length-block_own}}
 use Rattle.iso_model.proofs.laws.own_leaves_the_effect.Goals as goal
 
 pub returns-clause-value : goal.returns-clause-value

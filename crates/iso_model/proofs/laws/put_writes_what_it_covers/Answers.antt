@@ -1,5 +1,4 @@
-use Rattle.iso_model.proofs.Words.{◌∙◌, refl}
-use Rattle.iso_model.proofs.Bytes.{put_here, put_kept, other_block, length-put, length-block_put}
+use Rattle.iso_model.proofs.{Words.{◌∙◌, refl}, Bytes.{put_here, put_kept, other_block, length-put, length-block_put}}
 use Rattle.iso_model.proofs.laws.put_writes_what_it_covers.Goals as goal
 
 pub returns-clause-covered : goal.returns-clause-covered

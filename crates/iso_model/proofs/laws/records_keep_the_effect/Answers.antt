@@ -1,5 +1,4 @@
-use Rattle.iso_model.proofs.Recorded.{same_effect}
-use Rattle.iso_model.proofs.Unique.{runs_recorded}
+use Rattle.iso_model.proofs.{Recorded.same_effect, Unique.runs_recorded}
 use Rattle.iso_model.proofs.laws.records_keep_the_effect.Goals as goal
 
 pub returns-clause-effect : goal.returns-clause-effect

@@ -1,7 +1,4 @@
-use Rattle.iso_model.proofs.Words.{◌∙◌, sym, runs}
-use Rattle.iso_model.proofs.Unique.{same_runs}
-use Rattle.iso_model.proofs.Lookups.{value_runs}
-use Rattle.iso_model.proofs.Maximal.{are_runs}
+use Rattle.iso_model.proofs.{Words.{◌∙◌, sym, runs}, Unique.same_runs, Lookups.value_runs, Maximal.are_runs}
 use Rattle.iso_model.proofs.laws.runs_cover_what_is_written.Goals as goal
 
 pub returns-clause-maximal : goal.returns-clause-maximal

@@ -1,5 +1,4 @@
-use Rattle.iso_model.proofs.Words.{◌≡◌, ◌<◌, ℕ, zero, suc, refl, arith, length, false_from_ne_true, both_ways, has_write, runs}
-use Rattle.iso_model.proofs.Written.{write_where_runs, runs_where_write}
+use Rattle.iso_model.proofs.{Words.{◌≡◌, ◌<◌, ℕ, zero, suc, refl, arith, length, false_from_ne_true, both_ways, has_write, runs}, Written.{write_where_runs, runs_where_write}}
 use Rattle.iso_model.proofs.laws.writes_have_runs.Goals as goal
 
 pub returns-clause-some : goal.returns-clause-some

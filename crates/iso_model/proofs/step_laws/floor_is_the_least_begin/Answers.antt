@@ -1,5 +1,4 @@
-use Rattle.iso_model.proofs.Words.{ap, List, last, Live, floor_of}
-use Rattle.iso_model.proofs.Floors.{floor_below, floor_met}
+use Rattle.iso_model.proofs.{Words.{ap, List, last, Live, floor_of}, Floors.{floor_below, floor_met}}
 use Rattle.iso_model.proofs.step_laws.floor_is_the_least_begin.Goals as goal
 
 pub returns-clause-below : goal.returns-clause-below

@@ -1,6 +1,5 @@
 -- What was opened is what the image shows.
-use Rattle.iso_recover.proofs.Words.{◌∙◌}
-use Rattle.iso_recover.proofs.Reopens.{fails_nothing, reopened}
+use Rattle.iso_recover.proofs.{Words.◌∙◌, Reopens.{fails_nothing, reopened}}
 use Rattle.iso_recover.proofs.core_over.open_image.Goals as goal
 
 pub returns-in-Ok-clause-shown : goal.returns-in-Ok-clause-shown

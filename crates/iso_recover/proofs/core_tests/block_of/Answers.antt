@@ -1,5 +1,4 @@
-use Rattle.iso_recover.proofs.Words.{replicate, arith, state_of}
-use Rattle.iso_recover.proofs.TestCores.{may_fetch}
+use Rattle.iso_recover.proofs.{Words.{replicate, arith, state_of}, TestCores.may_fetch}
 use Rattle.iso_recover.proofs.core_tests.block_of.Goals as goal
 
 pub fetch-requires : goal.fetch-requires

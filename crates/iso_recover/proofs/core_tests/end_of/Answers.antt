@@ -1,5 +1,4 @@
-use Rattle.iso_recover.proofs.Words.{◌∙◌, ap, ℕ, [], ◌∷◌, ◌++◌, replicate, None, Some, false, arith, length-replicate, state_of, replicate_bytes, write_access, Doing}
-use Rattle.iso_recover.proofs.TestCores.{may_end}
+use Rattle.iso_recover.proofs.{Words.{◌∙◌, ap, ℕ, [], ◌∷◌, ◌++◌, replicate, None, Some, false, arith, length-replicate, state_of, replicate_bytes, write_access, Doing}, TestCores.may_end}
 use Rattle.iso_recover.proofs.core_tests.end_of.Goals as goal
 
 pub end-requires : goal.end-requires

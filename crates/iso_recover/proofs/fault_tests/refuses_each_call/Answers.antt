@@ -1,5 +1,4 @@
-use Rattle.iso_recover.proofs.Words.{◌≡◌, subst, [], OnErr, down, state_of}
-use Rattle.iso_recover.proofs.TestCores.{stays_down}
+use Rattle.iso_recover.proofs.{Words.{◌≡◌, subst, [], OnErr, down, state_of}, TestCores.stays_down}
 use Rattle.iso_recover.proofs.fault_tests.refuses_each_call.Goals as goal
 
 pub begin-requires : goal.begin-requires

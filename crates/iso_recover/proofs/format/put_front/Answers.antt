@@ -1,5 +1,4 @@
-use Rattle.iso_recover.proofs.Words.{inl, on_ok_weaker, weakened, IsUnmadeOrEmpty}
-use Rattle.iso_recover.proofs.Making.{AreParts, all_moments, gate_moments, made_whole, unmade}
+use Rattle.iso_recover.proofs.{Words.{inl, on_ok_weaker, weakened, IsUnmadeOrEmpty}, Making.{AreParts, all_moments, gate_moments, made_whole, unmade}}
 use Rattle.iso_recover.proofs.format.put_front.Goals as goal
 
 pub returns-in_err-stage-clause-moments : goal.returns-in_err-stage-clause-moments

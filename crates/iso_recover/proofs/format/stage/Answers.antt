@@ -1,5 +1,4 @@
-use Rattle.iso_recover.proofs.Words.{inl, inr, ℕ, length, ◌∙◌, arith, on_ok_weaker, started, goes_on_still}
-use Rattle.iso_recover.proofs.Laid.{blank_gates, settled_parts, staged_is, writes_beside}
+use Rattle.iso_recover.proofs.{Words.{inl, inr, ℕ, length, ◌∙◌, arith, on_ok_weaker, started, goes_on_still}, Laid.{blank_gates, settled_parts, staged_is, writes_beside}}
 use Rattle.iso_recover.proofs.format.stage.Goals as goal
 
 pub returns-in_err-write-clause-closed : goal.returns-in_err-write-clause-closed

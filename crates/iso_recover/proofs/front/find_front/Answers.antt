@@ -1,6 +1,4 @@
-use Rattle.iso_recover.proofs.Words.{ℕ, sym, ◌∙◌, subst, IsShaped}
-use Rattle.iso_recover.proofs.Fronts.{err_weaker, front_here, ok_weaker, refused_here, stands_is}
-use Rattle.iso_recover.proofs.Shapes.{halves_shaped}
+use Rattle.iso_recover.proofs.{Words.{ℕ, sym, ◌∙◌, subst, IsShaped}, Fronts.{err_weaker, front_here, ok_weaker, refused_here, stands_is}, Shapes.halves_shaped}
 use Rattle.iso_recover.proofs.front.find_front.Goals as goal
 
 pub returns-clause-told : goal.returns-clause-told

@@ -1,5 +1,4 @@
-use Rattle.iso_recover.proofs.Words.{ℕ, ◌∙◌, subst, IsShaped}
-use Rattle.iso_recover.proofs.Fronts.{err_weaker, ok_weaker}
+use Rattle.iso_recover.proofs.{Words.{ℕ, ◌∙◌, subst, IsShaped}, Fronts.{err_weaker, ok_weaker}}
 use Rattle.iso_recover.proofs.front.read_front.Goals as goal
 
 pub returns-clause-told : goal.returns-clause-told

@@ -1,5 +1,4 @@
-use Rattle.iso_recover.proofs.Words.{◌∙◌, sym, ap, ℕ, [], ◌∷◌, ◌++◌, replicate, None, Some, false, length-replicate, replicate_bytes, write_access, Doing}
-use Rattle.iso_recover.proofs.TestGroups.{filled}
+use Rattle.iso_recover.proofs.{Words.{◌∙◌, sym, ap, ℕ, [], ◌∷◌, ◌++◌, replicate, None, Some, false, length-replicate, replicate_bytes, write_access, Doing}, TestGroups.filled}
 use Rattle.iso_recover.proofs.group_tests.filling.Goals as goal
 
 pub returns : goal.returns

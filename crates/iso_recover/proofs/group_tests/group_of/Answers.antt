@@ -1,5 +1,4 @@
-use Rattle.iso_recover.proofs.Words.{refl, None, state_of, after_begin, World, unattached}
-use Rattle.iso_recover.proofs.TestGroups.{may_group}
+use Rattle.iso_recover.proofs.{Words.{refl, None, state_of, after_begin, World, unattached}, TestGroups.may_group}
 use Rattle.iso_recover.proofs.group_tests.group_of.Goals as goal
 
 pub end_group-answer-requires-clause-ready : goal.end_group-answer-requires-clause-ready

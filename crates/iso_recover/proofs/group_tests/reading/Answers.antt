@@ -1,5 +1,4 @@
-use Rattle.iso_recover.proofs.Words.{◌∙◌, sym, ap, ℕ, [], ◌∷◌, ◌++◌, replicate, None, Some, false, arith, length-replicate, replicate_bytes, read_access, write_access, Doing}
-use Rattle.iso_recover.proofs.TestGroups.{read_and_filled}
+use Rattle.iso_recover.proofs.{Words.{◌∙◌, sym, ap, ℕ, [], ◌∷◌, ◌++◌, replicate, None, Some, false, arith, length-replicate, replicate_bytes, read_access, write_access, Doing}, TestGroups.read_and_filled}
 use Rattle.iso_recover.proofs.group_tests.reading.Goals as goal
 
 pub returns : goal.returns

@@ -1,5 +1,4 @@
-use Rattle.iso_recover.proofs.Words.{◌≡◌, None, arith, ap, sym, ◌∙◌, subst, header_place, HalfPlace, in_form, header_refusal, IsSaid, front_said}
-use Rattle.iso_recover.proofs.Headers.{said_is}
+use Rattle.iso_recover.proofs.{Words.{◌≡◌, None, arith, ap, sym, ◌∙◌, subst, header_place, HalfPlace, in_form, header_refusal, IsSaid, front_said}, Headers.said_is}
 use Rattle.iso_recover.proofs.halves.front_of.Goals as goal
 
 pub returns-clause-said : goal.returns-clause-said

@@ -1,5 +1,4 @@
-use Rattle.iso_recover.proofs.Words.{arith, sym}
-use Rattle.iso_recover.proofs.Headers.{unclean_below}
+use Rattle.iso_recover.proofs.{Words.{arith, sym}, Headers.unclean_below}
 use Rattle.iso_recover.proofs.halves.header_refusal.Goals as goal
 
 pub overflow_add-result : goal.overflow_add-result

@@ -1,5 +1,4 @@
-use Rattle.iso_recover.proofs.Words.{ℕ, sym, ◌∙◌, subst, stays_settled, IsFront, IsShaped}
-use Rattle.iso_recover.proofs.Opens.{base_of, opens_to, settled_ok, told_history}
+use Rattle.iso_recover.proofs.{Words.{ℕ, sym, ◌∙◌, subst, stays_settled, IsFront, IsShaped}, Opens.{base_of, opens_to, settled_ok, told_history}}
 use Rattle.iso_recover.proofs.image.read_image.Goals as goal
 
 pub returns-in-Ok-read_log-clause-opened : goal.returns-in-Ok-read_log-clause-opened

@@ -1,5 +1,4 @@
-use Rattle.iso_recover.proofs.Words.{◌≡◌, ◌+◌, ◌-◌, ℕ, List, take, map, refl, arith, ap, sym, ◌∙◌, subst, joined_unwritten, Recorded, stand_front, taken_is, told_first, HasTaken, MayTake, part_of, IsShaped}
-use Rattle.iso_recover.proofs.Steps.{below, blames_call, blames_memory, blames_none, gate_fits, goes_on_reading, grows, lies, may, reads_end, refuses_now, some_left, stands_now, starts_reading}
+use Rattle.iso_recover.proofs.{Words.{◌≡◌, ◌+◌, ◌-◌, ℕ, List, take, map, refl, arith, ap, sym, ◌∙◌, subst, joined_unwritten, Recorded, stand_front, taken_is, told_first, HasTaken, MayTake, part_of, IsShaped}, Steps.{below, blames_call, blames_memory, blames_none, gate_fits, goes_on_reading, grows, lies, may, reads_end, refuses_now, some_left, stands_now, starts_reading}}
 use Rattle.iso_recover.proofs.log.read_log.Goals as goal
 
 pub loop-i-init : goal.loop-i-init

@@ -1,5 +1,4 @@
-use Rattle.iso_recover.proofs.Words.{◌≤◌}
-use Rattle.iso_recover.proofs.Steps.{IsReading}
+use Rattle.iso_recover.proofs.{Words.◌≤◌, Steps.IsReading}
 use Rattle.iso_recover.proofs.log.read_log.Given as goal
 
 abbrev pub invariant-loop-i : goal.invariant-loop-i

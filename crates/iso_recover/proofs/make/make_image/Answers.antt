@@ -1,7 +1,4 @@
-use Rattle.iso_recover.proofs.Words.{◌≤◌, inl, ◌∙◌, arith, started, IsUnmadeOrEmpty}
-use Rattle.iso_recover.proofs.Laid.{blank_gates}
-use Rattle.iso_recover.proofs.Making.{unmade}
-use Rattle.iso_recover.proofs.Opens.{new_opens}
+use Rattle.iso_recover.proofs.{Words.{◌≤◌, inl, ◌∙◌, arith, started, IsUnmadeOrEmpty}, Laid.blank_gates, Making.unmade, Opens.new_opens}
 use Rattle.iso_recover.proofs.make.make_image.Goals as goal
 
 pub returns-in_default-clause-moments : goal.returns-in_default-clause-moments

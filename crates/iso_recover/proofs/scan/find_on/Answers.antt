@@ -1,6 +1,4 @@
-use Rattle.iso_recover.proofs.Words.{◌+◌, ◌-◌, sym, subst, next_place, OpenError, IsTest, IsDamagedBy, IsShaped}
-use Rattle.iso_recover.proofs.Scans.{damaged_by}
-use Rattle.iso_recover.proofs.Shapes.{opening_shaped}
+use Rattle.iso_recover.proofs.{Words.{◌+◌, ◌-◌, sym, subst, next_place, OpenError, IsTest, IsDamagedBy, IsShaped}, Scans.damaged_by, Shapes.opening_shaped}
 use Rattle.iso_recover.proofs.scan.find_on.Goals as goal
 
 pub returns-in-Err-clause-damaged : goal.returns-in-Err-clause-damaged

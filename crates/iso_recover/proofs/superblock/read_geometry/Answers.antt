@@ -1,6 +1,4 @@
-use Rattle.iso_recover.proofs.Words.{◌≡◌, ℕ, length, take, arith, sym, ◌∙◌, subst, length-contents, super_of, super_refusal, IsShaped}
-use Rattle.iso_recover.proofs.Fronts.{err_weaker, refused_short, refused_super}
-use Rattle.iso_recover.proofs.Shapes.{super_shaped}
+use Rattle.iso_recover.proofs.{Words.{◌≡◌, ℕ, length, take, arith, sym, ◌∙◌, subst, length-contents, super_of, super_refusal, IsShaped}, Fronts.{err_weaker, refused_short, refused_super}, Shapes.super_shaped}
 use Rattle.iso_recover.proofs.superblock.read_geometry.Goals as goal
 
 pub returns-then-have-lt64-clause-refused : goal.returns-then-have-lt64-clause-refused

@@ -1,6 +1,4 @@
-use Rattle.iso_top.proofs.Words.{[], false, refl, sym, subst, ap, DrawnState, DigestedState, drawn_state, digested_state, disk_of, IsMachineOf, bench_text, bench_world, World, HasRun}
-use Rattle.iso_top.proofs.Benches.{printed_bench, printed_line}
-use Rattle.iso_top.proofs.Runs.{run_alone, up_on}
+use Rattle.iso_top.proofs.{Words.{[], false, refl, sym, subst, ap, DrawnState, DigestedState, drawn_state, digested_state, disk_of, IsMachineOf, bench_text, bench_world, World, HasRun}, Benches.{printed_bench, printed_line}, Runs.{run_alone, up_on}}
 use Rattle.iso_top.proofs.bench.answer_drawn.Goals as goal
 
 pub run-end-requires : goal.run-end-requires

@@ -1,5 +1,4 @@
-use Rattle.iso_top.proofs.Words.{◌∙◌, inl, inr, refl, subst, ℕ, List, None, Printed}
-use Rattle.iso_top.proofs.ClientsMet.{may_begin, none_begun, ran_lines, ran_none}
+use Rattle.iso_top.proofs.{Words.{◌∙◌, inl, inr, refl, subst, ℕ, List, None, Printed}, ClientsMet.{may_begin, none_begun, ran_lines, ran_none}}
 use Rattle.iso_top.proofs.clients.run_clients.Goals as goal
 
 pub run_lines-requires-after_bounds : goal.run_lines-requires-after_bounds

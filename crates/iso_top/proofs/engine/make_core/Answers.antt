@@ -1,6 +1,5 @@
-use Rattle.iso_top.proofs.Words.{refl}
+use Rattle.iso_top.proofs.{Words.refl, Beginnings.{made_core, made_not}}
 use Rattle.iso_refusal.specs.declared.open_error.OpenError.TheVariants as error
-use Rattle.iso_top.proofs.Beginnings.{made_core, made_not}
 use Rattle.iso_top.proofs.engine.make_core.Goals as goal
 
 pub returns-in-Ok-clause-begun : goal.returns-in-Ok-clause-begun

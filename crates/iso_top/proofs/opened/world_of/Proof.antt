@@ -1,7 +1,6 @@
 -- A value of no bytes, whose ghost field is a world that the core stands for: one that the caller has shown to be there.
-use mathlib.Core.Path.{refl, sym, subst}
+use mathlib.Core.{Path.{refl, sym, subst}, List.{List, [], ◌∷◌, ◌++◌}}
 use Prim.Native.Nat.{ℕ}
-use mathlib.Core.List.{List, [], ◌∷◌, ◌++◌}
 use Rattle.iso_top.proofs.Words.{Ghosts, World, BeginsWith, the_row, ended, clauses, Ura, Fn, Dict, dcons, dnil, a_type, Val, vptr, vstruct, vnil, inst_fn, SProp, ent, via, fst∗, snd∗, Fml, Memory, Routine, Calls, Loops, WpFn, Tables, Logic, sem, ◌⊑◌, lft_at, Fun, fact, fact_use, tables, tables_of, WpFn-mono, ‵, raw, ◌⊛◌, ◌$◌, ◌∵◌, !, qed, move, keep, split, join, fjoin, use0, suffices, done, no_more, returns, enter, agg, alloc_all, pass_all, free_all, look_at, sets, RattleType, owns, yes, Are, Ises, owns_show, showss, param, bounded, Laws, makes_shadow, RefOf, types_at, type_at, plain, nothing, heard, Clauses, closing, on_entry, alive, Meets, triple_of, entered, says, Stays, stay_dropped, walk_of, ends_at, Goes-dropped, walk_Meets, #self}
 use Rattle.iso_top.proofs.opened.world_of.Statement as stated
 use Rattle.iso_top.proofs.opened.world_of.Code as code

@@ -1,5 +1,4 @@
-use Rattle.iso_top.proofs.Words.{ap, arith, disk_of, up, Stat}
-use Rattle.iso_top.proofs.Results.{printed_digest}
+use Rattle.iso_top.proofs.{Words.{ap, arith, disk_of, up, Stat}, Results.printed_digest}
 use Rattle.iso_top.proofs.recover.tell_last.Goals as goal
 
 pub returns-clause-printed : goal.returns-clause-printed

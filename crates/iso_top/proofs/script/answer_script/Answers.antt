@@ -1,5 +1,4 @@
-use Rattle.iso_top.proofs.Words.{sym, subst, ap, disk_of, IsMachineOf, World, HasRun}
-use Rattle.iso_top.proofs.Runs.{run_alone, up_on}
+use Rattle.iso_top.proofs.{Words.{sym, subst, ap, disk_of, IsMachineOf, World, HasRun}, Runs.{run_alone, up_on}}
 use Rattle.iso_top.proofs.script.answer_script.Goals as goal
 
 pub run-end-requires : goal.run-end-requires

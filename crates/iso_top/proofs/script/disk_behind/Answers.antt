@@ -1,5 +1,4 @@
-use Rattle.iso_top.proofs.Words.{World, IsMachineOf}
-use Rattle.iso_top.proofs.Runs.{up_behind}
+use Rattle.iso_top.proofs.{Words.{World, IsMachineOf}, Runs.up_behind}
 use Rattle.iso_top.proofs.script.disk_behind.Goals as goal
 
 pub finish-requires : goal.finish-requires

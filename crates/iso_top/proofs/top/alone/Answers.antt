@@ -1,5 +1,4 @@
-use Rattle.iso_top.proofs.Words.{sym}
-use Rattle.iso_top.proofs.Causes.{met_all}
+use Rattle.iso_top.proofs.{Words.sym, Causes.met_all}
 use Rattle.iso_top.proofs.top.alone.Goals as goal
 
 pub returns-in-Ok-Some-clause-complete : goal.returns-in-Ok-Some-clause-complete

@@ -1,5 +1,4 @@
-use Rattle.iso_top.proofs.Words.{sym, subst, Task, HasMet}
-use Rattle.iso_top.proofs.Causes.{met_all}
+use Rattle.iso_top.proofs.{Words.{sym, subst, Task, HasMet}, Causes.met_all}
 use Rattle.iso_top.proofs.top.isotope.Goals as goal
 
 pub returns-in-Par-clause-complete : goal.returns-in-Par-clause-complete

@@ -1,6 +1,4 @@
-use Rattle.iso_top.proofs.Words.{◌∙◌, inr, sym, subst, ap, Option, Some, None, Task, made_geometry, disk_of, lasts, Geometry, HasCore, HasMet}
-use Rattle.iso_top.proofs.Answered.{answered}
-use Rattle.iso_top.proofs.Tasks.{benched, recovered}
+use Rattle.iso_top.proofs.{Words.{◌∙◌, inr, sym, subst, ap, Option, Some, None, Task, made_geometry, disk_of, lasts, Geometry, HasCore, HasMet}, Answered.answered, Tasks.{benched, recovered}}
 use Rattle.iso_top.proofs.top.meet.Goals as goal
 
 pub returns-in-New : goal.returns-in-New

@@ -1,5 +1,4 @@
-use Rattle.iso_tree.proofs.Words.{◌≡◌, ◌∙◌, sym, ap, ◌+◌, ◌*◌, ◌/◌, ◌%◌, ◌<◌, length, set, arith, cell_count, keys_end, key_part, laid_at, node_bytes}
-use Rattle.iso_tree.proofs.Building.{cell_added}
+use Rattle.iso_tree.proofs.{Words.{◌≡◌, ◌∙◌, sym, ap, ◌+◌, ◌*◌, ◌/◌, ◌%◌, ◌<◌, length, set, arith, cell_count, keys_end, key_part, laid_at, node_bytes}, Building.cell_added}
 use Rattle.iso_tree.proofs.build.add_cell.Goals as goal
 
 pub returns : goal.returns

@@ -1,7 +1,4 @@
-use Rattle.iso_tree.proofs.Words.{◌≡◌, ◌∙◌, sym, refl, ap, ◌+◌, ◌*◌, ◌<◌, ◌≤◌, ℕ, List, not, cond, [], ◌∷◌, ◌++◌, length, take, drop, arith, bytes_eq, cell_count, keys_end, key_at, are_key_parts, value_mark, bytes_in, count_of, node_bytes}
-use Rattle.iso_tree.proofs.Building.{copied, copied_more, copied_long, copied_fit}
-use Rattle.iso_tree.proofs.Facts.{node_parts}
-use Rattle.iso_tree.proofs.Fits.{key_short}
+use Rattle.iso_tree.proofs.{Words.{◌≡◌, ◌∙◌, sym, refl, ap, ◌+◌, ◌*◌, ◌<◌, ◌≤◌, ℕ, List, not, cond, [], ◌∷◌, ◌++◌, length, take, drop, arith, bytes_eq, cell_count, keys_end, key_at, are_key_parts, value_mark, bytes_in, count_of, node_bytes}, Building.{copied, copied_more, copied_long, copied_fit}, Facts.node_parts, Fits.key_short}
 use Rattle.iso_tree.proofs.build.copy_without.Goals as goal
 
 pub piece-part-requires : goal.piece-part-requires

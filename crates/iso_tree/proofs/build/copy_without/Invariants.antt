@@ -1,5 +1,4 @@
-use Rattle.iso_tree.proofs.Words.{◌≡◌, ◌≤◌, length, node_bytes}
-use Rattle.iso_tree.proofs.Building.{copied}
+use Rattle.iso_tree.proofs.{Words.{◌≡◌, ◌≤◌, length, node_bytes}, Building.copied}
 use Rattle.iso_tree.proofs.build.copy_without.Given as goal
 
 -- the cells so far were copied

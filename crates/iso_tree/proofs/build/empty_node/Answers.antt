@@ -1,5 +1,4 @@
-use Rattle.iso_tree.proofs.Words.{◌∙◌, ap, ℕ, List, set}
-use Rattle.iso_tree.proofs.Building.{empty_is}
+use Rattle.iso_tree.proofs.{Words.{◌∙◌, ap, ℕ, List, set}, Building.empty_is}
 use Rattle.iso_tree.proofs.build.empty_node.Goals as goal
 
 pub returns : goal.returns

@@ -1,7 +1,4 @@
-use Rattle.iso_tree.proofs.Words.{◌≡◌, ◌∙◌, sym, refl, ap, subst, ℕ, suc, ◌+◌, ◌*◌, ◌/◌, ◌≤◌, List, [], length, take, Ok, rules, arith, cell_count, keys_end, Done, Store, bytes_in, HasRun, Cell, count_of, node_bytes, used_cells, key_in_row, row_from, placed, root_cells, store_nodes, are_key_parts, true, Err}
-use Rattle.iso_tree.proofs.Climbing.{first_usable, rest_usable, rest_inside, last_writes, code_writes, rest_enough, more_inside, full_some, followed_end, root_run}
-use Rattle.iso_tree.proofs.Filling.{key_fits}
-use Rattle.iso_tree.proofs.Rereading.{path_room}
+use Rattle.iso_tree.proofs.{Words.{◌≡◌, ◌∙◌, sym, refl, ap, subst, ℕ, suc, ◌+◌, ◌*◌, ◌/◌, ◌≤◌, List, [], length, take, Ok, rules, arith, cell_count, keys_end, Done, Store, bytes_in, HasRun, Cell, count_of, node_bytes, used_cells, key_in_row, row_from, placed, root_cells, store_nodes, are_key_parts, true, Err}, Climbing.{first_usable, rest_usable, rest_inside, last_writes, code_writes, rest_enough, more_inside, full_some, followed_end, root_run}, Filling.key_fits, Rereading.path_room}
 use Rattle.iso_tree.proofs.climb.+climb.Goals as goal
 
 pub piece-bytes-requires : goal.piece-bytes-requires

@@ -1,5 +1,4 @@
-use Rattle.iso_tree.proofs.Words.{◌≡◌, ◌≤◌, ◌∙◌, refl, ap, ℕ, zero, suc, List, [], ◌∷◌, length, arith, Cell, FitCells, node_bytes, row_from, emptied}
-use Rattle.iso_tree.proofs.Filling.{row_fits, length-row}
+use Rattle.iso_tree.proofs.{Words.{◌≡◌, ◌≤◌, ◌∙◌, refl, ap, ℕ, zero, suc, List, [], ◌∷◌, length, arith, Cell, FitCells, node_bytes, row_from, emptied}, Filling.{row_fits, length-row}}
 use Rattle.iso_tree.proofs.climb.fill_right.Goals as goal
 
 zero_same : (level : ℕ) (cs : List Cell) → level ≡ 0 → cs ≡ emptied level cs

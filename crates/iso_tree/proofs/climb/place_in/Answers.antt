@@ -1,5 +1,4 @@
-use Rattle.iso_tree.proofs.Words.{◌≡◌, ◌∙◌, refl, ap, ℕ, zero, suc, ◌+◌, ◌-◌, ◌*◌, List, take, arith, keys_end, Cell, count_of, used_cells, row_from, upto_from, put_after, placed}
-use Rattle.iso_tree.proofs.Filling.{row_is, leaf_row_is}
+use Rattle.iso_tree.proofs.{Words.{◌≡◌, ◌∙◌, refl, ap, ℕ, zero, suc, ◌+◌, ◌-◌, ◌*◌, List, take, arith, keys_end, Cell, count_of, used_cells, row_from, upto_from, put_after, placed}, Filling.{row_is, leaf_row_is}}
 use Rattle.iso_tree.proofs.climb.place_in.Goals as goal
 
 zero_placed : (level : ℕ) (key : List ℕ) (new : Cell) (cs : List Cell) → level ≡ 0 → put_after key new cs ≡ placed level key new cs

@@ -1,5 +1,4 @@
-use Rattle.iso_tree.proofs.Words.{◌∙◌, ap, subst, ℕ, ◌+◌, List, [], Ok, Done, Store, HasRun, node_bytes, row_from}
-use Rattle.iso_tree.proofs.Climbing.{followed_end}
+use Rattle.iso_tree.proofs.{Words.{◌∙◌, ap, subst, ℕ, ◌+◌, List, [], Ok, Done, Store, HasRun, node_bytes, row_from}, Climbing.followed_end}
 use Rattle.iso_tree.proofs.climb.store_grown.Goals as goal
 
 pub returns-clause-run : goal.returns-clause-run

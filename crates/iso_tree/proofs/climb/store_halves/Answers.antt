@@ -1,5 +1,4 @@
-use Rattle.iso_tree.proofs.Words.{◌∙◌, ap, subst, ℕ, ◌+◌, List, [], Store, Program, Answer, node_bytes, row_from, emptied, IsFollowed, Err, Cell}
-use Rattle.iso_tree.proofs.Climbing.{follows, written_two}
+use Rattle.iso_tree.proofs.{Words.{◌∙◌, ap, subst, ℕ, ◌+◌, List, [], Store, Program, Answer, node_bytes, row_from, emptied, IsFollowed, Err, Cell}, Climbing.{follows, written_two}}
 use Rattle.iso_tree.proofs.climb.store_halves.Goals as goal
 
 pub returns-in-Err-clause-run : goal.returns-in-Err-clause-run

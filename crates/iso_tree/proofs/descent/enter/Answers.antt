@@ -1,6 +1,4 @@
-use Rattle.iso_tree.proofs.Words.{◌≡◌, ◌∙◌, sym, refl, ap, subst, ◌+◌, ◌<◌, [], ◌∷◌, None, arith, Span, cell_count, keys_mark, value_mark, bytes_in, look_access, mark_refusal, with_accesses, at_start, cut_at_look, inner_further, child_program, may_mark, count_of, place_of, child_of}
-use Rattle.iso_tree.proofs.Facts.{inner_many, child_below, node_parts, nothing_is}
-use Rattle.iso_tree.proofs.Looking.{node_of, not_node, child_not_node, child_broken, child_read, child_marked, child_shown, part_shown, ok_marked, broken_marked}
+use Rattle.iso_tree.proofs.{Words.{◌≡◌, ◌∙◌, sym, refl, ap, subst, ◌+◌, ◌<◌, [], ◌∷◌, None, arith, Span, cell_count, keys_mark, value_mark, bytes_in, look_access, mark_refusal, with_accesses, at_start, cut_at_look, inner_further, child_program, may_mark, count_of, place_of, child_of}, Facts.{inner_many, child_below, node_parts, nothing_is}, Looking.{node_of, not_node, child_not_node, child_broken, child_read, child_marked, child_shown, part_shown, ok_marked, broken_marked}}
 use Rattle.iso_tree.proofs.descent.enter.Goals as goal
 
 pub place-place-requires : goal.place-place-requires

@@ -1,5 +1,4 @@
-use Rattle.iso_tree.proofs.Words.{◌∙◌, sym, ap, None, word_at, head_mark, is_head, at_start, cut_at_look, head_program}
-use Rattle.iso_tree.proofs.Looking.{head_broken, head_read}
+use Rattle.iso_tree.proofs.{Words.{◌∙◌, sym, ap, None, word_at, head_mark, is_head, at_start, cut_at_look, head_program}, Looking.{head_broken, head_read}}
 use Rattle.iso_tree.proofs.descent.read_head.Goals as goal
 
 pub returns-then-not-is_head-clause-run : goal.returns-then-not-is_head-clause-run

@@ -1,6 +1,4 @@
-use Rattle.iso_tree.proofs.Words.{◌≡◌, ◌∙◌, sym, refl, ap, subst, ◌+◌, [], ◌∷◌, Some, None, arith, Span, keys_mark, value_mark, bytes_in, look_access, mark_refusal, with_accesses, may_mark, marked_access, cell_of, at_start, cut_at_look, leaf_further, leaf_program}
-use Rattle.iso_tree.proofs.Facts.{missing, cell_used, node_parts, nothing_is}
-use Rattle.iso_tree.proofs.Looking.{bytes_after, node_of, not_node, leaf_not_node, leaf_plain, leaf_missing, leaf_found, ok_marked}
+use Rattle.iso_tree.proofs.{Words.{◌≡◌, ◌∙◌, sym, refl, ap, subst, ◌+◌, [], ◌∷◌, Some, None, arith, Span, keys_mark, value_mark, bytes_in, look_access, mark_refusal, with_accesses, may_mark, marked_access, cell_of, at_start, cut_at_look, leaf_further, leaf_program}, Facts.{missing, cell_used, node_parts, nothing_is}, Looking.{bytes_after, node_of, not_node, leaf_not_node, leaf_plain, leaf_missing, leaf_found, ok_marked}}
 use Rattle.iso_tree.proofs.descent.read_leaf.Goals as goal
 
 pub returns-in_default-of-clause-run : goal.returns-in_default-of-clause-run

@@ -1,6 +1,5 @@
-use Rattle.iso_tree.proofs.Words.{◌≡◌, ◌∙◌, refl, ap, [], ◌∷◌, arith, Span, map_mark, look_access, with_accesses, read_none, read_more, read_same, behaves_after, refused_reading}
+use Rattle.iso_tree.proofs.{Words.{◌≡◌, ◌∙◌, refl, ap, [], ◌∷◌, arith, Span, map_mark, look_access, with_accesses, read_none, read_more, read_same, behaves_after, refused_reading}, Joining.{map_refused, map_run, shown_still}}
 use Rattle.store_model.specs.declared.stores.TxError.TheVariants as error
-use Rattle.iso_tree.proofs.Joining.{map_refused, map_run, shown_still}
 use Rattle.iso_tree.proofs.enlarge.put_new.Goals as goal
 
 pub returns-in_default-clause-run : goal.returns-in_default-clause-run

@@ -1,6 +1,4 @@
-use Rattle.iso_tree.proofs.Words.{◌∙◌, sym, ap, subst, ℕ, suc, ◌+◌, ◌*◌, ◌<◌, ◌≤◌, List, length, take, arith, Region, cell_count, map_mark, bytes_in, behaves_after, AreInside, full_row, need_of}
-use Rattle.iso_tree.proofs.Enlarging.{all_taken, need_taken, room_taken, row_taken, used_same}
-use Rattle.iso_tree.proofs.Joining.{shown_taken, news_are, taken_is, few_run, taken_refused, taken_run}
+use Rattle.iso_tree.proofs.{Words.{◌∙◌, sym, ap, subst, ℕ, suc, ◌+◌, ◌*◌, ◌<◌, ◌≤◌, List, length, take, arith, Region, cell_count, map_mark, bytes_in, behaves_after, AreInside, full_row, need_of}, Enlarging.{all_taken, need_taken, room_taken, row_taken, used_same}, Joining.{shown_taken, news_are, taken_is, few_run, taken_refused, taken_run}}
 use Rattle.iso_tree.proofs.enlarge.put_taken.Goals as goal
 
 pub returns-then-free-need-clause-run : goal.returns-then-free-need-clause-run

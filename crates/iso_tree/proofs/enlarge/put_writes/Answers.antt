@@ -1,5 +1,4 @@
-use Rattle.iso_tree.proofs.Words.{◌∙◌, sym, arith, cell_count, nodes_from, climb, room_after}
-use Rattle.iso_tree.proofs.Enlarging.{first_unwritten, way_of, writes_unfit, then_nodes}
+use Rattle.iso_tree.proofs.{Words.{◌∙◌, sym, arith, cell_count, nodes_from, climb, room_after}, Enlarging.{first_unwritten, way_of, writes_unfit, then_nodes}}
 use Rattle.iso_tree.proofs.enlarge.put_writes.Goals as goal
 
 pub returns-in-Err-clause-run : goal.returns-in-Err-clause-run

@@ -1,5 +1,4 @@
-use Rattle.iso_tree.proofs.Words.{◌∙◌, ap, replicate, laid_at}
-use Rattle.iso_tree.proofs.Filling.{first_emptied}
+use Rattle.iso_tree.proofs.{Words.{◌∙◌, ap, replicate, laid_at}, Filling.first_emptied}
 use Rattle.iso_tree.proofs.fill.empty_first.Goals as goal
 
 pub returns : goal.returns

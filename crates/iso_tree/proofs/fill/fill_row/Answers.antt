@@ -1,5 +1,4 @@
-use Rattle.iso_tree.proofs.Words.{◌≡◌, ◌∙◌, sym, refl, ap, ℕ, ◌+◌, ◌*◌, List, [], ◌∷◌, ◌++◌, length, take, arith, keys_end, Cell, node_bytes, row_from, key_in_row, part_in_row}
-use Rattle.iso_tree.proofs.Filling.{key_fits, row_fits, row_more, length-row}
+use Rattle.iso_tree.proofs.{Words.{◌≡◌, ◌∙◌, sym, refl, ap, ℕ, ◌+◌, ◌*◌, List, [], ◌∷◌, ◌++◌, length, take, arith, keys_end, Cell, node_bytes, row_from, key_in_row, part_in_row}, Filling.{key_fits, row_fits, row_more, length-row}}
 use Rattle.iso_tree.proofs.fill.fill_row.Goals as goal
 
 pub add_cell-requires-clause-key : goal.add_cell-requires-clause-key

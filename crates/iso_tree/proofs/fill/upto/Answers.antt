@@ -1,5 +1,4 @@
-use Rattle.iso_tree.proofs.Words.{◌≡◌, ◌∙◌, ◌-◌, sym, ap, ℕ, arith, key_at, before, upto_from}
-use Rattle.iso_tree.proofs.Filling.{upto_ends, upto_goes_on}
+use Rattle.iso_tree.proofs.{Words.{◌≡◌, ◌∙◌, ◌-◌, sym, ap, ℕ, arith, key_at, before, upto_from}, Filling.{upto_ends, upto_goes_on}}
 use Rattle.iso_tree.proofs.fill.upto.Goals as goal
 
 pub returns-then-is_before-clause-value : goal.returns-then-is_before-clause-value

@@ -1,7 +1,4 @@
-use Rattle.iso_tree.proofs.Words.{◌≡◌, ◌∙◌, sym, subst, ℕ, ◌+◌, ◌-◌, ◌/◌, [], ◌∷◌, ◌++◌, length, take, drop, Option, arith, w32, to_be_bytes, block_with, laid_at, with_accesses, first_access}
-use Rattle.iso_tree.proofs.Facts.{missing_pair}
-use Rattle.iso_tree.proofs.FirstWrite.{ends_of, mark_inside, stored_map, stored_root}
-use Rattle.iso_tree.proofs.Rereading.{map_ok}
+use Rattle.iso_tree.proofs.{Words.{◌≡◌, ◌∙◌, sym, subst, ℕ, ◌+◌, ◌-◌, ◌/◌, [], ◌∷◌, ◌++◌, length, take, drop, Option, arith, w32, to_be_bytes, block_with, laid_at, with_accesses, first_access}, Facts.missing_pair, FirstWrite.{ends_of, mark_inside, stored_map, stored_root}, Rereading.map_ok}
 use Rattle.iso_tree.proofs.first.store_first.Goals as goal
 
 pub fill_map-requires-clause-rising : goal.fill_map-requires-clause-rising

@@ -1,6 +1,4 @@
-use Rattle.iso_tree.proofs.Words.{◌≡◌, ◌∙◌, sym, refl, ap, subst, ℕ, suc, ◌+◌, ◌*◌, ◌≤◌, [], ◌∷◌, length, rules, arith, look_access, Tx, read_none, read_more}
-use Rattle.iso_tree.proofs.Descending.{reads_after}
-use Rattle.iso_tree.proofs.Rereading.{map_ok, map_err, first_refused, rest_refused, rest_read, shown_after, here_after, before_after, none_again, path_room, usable_more}
+use Rattle.iso_tree.proofs.{Words.{◌≡◌, ◌∙◌, sym, refl, ap, subst, ℕ, suc, ◌+◌, ◌*◌, ◌≤◌, [], ◌∷◌, length, rules, arith, look_access, Tx, read_none, read_more}, Descending.reads_after, Rereading.{map_ok, map_err, first_refused, rest_refused, rest_read, shown_after, here_after, before_after, none_again, path_room, usable_more}}
 use Rattle.iso_tree.proofs.grow.+look_nodes.Goals as goal
 
 pub returns-in-Err-clause-refused : goal.returns-in-Err-clause-refused

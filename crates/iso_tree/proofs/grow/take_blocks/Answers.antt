@@ -1,7 +1,5 @@
-use Rattle.iso_tree.proofs.Words.{◌≡◌, ◌∙◌, sym, ap, ℕ, ◌+◌, ◌-◌, ◌<◌, List, [], ◌∷◌, ◌++◌, take, length, None, arith, length-take-le, length-set, with_bit, lowest_free, with_used, free_are}
+use Rattle.iso_tree.proofs.{Words.{◌≡◌, ◌∙◌, sym, ap, ℕ, ◌+◌, ◌-◌, ◌<◌, List, [], ◌∷◌, ◌++◌, take, length, None, arith, length-take-le, length-set, with_bit, lowest_free, with_used, free_are}, Facts.missing, TakingLoop.{free_from, free_some, free_none, used_more, take_set}}
 use Rattle.std.proofs.Common.{append_assoc, length-append}
-use Rattle.iso_tree.proofs.Facts.{missing}
-use Rattle.iso_tree.proofs.TakingLoop.{free_from, free_some, free_none, used_more, take_set}
 use Rattle.iso_tree.proofs.grow.take_blocks.Goals as goal
 
 pub returns-in_default : goal.returns-in_default

@@ -1,5 +1,4 @@
-use Rattle.iso_tree.proofs.Words.{◌≡◌, ◌≤◌, ◌++◌, take, length, with_used}
-use Rattle.iso_tree.proofs.TakingLoop.{free_from}
+use Rattle.iso_tree.proofs.{Words.{◌≡◌, ◌≤◌, ◌++◌, take, length, with_used}, TakingLoop.free_from}
 use Rattle.iso_tree.proofs.grow.take_blocks.Given as goal
 
 -- what was taken and what is free behind it

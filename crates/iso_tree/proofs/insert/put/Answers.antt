@@ -1,6 +1,4 @@
-use Rattle.iso_tree.proofs.Words.{◌∙◌, sym, refl, subst, ℕ, area_of, HasRun, put_program}
-use Rattle.iso_tree.proofs.Inserting.{put_bad_key, put_bad_value}
-use Rattle.iso_tree.proofs.PutWhole.{put_call}
+use Rattle.iso_tree.proofs.{Words.{◌∙◌, sym, refl, subst, ℕ, area_of, HasRun, put_program}, Inserting.{put_bad_key, put_bad_value}, PutWhole.put_call}
 use Rattle.iso_tree.proofs.insert.put.Goals as goal
 
 pub returns-then-not-is_key-clause-ended : goal.returns-then-not-is_key-clause-ended

@@ -1,6 +1,4 @@
-use Rattle.iso_tree.proofs.Words.{◌≡◌, ◌∙◌, sym, subst, ℕ, ◌≤◌, List, take, arith, cell_count, keys_end, HasRun, behaves_after, behaves_more, AreShownUsable, need_of, with_map}
-use Rattle.iso_tree.proofs.Facts.{cell_used, missing, node_parts}
-use Rattle.iso_tree.proofs.Inserting.{put_refused, put_found, put_room, put_full, leaf_usable, full_needs}
+use Rattle.iso_tree.proofs.{Words.{◌≡◌, ◌∙◌, sym, subst, ℕ, ◌≤◌, List, take, arith, cell_count, keys_end, HasRun, behaves_after, behaves_more, AreShownUsable, need_of, with_map}, Facts.{cell_used, missing, node_parts}, Inserting.{put_refused, put_found, put_room, put_full, leaf_usable, full_needs}}
 use Rattle.iso_tree.proofs.insert.put_below.Goals as goal
 
 pub returns-in-Err-clause-run : goal.returns-in-Err-clause-run

@@ -1,6 +1,4 @@
-use Rattle.iso_tree.proofs.Words.{Err, put_below_root, behaves_after}
-use Rattle.iso_tree.proofs.Getting.{head_then, head_refused}
-use Rattle.iso_tree.proofs.Inserting.{put_run}
+use Rattle.iso_tree.proofs.{Words.{Err, put_below_root, behaves_after}, Getting.{head_then, head_refused}, Inserting.put_run}
 use Rattle.iso_tree.proofs.insert.put_with.Goals as goal
 
 pub returns-in-Ok-clause-run : goal.returns-in-Ok-clause-run

@@ -1,5 +1,4 @@
-use Rattle.iso_tree.proofs.Words.{◌≡◌, ◌∙◌, ◌+◌, ◌-◌, ◌&&◌, sym, refl, ap, arith, false, all_from, all_fails, all_goes_on, all_end, is_part, key_at, text_of}
-use Rattle.iso_tree.proofs.Passing.{fits_in, one_walk, tests_of}
+use Rattle.iso_tree.proofs.{Words.{◌≡◌, ◌∙◌, ◌+◌, ◌-◌, ◌&&◌, sym, refl, ap, arith, false, all_from, all_fails, all_goes_on, all_end, is_part, key_at, text_of}, Passing.{fits_in, one_walk, tests_of}}
 use Rattle.iso_tree.proofs.keys.are_cells.Goals as goal
 
 pub returns-then-not-is_part : goal.returns-then-not-is_part

@@ -1,5 +1,4 @@
-use Rattle.iso_tree.proofs.Words.{◌≡◌, ◌≢◌, ◌-◌, all_from, key_at}
-use Rattle.iso_tree.proofs.Passing.{fits_in}
+use Rattle.iso_tree.proofs.{Words.{◌≡◌, ◌≢◌, ◌-◌, all_from, key_at}, Passing.fits_in}
 use Rattle.iso_tree.proofs.keys.are_cells.Given as goal
 
 -- the cells that are left decide, and the last key is that of the cell before

@@ -1,5 +1,4 @@
-use Rattle.iso_tree.proofs.Words.{◌≡◌, ◌∙◌, ◌-◌, sym, ap, ℕ, List, arith, key_at, before, below_from}
-use Rattle.iso_tree.proofs.Loops.{below_ends, below_goes_on}
+use Rattle.iso_tree.proofs.{Words.{◌≡◌, ◌∙◌, ◌-◌, sym, ap, ℕ, List, arith, key_at, before, below_from}, Loops.{below_ends, below_goes_on}}
 use Rattle.iso_tree.proofs.keys.below.Goals as goal
 
 pub returns-then-not-is_before-clause-value : goal.returns-then-not-is_before-clause-value

@@ -1,5 +1,4 @@
-use Rattle.iso_tree.proofs.Words.{◌≡◌, ◌∙◌, ◌-◌, sym, ap, key_at, before, place_of}
-use Rattle.iso_tree.proofs.Loops.{place_ends, place_goes_on}
+use Rattle.iso_tree.proofs.{Words.{◌≡◌, ◌∙◌, ◌-◌, sym, ap, key_at, before, place_of}, Loops.{place_ends, place_goes_on}}
 use Rattle.iso_tree.proofs.keys.place_of.Goals as goal
 
 pub returns-then-is_before-clause-value : goal.returns-then-is_before-clause-value

@@ -1,6 +1,4 @@
-use Rattle.iso_tree.proofs.Words.{◌≡◌, ◌∙◌, ap, ℕ, ◌+◌, ◌-◌, ◌*◌, List, length, take, arith, keys_end, are_key_parts, Cell, count_of, node_bytes, row_from, upto_from}
-use Rattle.iso_tree.proofs.Facts.{node_parts}
-use Rattle.iso_tree.proofs.Filling.{leaf_row_is}
+use Rattle.iso_tree.proofs.{Words.{◌≡◌, ◌∙◌, ap, ℕ, ◌+◌, ◌-◌, ◌*◌, List, length, take, arith, keys_end, are_key_parts, Cell, count_of, node_bytes, row_from, upto_from}, Facts.node_parts, Filling.leaf_row_is}
 use Rattle.iso_tree.proofs.leaf.fill_leaf.Goals as goal
 
 pub upto-place-requires-clause-parts : goal.upto-place-requires-clause-parts

@@ -1,5 +1,4 @@
-use Rattle.iso_tree.proofs.Words.{◌∙◌, ap, ℕ, List, Ok, arith, value_part, node_bytes, used_cells, put_after, refused_reading, read_none, read_same}
-use Rattle.iso_tree.proofs.Removing.{edit_unread, edit_unwritten, edit_done}
+use Rattle.iso_tree.proofs.{Words.{◌∙◌, ap, ℕ, List, Ok, arith, value_part, node_bytes, used_cells, put_after, refused_reading, read_none, read_same}, Removing.{edit_unread, edit_unwritten, edit_done}}
 use Rattle.iso_tree.proofs.leaf.put_cell.Goals as goal
 
 pub returns-in-Err-clause-run : goal.returns-in-Err-clause-run

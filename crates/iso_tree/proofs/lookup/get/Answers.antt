@@ -1,5 +1,4 @@
-use Rattle.iso_tree.proofs.Words.{◌∙◌, sym, subst, ℕ, get_program, area_of, HasRun}
-use Rattle.iso_tree.proofs.Getting.{bad_key, local_any}
+use Rattle.iso_tree.proofs.{Words.{◌∙◌, sym, subst, ℕ, get_program, area_of, HasRun}, Getting.{bad_key, local_any}}
 use Rattle.iso_tree.proofs.lookup.get.Goals as goal
 
 pub returns-then-not-is_key-clause-ended : goal.returns-then-not-is_key-clause-ended

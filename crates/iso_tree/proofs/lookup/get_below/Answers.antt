@@ -1,6 +1,4 @@
-use Rattle.iso_tree.proofs.Words.{◌∙◌, sym, take, arith, keys_end}
-use Rattle.iso_tree.proofs.Facts.{cell_used, node_parts}
-use Rattle.iso_tree.proofs.Getting.{below_refused, below_missing, below_found, below_broken}
+use Rattle.iso_tree.proofs.{Words.{◌∙◌, sym, take, arith, keys_end}, Facts.{cell_used, node_parts}, Getting.{below_refused, below_missing, below_found, below_broken}}
 use Rattle.iso_tree.proofs.lookup.get_below.Goals as goal
 
 pub returns-in-Err-clause-run : goal.returns-in-Err-clause-run

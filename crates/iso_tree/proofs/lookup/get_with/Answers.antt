@@ -1,5 +1,4 @@
-use Rattle.iso_tree.proofs.Words.{Err, get_below}
-use Rattle.iso_tree.proofs.Getting.{head_then, head_refused, get_run}
+use Rattle.iso_tree.proofs.{Words.{Err, get_below}, Getting.{head_then, head_refused, get_run}}
 use Rattle.iso_tree.proofs.lookup.get_with.Goals as goal
 
 pub returns-in-Err-clause-run : goal.returns-in-Err-clause-run

@@ -1,5 +1,4 @@
-use Rattle.iso_tree.proofs.Words.{◌≡◌, ◌∙◌, sym, ap, ◌+◌, ◌-◌, ◌*◌, ◌<◌, ◌++◌, List, ℕ, ◌∷◌, map, drop, arith, parts_of, child_of}
-use Rattle.iso_tree.proofs.Visiting.{parts_step}
+use Rattle.iso_tree.proofs.{Words.{◌≡◌, ◌∙◌, sym, ap, ◌+◌, ◌-◌, ◌*◌, ◌<◌, ◌++◌, List, ℕ, ◌∷◌, map, drop, arith, parts_of, child_of}, Visiting.parts_step}
 use Rattle.iso_tree.proofs.range.add_children.Goals as goal
 
 pub loop-i-preserved : goal.loop-i-preserved

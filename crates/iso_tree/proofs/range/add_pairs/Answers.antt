@@ -1,5 +1,4 @@
-use Rattle.iso_tree.proofs.Words.{◌≡◌, ◌∙◌, sym, ap, ◌+◌, ◌*◌, ◌++◌, ◌<◌, [], ◌∷◌, length, take, drop, arith, list_all, is_part, key_at, text_of}
-use Rattle.iso_tree.proofs.Visiting.{parts_first, parts_pass, pairs_begin, pairs_end, pairs_full, pairs_step, text_fits}
+use Rattle.iso_tree.proofs.{Words.{◌≡◌, ◌∙◌, sym, ap, ◌+◌, ◌*◌, ◌++◌, ◌<◌, [], ◌∷◌, length, take, drop, arith, list_all, is_part, key_at, text_of}, Visiting.{parts_first, parts_pass, pairs_begin, pairs_end, pairs_full, pairs_step, text_fits}}
 use Rattle.iso_tree.proofs.range.add_pairs.Goals as goal
 
 pub loop-i-init : goal.loop-i-init

@@ -1,5 +1,4 @@
-use Rattle.iso_tree.proofs.Words.{◌∙◌, sym, subst, inl, ℕ, scan_program, area_of, HasScanned}
-use Rattle.iso_tree.proofs.Scanning.{bad_keys, scan_any, scan_ended}
+use Rattle.iso_tree.proofs.{Words.{◌∙◌, sym, subst, inl, ℕ, scan_program, area_of, HasScanned}, Scanning.{bad_keys, scan_any, scan_ended}}
 use Rattle.iso_tree.proofs.range.scan.Goals as goal
 
 pub returns-then-not-are_keys-clause-ended : goal.returns-then-not-are_keys-clause-ended

@@ -1,5 +1,4 @@
-use Rattle.iso_tree.proofs.Words.{◌∙◌, ap, ℕ, List, ◌∷◌}
-use Rattle.iso_tree.proofs.Scanning.{below_memory, below_run}
+use Rattle.iso_tree.proofs.{Words.{◌∙◌, ap, ℕ, List, ◌∷◌}, Scanning.{below_memory, below_run}}
 use Rattle.iso_tree.proofs.range.scan_below.Goals as goal
 
 pub returns-in-Ok-clause-run : goal.returns-in-Ok-clause-run

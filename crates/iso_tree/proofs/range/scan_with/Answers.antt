@@ -1,6 +1,4 @@
-use Rattle.iso_tree.proofs.Words.{Err, inl, scan_below}
-use Rattle.iso_tree.proofs.Getting.{head_refused}
-use Rattle.iso_tree.proofs.Scanning.{head_scanned, scan_run}
+use Rattle.iso_tree.proofs.{Words.{Err, inl, scan_below}, Getting.head_refused, Scanning.{head_scanned, scan_run}}
 use Rattle.iso_tree.proofs.range.scan_with.Goals as goal
 
 pub returns-in-Err-clause-run : goal.returns-in-Err-clause-run

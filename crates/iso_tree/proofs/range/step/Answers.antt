@@ -1,7 +1,4 @@
-use Rattle.iso_tree.proofs.Words.{◌≡◌, ◌∙◌, ap, ◌+◌, ◌-◌, ◌*◌, ◌++◌, ℕ, length, map, take, drop, are_key_parts, bytes_in, pairs_with, parts_of, child_of, keys_of, values_mark, values_of}
-use Rattle.iso_tree.proofs.Facts.{node_parts}
-use Rattle.iso_tree.proofs.Rereading.{map_err, map_ok}
-use Rattle.iso_tree.proofs.Scanning.{inner_step, leaf_step, step_memory, step_refused, unread_in}
+use Rattle.iso_tree.proofs.{Words.{◌≡◌, ◌∙◌, ap, ◌+◌, ◌-◌, ◌*◌, ◌++◌, ℕ, length, map, take, drop, are_key_parts, bytes_in, pairs_with, parts_of, child_of, keys_of, values_mark, values_of}, Facts.node_parts, Rereading.{map_err, map_ok}, Scanning.{inner_step, leaf_step, step_memory, step_refused, unread_in}}
 use Rattle.iso_tree.proofs.range.step.Goals as goal
 
 pub returns-in-Err-clause-refused : goal.returns-in-Err-clause-refused

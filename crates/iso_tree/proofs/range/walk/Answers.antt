@@ -1,5 +1,4 @@
-use Rattle.iso_tree.proofs.Words.{◌≡◌, ◌∙◌, refl, sym, subst, ◌-◌, ℕ, List, [], ◌∷◌, Err, inl, length, arith, read_join, IsAt, at_join, at_start, later_than, read_none, scan_nodes}
-use Rattle.iso_tree.proofs.Scanning.{at_next, scanned_from, walk_full}
+use Rattle.iso_tree.proofs.{Words.{◌≡◌, ◌∙◌, refl, sym, subst, ◌-◌, ℕ, List, [], ◌∷◌, Err, inl, length, arith, read_join, IsAt, at_join, at_start, later_than, read_none, scan_nodes}, Scanning.{at_next, scanned_from, walk_full}}
 use Rattle.iso_tree.proofs.range.walk.Goals as goal
 
 pub returns-in-Err-clause-run : goal.returns-in-Err-clause-run

@@ -1,5 +1,4 @@
-use Rattle.iso_tree.proofs.Words.{◌∙◌, sym, refl, subst, ℕ, area_of, HasRun, del_program}
-use Rattle.iso_tree.proofs.Removing.{del_bad_key, del_call}
+use Rattle.iso_tree.proofs.{Words.{◌∙◌, sym, refl, subst, ℕ, area_of, HasRun, del_program}, Removing.{del_bad_key, del_call}}
 use Rattle.iso_tree.proofs.remove.del.Goals as goal
 
 pub returns-then-not-is_key-clause-ended : goal.returns-then-not-is_key-clause-ended

@@ -1,6 +1,4 @@
-use Rattle.iso_tree.proofs.Words.{behaves_after}
-use Rattle.iso_tree.proofs.Facts.{missing}
-use Rattle.iso_tree.proofs.Removing.{del_refused, del_missing, del_found}
+use Rattle.iso_tree.proofs.{Words.behaves_after, Facts.missing, Removing.{del_refused, del_missing, del_found}}
 use Rattle.iso_tree.proofs.remove.remove_below.Goals as goal
 
 pub returns-in-Err-clause-run : goal.returns-in-Err-clause-run

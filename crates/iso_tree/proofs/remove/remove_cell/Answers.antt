@@ -1,5 +1,4 @@
-use Rattle.iso_tree.proofs.Words.{◌∙◌, ap, ℕ, true, Ok, arith, node_bytes, used_cells, without_key, refused_reading, read_none, read_same}
-use Rattle.iso_tree.proofs.Removing.{edit_unread, edit_unwritten, edit_done}
+use Rattle.iso_tree.proofs.{Words.{◌∙◌, ap, ℕ, true, Ok, arith, node_bytes, used_cells, without_key, refused_reading, read_none, read_same}, Removing.{edit_unread, edit_unwritten, edit_done}}
 use Rattle.iso_tree.proofs.remove.remove_cell.Goals as goal
 
 pub returns-in-Err-clause-run : goal.returns-in-Err-clause-run

@@ -1,6 +1,4 @@
-use Rattle.iso_tree.proofs.Words.{Err, del_below, behaves_after}
-use Rattle.iso_tree.proofs.Getting.{head_then, head_refused}
-use Rattle.iso_tree.proofs.Removing.{del_run}
+use Rattle.iso_tree.proofs.{Words.{Err, del_below, behaves_after}, Getting.{head_then, head_refused}, Removing.del_run}
 use Rattle.iso_tree.proofs.remove.remove_with.Goals as goal
 
 pub returns-in-Ok-clause-run : goal.returns-in-Ok-clause-run

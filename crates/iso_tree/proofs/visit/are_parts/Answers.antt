@@ -1,5 +1,4 @@
-use Rattle.iso_tree.proofs.Words.{◌≡◌, ◌∙◌, sym, ap, ◌+◌, ◌-◌, ◌*◌, ◌&&◌, Bool, true, false, take, drop, list_all, parts_of, is_part_at}
-use Rattle.iso_tree.proofs.Visiting.{parts_first, parts_last, parts_step}
+use Rattle.iso_tree.proofs.{Words.{◌≡◌, ◌∙◌, sym, ap, ◌+◌, ◌-◌, ◌*◌, ◌&&◌, Bool, true, false, take, drop, list_all, parts_of, is_part_at}, Visiting.{parts_first, parts_last, parts_step}}
 use Rattle.iso_tree.proofs.visit.are_parts.Goals as goal
 
 pub loop-i-init : goal.loop-i-init

@@ -1,6 +1,4 @@
-use Rattle.iso_tree.proofs.Words.{◌≡◌, ◌∙◌, sym, refl, ap, ◌+◌, ℕ, List, [], ◌∷◌, true, false, arith, list_all, Span, cell_count, keys_mark, bytes_in, look_access, first_in, many_in, parts_of, is_part_at, Device, with_accesses, may_mark, values_mark}
-use Rattle.iso_tree.proofs.Looking.{broken_read, later_as, ok_read}
-use Rattle.iso_tree.proofs.Visiting.{keys_read, marked_so, one_more, visit_end, visit_refused}
+use Rattle.iso_tree.proofs.{Words.{◌≡◌, ◌∙◌, sym, refl, ap, ◌+◌, ℕ, List, [], ◌∷◌, true, false, arith, list_all, Span, cell_count, keys_mark, bytes_in, look_access, first_in, many_in, parts_of, is_part_at, Device, with_accesses, may_mark, values_mark}, Looking.{broken_read, later_as, ok_read}, Visiting.{keys_read, marked_so, one_more, visit_end, visit_refused}}
 use Rattle.iso_tree.proofs.visit.read_node.Goals as goal
 
 pub cells_between-visit-requires-clause-parts : goal.cells_between-visit-requires-clause-parts

@@ -1,5 +1,4 @@
-use Rattle.kept_disk.proofs.Words.{ℕ, List, ◌∙◌, sym, subst, arith, spliced, length-contents, Stand}
-use Rattle.kept_disk.proofs.Slices.{told_from}
+use Rattle.kept_disk.proofs.{Words.{ℕ, List, ◌∙◌, sym, subst, arith, spliced, length-contents, Stand}, Slices.told_from}
 use Rattle.kept_disk.proofs.kept.write_through.Goals as goal
 
 pub returns-clause-stand : goal.returns-clause-stand

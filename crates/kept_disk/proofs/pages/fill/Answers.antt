@@ -1,6 +1,4 @@
-use Rattle.kept_disk.proofs.Words.{◌≡◌, ℕ, List, Option, Some, None, set, sym, ◌∙◌, subst, arith, length-contents, length-set, slice_get, AreLaid, Covers, HasPage, Stand, Torn}
-use Rattle.kept_disk.proofs.Slices.{get-set_at, get-set_other, set-set}
-use Rattle.kept_disk.proofs.Standing.{covers_emptied, covers_filled, filled, laid_same, stand_emptied, stand_filled}
+use Rattle.kept_disk.proofs.{Words.{◌≡◌, ℕ, List, Option, Some, None, set, sym, ◌∙◌, subst, arith, length-contents, length-set, slice_get, AreLaid, Covers, HasPage, Stand, Torn}, Slices.{get-set_at, get-set_other, set-set}, Standing.{covers_emptied, covers_filled, filled, laid_same, stand_emptied, stand_filled}}
 use Rattle.kept_disk.proofs.pages.fill.Goals as goal
 
 pub returns-in_err-read_into-clause-stand : goal.returns-in_err-read_into-clause-stand

@@ -1,5 +1,4 @@
-use Rattle.kept_disk.proofs.Words.{◌+◌, ◌-◌, ◌≡◌, ℕ, List, length, take, drop, sym, ◌∙◌, ap, subst, arith, on_ok_weaker, spliced, spliced_torn, take-drop-spliced, Torn}
-use Rattle.kept_disk.proofs.Slices.{length-slice, part_written}
+use Rattle.kept_disk.proofs.{Words.{◌+◌, ◌-◌, ◌≡◌, ℕ, List, length, take, drop, sym, ◌∙◌, ap, subst, arith, on_ok_weaker, spliced, spliced_torn, take-drop-spliced, Torn}, Slices.{length-slice, part_written}}
 use Rattle.kept_disk.proofs.pages.read_into.Goals as goal
 
 pub returns-clause-read : goal.returns-clause-read

@@ -1,6 +1,4 @@
-use Rattle.kept_disk.proofs.Words.{◌+◌, ◌/◌, ◌%◌, ℕ, List, sym, subst, arith, spliced, IsHeld, Stand, from_of}
-use Rattle.kept_disk.proofs.Paging.{at_page}
-use Rattle.kept_disk.proofs.Standing.{stand_apart, stand_put}
+use Rattle.kept_disk.proofs.{Words.{◌+◌, ◌/◌, ◌%◌, ℕ, List, sym, subst, arith, spliced, IsHeld, Stand, from_of}, Paging.at_page, Standing.{stand_apart, stand_put}}
 use Rattle.kept_disk.proofs.parts.lay_part.Goals as goal
 
 pub returns-then-holds : goal.returns-then-holds

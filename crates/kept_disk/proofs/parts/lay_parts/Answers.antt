@@ -1,5 +1,4 @@
-use Rattle.kept_disk.proofs.Words.{◌≡◌, ◌+◌, ◌-◌, ◌≤◌, ℕ, List, length, take, subst, arith, take_all, length-take-le, spliced, length-spliced, Stand}
-use Rattle.kept_disk.proofs.Slices.{length-slice, laid_further}
+use Rattle.kept_disk.proofs.{Words.{◌≡◌, ◌+◌, ◌-◌, ◌≤◌, ℕ, List, length, take, subst, arith, take_all, length-take-le, spliced, length-spliced, Stand}, Slices.{length-slice, laid_further}}
 use Rattle.kept_disk.proofs.parts.lay_parts.Goals as goal
 
 pub loop-done-preserved : goal.loop-done-preserved

@@ -1,6 +1,4 @@
-use Rattle.kept_disk.proofs.Words.{◌/◌, ◌%◌, ℕ, length, take, drop, ◌∙◌, ap, arith, length-contents, from_of}
-use Rattle.kept_disk.proofs.Paging.{at_page}
-use Rattle.kept_disk.proofs.Standing.{taken}
+use Rattle.kept_disk.proofs.{Words.{◌/◌, ◌%◌, ℕ, length, take, drop, ◌∙◌, ap, arith, length-contents, from_of}, Paging.at_page, Standing.taken}
 use Rattle.kept_disk.proofs.parts.read_part.Goals as goal
 
 pub returns-clause-bytes : goal.returns-clause-bytes

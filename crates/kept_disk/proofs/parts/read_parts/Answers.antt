@@ -1,7 +1,4 @@
-use Rattle.kept_disk.proofs.Words.{◌≡◌, ◌<◌, ◌/◌, ◌%◌, ◌+◌, ◌-◌, ◌≤◌, ℕ, length, take, drop, sym, ◌∙◌, ap, subst, arith, mod-lt, length-spliced, on_ok_weaker, IsHeld, Pages}
-use Rattle.kept_disk.proofs.Moments.{further}
-use Rattle.kept_disk.proofs.Paging.{held_in, held_further, held_page}
-use Rattle.kept_disk.proofs.Slices.{length-slice, lent_part, read_further}
+use Rattle.kept_disk.proofs.{Words.{◌≡◌, ◌<◌, ◌/◌, ◌%◌, ◌+◌, ◌-◌, ◌≤◌, ℕ, length, take, drop, sym, ◌∙◌, ap, subst, arith, mod-lt, length-spliced, on_ok_weaker, IsHeld, Pages}, Moments.further, Paging.{held_in, held_further, held_page}, Slices.{length-slice, lent_part, read_further}}
 use Rattle.kept_disk.proofs.parts.read_parts.Goals as goal
 
 pub returns-then-is_in_one_page-clause-held : goal.returns-then-is_in_one_page-clause-held

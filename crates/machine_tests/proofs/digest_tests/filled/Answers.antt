@@ -1,8 +1,6 @@
-use Rattle.std.proofs.Common.{◌∙◌, ap, ℕ, List, [], ◌∷◌, ◌++◌, replicate, None, Some, false, arith}
-use Rattle.std.proofs.lemmas.List.{length-replicate}
+use Rattle.std.proofs.{Common.{◌∙◌, ap, ℕ, List, [], ◌∷◌, ◌++◌, replicate, None, Some, false, arith}, lemmas.List.length-replicate}
 use Rattle.iso_memdisk.specs.MemDisk.{state_of}
-use Rattle.iso_model.proofs.ByteLists.{replicate_bytes}
-use Rattle.iso_model.specs.Step.{write_access}
+use Rattle.iso_model.{proofs.ByteLists.replicate_bytes, specs.Step.write_access}
 use Rattle.tx_table.specs.Work.{Doing}
 use Rattle.iso_recover.proofs.TestCores.{may_end}
 use Rattle.machine_tests.proofs.digest_tests.filled.Goals as goal

@@ -1,6 +1,5 @@
 -- A word of masks more is 64 bytes more.
-use Rattle.merge_write.proofs.Values.{length-values_from, values_here}
-use Rattle.merge_write.proofs.Words.{laid_is, unwrap_cond, ◌≡◌, ◌∙◌, ap, sym, ℕ, ◌+◌, ◌-◌, ◌*◌, ◌/◌, ◌%◌, ◌<◌, cond, Option, get_or, eqb, arith, inl, inr, length, unwrap_or, bit_at, cases_lt, is_set, values_from}
+use Rattle.merge_write.proofs.{Values.{length-values_from, values_here}, Words.{laid_is, unwrap_cond, ◌≡◌, ◌∙◌, ap, sym, ℕ, ◌+◌, ◌-◌, ◌*◌, ◌/◌, ◌%◌, ◌<◌, cond, Option, get_or, eqb, arith, inl, inr, length, unwrap_or, bit_at, cases_lt, is_set, values_from}}
 use Rattle.merge_write.proofs.lanes.lay.Goals as goal
 
 pub loop-word-preserved : goal.loop-word-preserved

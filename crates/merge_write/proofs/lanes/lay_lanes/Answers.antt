@@ -1,6 +1,5 @@
 -- The lanes whose bit is set take the values, and nothing else changes.
-use Rattle.merge_write.proofs.Words.{◌∙◌, ap, ◌+◌, Bool, List, get_or, eqb, bit_and, w8, arith, zip2, sel_l, chunk, put_chunk, tops_compared, get_or-put_chunk_below, get_or-put_chunk_above}
-use Rattle.merge_write.proofs.Chosen.{lane_bits, chosen, selected_at, length-selected}
+use Rattle.merge_write.proofs.{Words.{◌∙◌, ap, ◌+◌, Bool, List, get_or, eqb, bit_and, w8, arith, zip2, sel_l, chunk, put_chunk, tops_compared, get_or-put_chunk_below, get_or-put_chunk_above}, Chosen.{lane_bits, chosen, selected_at, length-selected}}
 use Rattle.merge_write.proofs.lanes.lay_lanes.Goals as goal
 
 pub returns-clause-lanes : goal.returns-clause-lanes

@@ -1,7 +1,5 @@
 -- Each of the 64 places has the bit of its lane.
-use Rattle.merge_write.proofs.Words.{◌∙◌, refl, sym, ap, ℕ, ◌+◌, cond, get_or, eqb}
-use Rattle.merge_write.proofs.Bits.{all_ones}
-use Rattle.merge_write.proofs.Chosen.{lanes_of_word}
+use Rattle.merge_write.proofs.{Words.{◌∙◌, refl, sym, ap, ℕ, ◌+◌, cond, get_or, eqb}, Bits.all_ones, Chosen.lanes_of_word}
 use Rattle.merge_write.proofs.lanes.lay_word.Goals as goal
 
 pub returns-clause-lanes : goal.returns-clause-lanes

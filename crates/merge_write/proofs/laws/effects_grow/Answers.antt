@@ -1,7 +1,5 @@
 -- What one access more, or a list more, makes of the effect; and pieces as runs of their block.
-use Rattle.merge_write.proofs.Words.{◌∙◌, ap, map, run_of}
-use Rattle.merge_write.proofs.Effects.{pieces_of_any_block}
-use Rattle.merge_write.proofs.Growth.{effects_kept, effects_followed, effects_shown, runs_back}
+use Rattle.merge_write.proofs.{Words.{◌∙◌, ap, map, run_of}, Effects.pieces_of_any_block, Growth.{effects_kept, effects_followed, effects_shown, runs_back}}
 use Rattle.merge_write.proofs.laws.effects_grow.Goals as goal
 
 pub returns-clause-kept : goal.returns-clause-kept

@@ -1,5 +1,4 @@
-use Rattle.merge_write.proofs.Words.{◌≡◌, ◌==◌, true, arith, common_steps, effects_from}
-use Rattle.merge_write.proofs.Effects.{no_effects, written_effects, pieces_of_any_block}
+use Rattle.merge_write.proofs.{Words.{◌≡◌, ◌==◌, true, arith, common_steps, effects_from}, Effects.{no_effects, written_effects, pieces_of_any_block}}
 use Rattle.merge_write.proofs.laws.patches_hold_the_effect.Goals as goal
 
 pub returns-clause-blank : goal.returns-clause-blank

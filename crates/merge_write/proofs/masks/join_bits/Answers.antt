@@ -1,6 +1,5 @@
 -- A word more has the bits of both.
-use Rattle.merge_write.proofs.Words.{◌≡◌, ◌≢◌, ◌∙◌, ap, ◌*◌, ◌/◌, ◌%◌, ◌<◌, ◌||◌, Bool, length, get_or, inl, inr, arith, refl, ◌==◌, bit_at, cases_lt, is_set}
-use Rattle.merge_write.proofs.Bits.{with_word_here, with_word_apart}
+use Rattle.merge_write.proofs.{Words.{◌≡◌, ◌≢◌, ◌∙◌, ap, ◌*◌, ◌/◌, ◌%◌, ◌<◌, ◌||◌, Bool, length, get_or, inl, inr, arith, refl, ◌==◌, bit_at, cases_lt, is_set}, Bits.{with_word_here, with_word_apart}}
 use Rattle.merge_write.proofs.masks.join_bits.Goals as goal
 
 pub loop-word-preserved : goal.loop-word-preserved

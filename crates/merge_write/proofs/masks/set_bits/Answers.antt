@@ -1,6 +1,5 @@
 -- The bits of one word more are set.
-use Rattle.merge_write.proofs.Words.{◌≡◌, ◌≢◌, ◌∙◌, refl, sym, ap, ℕ, ◌+◌, ◌-◌, ◌*◌, ◌/◌, ◌^◌, ◌<◌, ◌≤◌, ◌&&◌, ◌||◌, bit_or, get_or, length, nat_le, nat_lt, arith, List, length-set, is_set}
-use Rattle.merge_write.proofs.Bits.{with_word, with_stretch, stretch_more}
+use Rattle.merge_write.proofs.{Words.{◌≡◌, ◌≢◌, ◌∙◌, refl, sym, ap, ℕ, ◌+◌, ◌-◌, ◌*◌, ◌/◌, ◌^◌, ◌<◌, ◌≤◌, ◌&&◌, ◌||◌, bit_or, get_or, length, nat_le, nat_lt, arith, List, length-set, is_set}, Bits.{with_word, with_stretch, stretch_more}}
 use Rattle.merge_write.proofs.masks.set_bits.Goals as goal
 
 -- the bits of a word, as a stretch of the row

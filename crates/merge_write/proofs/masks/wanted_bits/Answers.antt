@@ -1,5 +1,4 @@
-use Rattle.merge_write.proofs.Bits.{other_bits}
-use Rattle.merge_write.proofs.Words.{arith}
+use Rattle.merge_write.proofs.{Bits.other_bits, Words.arith}
 use Rattle.merge_write.proofs.masks.wanted_bits.Goals as goal
 
 pub returns-else-wanted : goal.returns-else-wanted

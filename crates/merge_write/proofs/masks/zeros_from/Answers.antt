@@ -1,6 +1,5 @@
 -- The first bit from a place on is where the word, shifted by so many bits, ends in zeros.
-use Rattle.merge_write.proofs.Words.{◌∙◌, sym, ap, ◌-◌, arith, bit_at-zero, bit_at}
-use Rattle.merge_write.proofs.Bits.{bit_from, zeros_are}
+use Rattle.merge_write.proofs.{Words.{◌∙◌, sym, ap, ◌-◌, arith, bit_at-zero, bit_at}, Bits.{bit_from, zeros_are}}
 use Rattle.merge_write.proofs.masks.zeros_from.Goals as goal
 
 pub returns-then-rest-eq0-clause-zeros : goal.returns-then-rest-eq0-clause-zeros

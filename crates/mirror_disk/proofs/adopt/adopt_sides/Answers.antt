@@ -1,5 +1,4 @@
-use Rattle.mirror_disk.proofs.Words.{inl, inr, starts_unwritten}
-use Rattle.mirror_disk.proofs.Adopted.{choice_fails, ended_early, mark_of, told_header}
+use Rattle.mirror_disk.proofs.{Words.{inl, inr, starts_unwritten}, Adopted.{choice_fails, ended_early, mark_of, told_header}}
 use Rattle.mirror_disk.proofs.adopt.adopt_sides.Goals as goal
 
 pub returns-then-size-other-clause-kept : goal.returns-then-size-other-clause-kept

@@ -1,6 +1,4 @@
-use Rattle.mirror_disk.proofs.Words.{[], sym, ◌∙◌, arith}
-use Rattle.mirror_disk.proofs.Adopted.{alike_turned, body_tells, both_alike, first_kept, first_leads, pair_of, second_kept, second_leads, alike_of, stands_both, stands_first, stands_second, told_kept}
-use Rattle.mirror_disk.proofs.Alone.{settled_both, settled_first, settled_second}
+use Rattle.mirror_disk.proofs.{Words.{[], sym, ◌∙◌, arith}, Adopted.{alike_turned, body_tells, both_alike, first_kept, first_leads, pair_of, second_kept, second_leads, alike_of, stands_both, stands_first, stands_second, told_kept}, Alone.{settled_both, settled_first, settled_second}}
 use Rattle.mirror_disk.proofs.adopt.settle_on.Goals as goal
 
 pub returns-in_err-slot-clause-kept : goal.returns-in_err-slot-clause-kept

@@ -1,6 +1,4 @@
-use Rattle.mirror_disk.proofs.Words.{[], ◌∙◌, sym, subst, Marks, StandsBy}
-use Rattle.mirror_disk.proofs.Adopted.{stands_both}
-use Rattle.mirror_disk.proofs.Blank.{blank_both, blank_image, blank_now, blank_pair, blank_told}
+use Rattle.mirror_disk.proofs.{Words.{[], ◌∙◌, sym, subst, Marks, StandsBy}, Adopted.stands_both, Blank.{blank_both, blank_image, blank_now, blank_pair, blank_told}}
 use Rattle.mirror_disk.proofs.bind.make_sides.Goals as goal
 
 pub returns-clause-stands : goal.returns-clause-stands

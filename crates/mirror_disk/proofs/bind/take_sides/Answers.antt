@@ -1,5 +1,4 @@
-use Rattle.mirror_disk.proofs.Words.{first_name, second_name}
-use Rattle.mirror_disk.proofs.Blank.{named_taken}
+use Rattle.mirror_disk.proofs.{Words.{first_name, second_name}, Blank.named_taken}
 use Rattle.mirror_disk.proofs.bind.take_sides.Goals as goal
 
 pub returns-in-Ok-clause-existing : goal.returns-in-Ok-clause-existing

@@ -1,5 +1,4 @@
-use Rattle.mirror_disk.proofs.Words.{◌≡◌, ◌≤◌, ◌+◌, ℕ, length, take, drop, sym, ◌∙◌, ap, subst, arith, length-append, length-drop, length-take-le, spliced, joined_unwritten, runs_inside, body}
-use Rattle.mirror_disk.proofs.Copying.{copied_all, copied_more, length-body, torn_more}
+use Rattle.mirror_disk.proofs.{Words.{◌≡◌, ◌≤◌, ◌+◌, ℕ, length, take, drop, sym, ◌∙◌, ap, subst, arith, length-append, length-drop, length-take-le, spliced, joined_unwritten, runs_inside, body}, Copying.{copied_all, copied_more, length-body, torn_more}}
 use Rattle.mirror_disk.proofs.copy.copy_body.Goals as goal
 
 pub returns-in_err-copy_piece-clause-torn : goal.returns-in_err-copy_piece-clause-torn

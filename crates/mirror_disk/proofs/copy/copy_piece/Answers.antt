@@ -1,6 +1,4 @@
-use Rattle.mirror_disk.proofs.Words.{◌≡◌, ◌+◌, ℕ, List, length, sym, ◌∙◌, ap, subst, arith, TellsTorn, spliced, body}
-use Rattle.mirror_disk.proofs.Asked.{laid, told_of}
-use Rattle.mirror_disk.proofs.Copying.{piece_of}
+use Rattle.mirror_disk.proofs.{Words.{◌≡◌, ◌+◌, ℕ, List, length, sym, ◌∙◌, ap, subst, arith, TellsTorn, spliced, body}, Asked.{laid, told_of}, Copying.piece_of}
 use Rattle.mirror_disk.proofs.copy.copy_piece.Goals as goal
 
 pub returns-clause-torn : goal.returns-clause-torn

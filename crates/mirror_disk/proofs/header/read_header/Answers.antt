@@ -1,5 +1,4 @@
-use Rattle.mirror_disk.proofs.Words.{arith, length-contents}
-use Rattle.mirror_disk.proofs.Fronts.{read_mark_of, read_none_of}
+use Rattle.mirror_disk.proofs.{Words.{arith, length-contents}, Fronts.{read_mark_of, read_none_of}}
 use Rattle.mirror_disk.proofs.header.read_header.Goals as goal
 
 pub returns-then-size-lt-HEADER-clause-none : goal.returns-then-size-lt-HEADER-clause-none

@@ -1,5 +1,4 @@
-use Rattle.mirror_disk.proofs.Words.{sym, ◌∙◌, on_ok_weaker}
-use Rattle.mirror_disk.proofs.Mirrored.{of_pair, parts_pass, parts_same, parts_stand, told_pair}
+use Rattle.mirror_disk.proofs.{Words.{sym, ◌∙◌, on_ok_weaker}, Mirrored.{of_pair, parts_pass, parts_same, parts_stand, told_pair}}
 use Rattle.mirror_disk.proofs.parts.read_parts.Goals as goal
 
 pub returns-in-Both-clause-stands : goal.returns-in-Both-clause-stands

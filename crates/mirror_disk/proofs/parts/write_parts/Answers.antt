@@ -1,5 +1,4 @@
-use Rattle.mirror_disk.proofs.Words.{length, on_ok_weaker}
-use Rattle.mirror_disk.proofs.Mirrored.{of_pair, on_err, parts_elapse, parts_splice, parts_stand, parts_tear}
+use Rattle.mirror_disk.proofs.{Words.{length, on_ok_weaker}, Mirrored.{of_pair, on_err, parts_elapse, parts_splice, parts_stand, parts_tear}}
 use Rattle.mirror_disk.proofs.parts.write_parts.Goals as goal
 
 pub returns-in-Both-clause-stands : goal.returns-in-Both-clause-stands

@@ -1,6 +1,4 @@
-use Rattle.mirror_disk.proofs.Words.{◌≡◌, ◌≤◌, ◌+◌, ℕ, List, subst, arith, TornFrom, at_end, weakened, IsOpen, HoldsEpoch, place, other}
-use Rattle.mirror_disk.proofs.Epochs.{inside}
-use Rattle.mirror_disk.proofs.Raises.{by_result, keeps_spliced, keeps_torn, ok_weaker, open_image, raised_image}
+use Rattle.mirror_disk.proofs.{Words.{◌≡◌, ◌≤◌, ◌+◌, ℕ, List, subst, arith, TornFrom, at_end, weakened, IsOpen, HoldsEpoch, place, other}, Epochs.inside, Raises.{by_result, keeps_spliced, keeps_torn, ok_weaker, open_image, raised_image}}
 use Rattle.mirror_disk.proofs.raise.open_slot.Goals as goal
 
 at : {g : ℕ} (k : ℕ) → g ≡ k → {n : ℕ} {images : List ℕ → Type 0} (x : List ℕ) → TornFrom g n images x → TornFrom k n images x

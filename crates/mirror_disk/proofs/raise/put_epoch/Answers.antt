@@ -1,6 +1,4 @@
-use Rattle.mirror_disk.proofs.Words.{◌≡◌, ◌≤◌, ◌+◌, ◌-◌, ℕ, length, take, drop, ap, subst, sym, ◌∙◌, arith, TornFrom, weakened, IsClosed, place, other}
-use Rattle.mirror_disk.proofs.Epochs.{inside}
-use Rattle.mirror_disk.proofs.Raises.{body_image, both_hold, by_result, keeps_spliced, keeps_torn, holds_body, ok_weaker}
+use Rattle.mirror_disk.proofs.{Words.{◌≡◌, ◌≤◌, ◌+◌, ◌-◌, ℕ, length, take, drop, ap, subst, sym, ◌∙◌, arith, TornFrom, weakened, IsClosed, place, other}, Epochs.inside, Raises.{body_image, both_hold, by_result, keeps_spliced, keeps_torn, holds_body, ok_weaker}}
 use Rattle.mirror_disk.proofs.raise.put_epoch.Goals as goal
 
 pub returns-clause-moments : goal.returns-clause-moments

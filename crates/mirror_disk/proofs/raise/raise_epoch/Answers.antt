@@ -1,5 +1,4 @@
-use Rattle.mirror_disk.proofs.Words.{arith, at_end, weakened, joined}
-use Rattle.mirror_disk.proofs.Raises.{keeps_twice, raising_on, raising_still, still_on}
+use Rattle.mirror_disk.proofs.{Words.{arith, at_end, weakened, joined}, Raises.{keeps_twice, raising_on, raising_still, still_on}}
 use Rattle.mirror_disk.proofs.raise.raise_epoch.Goals as goal
 
 pub returns-in_err-shut_slot-clause-moments : goal.returns-in_err-shut_slot-clause-moments

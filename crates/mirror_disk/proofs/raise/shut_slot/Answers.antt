@@ -1,6 +1,4 @@
-use Rattle.mirror_disk.proofs.Words.{◌≡◌, ◌≤◌, ◌<◌, ◌+◌, ℕ, List, subst, sym, ◌∙◌, arith, TornFrom, LeavesOnly, at_end, weakened, joined, IsOpen, HasEpoch, Still, place, other}
-use Rattle.mirror_disk.proofs.Epochs.{inside}
-use Rattle.mirror_disk.proofs.Raises.{by_result, keeps_same, keeps_spliced, keeps_torn, keeps_twice, shut_image, still_here, still_on, gate_of_front}
+use Rattle.mirror_disk.proofs.{Words.{◌≡◌, ◌≤◌, ◌<◌, ◌+◌, ℕ, List, subst, sym, ◌∙◌, arith, TornFrom, LeavesOnly, at_end, weakened, joined, IsOpen, HasEpoch, Still, place, other}, Epochs.inside, Raises.{by_result, keeps_same, keeps_spliced, keeps_torn, keeps_twice, shut_image, still_here, still_on, gate_of_front}}
 use Rattle.mirror_disk.proofs.raise.shut_slot.Goals as goal
 
 at : {g : ℕ} (k : ℕ) → g ≡ k → {n : ℕ} {images : List ℕ → Type 0} (x : List ℕ) → TornFrom g n images x → TornFrom k n images x

@@ -1,5 +1,4 @@
-use Rattle.mirror_disk.proofs.Ended.{ended_both, ended_none, mark_a, mark_b}
-use Rattle.mirror_disk.proofs.Left.{broken_first, broken_second, ended_first, ended_second}
+use Rattle.mirror_disk.proofs.{Ended.{ended_both, ended_none, mark_a, mark_b}, Left.{broken_first, broken_second, ended_first, ended_second}}
 use Rattle.mirror_disk.proofs.sides.leave_out.Goals as goal
 
 pub returns-then-second_done-clause-ended : goal.returns-then-second_done-clause-ended

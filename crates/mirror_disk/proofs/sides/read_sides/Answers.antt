@@ -1,8 +1,4 @@
-use Rattle.mirror_disk.proofs.Words.{length, ◌≡◌, true, refl, subst, sym, ◌∙◌, Used, HasEnded}
-use Rattle.mirror_disk.proofs.Alone.{ended_idle, synced_first, synced_second}
-use Rattle.mirror_disk.proofs.Asked.{asked_synced, idle}
-use Rattle.mirror_disk.proofs.Done.{both_chosen, by_done, first_chosen, read_chosen, second_chosen}
-use Rattle.mirror_disk.proofs.Ended.{ended_both}
+use Rattle.mirror_disk.proofs.{Words.{length, ◌≡◌, true, refl, subst, sym, ◌∙◌, Used, HasEnded}, Alone.{ended_idle, synced_first, synced_second}, Asked.{asked_synced, idle}, Done.{both_chosen, by_done, first_chosen, read_chosen, second_chosen}, Ended.ended_both}
 use Rattle.mirror_disk.proofs.sides.read_sides.Goals as goal
 
 pub returns-then-is_ok-clause-ended : goal.returns-then-is_ok-clause-ended

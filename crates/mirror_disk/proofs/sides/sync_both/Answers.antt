@@ -1,6 +1,4 @@
-use Rattle.mirror_disk.proofs.Words.{sym, ◌∙◌}
-use Rattle.mirror_disk.proofs.Asked.{asked_synced}
-use Rattle.mirror_disk.proofs.Done.{both_torn, breaks, by_done, contents_of, left_settled}
+use Rattle.mirror_disk.proofs.{Words.{sym, ◌∙◌}, Asked.asked_synced, Done.{both_torn, breaks, by_done, contents_of, left_settled}}
 use Rattle.mirror_disk.proofs.sides.sync_both.Goals as goal
 
 pub leave_out-requires : goal.leave_out-requires

@@ -1,6 +1,4 @@
-use Rattle.mirror_disk.proofs.Words.{sym, ◌∙◌, refl}
-use Rattle.mirror_disk.proofs.Alone.{ended_idle, settled_first, settled_second, synced_first, synced_second}
-use Rattle.mirror_disk.proofs.Done.{by_done}
+use Rattle.mirror_disk.proofs.{Words.{sym, ◌∙◌, refl}, Alone.{ended_idle, settled_first, settled_second, synced_first, synced_second}, Done.by_done}
 use Rattle.mirror_disk.proofs.sides.sync_sides.Goals as goal
 
 pub returns-in-OnlyFirst-clause-ended : goal.returns-in-OnlyFirst-clause-ended

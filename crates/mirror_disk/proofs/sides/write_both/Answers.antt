@@ -1,6 +1,4 @@
-use Rattle.mirror_disk.proofs.Words.{length, sym, ◌∙◌}
-use Rattle.mirror_disk.proofs.Asked.{asked_written}
-use Rattle.mirror_disk.proofs.Done.{both_torn, both_written, breaks, written_of}
+use Rattle.mirror_disk.proofs.{Words.{length, sym, ◌∙◌}, Asked.asked_written, Done.{both_torn, both_written, breaks, written_of}}
 use Rattle.mirror_disk.proofs.sides.write_both.Goals as goal
 
 pub leave_out-requires : goal.leave_out-requires

@@ -1,9 +1,4 @@
-use Rattle.mirror_disk.proofs.Words.{◌+◌, length, sym, ◌∙◌, torn_from_old, called}
-use Rattle.mirror_disk.proofs.Alone.{ended_first_alone, ended_idle, ended_second_alone}
-use Rattle.mirror_disk.proofs.Asked.{told_of}
-use Rattle.mirror_disk.proofs.Done.{alone_first, alone_second, by_failed, written_of}
-use Rattle.mirror_disk.proofs.Telling.{becomes_torn, splices_of}
-use Rattle.mirror_disk.proofs.Ended.{tells_on}
+use Rattle.mirror_disk.proofs.{Words.{◌+◌, length, sym, ◌∙◌, torn_from_old, called}, Alone.{ended_first_alone, ended_idle, ended_second_alone}, Asked.told_of, Done.{alone_first, alone_second, by_failed, written_of}, Telling.{becomes_torn, splices_of}, Ended.tells_on}
 use Rattle.mirror_disk.proofs.sides.write_sides.Goals as goal
 
 pub returns-in-OnlyFirst-clause-ended : goal.returns-in-OnlyFirst-clause-ended

@@ -1,5 +1,4 @@
-use Rattle.mirror_disk.proofs.Words.{subst, sym, Slot, HasEpoch}
-use Rattle.mirror_disk.proofs.Taking.{alike_copied, alike_raised, copied_mark, copied_moments, raised_moments}
+use Rattle.mirror_disk.proofs.{Words.{subst, sym, Slot, HasEpoch}, Taking.{alike_copied, alike_raised, copied_mark, copied_moments, raised_moments}}
 use Rattle.mirror_disk.proofs.take.make_alike.Goals as goal
 
 pub returns-in_err-copy_body-clause-moments : goal.returns-in_err-copy_body-clause-moments

@@ -1,5 +1,4 @@
-use Rattle.mirror_disk.proofs.Words.{stays_settled}
-use Rattle.mirror_disk.proofs.Taking.{chosen_raised}
+use Rattle.mirror_disk.proofs.{Words.stays_settled, Taking.chosen_raised}
 use Rattle.mirror_disk.proofs.take.take_over.Goals as goal
 
 pub returns-in-Some-clause-settled : goal.returns-in-Some-clause-settled

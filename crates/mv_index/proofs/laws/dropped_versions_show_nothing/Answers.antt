@@ -1,5 +1,4 @@
-use Rattle.mv_index.proofs.Words.{shown_since}
-use Rattle.mv_index.proofs.Layers.{newest_kept, same_newest, since_same}
+use Rattle.mv_index.proofs.{Words.shown_since, Layers.{newest_kept, same_newest, since_same}}
 use Rattle.mv_index.proofs.laws.dropped_versions_show_nothing.Goals as goal
 
 pub returns-clause-from_there : goal.returns-clause-from_there

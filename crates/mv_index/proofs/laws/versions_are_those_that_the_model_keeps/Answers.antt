@@ -1,5 +1,4 @@
-use Rattle.mv_index.proofs.Words.{refl, is_written, kept_from}
-use Rattle.mv_index.proofs.Counts.{count_is}
+use Rattle.mv_index.proofs.{Words.{refl, is_written, kept_from}, Counts.count_is}
 use Rattle.mv_index.proofs.laws.versions_are_those_that_the_model_keeps.Goals as goal
 
 pub returns : goal.returns

@@ -1,6 +1,5 @@
 -- The bytes before the first that was not seen are seen already.
-use Rattle.mv_index.proofs.Words.{ap, ◌+◌, ◌∙◌, not, is_seen}
-use Rattle.mv_index.proofs.Masks.{any_from, widened}
+use Rattle.mv_index.proofs.{Words.{ap, ◌+◌, ◌∙◌, not, is_seen}, Masks.{any_from, widened}}
 use Rattle.mv_index.proofs.mask.see.Goals as goal
 
 pub returns-clause-some : goal.returns-clause-some

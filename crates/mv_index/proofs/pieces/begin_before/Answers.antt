@@ -1,6 +1,5 @@
 -- Pieces in order begin in order.
-use Rattle.mv_index.proofs.Words.{◌≡◌, true, false, arith, get_or, nat_lt, rules, ltb-false, ltb-true, IsPartitionPoint, IsPartitionPoint-from_clause, IsPartitionedBy-ltb, Version, no_version}
-use Rattle.mv_index.proofs.Orders.{offs_rise}
+use Rattle.mv_index.proofs.{Words.{◌≡◌, true, false, arith, get_or, nat_lt, rules, ltb-false, ltb-true, IsPartitionPoint, IsPartitionPoint-from_clause, IsPartitionedBy-ltb, Version, no_version}, Orders.offs_rise}
 use Rattle.mv_index.proofs.pieces.begin_before.Goals as goal
 
 point : (c : goal.After-partition_point) → IsPartitionPoint (λ q. nat_lt q.off c.args.byte ≡ true) (λ q. nat_lt q.off c.args.byte ≡ false) c.args.pieces.now c.partition_point.result

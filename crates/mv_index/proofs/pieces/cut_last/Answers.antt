@@ -1,6 +1,5 @@
 -- The last piece is cut.
-use Rattle.mv_index.proofs.Words.{◌∙◌, ap, arith, ◌-◌, length, set, front_of, no_version}
-use Rattle.mv_index.proofs.Laid.{ended_set}
+use Rattle.mv_index.proofs.{Words.{◌∙◌, ap, arith, ◌-◌, length, set, front_of, no_version}, Laid.ended_set}
 use Rattle.mv_index.proofs.pieces.cut_last.Goals as goal
 
 pub returns-in-Some : goal.returns-in-Some

@@ -1,6 +1,5 @@
 -- Pieces in order end in order.
-use Rattle.mv_index.proofs.Words.{◌≡◌, true, false, ◌+◌, arith, get_or, nat_le, rules, leb-false, leb-true, IsPartitionPoint, IsPartitionPoint-from_clause, IsPartitionedBy-leb, Version, no_version}
-use Rattle.mv_index.proofs.Orders.{ends_rise}
+use Rattle.mv_index.proofs.{Words.{◌≡◌, true, false, ◌+◌, arith, get_or, nat_le, rules, leb-false, leb-true, IsPartitionPoint, IsPartitionPoint-from_clause, IsPartitionedBy-leb, Version, no_version}, Orders.ends_rise}
 use Rattle.mv_index.proofs.pieces.end_before.Goals as goal
 
 point : (c : goal.After-partition_point) → IsPartitionPoint (λ q. nat_le (q.off + q.len) c.args.byte ≡ true) (λ q. nat_le (q.off + q.len) c.args.byte ≡ false) c.args.pieces.now c.partition_point.result

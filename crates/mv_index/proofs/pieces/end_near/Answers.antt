@@ -1,6 +1,5 @@
 -- A piece that ends at a byte is the last one without a byte from there on.
-use Rattle.mv_index.proofs.Words.{arith, no_version}
-use Rattle.mv_index.proofs.Orders.{apart_at, ends_rise, some_at}
+use Rattle.mv_index.proofs.{Words.{arith, no_version}, Orders.{apart_at, ends_rise, some_at}}
 use Rattle.mv_index.proofs.pieces.end_near.Goals as goal
 
 pub returns-then-end-from-clause-below : goal.returns-then-end-from-clause-below

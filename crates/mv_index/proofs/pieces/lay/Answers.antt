@@ -1,6 +1,5 @@
 -- The version is laid over the pieces.
-use Rattle.mv_index.proofs.Words.{◌≡◌, ◌≤◌, get_or, length, no_version, ◌∙◌, sym, ap, subst, arith, ℕ, ◌+◌, List, [], ◌∷◌, ◌++◌, drop, take, with_items_is, ArePieces, Version, backs, begun, ended, fronts, laid}
-use Rattle.mv_index.proofs.Laid.{laid_none, laid_over, pieces_laid}
+use Rattle.mv_index.proofs.{Words.{◌≡◌, ◌≤◌, get_or, length, no_version, ◌∙◌, sym, ap, subst, arith, ℕ, ◌+◌, List, [], ◌∷◌, ◌++◌, drop, take, with_items_is, ArePieces, Version, backs, begun, ended, fronts, laid}, Laid.{laid_none, laid_over, pieces_laid}}
 use Rattle.mv_index.proofs.pieces.lay.Goals as goal
 
 pub returns-then-version-eq0-clause-laid : goal.returns-then-version-eq0-clause-laid

@@ -1,7 +1,5 @@
 -- The pieces that end behind the begin of the range, and begin before its end.
-use Rattle.mv_index.proofs.Words.{arith, no_version}
-use Rattle.mv_index.proofs.Meetings.{meeting_same}
-use Rattle.mv_index.proofs.Orders.{some_at}
+use Rattle.mv_index.proofs.{Words.{arith, no_version}, Meetings.meeting_same, Orders.some_at}
 use Rattle.mv_index.proofs.pieces.meeting.Goals as goal
 
 pub prove-unreachable-requires : goal.prove-unreachable-requires

@@ -1,7 +1,5 @@
 -- A step to the right or to the left, and the end.
-use Rattle.mv_index.proofs.Words.{arith, refl, ◌≤◌}
-use Rattle.mv_index.proofs.Bounds.{cut}
-use Rattle.mv_index.proofs.Halves.{searched_left, searched_right}
+use Rattle.mv_index.proofs.{Words.{arith, refl, ◌≤◌}, Bounds.cut, Halves.{searched_left, searched_right}}
 use Rattle.mv_index.proofs.search.count_upto.Goals as goal
 
 pub loop-low-preserved-then-versions-mid : goal.loop-low-preserved-then-versions-mid

@@ -1,6 +1,5 @@
 -- The first ones are at or below the number, the last ones above it; what is left is halved with each step.
-use Rattle.mv_index.proofs.Words.{◌-◌, ◌≤◌}
-use Rattle.mv_index.proofs.Halves.{IsSearched}
+use Rattle.mv_index.proofs.{Words.{◌-◌, ◌≤◌}, Halves.IsSearched}
 use Rattle.mv_index.proofs.search.count_upto.Given as goal
 
 abbrev pub invariant-loop-low : goal.invariant-loop-low

@@ -1,6 +1,5 @@
 -- A version is looked at.
-use Rattle.mv_index.proofs.Words.{refl, sym, arith}
-use Rattle.mv_index.proofs.Gathers.{gathered_kept, gathered_passed}
+use Rattle.mv_index.proofs.{Words.{refl, sym, arith}, Gathers.{gathered_kept, gathered_passed}}
 use Rattle.mv_index.proofs.trim.gather.Goals as goal
 
 pub loop-left-preserved-then-look : goal.loop-left-preserved-then-look

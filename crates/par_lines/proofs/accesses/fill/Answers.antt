@@ -1,5 +1,4 @@
-use Rattle.par_lines.proofs.Words.{subst, sym, ◌∙◌, Ok, Fill, Answered}
-use Rattle.par_lines.proofs.Writing.{right_fill, wants, wrong_fill}
+use Rattle.par_lines.proofs.{Words.{subst, sym, ◌∙◌, Ok, Fill, Answered}, Writing.{right_fill, wants, wrong_fill}}
 use Rattle.par_lines.proofs.accesses.fill.Goals as goal
 
 pub returns-then-bytes-ne1-clause-did : goal.returns-then-bytes-ne1-clause-did

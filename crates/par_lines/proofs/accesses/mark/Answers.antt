@@ -1,5 +1,4 @@
-use Rattle.par_lines.proofs.Words.{subst, sym, Mark, Answered}
-use Rattle.par_lines.proofs.Marking.{mark_line}
+use Rattle.par_lines.proofs.{Words.{subst, sym, Mark, Answered}, Marking.mark_line}
 use Rattle.par_lines.proofs.accesses.mark.Goals as goal
 
 pub returns-clause-did : goal.returns-clause-did

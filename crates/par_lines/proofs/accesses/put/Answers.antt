@@ -1,6 +1,4 @@
-use Rattle.par_lines.proofs.Words.{◌+◌, ◌-◌, ◌++◌, ap, length, replicate, subst, sym, ◌∙◌, Ok, Put, is_outside, Answered}
-use Rattle.par_lines.proofs.Putting.{refused_put, right_put, wrong_put}
-use Rattle.par_lines.proofs.Writing.{wants}
+use Rattle.par_lines.proofs.{Words.{◌+◌, ◌-◌, ◌++◌, ap, length, replicate, subst, sym, ◌∙◌, Ok, Put, is_outside, Answered}, Putting.{refused_put, right_put, wrong_put}, Writing.wants}
 use Rattle.par_lines.proofs.accesses.put.Goals as goal
 
 pub returns-then-is_outside-clause-did : goal.returns-then-is_outside-clause-did

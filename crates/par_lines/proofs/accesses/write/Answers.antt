@@ -1,5 +1,4 @@
-use Rattle.par_lines.proofs.Words.{sym, subst, Ok, Write, Answered}
-use Rattle.par_lines.proofs.Writing.{right_write, wrong_write}
+use Rattle.par_lines.proofs.{Words.{sym, subst, Ok, Write, Answered}, Writing.{right_write, wrong_write}}
 use Rattle.par_lines.proofs.accesses.write.Goals as goal
 
 pub returns-then-bytes-geometry-clause-did : goal.returns-then-bytes-geometry-clause-did

@@ -1,5 +1,4 @@
-use Rattle.par_lines.proofs.Words.{sym, subst, Abort, Answered}
-use Rattle.par_lines.proofs.Answering.{aborted}
+use Rattle.par_lines.proofs.{Words.{sym, subst, Abort, Answered}, Answering.aborted}
 use Rattle.par_lines.proofs.calls.abort.Goals as goal
 
 pub returns-clause-did : goal.returns-clause-did

@@ -1,5 +1,4 @@
-use Rattle.par_lines.proofs.Words.{sym, subst, Begin, Answered}
-use Rattle.par_lines.proofs.Answering.{begun}
+use Rattle.par_lines.proofs.{Words.{sym, subst, Begin, Answered}, Answering.begun}
 use Rattle.par_lines.proofs.calls.begin.Goals as goal
 
 pub returns-clause-did : goal.returns-clause-did

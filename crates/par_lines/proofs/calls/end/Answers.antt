@@ -1,5 +1,4 @@
-use Rattle.par_lines.proofs.Words.{sym, subst, End, Answered}
-use Rattle.par_lines.proofs.Answering.{ended, unchecked}
+use Rattle.par_lines.proofs.{Words.{sym, subst, End, Answered}, Answering.{ended, unchecked}}
 use Rattle.par_lines.proofs.calls.end.Goals as goal
 
 pub returns-in-Ok-clause-did : goal.returns-in-Ok-clause-did

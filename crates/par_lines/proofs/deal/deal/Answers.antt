@@ -1,5 +1,4 @@
-use Rattle.par_lines.proofs.Words.{◌≡◌, ◌-◌, ◌==◌, ap, arith, length, ◌∙◌, filter, range_with_len, has_line, lines_of}
-use Rattle.par_lines.proofs.Dealing.{all_more, ids_more, length_more, rest_more}
+use Rattle.par_lines.proofs.{Words.{◌≡◌, ◌-◌, ◌==◌, ap, arith, length, ◌∙◌, filter, range_with_len, has_line, lines_of}, Dealing.{all_more, ids_more, length_more, rest_more}}
 use Rattle.par_lines.proofs.deal.deal.Goals as goal
 
 pub loop-client-preserved : goal.loop-client-preserved

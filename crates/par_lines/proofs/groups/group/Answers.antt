@@ -1,5 +1,4 @@
-use Rattle.par_lines.proofs.Words.{subst, sym, port_view, Answered, Group}
-use Rattle.par_lines.proofs.Grouping.{answers, port_units, wants_memory}
+use Rattle.par_lines.proofs.{Words.{subst, sym, port_view, Answered, Group}, Grouping.{answers, port_units, wants_memory}}
 use Rattle.par_lines.proofs.groups.group.Goals as goal
 
 pub returns-then-labels-gt-MAX_LABELS-clause-did : goal.returns-then-labels-gt-MAX_LABELS-clause-did

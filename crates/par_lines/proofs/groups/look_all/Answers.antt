@@ -1,5 +1,4 @@
-use Rattle.par_lines.proofs.Words.{◌≡◌, arith, length, subst, sym, port_view}
-use Rattle.par_lines.proofs.Grouping.{found_size, looked_all, looks_on, not_yet, Looking}
+use Rattle.par_lines.proofs.{Words.{◌≡◌, arith, length, subst, sym, port_view}, Grouping.{found_size, looked_all, looks_on, not_yet, Looking}}
 use Rattle.par_lines.proofs.groups.look_all.Goals as goal
 
 pub loop-label-init : goal.loop-label-init

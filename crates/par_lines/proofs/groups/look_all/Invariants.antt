@@ -1,5 +1,4 @@
-use Rattle.par_lines.proofs.Words.{◌≤◌, length, vec_capacity, port_view}
-use Rattle.par_lines.proofs.Grouping.{Looking}
+use Rattle.par_lines.proofs.{Words.{◌≤◌, length, vec_capacity, port_view}, Grouping.Looking}
 use Rattle.par_lines.proofs.groups.look_all.Given as goal
 
 abbrev pub invariant-loop-label : goal.invariant-loop-label

@@ -1,5 +1,4 @@
-use Rattle.par_lines.proofs.Words.{ap, arith, subst, sym, ◌∙◌, Ok, HasLooked}
-use Rattle.par_lines.proofs.Awaiting.{answers_in_tx, found, never_found, not_now}
+use Rattle.par_lines.proofs.{Words.{ap, arith, subst, sym, ◌∙◌, Ok, HasLooked}, Awaiting.{answers_in_tx, found, never_found, not_now}}
 use Rattle.par_lines.proofs.labels.await_label.Goals as goal
 
 pub returns-then-is_some-clause-did : goal.returns-then-is_some-clause-did

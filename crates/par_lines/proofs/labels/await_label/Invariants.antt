@@ -1,5 +1,4 @@
-use Rattle.par_lines.proofs.Words.{IsSession}
-use Rattle.par_lines.proofs.Awaiting.{Looking}
+use Rattle.par_lines.proofs.{Words.IsSession, Awaiting.Looking}
 use Rattle.par_lines.proofs.labels.await_label.Given as goal
 
 abbrev pub invariant-loop-round : goal.invariant-loop-round

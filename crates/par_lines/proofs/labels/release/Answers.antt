@@ -1,5 +1,4 @@
-use Rattle.par_lines.proofs.Words.{sym, subst, Release, Answered}
-use Rattle.par_lines.proofs.Answering.{posted}
+use Rattle.par_lines.proofs.{Words.{sym, subst, Release, Answered}, Answering.posted}
 use Rattle.par_lines.proofs.labels.release.Goals as goal
 
 pub returns-clause-did : goal.returns-clause-did

@@ -1,5 +1,4 @@
-use Rattle.par_lines.proofs.Words.{sym, subst, Takeover, Answered}
-use Rattle.par_lines.proofs.Answering.{looked}
+use Rattle.par_lines.proofs.{Words.{sym, subst, Takeover, Answered}, Answering.looked}
 use Rattle.par_lines.proofs.labels.takeover.Goals as goal
 
 pub returns-clause-did : goal.returns-clause-did

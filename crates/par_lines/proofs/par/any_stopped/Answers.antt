@@ -1,5 +1,4 @@
-use Rattle.par_lines.proofs.Words.{◌+◌, ◌||◌, ap, arith, drop, sym, ◌∙◌, list_any, stopped}
-use Rattle.par_lines.proofs.Dealing.{any_next, none_left}
+use Rattle.par_lines.proofs.{Words.{◌+◌, ◌||◌, ap, arith, drop, sym, ◌∙◌, list_any, stopped}, Dealing.{any_next, none_left}}
 use Rattle.par_lines.proofs.par.any_stopped.Goals as goal
 
 pub loop-part-preserved : goal.loop-part-preserved

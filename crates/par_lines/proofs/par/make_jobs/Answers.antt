@@ -1,6 +1,4 @@
-use Rattle.par_lines.proofs.Words.{◌≡◌, ◌+◌, ◌∷◌, [], ap, arith, false, length, length-append, map, ◌∙◌, sum_by, lines_of, units_in, IsNew}
-use Rattle.par_lines.proofs.Dealing.{all_more, ids_turn}
-use Rattle.par_lines.proofs.Gathering.{all_last, units_more}
+use Rattle.par_lines.proofs.{Words.{◌≡◌, ◌+◌, ◌∷◌, [], ap, arith, false, length, length-append, map, ◌∙◌, sum_by, lines_of, units_in, IsNew}, Dealing.{all_more, ids_turn}, Gathering.{all_last, units_more}}
 use Rattle.par_lines.proofs.par.make_jobs.Goals as goal
 
 pub new_job-requires-clause-own : goal.new_job-requires-clause-own

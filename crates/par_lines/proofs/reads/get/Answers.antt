@@ -1,6 +1,4 @@
-use Rattle.par_lines.proofs.Words.{◌≡◌, [], ap, drop, subst, sym, take, ◌∙◌, Ok, Get, is_outside, get_access, Answered}
-use Rattle.par_lines.proofs.Fetching.{get_line, get_parts, refused_read, wrong_get}
-use Rattle.par_lines.proofs.Writing.{wants}
+use Rattle.par_lines.proofs.{Words.{◌≡◌, [], ap, drop, subst, sym, take, ◌∙◌, Ok, Get, is_outside, get_access, Answered}, Fetching.{get_line, get_parts, refused_read, wrong_get}, Writing.wants}
 use Rattle.par_lines.proofs.reads.get.Goals as goal
 
 pub returns-then-is_outside-clause-did : goal.returns-then-is_outside-clause-did

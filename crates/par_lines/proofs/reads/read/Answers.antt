@@ -1,6 +1,4 @@
-use Rattle.par_lines.proofs.Words.{[], subst, sym, Read, Answered}
-use Rattle.par_lines.proofs.Fetching.{read_line}
-use Rattle.par_lines.proofs.Writing.{wants}
+use Rattle.par_lines.proofs.{Words.{[], subst, sym, Read, Answered}, Fetching.read_line, Writing.wants}
 use Rattle.par_lines.proofs.reads.read.Goals as goal
 
 pub returns-in-Ok-clause-did : goal.returns-in-Ok-clause-did

@@ -1,5 +1,4 @@
-use Rattle.par_lines.proofs.Words.{◌≡◌, ◌-◌, ◌++◌, ◌∷◌, [], ap, arith, length, length-append, map, refl, reverse, subst, sym, ◌∙◌, sum_by, times, WithRoom, IsPort, port_view, Part, part_of, units_in, AllTold, Finished}
-use Rattle.par_lines.proofs.Gathering.{all_last, clients_more, gather_more, joined_units, units_more}
+use Rattle.par_lines.proofs.{Words.{◌≡◌, ◌-◌, ◌++◌, ◌∷◌, [], ap, arith, length, length-append, map, refl, reverse, subst, sym, ◌∙◌, sum_by, times, WithRoom, IsPort, port_view, Part, part_of, units_in, AllTold, Finished}, Gathering.{all_last, clients_more, gather_more, joined_units, units_more}}
 use Rattle.par_lines.proofs.run.gather.Goals as goal
 
 pub finish-from-requires : goal.finish-from-requires

@@ -1,6 +1,4 @@
-use Rattle.par_lines.proofs.Words.{◌+◌, ap, reverse, subst, sym, ◌∙◌, All, port_view, IsNew}
-use Rattle.par_lines.proofs.Gathering.{jobs_done}
-use Rattle.par_lines.proofs.Sweeping.{told_all}
+use Rattle.par_lines.proofs.{Words.{◌+◌, ap, reverse, subst, sym, ◌∙◌, All, port_view, IsNew}, Gathering.jobs_done, Sweeping.told_all}
 use Rattle.par_lines.proofs.run.run_jobs.Goals as goal
 
 pub gather-requires-clause-jobs : goal.gather-requires-clause-jobs

@@ -1,5 +1,4 @@
-use Rattle.par_lines.proofs.Words.{◌∙◌}
-use Rattle.par_lines.proofs.Sweeping.{swept_last, swept_more}
+use Rattle.par_lines.proofs.{Words.◌∙◌, Sweeping.{swept_last, swept_more}}
 use Rattle.par_lines.proofs.run.sweep_all.Goals as goal
 
 pub returns-in-None-sweep-clause-all : goal.returns-in-None-sweep-clause-all

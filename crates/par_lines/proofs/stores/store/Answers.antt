@@ -1,5 +1,4 @@
-use Rattle.par_lines.proofs.Words.{◌≡◌, ◌∙◌, ◌<◌, arith, sym, own}
-use Rattle.par_lines.proofs.Storing.{blocks_at, has_own, no_own, regions_at, some_blocks, without_mode, without_pairs, without_store, without_tx}
+use Rattle.par_lines.proofs.{Words.{◌≡◌, ◌∙◌, ◌<◌, arith, sym, own}, Storing.{blocks_at, has_own, no_own, regions_at, some_blocks, without_mode, without_pairs, without_store, without_tx}}
 use Rattle.par_lines.proofs.stores.store.Goals as goal
 
 pub returns-in-None-clause-did : goal.returns-in-None-clause-did

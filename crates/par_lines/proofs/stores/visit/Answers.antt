@@ -1,5 +1,4 @@
-use Rattle.par_lines.proofs.Words.{own, Serial}
-use Rattle.par_lines.proofs.Storing.{has_own, may_call, visited}
+use Rattle.par_lines.proofs.{Words.{own, Serial}, Storing.{has_own, may_call, visited}}
 use Rattle.par_lines.proofs.stores.visit.Goals as goal
 
 pub call-called-requires-clause-areas : goal.call-called-requires-clause-areas

@@ -1,5 +1,4 @@
-use Rattle.par_lines.proofs.Words.{sym, subst, Compact, Answered}
-use Rattle.par_lines.proofs.Answering.{compacted}
+use Rattle.par_lines.proofs.{Words.{sym, subst, Compact, Answered}, Answering.compacted}
 use Rattle.par_lines.proofs.upkeep.compact.Goals as goal
 
 pub returns-clause-did : goal.returns-clause-did

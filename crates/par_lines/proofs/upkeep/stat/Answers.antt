@@ -1,6 +1,5 @@
-use Rattle.par_lines.proofs.Words.{sym, subst, Ok, Answered}
+use Rattle.par_lines.proofs.{Words.{sym, subst, Ok, Answered}, Answering.told_numbers}
 use Rattle.script_model.specs.declared.script.Op.TheVariants.{Stat}
-use Rattle.par_lines.proofs.Answering.{told_numbers}
 use Rattle.par_lines.proofs.upkeep.stat.Goals as goal
 
 pub returns-clause-did : goal.returns-clause-did

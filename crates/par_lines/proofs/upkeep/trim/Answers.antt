@@ -1,5 +1,4 @@
-use Rattle.par_lines.proofs.Words.{sym, subst, Trim, Answered}
-use Rattle.par_lines.proofs.Answering.{trimmed}
+use Rattle.par_lines.proofs.{Words.{sym, subst, Trim, Answered}, Answering.trimmed}
 use Rattle.par_lines.proofs.upkeep.trim.Goals as goal
 
 pub returns-clause-did : goal.returns-clause-did

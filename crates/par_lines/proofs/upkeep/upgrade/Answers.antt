@@ -1,5 +1,4 @@
-use Rattle.par_lines.proofs.Words.{sym, subst, Upgrade, Answered}
-use Rattle.par_lines.proofs.Answering.{upgraded}
+use Rattle.par_lines.proofs.{Words.{sym, subst, Upgrade, Answered}, Answering.upgraded}
 use Rattle.par_lines.proofs.upkeep.upgrade.Goals as goal
 
 pub returns-clause-did : goal.returns-clause-did

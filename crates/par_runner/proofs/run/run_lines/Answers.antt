@@ -1,5 +1,4 @@
-use Rattle.std.proofs.Common.{◌≡◌, ◌+◌, ◌++◌, [], ◌∷◌, take, ap, sym, ◌∙◌, arith}
-use Rattle.std.proofs.lemmas.List.{take_more}
+use Rattle.std.proofs.{Common.{◌≡◌, ◌+◌, ◌++◌, [], ◌∷◌, take, ap, sym, ◌∙◌, arith}, lemmas.List.take_more}
 use Rattle.par_runner.proofs.Goings.{went_more}
 use Rattle.par_runner.proofs.run.run_lines.Goals as goal
 

@@ -1,5 +1,4 @@
-use Rattle.par_text.proofs.Words.{commit_by}
-use Rattle.par_text.proofs.Lines.{items_more}
+use Rattle.par_text.proofs.{Words.commit_by, Lines.items_more}
 use Rattle.par_text.proofs.commit_line.add_commits.Goals as goal
 
 pub loop-line-preserved : goal.loop-line-preserved

@@ -1,5 +1,4 @@
-use Rattle.par_text.proofs.Words.{◌≡◌, ◌++◌, [], flat_map, subst, commit_by, commits_of}
-use Rattle.par_text.proofs.Lines.{items_more}
+use Rattle.par_text.proofs.{Words.{◌≡◌, ◌++◌, [], flat_map, subst, commit_by, commits_of}, Lines.items_more}
 use Rattle.par_text.proofs.commit_line.all_commits.Goals as goal
 
 pub loop-part-preserved : goal.loop-part-preserved

@@ -1,5 +1,4 @@
-use Rattle.par_text.proofs.Words.{◌≡◌, ◌∙◌, ap, ◌++◌, flat_map, map, subst, concat, on_ok_weaker, on_err_weaker, commit_line, told_lines, AreFirst}
-use Rattle.par_text.proofs.Lines.{any_err, front_of_replies, front_of_all_replies, front_with_commits, whole_text}
+use Rattle.par_text.proofs.{Words.{◌≡◌, ◌∙◌, ap, ◌++◌, flat_map, map, subst, concat, on_ok_weaker, on_err_weaker, commit_line, told_lines, AreFirst}, Lines.{any_err, front_of_replies, front_of_all_replies, front_with_commits, whole_text}}
 use Rattle.par_text.proofs.text.push_all.Goals as goal
 
 pub returns-in_err-push_all_told-clause-err : goal.returns-in_err-push_all_told-clause-err

@@ -1,5 +1,4 @@
-use Rattle.par_text.proofs.Words.{◌≡◌, ◌++◌, map, subst, concat, reply_line, told_lines, AreFirst}
-use Rattle.par_text.proofs.Lines.{any_err, first_more, some_more}
+use Rattle.par_text.proofs.{Words.{◌≡◌, ◌++◌, map, subst, concat, reply_line, told_lines, AreFirst}, Lines.{any_err, first_more, some_more}}
 use Rattle.par_text.proofs.text.push_all_told.Goals as goal
 
 pub returns-in_err-push_replies-clause-err : goal.returns-in_err-push_replies-clause-err

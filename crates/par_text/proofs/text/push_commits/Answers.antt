@@ -1,5 +1,4 @@
-use Rattle.par_text.proofs.Words.{get_or, get_or_default, CommitLine, commit_line}
-use Rattle.par_text.proofs.Lines.{any_err, first_now, one_more}
+use Rattle.par_text.proofs.{Words.{get_or, get_or_default, CommitLine, commit_line}, Lines.{any_err, first_now, one_more}}
 use Rattle.par_text.proofs.text.push_commits.Goals as goal
 
 pub returns-in_err-push_commit-clause-err : goal.returns-in_err-push_commit-clause-err

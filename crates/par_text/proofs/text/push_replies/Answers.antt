@@ -1,5 +1,4 @@
-use Rattle.par_text.proofs.Words.{◌∙◌, ap, ◌++◌, map, sym, subst, ◌≤◌, take_all, length-map, concat, reply_line}
-use Rattle.par_text.proofs.Lines.{any_err, first_now, one_more}
+use Rattle.par_text.proofs.{Words.{◌∙◌, ap, ◌++◌, map, sym, subst, ◌≤◌, take_all, length-map, concat, reply_line}, Lines.{any_err, first_now, one_more}}
 use Rattle.par_text.proofs.text.push_replies.Goals as goal
 
 pub returns-in_err-push_reply-clause-err : goal.returns-in_err-push_reply-clause-err

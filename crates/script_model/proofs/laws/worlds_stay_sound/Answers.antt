@@ -1,6 +1,4 @@
-use Rattle.script_model.proofs.ScriptBytes.{script_lines}
-use Rattle.script_model.proofs.Words.{empty_world_is, world_is_serial}
-use Rattle.script_model.proofs.Steps.{step_leads, after_leads}
+use Rattle.script_model.proofs.{ScriptBytes.script_lines, Words.{empty_world_is, world_is_serial}, Steps.{step_leads, after_leads}}
 use Rattle.script_model.proofs.laws.worlds_stay_sound.Goals as goal
 
 pub returns : goal.returns

@@ -1,6 +1,4 @@
-use Rattle.script_runner.proofs.Words.{◌≡◌, ◌<◌, ℕ, List, [], ◌∷◌, Err, length, take, ap, inl, inr, refl, sym, subst, ◌∙◌, append_known, append_known-nil, WroteFront, Failed, TookNothing, Line, replies, Disk, Memory, Output, SinkFailed, text_of, IfTold}
-use Rattle.script_runner.proofs.Replying.{is_reply, made_is, put_front, put_one, put_silent, reply_is}
-use Rattle.script_runner.proofs.Steps.{counts_stand, halted_one, halted_step, ran_one}
+use Rattle.script_runner.proofs.{Words.{◌≡◌, ◌<◌, ℕ, List, [], ◌∷◌, Err, length, take, ap, inl, inr, refl, sym, subst, ◌∙◌, append_known, append_known-nil, WroteFront, Failed, TookNothing, Line, replies, Disk, Memory, Output, SinkFailed, text_of, IfTold}, Replying.{is_reply, made_is, put_front, put_one, put_silent, reply_is}, Steps.{counts_stand, halted_one, halted_step, ran_one}}
 use Rattle.script_runner.proofs.line.answer_line.Goals as goal
 
 pub returns-in-Err-Disk-clause-halted : goal.returns-in-Err-Disk-clause-halted

@@ -1,6 +1,4 @@
-use Rattle.script_runner.proofs.Words.{◌∙◌, Ok, ap}
-use Rattle.script_runner.proofs.Answering.{answered_line}
-use Rattle.script_runner.proofs.Steps.{ran_none}
+use Rattle.script_runner.proofs.{Words.{◌∙◌, Ok, ap}, Answering.answered_line, Steps.ran_none}
 use Rattle.script_runner.proofs.line.answer_parsed.Goals as goal
 
 pub returns-in-Ok-Skip : goal.returns-in-Ok-Skip

@@ -1,5 +1,4 @@
-use Rattle.script_runner.proofs.Words.{◌≡◌, ◌++◌, ℕ, List, [], ◌∷◌, length, ap, refl, sym, subst, ◌∙◌, append_assoc, append-nil, length-append, arith, Memory, EndsAt, Reads, end_of}
-use Rattle.script_runner.proofs.Answering.{ends_before, in_piece, reads_rest, unheld_ends}
+use Rattle.script_runner.proofs.{Words.{◌≡◌, ◌++◌, ℕ, List, [], ◌∷◌, length, ap, refl, sym, subst, ◌∙◌, append_assoc, append-nil, length-append, arith, Memory, EndsAt, Reads, end_of}, Answering.{ends_before, in_piece, reads_rest, unheld_ends}}
 use Rattle.script_runner.proofs.piece.answer_piece.Goals as goal
 
 pub loop-line-init : goal.loop-line-init

@@ -1,6 +1,4 @@
-use Rattle.script_runner.proofs.Words.{parse_whole}
-use Rattle.script_runner.proofs.Answering.{ends_line, reads_line}
-use Rattle.script_runner.proofs.Said.{given_line, whole_says_line}
+use Rattle.script_runner.proofs.{Words.parse_whole, Answering.{ends_line, reads_line}, Said.{given_line, whole_says_line}}
 use Rattle.script_runner.proofs.piece.answer_whole.Goals as goal
 
 pub answer_parsed-answered-requires-clause-line : goal.answer_parsed-answered-requires-clause-line

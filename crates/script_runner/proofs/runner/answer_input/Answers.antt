@@ -1,5 +1,4 @@
-use Rattle.script_runner.proofs.Words.{◌≡◌, ◌≤◌, ◌++◌, ℕ, List, [], length, take, refl, sym, subst, ap, ◌∙◌, length-append, length-take, append-nil, arith, Gave, Reads}
-use Rattle.script_runner.proofs.Endings.{cut_runs, gave_more, gave_none, met_end, reads_none, starved_runs}
+use Rattle.script_runner.proofs.{Words.{◌≡◌, ◌≤◌, ◌++◌, ℕ, List, [], length, take, refl, sym, subst, ap, ◌∙◌, length-append, length-take, append-nil, arith, Gave, Reads}, Endings.{cut_runs, gave_more, gave_none, met_end, reads_none, starved_runs}}
 use Rattle.script_runner.proofs.runner.answer_input.Goals as goal
 
 pub loop-left-init : goal.loop-left-init

@@ -1,6 +1,4 @@
-use Rattle.script_runner.proofs.Words.{◌<◌, ℕ, List, length, subst, sym, ◌∙◌, parse, Gives, RunEnd, HasRun}
-use Rattle.script_runner.proofs.Endings.{done_runs, last_done, last_runs, none_held, some_held}
-use Rattle.script_runner.proofs.Said.{given_line, says_line}
+use Rattle.script_runner.proofs.{Words.{◌<◌, ℕ, List, length, subst, sym, ◌∙◌, parse, Gives, RunEnd, HasRun}, Endings.{done_runs, last_done, last_runs, none_held, some_held}, Said.{given_line, says_line}}
 use Rattle.script_runner.proofs.runner.answer_last.Goals as goal
 
 pub returns-then-is_empty : goal.returns-then-is_empty

@@ -1,6 +1,4 @@
-use Rattle.script_runner.proofs.Words.{◌≡◌, ◌<◌, ◌≤◌, ◌+◌, ◌++◌, ℕ, List, length, take, length-append, length-take, refl, subst, sym, arith, MAX_INPUT, MAX_LINE, RunEnd, Gave, HasRun}
-use Rattle.script_runner.specs.declared.run_end.Halt.TheVariants.{BadLine}
-use Rattle.script_runner.proofs.Endings.{gave_more, halt_runs, input_runs, long_ends}
+use Rattle.script_runner.{proofs.Words.{◌≡◌, ◌<◌, ◌≤◌, ◌+◌, ◌++◌, ℕ, List, length, take, length-append, length-take, refl, subst, sym, arith, MAX_INPUT, MAX_LINE, RunEnd, Gave, HasRun}, specs.declared.run_end.Halt.TheVariants.BadLine, proofs.Endings.{gave_more, halt_runs, input_runs, long_ends}}
 use Rattle.script_runner.proofs.runner.answer_next.Goals as goal
 
 fits : (bytes piece into : List ℕ) (count : ℕ) → length into ≡ length piece → length bytes + length piece ≤ MAX_INPUT → length (bytes ++ take count into) ≤ MAX_INPUT

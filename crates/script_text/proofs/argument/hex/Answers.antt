@@ -1,8 +1,5 @@
-use Rattle.script_text.proofs.Words.{sym, ◌∙◌, ap, ok_or, eqb-true, eqb-false, with_items_is}
+use Rattle.script_text.proofs.{Words.{sym, ◌∙◌, ap, ok_or, eqb-true, eqb-false, with_items_is}, HexLemmas.{hex_argument-empty, hex_argument-odd}, HexPairs.argument_is, argument.hex.Goals.{then-is_empty-via-then-is_empty, then-is_empty-via-else-is_empty+then-word-eq1}}
 use Rattle.std.specs.Prelude.{Ok}
-use Rattle.script_text.proofs.HexLemmas.{hex_argument-empty, hex_argument-odd}
-use Rattle.script_text.proofs.HexPairs.{argument_is}
-use Rattle.script_text.proofs.argument.hex.Goals.{then-is_empty-via-then-is_empty, then-is_empty-via-else-is_empty+then-word-eq1}
 use Rattle.script_text.proofs.argument.hex.Goals as goal
 
 pub returns-then-is_empty : goal.returns-then-is_empty

@@ -1,5 +1,4 @@
-use Rattle.script_text.proofs.Words.{codes, decimal}
-use Rattle.script_text.proofs.Extending.{on_two}
+use Rattle.script_text.proofs.{Words.{codes, decimal}, Extending.on_two}
 use Rattle.script_text.proofs.grouped.push_full.Goals as goal
 
 pub returns-clause-ok : goal.returns-clause-ok

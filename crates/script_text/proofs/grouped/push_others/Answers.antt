@@ -1,5 +1,4 @@
-use Rattle.script_text.proofs.Words.{◌++◌, codes, flat_map, take, label_text}
-use Rattle.script_text.proofs.Extending.{always, on_err}
+use Rattle.script_text.proofs.{Words.{◌++◌, codes, flat_map, take, label_text}, Extending.{always, on_err}}
 use Rattle.script_text.proofs.grouped.push_others.Goals as goal
 
 pub returns-in_err-push_other-clause-err : goal.returns-in_err-push_other-clause-err

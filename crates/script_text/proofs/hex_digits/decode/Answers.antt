@@ -1,5 +1,4 @@
-use Rattle.script_text.proofs.Words.{arith, hex_pairs}
-use Rattle.script_text.proofs.HexPairs.{is_pair, read_at, read_all, read_none}
+use Rattle.script_text.proofs.{Words.{arith, hex_pairs}, HexPairs.{is_pair, read_at, read_all, read_none}}
 use Rattle.script_text.proofs.hex_digits.decode.Goals as goal
 
 pub bytes-init : goal.bytes-init

@@ -1,5 +1,4 @@
-use Rattle.script_text.proofs.Words.{◌≡◌, ◌*◌, take, drop, hex_pairs}
-use Rattle.script_text.proofs.HexPairs.{read_on}
+use Rattle.script_text.proofs.{Words.{◌≡◌, ◌*◌, take, drop, hex_pairs}, HexPairs.read_on}
 use Rattle.script_text.proofs.hex_digits.decode.Given as goal
 
 abbrev pub invariant-bytes : goal.invariant-bytes

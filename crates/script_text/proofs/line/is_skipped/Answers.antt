@@ -1,5 +1,4 @@
-use Rattle.script_text.proofs.Words.{nat_eq, rules, tests, YieldsList-from_slice, all_from_yields_List}
-use Rattle.script_text.proofs.LineLemmas.{is_skipped-no_comment}
+use Rattle.script_text.proofs.{Words.{nat_eq, rules, tests, YieldsList-from_slice, all_from_yields_List}, LineLemmas.is_skipped-no_comment}
 use Rattle.script_text.proofs.line.is_skipped.Goals as goal
 
 pub returns-else-starts_with : goal.returns-else-starts_with

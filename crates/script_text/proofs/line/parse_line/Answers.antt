@@ -1,6 +1,4 @@
-use Rattle.script_text.proofs.Words.{ℕ, Result, arith, subst, sym, ◌∙◌, ap, length-take-le, said, words_of, Parsed, Gives}
-use Rattle.script_text.proofs.EnoughWords.{said-first_words}
-use Rattle.script_text.proofs.LineLemmas.{parse-said}
+use Rattle.script_text.proofs.{Words.{ℕ, Result, arith, subst, sym, ◌∙◌, ap, length-take-le, said, words_of, Parsed, Gives}, EnoughWords.said-first_words, LineLemmas.parse-said}
 use Rattle.script_text.proofs.line.parse_line.Goals as goal
 
 pub slice_bounds-places-end-2 : goal.slice_bounds-places-end-2

@@ -1,5 +1,4 @@
-use Rattle.script_text.proofs.Words.{[], ◌∷◌, ap, ◌∙◌, refl, Bor, List, ℕ, Decides-eqb, strip_suffix_is}
-use Rattle.script_text.proofs.LineLemmas.{without_return-stripped}
+use Rattle.script_text.proofs.{Words.{[], ◌∷◌, ap, ◌∙◌, refl, Bor, List, ℕ, Decides-eqb, strip_suffix_is}, LineLemmas.without_return-stripped}
 use Rattle.script_text.proofs.line.without_return.Goals as goal
 
 pub returns : goal.returns

@@ -1,5 +1,4 @@
-use Rattle.script_text.proofs.Words.{flat_map, take, pair_text}
-use Rattle.script_text.proofs.Extending.{always, on_err}
+use Rattle.script_text.proofs.{Words.{flat_map, take, pair_text}, Extending.{always, on_err}}
 use Rattle.script_text.proofs.pairs.push_all.Goals as goal
 
 pub returns-in_err-push_pair-clause-err : goal.returns-in_err-push_pair-clause-err

@@ -1,5 +1,4 @@
-use Rattle.script_text.proofs.Words.{◌≡◌, ◌∙◌, ◌≤◌, [], ◌∷◌, ◌++◌, List, ℕ, Ok, ap, append_assoc, decimal, length, subst, sym, MAX_LINE, parse, arguments_of, line_text, name_of, spaced, Says}
-use Rattle.script_text.proofs.Readings.{parse-printed}
+use Rattle.script_text.proofs.{Words.{◌≡◌, ◌∙◌, ◌≤◌, [], ◌∷◌, ◌++◌, List, ℕ, Ok, ap, append_assoc, decimal, length, subst, sym, MAX_LINE, parse, arguments_of, line_text, name_of, spaced, Says}, Readings.parse-printed}
 use Rattle.script_text.proofs.print.print_line.Goals as goal
 
 -- the parts of a line, pushed one after the other

@@ -1,5 +1,4 @@
-use Rattle.script_text.proofs.Words.{codes}
-use Rattle.script_text.proofs.Spaces.{on_spaced}
+use Rattle.script_text.proofs.{Words.codes, Spaces.on_spaced}
 use Rattle.script_text.proofs.print.push_group.Goals as goal
 
 pub returns : goal.returns

@@ -1,5 +1,4 @@
-use Rattle.script_text.proofs.Words.{Result, Ok, Err, ◌∙◌, arith, IsOk, OnOk, false≢true}
-use Rattle.script_text.proofs.HexLemmas.{encode_lower-hex_text}
+use Rattle.script_text.proofs.{Words.{Result, Ok, Err, ◌∙◌, arith, IsOk, OnOk, false≢true}, HexLemmas.encode_lower-hex_text}
 use Rattle.script_text.proofs.push.write_hex.Goals as goal
 
 on_ok : {T E P : Type 0} (r : Result T E) → IsOk r → OnOk r P → P

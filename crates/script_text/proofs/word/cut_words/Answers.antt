@@ -1,9 +1,6 @@
 -- A word that has bytes takes the next place, while there is one.
-use Rattle.script_text.proofs.Words.{◌≡◌, ◌∙◌, ◌<◌, arith, Bor, ℕ, List, [], ◌∷◌, ◌++◌, length, take, nat_tests, length-set, words_of, texts, MOST_WORDS}
-use Rattle.script_text.proofs.FirstItems.{first_grow, first_stay}
-use Rattle.script_text.proofs.WordCuts.{cut_all, cut_more, cut_none, length_nil}
+use Rattle.script_text.proofs.{Words.{◌≡◌, ◌∙◌, ◌<◌, arith, Bor, ℕ, List, [], ◌∷◌, ◌++◌, length, take, nat_tests, length-set, words_of, texts, MOST_WORDS}, FirstItems.{first_grow, first_stay}, WordCuts.{cut_all, cut_more, cut_none, length_nil}, word.cut_words.Goals.{else-not-is_empty-via-then-not-is_empty+else-count-lt-MOST_WORDS, else-not-is_empty-via-else-not-is_empty}}
 use Rattle.script_text.proofs.word.cut_words.Goals as goal
-use Rattle.script_text.proofs.word.cut_words.Goals.{else-not-is_empty-via-then-not-is_empty+else-count-lt-MOST_WORDS, else-not-is_empty-via-else-not-is_empty}
 
 pub loop-rest-preserved-then-count-lt-MOST_WORDS :
     goal.loop-rest-preserved-then-count-lt-MOST_WORDS

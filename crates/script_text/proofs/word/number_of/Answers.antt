@@ -1,6 +1,5 @@
 -- What a word that is no number fails by, and the number of any other.
-use Rattle.script_text.proofs.Words.{arith, ◌∙◌}
-use Rattle.script_text.proofs.WordLemmas.{is_decimal-whole, number_of-begun, number_of-no_digit, number_of-over, number_of-whole}
+use Rattle.script_text.proofs.{Words.{arith, ◌∙◌}, WordLemmas.{is_decimal-whole, number_of-begun, number_of-no_digit, number_of-over, number_of-whole}}
 use Rattle.script_text.proofs.word.number_of.Goals as goal
 
 pub returns-then-not-may_be_decimal : goal.returns-then-not-may_be_decimal

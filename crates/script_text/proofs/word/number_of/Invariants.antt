@@ -1,6 +1,5 @@
 -- The digits so far, and the value of all.
-use Rattle.script_text.proofs.Words.{◌≡◌, ◌<◌, ◌^◌, true, drop, take, list_all, is_digit, value_of, may_be_decimal}
-use Rattle.script_text.proofs.WordLemmas.{value_after}
+use Rattle.script_text.proofs.{Words.{◌≡◌, ◌<◌, ◌^◌, true, drop, take, list_all, is_digit, value_of, may_be_decimal}, WordLemmas.value_after}
 use Rattle.script_text.proofs.word.number_of.Given as goal
 
 abbrev pub invariant-loop-digit : goal.invariant-loop-digit

@@ -1,5 +1,4 @@
-use Rattle.script_text.proofs.Words.{◌≡◌, ◌-◌, ◌∙◌, ap, Some, arith}
-use Rattle.script_text.proofs.WordLemmas.{number_of-one, number_of-not_one}
+use Rattle.script_text.proofs.{Words.{◌≡◌, ◌-◌, ◌∙◌, ap, Some, arith}, WordLemmas.{number_of-one, number_of-not_one}}
 use Rattle.script_text.proofs.word.one_digit.Goals as goal
 
 pub returns-then-not-is_ascii_digit : goal.returns-then-not-is_ascii_digit

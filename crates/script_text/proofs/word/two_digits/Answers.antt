@@ -1,5 +1,4 @@
-use Rattle.script_text.proofs.Words.{◌*◌, ◌+◌, ◌∙◌, [], ◌∷◌, Some, arith}
-use Rattle.script_text.proofs.WordLemmas.{number_of-no_decimal, number_of-two}
+use Rattle.script_text.proofs.{Words.{◌*◌, ◌+◌, ◌∙◌, [], ◌∷◌, Some, arith}, WordLemmas.{number_of-no_decimal, number_of-two}}
 use Rattle.script_text.proofs.word.two_digits.Goals as goal
 
 pub returns-then-not-contains : goal.returns-then-not-contains

@@ -1,12 +1,7 @@
-use Rattle.iso_core.specs.declared.core_itself.Core.{Core}
-use Rattle.iso_core.specs.Core.{StandsFor, disk_of}
-use Rattle.iso_core.specs.Standing.{up}
-use Rattle.iso_memdisk.specs.declared.disk.MemDisk.{MemDisk}
-use Rattle.iso_memdisk.specs.Laws.{lawful}
-use Rattle.iso_memdisk.specs.MemDisk.{state_of}
+use Rattle.iso_core.specs.{declared.core_itself.Core.Core, Core.{StandsFor, disk_of}, Standing.up}
+use Rattle.iso_memdisk.specs.{declared.disk.MemDisk.MemDisk, Laws.lawful, MemDisk.state_of}
 use Rattle.iso_model.specs.World.{empty_history, fresh}
-use Rattle.iso_shared.specs.TestImage.{small}
-use Rattle.iso_shared.proofs.TestStarts.{may_start, ok_has}
+use Rattle.iso_shared.{specs.TestImage.small, proofs.TestStarts.{may_start, ok_has}}
 use Rattle.shared_tests.proofs.answer_tests.checked_ahead.Goals as goal
 
 pub run_ahead-requires : goal.run_ahead-requires

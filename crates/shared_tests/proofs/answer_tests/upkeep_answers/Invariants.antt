@@ -2,8 +2,7 @@
 use Rattle.iso_core.specs.Core.{disk_of}
 use Rattle.iso_memdisk.specs.MemDisk.{state_of}
 use Rattle.iso_model.specs.World.{empty_history, fresh}
-use Rattle.iso_shared.specs.Standing.{start_at}
-use Rattle.iso_shared.specs.TestImage.{small}
+use Rattle.iso_shared.specs.{Standing.start_at, TestImage.small}
 use Rattle.shared_tests.proofs.answer_tests.upkeep_answers.Given as goal
 
 abbrev pub ghosts-run_upkeep : goal.ghosts-run_upkeep

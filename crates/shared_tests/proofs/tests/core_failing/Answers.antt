@@ -1,10 +1,7 @@
 use Rattle.std.proofs.Common.{subst}
-use Rattle.iso_core.specs.Core.{StandsFor}
-use Rattle.iso_core.specs.Standing.{up}
-use Rattle.iso_memdisk.specs.MemDisk.{state_of}
-use Rattle.iso_model.specs.declared.access.Geometry.{Geometry}
-use Rattle.iso_model.specs.World.{empty_history, fresh}
-use Rattle.iso_memdisk.proofs.Blank.{blank_now, still_starts}
+use Rattle.iso_core.specs.{Core.StandsFor, Standing.up}
+use Rattle.iso_memdisk.{specs.MemDisk.state_of, proofs.Blank.{blank_now, still_starts}}
+use Rattle.iso_model.specs.{declared.access.Geometry.Geometry, World.{empty_history, fresh}}
 use Rattle.shared_tests.proofs.tests.core_failing.Goals as goal
 
 pub format_image-requires-clause-blank : goal.format_image-requires-clause-blank

@@ -1,6 +1,5 @@
-use Rattle.store_calls.proofs.Words.{create_program, areas_of}
+use Rattle.store_calls.proofs.{Words.{create_program, areas_of}, Called.{file_ok, file_refused}}
 use Rattle.script_model.specs.declared.script.Reply.TheVariants as reply
-use Rattle.store_calls.proofs.Called.{file_ok, file_refused}
 use Rattle.store_calls.proofs.file.create.Goals as goal
 
 pub returns-in-Err : goal.returns-in-Err

@@ -1,5 +1,4 @@
-use Rattle.store_calls.proofs.Words.{rename_program, removed_reply, areas_of}
-use Rattle.store_calls.proofs.Called.{file_refused}
+use Rattle.store_calls.proofs.{Words.{rename_program, removed_reply, areas_of}, Called.file_refused}
 use Rattle.store_calls.proofs.file.rename.Goals as goal
 
 pub returns-in-Err : goal.returns-in-Err

@@ -1,5 +1,4 @@
-use Rattle.store_calls.proofs.Words.{del_program, removed_reply, area_of}
-use Rattle.store_calls.proofs.Called.{refused}
+use Rattle.store_calls.proofs.{Words.{del_program, removed_reply, area_of}, Called.refused}
 use Rattle.store_calls.proofs.hash.delete.Goals as goal
 
 pub returns-in-Err : goal.returns-in-Err

@@ -1,5 +1,4 @@
-use Rattle.store_calls.proofs.Words.{get_program, found_reply, area_of}
-use Rattle.store_calls.proofs.Called.{refused}
+use Rattle.store_calls.proofs.{Words.{get_program, found_reply, area_of}, Called.refused}
 use Rattle.store_calls.proofs.hash.get.Goals as goal
 
 pub returns-in-Err : goal.returns-in-Err

@@ -1,6 +1,5 @@
-use Rattle.store_calls.proofs.Words.{put_program, area_of}
+use Rattle.store_calls.proofs.{Words.{put_program, area_of}, Called.{called_ok, refused}}
 use Rattle.script_model.specs.declared.script.Reply.TheVariants as reply
-use Rattle.store_calls.proofs.Called.{called_ok, refused}
 use Rattle.store_calls.proofs.hash.put.Goals as goal
 
 pub returns-in-Err : goal.returns-in-Err

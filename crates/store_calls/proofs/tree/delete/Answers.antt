@@ -1,6 +1,5 @@
-use Rattle.store_calls.proofs.Words.{removed_reply, area_of}
+use Rattle.store_calls.proofs.{Words.{removed_reply, area_of}, Called.refused}
 use Rattle.store_model.specs.TreeCalls.{del_program}
-use Rattle.store_calls.proofs.Called.{refused}
 use Rattle.store_calls.proofs.tree.delete.Goals as goal
 
 pub returns-in-Err : goal.returns-in-Err

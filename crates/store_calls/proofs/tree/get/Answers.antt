@@ -1,6 +1,5 @@
-use Rattle.store_calls.proofs.Words.{found_reply, area_of}
+use Rattle.store_calls.proofs.{Words.{found_reply, area_of}, Called.refused}
 use Rattle.store_model.specs.TreeCalls.{get_program}
-use Rattle.store_calls.proofs.Called.{refused}
 use Rattle.store_calls.proofs.tree.get.Goals as goal
 
 pub returns-in-Err : goal.returns-in-Err

@@ -1,7 +1,6 @@
-use Rattle.store_calls.proofs.Words.{area_of}
+use Rattle.store_calls.proofs.{Words.area_of, Called.{called_ok, refused}}
 use Rattle.script_model.specs.declared.script.Reply.TheVariants as reply
 use Rattle.store_model.specs.TreeCalls.{put_program}
-use Rattle.store_calls.proofs.Called.{called_ok, refused}
 use Rattle.store_calls.proofs.tree.put.Goals as goal
 
 pub returns-in-Err : goal.returns-in-Err

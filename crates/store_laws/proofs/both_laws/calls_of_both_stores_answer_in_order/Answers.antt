@@ -1,5 +1,4 @@
-use Rattle.store_laws.proofs.Words.{hash_store, hash_is_of_its_blocks, tree_store, tree_is_of_its_blocks}
-use Rattle.store_laws.proofs.TwoStores.{both_commits, both_live, both_read_only, both_well_formed}
+use Rattle.store_laws.proofs.{Words.{hash_store, hash_is_of_its_blocks, tree_store, tree_is_of_its_blocks}, TwoStores.{both_commits, both_live, both_read_only, both_well_formed}}
 use Rattle.store_laws.proofs.both_laws.calls_of_both_stores_answer_in_order.Goals as goal
 
 pub returns : goal.returns

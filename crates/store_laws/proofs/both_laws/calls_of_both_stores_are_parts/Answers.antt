@@ -1,9 +1,7 @@
 use Rattle.store_model.specs.HashCalls as hash
-use Rattle.store_laws.proofs.Words.{IsHashRegion, hash_map, IsTreeRegion, tree_map, Del, Found, Get, Got, Put, WasPut, WasThere, OnKey, Scan}
+use Rattle.store_laws.proofs.{Words.{IsHashRegion, hash_map, IsTreeRegion, tree_map, Del, Found, Get, Got, Put, WasPut, WasThere, OnKey, Scan}, BothCalls.{hash_part, tree_part}, KeyCalls.{del_local, got_local, put_local, scan_local}}
 use Rattle.store_model.specs.TreeCalls as tree
-use Rattle.store_laws.proofs.BothCalls.{hash_part, tree_part}
 use Rattle.store_laws.proofs.HashWrites as hash_writes
-use Rattle.store_laws.proofs.KeyCalls.{del_local, got_local, put_local, scan_local}
 use Rattle.store_laws.proofs.TreeWrites as tree_writes
 use Rattle.store_laws.proofs.both_laws.calls_of_both_stores_are_parts.Goals as goal
 

@@ -1,7 +1,6 @@
-use Rattle.store_laws.proofs.Words.{arith, inl, zeros, hash_area, tree_area, limits, hash_area_is, tree_area_is}
+use Rattle.store_laws.proofs.{Words.{arith, inl, zeros, hash_area, tree_area, limits, hash_area_is, tree_area_is}, Zeros.zeros_blank}
 use Rattle.store_laws.proofs.HashBlank as hash
 use Rattle.store_laws.proofs.TreeBlank as tree
-use Rattle.store_laws.proofs.Zeros.{zeros_blank}
 use Rattle.store_laws.proofs.both_laws.stores_of_an_image_are_apart.Goals as goal
 
 pub returns : goal.returns

@@ -1,5 +1,4 @@
-use Rattle.store_laws.proofs.Words.{hash_store, hash_is_of_its_blocks, file_store, files_are_of_their_blocks}
-use Rattle.store_laws.proofs.TwoStores.{both_commits, both_live, both_read_only, both_well_formed}
+use Rattle.store_laws.proofs.{Words.{hash_store, hash_is_of_its_blocks, file_store, files_are_of_their_blocks}, TwoStores.{both_commits, both_live, both_read_only, both_well_formed}}
 use Rattle.store_laws.proofs.file_laws.calls_of_hash_and_files_answer_in_order.Goals as goal
 
 pub returns : goal.returns

@@ -1,10 +1,6 @@
-use Rattle.store_laws.proofs.Words.{IsHashRegion, hash_map, Del, Get, Got, Put, WasPut, WasThere, create_program, read_program, remove_program, rename_program, write_program, AreFileRegions, files, FileMade, FileRead, FileThere, MakeFile, ReadFile, RemoveFile, RenameFile, WriteFile}
+use Rattle.store_laws.proofs.{Words.{IsHashRegion, hash_map, Del, Get, Got, Put, WasPut, WasThere, create_program, read_program, remove_program, rename_program, write_program, AreFileRegions, files, FileMade, FileRead, FileThere, MakeFile, ReadFile, RemoveFile, RenameFile, WriteFile}, FileCalls.{made_local, read_local, remove_local, rename_local, write_local}, FileParts.{file_part, hash_beside}, FileWrites.{create_in, ran_within, read_in, remove_in, rename_in, write_in}, KeyCalls.{del_local, got_local, put_local}}
 use Rattle.store_model.specs.HashCalls as hash
-use Rattle.store_laws.proofs.FileCalls.{made_local, read_local, remove_local, rename_local, write_local}
-use Rattle.store_laws.proofs.FileParts.{file_part, hash_beside}
-use Rattle.store_laws.proofs.FileWrites.{create_in, ran_within, read_in, remove_in, rename_in, write_in}
 use Rattle.store_laws.proofs.HashWrites as hash_writes
-use Rattle.store_laws.proofs.KeyCalls.{del_local, got_local, put_local}
 use Rattle.store_laws.proofs.file_laws.calls_of_hash_and_files_are_parts.Goals as goal
 
 pub returns : goal.returns

@@ -1,5 +1,4 @@
-use Rattle.store_laws.proofs.Words.{file_store, files_are_of_their_blocks}
-use Rattle.store_laws.proofs.Histories.{commits_in_order, read_only_at}
+use Rattle.store_laws.proofs.{Words.{file_store, files_are_of_their_blocks}, Histories.{commits_in_order, read_only_at}}
 use Rattle.store_laws.proofs.file_laws.committed_file_calls_answer_in_order.Goals as goal
 
 pub returns-clause-history : goal.returns-clause-history

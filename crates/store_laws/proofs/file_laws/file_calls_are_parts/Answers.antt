@@ -1,6 +1,4 @@
-use Rattle.store_laws.proofs.Words.{AreFileRegions, files, FileMade, FileRead, FileThere, MakeFile, ReadFile, RemoveFile, RenameFile, WriteFile, file_store}
-use Rattle.store_laws.proofs.FileCalls.{made_local, read_local, remove_local, rename_local, write_local}
-use Rattle.store_laws.proofs.Growth.{called}
+use Rattle.store_laws.proofs.{Words.{AreFileRegions, files, FileMade, FileRead, FileThere, MakeFile, ReadFile, RemoveFile, RenameFile, WriteFile, file_store}, FileCalls.{made_local, read_local, remove_local, rename_local, write_local}, Growth.called}
 use Rattle.store_laws.proofs.file_laws.file_calls_are_parts.Goals as goal
 
 pub returns : goal.returns

@@ -1,5 +1,4 @@
-use Rattle.store_laws.proofs.Words.{create_program, read_program, remove_program, rename_program, write_program}
-use Rattle.store_laws.proofs.FileWrites.{create_in, ran_within, read_in, remove_in, rename_in, write_in}
+use Rattle.store_laws.proofs.{Words.{create_program, read_program, remove_program, rename_program, write_program}, FileWrites.{create_in, ran_within, read_in, remove_in, rename_in, write_in}}
 use Rattle.store_laws.proofs.file_laws.file_calls_write_their_areas.Goals as goal
 
 pub returns : goal.returns

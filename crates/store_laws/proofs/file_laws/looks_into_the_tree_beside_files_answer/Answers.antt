@@ -1,5 +1,4 @@
-use Rattle.store_laws.proofs.Words.{tree_store, files_are_of_their_blocks, file_store}
-use Rattle.store_laws.proofs.Looking.{commit_calls, commit_looks, live_looks}
+use Rattle.store_laws.proofs.{Words.{tree_store, files_are_of_their_blocks, file_store}, Looking.{commit_calls, commit_looks, live_looks}}
 use Rattle.store_laws.proofs.file_laws.looks_into_the_tree_beside_files_answer.Goals as goal
 
 pub returns : goal.returns

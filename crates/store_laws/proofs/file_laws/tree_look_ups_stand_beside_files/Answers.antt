@@ -1,6 +1,5 @@
-use Rattle.store_laws.proofs.Words.{hash_store, tree_store, read_program, read_reads, get_reads, program_reads, file_store}
+use Rattle.store_laws.proofs.{Words.{hash_store, tree_store, read_program, read_reads, get_reads, program_reads, file_store}, FileParts.reads_beside}
 use Rattle.store_model.specs.TreeCalls as tree
-use Rattle.store_laws.proofs.FileParts.{reads_beside}
 use Rattle.store_laws.proofs.file_laws.tree_look_ups_stand_beside_files.Goals as goal
 
 pub returns : goal.returns

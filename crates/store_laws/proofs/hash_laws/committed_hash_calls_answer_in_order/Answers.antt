@@ -1,5 +1,4 @@
-use Rattle.store_laws.proofs.Words.{hash_store, hash_is_of_its_blocks}
-use Rattle.store_laws.proofs.Histories.{commits_in_order, read_only_at}
+use Rattle.store_laws.proofs.{Words.{hash_store, hash_is_of_its_blocks}, Histories.{commits_in_order, read_only_at}}
 use Rattle.store_laws.proofs.hash_laws.committed_hash_calls_answer_in_order.Goals as goal
 
 pub returns-clause-history : goal.returns-clause-history

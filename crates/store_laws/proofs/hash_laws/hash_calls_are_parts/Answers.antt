@@ -1,6 +1,4 @@
-use Rattle.store_laws.proofs.Words.{IsHashRegion, hash_map, Del, Get, Got, Put, WasPut, WasThere, hash_store}
-use Rattle.store_laws.proofs.Growth.{called}
-use Rattle.store_laws.proofs.KeyCalls.{del_local, got_local, put_local}
+use Rattle.store_laws.proofs.{Words.{IsHashRegion, hash_map, Del, Get, Got, Put, WasPut, WasThere, hash_store}, Growth.called, KeyCalls.{del_local, got_local, put_local}}
 use Rattle.store_laws.proofs.hash_laws.hash_calls_are_parts.Goals as goal
 
 pub returns : goal.returns

@@ -1,5 +1,4 @@
-use Rattle.store_laws.proofs.Programs.{spare_where_apart}
-use Rattle.store_laws.proofs.TwoStores.{both_commit, both_commits, both_live, both_read_only, both_well_formed}
+use Rattle.store_laws.proofs.{Programs.spare_where_apart, TwoStores.{both_commit, both_commits, both_live, both_read_only, both_well_formed}}
 use Rattle.store_laws.proofs.laws.calls_of_two_stores_answer_in_order.Goals as goal
 
 pub returns : goal.returns

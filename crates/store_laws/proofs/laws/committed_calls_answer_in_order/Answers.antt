@@ -1,6 +1,4 @@
-use Rattle.store_laws.proofs.Words.{inr}
-use Rattle.store_laws.proofs.Histories.{commits_in_order, live_at, read_only_at, well_formed_at}
-use Rattle.store_laws.proofs.InOrder.{commit_by}
+use Rattle.store_laws.proofs.{Words.inr, Histories.{commits_in_order, live_at, read_only_at, well_formed_at}, InOrder.commit_by}
 use Rattle.store_laws.proofs.laws.committed_calls_answer_in_order.Goals as goal
 
 pub returns : goal.returns

@@ -1,5 +1,4 @@
-use Rattle.store_laws.proofs.Growth.{begun, called, other, refused}
-use Rattle.store_laws.proofs.Longer.{commits_by_calls}
+use Rattle.store_laws.proofs.{Growth.{begun, called, other, refused}, Longer.commits_by_calls}
 use Rattle.store_laws.proofs.laws.transactions_grow_by_parts.Goals as goal
 
 pub returns : goal.returns

@@ -1,6 +1,4 @@
-use Rattle.store_laws.proofs.Words.{zeros}
-use Rattle.store_laws.proofs.TreeBlank.{blank_map, blank_region}
-use Rattle.store_laws.proofs.Zeros.{zeros_blank}
+use Rattle.store_laws.proofs.{Words.zeros, TreeBlank.{blank_map, blank_region}, Zeros.zeros_blank}
 use Rattle.store_laws.proofs.tree_laws.blank_tree_regions_are_empty.Goals as goal
 
 pub returns-clause-blank : goal.returns-clause-blank

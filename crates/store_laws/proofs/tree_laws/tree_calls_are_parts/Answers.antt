@@ -1,6 +1,4 @@
-use Rattle.store_laws.proofs.Words.{IsTreeRegion, tree_map, Del, Found, Get, Got, Put, WasPut, WasThere, OnKey, Scan, tree_store}
-use Rattle.store_laws.proofs.Growth.{called}
-use Rattle.store_laws.proofs.KeyCalls.{del_local, got_local, put_local, scan_local}
+use Rattle.store_laws.proofs.{Words.{IsTreeRegion, tree_map, Del, Found, Get, Got, Put, WasPut, WasThere, OnKey, Scan, tree_store}, Growth.called, KeyCalls.{del_local, got_local, put_local, scan_local}}
 use Rattle.store_laws.proofs.tree_laws.tree_calls_are_parts.Goals as goal
 
 pub returns : goal.returns

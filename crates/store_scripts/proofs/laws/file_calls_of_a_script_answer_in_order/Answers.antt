@@ -1,9 +1,4 @@
-use Rattle.store_scripts.proofs.Words.{last, after, no_notes, notes_after, the_files}
-use Rattle.store_scripts.proofs.Blocks.{files_second}
-use Rattle.store_scripts.proofs.Commits.{commits_told, groups_told}
-use Rattle.store_scripts.proofs.FileGoes.{file_goes}
-use Rattle.store_scripts.proofs.Lines.{noted_after, noted_begins}
-use Rattle.store_scripts.proofs.Order.{live_told, read_only_told}
+use Rattle.store_scripts.proofs.{Words.{last, after, no_notes, notes_after, the_files}, Blocks.files_second, Commits.{commits_told, groups_told}, FileGoes.file_goes, Lines.{noted_after, noted_begins}, Order.{live_told, read_only_told}}
 use Rattle.store_scripts.proofs.laws.file_calls_of_a_script_answer_in_order.Goals as goal
 
 pub returns : goal.returns

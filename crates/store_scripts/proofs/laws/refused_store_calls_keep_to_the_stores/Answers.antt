@@ -1,6 +1,4 @@
-use Rattle.store_scripts.proofs.Words.{the_files, the_tree}
-use Rattle.store_scripts.proofs.Blocks.{files_second, tree_second}
-use Rattle.store_scripts.proofs.Refusals.{read_keeps, refused_keeps}
+use Rattle.store_scripts.proofs.{Words.{the_files, the_tree}, Blocks.{files_second, tree_second}, Refusals.{read_keeps, refused_keeps}}
 use Rattle.store_scripts.proofs.laws.refused_store_calls_keep_to_the_stores.Goals as goal
 
 pub returns : goal.returns

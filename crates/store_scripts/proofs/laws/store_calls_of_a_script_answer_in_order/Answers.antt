@@ -1,9 +1,4 @@
-use Rattle.store_scripts.proofs.Words.{last, after, no_notes, notes_after, the_tree}
-use Rattle.store_scripts.proofs.Blocks.{tree_second}
-use Rattle.store_scripts.proofs.Commits.{commits_told, groups_told}
-use Rattle.store_scripts.proofs.TreeGoes.{tree_goes}
-use Rattle.store_scripts.proofs.Lines.{noted_after, noted_begins}
-use Rattle.store_scripts.proofs.Order.{live_told, read_only_told}
+use Rattle.store_scripts.proofs.{Words.{last, after, no_notes, notes_after, the_tree}, Blocks.tree_second, Commits.{commits_told, groups_told}, TreeGoes.tree_goes, Lines.{noted_after, noted_begins}, Order.{live_told, read_only_told}}
 use Rattle.store_scripts.proofs.laws.store_calls_of_a_script_answer_in_order.Goals as goal
 
 pub returns : goal.returns

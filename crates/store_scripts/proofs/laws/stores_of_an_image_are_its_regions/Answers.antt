@@ -1,5 +1,4 @@
-use Rattle.store_scripts.proofs.Words.{IsHashRegion, hash_map, hash_area, tree_area, IsTreeRegion, tree_map, AreFileRegions, file_blocks, files, files_area}
-use Rattle.store_scripts.proofs.Images.{begins_well, files_begin_well, if_any_is, none_is_empty}
+use Rattle.store_scripts.proofs.{Words.{IsHashRegion, hash_map, hash_area, tree_area, IsTreeRegion, tree_map, AreFileRegions, file_blocks, files, files_area}, Images.{begins_well, files_begin_well, if_any_is, none_is_empty}}
 use Rattle.store_scripts.proofs.laws.stores_of_an_image_are_its_regions.Goals as goal
 
 pub returns : goal.returns

@@ -1,9 +1,4 @@
-use Rattle.store_scripts.proofs.Words.{after, no_notes, notes_after, the_files, the_tree}
-use Rattle.store_scripts.proofs.Blocks.{files_second, tree_second}
-use Rattle.store_scripts.proofs.FileGoes.{file_goes}
-use Rattle.store_scripts.proofs.Lines.{noted_after, noted_alone}
-use Rattle.store_scripts.proofs.Order.{told_is}
-use Rattle.store_scripts.proofs.TreeGoes.{tree_goes}
+use Rattle.store_scripts.proofs.{Words.{after, no_notes, notes_after, the_files, the_tree}, Blocks.{files_second, tree_second}, FileGoes.file_goes, Lines.{noted_after, noted_alone}, Order.told_is, TreeGoes.tree_goes}
 use Rattle.store_scripts.proofs.laws.told_calls_are_parts.Goals as goal
 
 pub returns-clause-stores : goal.returns-clause-stores

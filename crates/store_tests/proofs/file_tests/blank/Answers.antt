@@ -1,5 +1,4 @@
-use Rattle.std.proofs.Common.{◌++◌, ap, List, ℕ, drop, length, length-append, arith}
-use Rattle.std.proofs.lemmas.List.{length-take-le}
+use Rattle.std.proofs.{Common.{◌++◌, ap, List, ℕ, drop, length, length-append, arith}, lemmas.List.length-take-le}
 use Rattle.tx_blocks.specs.Tx.{Tx}
 use Rattle.store_tests.proofs.file_tests.blank.Goals as goal
 

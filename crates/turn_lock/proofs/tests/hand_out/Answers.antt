@@ -1,8 +1,5 @@
-use Rattle.std.proofs.Common.{◌≡◌, ℕ, false, ◌||◌, List, Option, ap, ◌∙◌, ne_eqb, arith}
-use Rattle.std.specs.Prelude.{option_to_list}
-use Rattle.turn_lock.specs.Numbers.{is_among}
-use Rattle.turn_lock.specs.Pass.{view}
-use Rattle.turn_lock.proofs.Outs.{stays_free}
+use Rattle.std.{proofs.Common.{◌≡◌, ℕ, false, ◌||◌, List, Option, ap, ◌∙◌, ne_eqb, arith}, specs.Prelude.option_to_list}
+use Rattle.turn_lock.{specs.Numbers.is_among, specs.Pass.view, proofs.Outs.stays_free}
 use Rattle.turn_lock.proofs.tests.hand_out.Goals as goal
 
 pub give-requires-clause-value : goal.give-requires-clause-value

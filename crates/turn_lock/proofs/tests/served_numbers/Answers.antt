@@ -1,8 +1,5 @@
 use Rattle.std.proofs.Common.{◌≡◌, ℕ, ◌≤◌, List, [], ◌∷◌, ◌++◌, ap, sym, ◌∙◌, subst}
-use Rattle.turn_lock.specs.Lists.{times}
-use Rattle.turn_lock.specs.Numbers.{AreHeld}
-use Rattle.turn_lock.specs.Pass.{view}
-use Rattle.turn_lock.proofs.Outs.{all_held, alone_distinct}
+use Rattle.turn_lock.{specs.Lists.times, specs.Numbers.AreHeld, specs.Pass.view, proofs.Outs.{all_held, alone_distinct}}
 use Rattle.turn_lock.proofs.tests.served_numbers.Goals as goal
 
 pub take_back-requires-clause-held : goal.take_back-requires-clause-held

@@ -1,10 +1,5 @@
-use Rattle.std.proofs.Common.{◌≡◌, ℕ, false, List, Option, ap, sym, subst, ◌∙◌}
-use Rattle.std.specs.Prelude.{option_to_list}
-use Rattle.std.specs.List.{AllByRecursion}
-use Rattle.turn_lock.specs.Lists.{times}
-use Rattle.turn_lock.specs.Numbers.{is_among, held_after}
-use Rattle.turn_lock.specs.Pass.{view}
-use Rattle.turn_lock.proofs.Outs.{stays_free, all_gone}
+use Rattle.std.{proofs.Common.{◌≡◌, ℕ, false, List, Option, ap, sym, subst, ◌∙◌}, specs.Prelude.option_to_list, specs.List.AllByRecursion}
+use Rattle.turn_lock.{specs.Lists.times, specs.Numbers.{is_among, held_after}, specs.Pass.view, proofs.Outs.{stays_free, all_gone}}
 use Rattle.turn_lock.proofs.tests.take_back.Goals as goal
 
 pub give-requires-clause-value : goal.give-requires-clause-value

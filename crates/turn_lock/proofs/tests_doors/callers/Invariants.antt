@@ -1,6 +1,5 @@
 use Rattle.std.proofs.Common.{◌≡◌, ◌+◌}
-use Rattle.turn_lock.specs.Lock.{lock_id}
-use Rattle.turn_lock.specs.Pass.{view, HasNoTurn, IsSamePass}
+use Rattle.turn_lock.specs.{Lock.lock_id, Pass.{view, HasNoTurn, IsSamePass}}
 use Rattle.turn_lock.proofs.tests_doors.callers.Given as goal
 
 -- one lock, and a unit less for each caller

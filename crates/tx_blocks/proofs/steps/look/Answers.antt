@@ -1,5 +1,4 @@
-use Rattle.tx_blocks.proofs.Words.{[], arith, look_access}
-use Rattle.tx_blocks.proofs.Marking.{open_from, may_mark, marked_access}
+use Rattle.tx_blocks.proofs.{Words.{[], arith, look_access}, Marking.{open_from, may_mark, marked_access}}
 use Rattle.tx_blocks.proofs.steps.look.Goals as goal
 
 pub mark-requires : goal.mark-requires

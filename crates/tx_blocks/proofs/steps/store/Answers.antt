@@ -1,5 +1,4 @@
-use Rattle.tx_blocks.proofs.Words.{◌∙◌, sym, ap, take, get_or, List, [], ◌∷◌, arith, length-take-le, take_more, Span, IsSpan, store_access, with_accesses}
-use Rattle.tx_blocks.proofs.Marking.{open_from, may_mark, marked_access, all_at}
+use Rattle.tx_blocks.proofs.{Words.{◌∙◌, sym, ap, take, get_or, List, [], ◌∷◌, arith, length-take-le, take_more, Span, IsSpan, store_access, with_accesses}, Marking.{open_from, may_mark, marked_access, all_at}}
 use Rattle.tx_blocks.proofs.steps.store.Goals as goal
 
 pub mark-requires : goal.mark-requires

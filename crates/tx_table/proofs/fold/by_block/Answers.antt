@@ -1,6 +1,5 @@
 -- One row more, and a list and its permutation pass a test alike.
-use Rattle.tx_table.proofs.Words.{◌≡◌, ◌∙◌, ℕ, zero, suc, ◌-◌, ◌<◌, ◌∷◌, ◌++◌, [], sym, ap, subst, arith, length, length-drop, get_or, drop, All, list_any, take_all, All-append, All-permutation, list_any-IsPermutation, Row}
-use Rattle.tx_table.proofs.Covered.{place_more}
+use Rattle.tx_table.proofs.{Words.{◌≡◌, ◌∙◌, ℕ, zero, suc, ◌-◌, ◌<◌, ◌∷◌, ◌++◌, [], sym, ap, subst, arith, length, length-drop, get_or, drop, All, list_any, take_all, All-append, All-permutation, list_any-IsPermutation, Row}, Covered.place_more}
 use Rattle.tx_table.proofs.fold.by_block.Goals as goal
 
 all_one : {A : Type 0} (P : A → Type 0) (y : A) → P y → All P (y ∷ [])

@@ -1,6 +1,5 @@
 -- All marks have been added.
-use Rattle.tx_table.proofs.Words.{◌≡◌, ◌∙◌, ℕ, ◌<◌, ap, arith, length, take, list_any, in_span}
-use Rattle.tx_table.proofs.Covered.{spans_cover}
+use Rattle.tx_table.proofs.{Words.{◌≡◌, ◌∙◌, ℕ, ◌<◌, ap, arith, length, take, list_any, in_span}, Covered.spans_cover}
 use Rattle.tx_table.proofs.fold.covered_bytes.Goals as goal
 
 pub returns : goal.returns

@@ -1,6 +1,5 @@
 -- All rows are added, in the order of their blocks.
-use Rattle.tx_table.proofs.Words.{arith, Read, Write}
-use Rattle.tx_table.proofs.Covered.{touched_rest}
+use Rattle.tx_table.proofs.{Words.{arith, Read, Write}, Covered.touched_rest}
 use Rattle.tx_table.proofs.fold.fold.Goals as goal
 
 pub returns-clause-reads : goal.returns-clause-reads

@@ -1,7 +1,5 @@
 -- One row more.
-use Rattle.tx_table.proofs.Words.{◌<◌, sym, subst, Read, Write, Row, IsRow}
-use Rattle.tx_table.proofs.Covered.{touched_more}
-use Rattle.tx_table.proofs.Slots.{all_there}
+use Rattle.tx_table.proofs.{Words.{◌<◌, sym, subst, Read, Write, Row, IsRow}, Covered.touched_more, Slots.all_there}
 use Rattle.tx_table.proofs.fold.fold_in_turn.Goals as goal
 
 pub loop-at-preserved : goal.loop-at-preserved

@@ -1,6 +1,5 @@
 -- The row at one place more.
-use Rattle.tx_table.proofs.Words.{◌≡◌, ◌∙◌, ℕ, ◌<◌, ◌&&◌, ◌||◌, ap, arith, length, get_or, nat_lt, list_any, get_or_default, take_all, touches, Read, Write, covers, access_of}
-use Rattle.tx_table.proofs.Covered.{places_more}
+use Rattle.tx_table.proofs.{Words.{◌≡◌, ◌∙◌, ℕ, ◌<◌, ◌&&◌, ◌||◌, ap, arith, length, get_or, nat_lt, list_any, get_or_default, take_all, touches, Read, Write, covers, access_of}, Covered.places_more}
 use Rattle.tx_table.proofs.fold.fold_places.Goals as goal
 
 pub loop-entry-preserved : goal.loop-entry-preserved

@@ -1,5 +1,4 @@
-use Rattle.tx_table.proofs.Words.{ℕ, List, ap, arith, get_or, Begun}
-use Rattle.tx_table.proofs.Blocks.{in_order}
+use Rattle.tx_table.proofs.{Words.{ℕ, List, ap, arith, get_or, Begun}, Blocks.in_order}
 use Rattle.tx_table.proofs.live.is_first.Goals as goal
 
 pub returns : goal.returns

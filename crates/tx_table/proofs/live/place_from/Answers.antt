@@ -1,6 +1,5 @@
 -- Numbers that rise are parted by the test on the number.
-use Rattle.tx_table.proofs.Words.{◌≡◌, ℕ, true, false, arith, rules, ltb, ltb-true, ltb-false, IsPartitionPoint, IsPartitionPoint-from_clause, IsPartitionedBy-ltb, Begun}
-use Rattle.tx_table.proofs.Blocks.{in_order}
+use Rattle.tx_table.proofs.{Words.{◌≡◌, ℕ, true, false, arith, rules, ltb, ltb-true, ltb-false, IsPartitionPoint, IsPartitionPoint-from_clause, IsPartitionedBy-ltb, Begun}, Blocks.in_order}
 use Rattle.tx_table.proofs.live.place_from.Goals as goal
 
 point : (c : goal.After-partition_point) → IsPartitionPoint (λ e. ltb e.0 c.args.tx ≡ true) (λ e. ltb e.0 c.args.tx ≡ false) c.args.entries.now c.partition_point.result

@@ -1,8 +1,5 @@
-use Rattle.tx_table.proofs.Words.{◌∙◌, ℕ, ap, arith, inl, inr, cases_lt, get_or_default, Serial, Begun}
-use Rattle.tx_table.proofs.Begins.{none_here, place_here}
-use Rattle.tx_table.proofs.Blocks.{in_order}
+use Rattle.tx_table.proofs.{Words.{◌∙◌, ℕ, ap, arith, inl, inr, cases_lt, get_or_default, Serial, Begun}, Begins.{none_here, place_here}, Blocks.in_order, live.place_of.Goals.{else-place-entries-via-then-place-entries+else-entries-place, else-place-entries-via-else-place-entries}}
 use Rattle.tx_table.proofs.live.place_of.Goals as goal
-use Rattle.tx_table.proofs.live.place_of.Goals.{else-place-entries-via-then-place-entries+else-entries-place, else-place-entries-via-else-place-entries}
 
 pub returns-then-entries-place-clause-some : goal.returns-then-entries-place-clause-some
 returns-then-entries-place-clause-some c =

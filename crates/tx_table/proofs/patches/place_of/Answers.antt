@@ -1,6 +1,5 @@
 -- Blocks that rise are parted by the test on the block.
-use Rattle.tx_table.proofs.Words.{◌≡◌, ℕ, true, false, arith, rules, ltb, ltb-true, ltb-false, IsPartitionPoint, IsPartitionPoint-from_clause, IsPartitionedBy-ltb}
-use Rattle.tx_table.proofs.Blocks.{in_order}
+use Rattle.tx_table.proofs.{Words.{◌≡◌, ℕ, true, false, arith, rules, ltb, ltb-true, ltb-false, IsPartitionPoint, IsPartitionPoint-from_clause, IsPartitionedBy-ltb}, Blocks.in_order}
 use Rattle.tx_table.proofs.patches.place_of.Goals as goal
 
 point : (c : goal.After-partition_point) → IsPartitionPoint (λ e. ltb e.0 c.args.block ≡ true) (λ e. ltb e.0 c.args.block ≡ false) c.args.order.now c.partition_point.result

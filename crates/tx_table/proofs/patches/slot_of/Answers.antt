@@ -1,6 +1,5 @@
 -- Where the place of the block has another one, no place has it.
-use Rattle.tx_table.proofs.Words.{arith}
-use Rattle.tx_table.proofs.Blocks.{other_places}
+use Rattle.tx_table.proofs.{Words.arith, Blocks.other_places}
 use Rattle.tx_table.proofs.patches.slot_of.Goals as goal
 
 pub returns-then-entry-block-clause-none : goal.returns-then-entry-block-clause-none

@@ -1,9 +1,6 @@
 -- One row more.
-use Rattle.tx_table.proofs.Words.{◌≡◌, ◌∙◌, ℕ, ◌+◌, true, false, List, ◌∷◌, [], ◌++◌, ap, sym, subst, length, get_or, take, map, IsTrue, Access, is_write, same_kind, Kind, Write, Row, has_patch, patch_at, AreEffects, Held, access_of, IsRow}
-use Rattle.tx_table.proofs.Applied.{patch_of_row, read_applied, rows_more, write_applied}
-use Rattle.tx_table.proofs.Slots.{all_there}
+use Rattle.tx_table.proofs.{Words.{◌≡◌, ◌∙◌, ℕ, ◌+◌, true, false, List, ◌∷◌, [], ◌++◌, ap, sym, subst, length, get_or, take, map, IsTrue, Access, is_write, same_kind, Kind, Write, Row, has_patch, patch_at, AreEffects, Held, access_of, IsRow}, Applied.{patch_of_row, read_applied, rows_more, write_applied}, Slots.all_there, rows.apply.Goals.{in-Write, in-Read}}
 use Rattle.tx_table.proofs.rows.apply.Goals as goal
-use Rattle.tx_table.proofs.rows.apply.Goals.{in-Write, in-Read}
 
 row_is : (rows : List Row) (i : ℕ) (row : Row) (P : Row → Type 0) → row ≡ get_or rows i row → P (get_or rows i row) → P row
 row_is rows i row P is at = subst P (sym is) at

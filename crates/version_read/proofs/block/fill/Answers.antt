@@ -1,7 +1,5 @@
 -- A stretch is read, and what was seen behind it is passed.
-use Rattle.version_read.proofs.Words.{◌∙◌, sym, refl, ◌-◌, arith, subst, length-contents, joined_unwritten, starts_unwritten, IsFilled}
-use Rattle.version_read.proofs.Fills.{count_more, filled_more, filled_none, filled_passed}
-use Rattle.version_read.proofs.Wanted.{unseen_le, unseen_none}
+use Rattle.version_read.proofs.{Words.{◌∙◌, sym, refl, ◌-◌, arith, subst, length-contents, joined_unwritten, starts_unwritten, IsFilled}, Fills.{count_more, filled_more, filled_none, filled_passed}, Wanted.{unseen_le, unseen_none}}
 use Rattle.version_read.proofs.block.fill.Goals as goal
 
 pub loop-at-init : goal.loop-at-init

@@ -1,6 +1,5 @@
 -- The bytes so far are the image's where they were wanted.
-use Rattle.version_read.proofs.Words.{◌≡◌, ◌≤◌, ◌<◌, ◌-◌, false, ForSome, WritesNothing, is_seen, IsFilled}
-use Rattle.version_read.proofs.Wanted.{unseen}
+use Rattle.version_read.proofs.{Words.{◌≡◌, ◌≤◌, ◌<◌, ◌-◌, false, ForSome, WritesNothing, is_seen, IsFilled}, Wanted.unseen}
 use Rattle.version_read.proofs.block.fill.Given as goal
 
 abbrev pub invariant-loop-at : goal.invariant-loop-at

@@ -1,6 +1,5 @@
 -- The bytes of one version are read where they are in the range.
-use Rattle.version_read.proofs.Words.{sym, subst, length-contents, [], ◌∷◌, IsLaidIn}
-use Rattle.version_read.proofs.Layings.{laid_none, laid_one}
+use Rattle.version_read.proofs.{Words.{sym, subst, length-contents, [], ◌∷◌, IsLaidIn}, Layings.{laid_none, laid_one}}
 use Rattle.version_read.proofs.block.lay_one.Goals as goal
 
 pub returns-then-first-last-clause-bytes : goal.returns-then-first-last-clause-bytes

@@ -1,6 +1,5 @@
 -- The next version is laid over what is there.
-use Rattle.version_read.proofs.Words.{◌≡◌, ◌∙◌, List, take, arith, subst, take_all, joined_unwritten, Version, IsLaidIn}
-use Rattle.version_read.proofs.Layings.{laid_more}
+use Rattle.version_read.proofs.{Words.{◌≡◌, ◌∙◌, List, take, arith, subst, take_all, joined_unwritten, Version, IsLaidIn}, Layings.laid_more}
 use Rattle.version_read.proofs.block.lay_over.Goals as goal
 
 pub loop-version-preserved : goal.loop-version-preserved

@@ -1,9 +1,6 @@
 -- One version more, and the base.
-use Rattle.version_read.proofs.Words.{◌≡◌, ◌∙◌, sym, refl, ◌-◌, ℕ, length, get_or, arith, subst, replicate, joined_unwritten, starts_unwritten, no_version, IsFilled}
-use Rattle.version_read.proofs.Walks.{done_more, done_none, none_seen, right_more, walked, walked_whole}
-use Rattle.version_read.proofs.Wanted.{all_seen, unseen, unseen_all, unseen_marked}
+use Rattle.version_read.proofs.{Words.{◌≡◌, ◌∙◌, sym, refl, ◌-◌, ℕ, length, get_or, arith, subst, replicate, joined_unwritten, starts_unwritten, no_version, IsFilled}, Walks.{done_more, done_none, none_seen, right_more, walked, walked_whole}, Wanted.{all_seen, unseen, unseen_all, unseen_marked}, block.read_block.Goals.{then-loop-left-test+else-wanted-gt0, else-loop-left-test}}
 use Rattle.version_read.proofs.block.read_block.Goals as goal
-use Rattle.version_read.proofs.block.read_block.Goals.{then-loop-left-test+else-wanted-gt0, else-loop-left-test}
 
 pub loop-left-init : goal.loop-left-init
 loop-left-init g c = record {

@@ -1,7 +1,5 @@
 -- Where a byte was seen, it is the one that the versions show.
-use Rattle.version_read.proofs.Words.{◌≡◌, ◌≤◌, drop, length, ForSome, WritesNothing}
-use Rattle.version_read.proofs.Walks.{AreDone, AreRight}
-use Rattle.version_read.proofs.Wanted.{unseen}
+use Rattle.version_read.proofs.{Words.{◌≡◌, ◌≤◌, drop, length, ForSome, WritesNothing}, Walks.{AreDone, AreRight}, Wanted.unseen}
 use Rattle.version_read.proofs.block.read_block.Given as goal
 
 abbrev pub invariant-loop-left : goal.invariant-loop-left

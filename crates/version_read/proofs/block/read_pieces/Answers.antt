@@ -1,6 +1,5 @@
 -- The versions are laid over the base, or have the whole range.
-use Rattle.version_read.proofs.Words.{◌∙◌, arith, length-contents}
-use Rattle.version_read.proofs.Layings.{laid_over, laid_whole}
+use Rattle.version_read.proofs.{Words.{◌∙◌, arith, length-contents}, Layings.{laid_over, laid_whole}}
 use Rattle.version_read.proofs.block.read_pieces.Goals as goal
 
 pub returns-then-is_whole-clause-bytes : goal.returns-then-is_whole-clause-bytes

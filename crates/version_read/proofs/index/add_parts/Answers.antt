@@ -1,6 +1,5 @@
 -- One part more.
-use Rattle.version_read.proofs.Words.{◌+◌, refl, get_or, arith, no_part}
-use Rattle.version_read.proofs.Additions.{added_more, place_fits, room_left, still_rises}
+use Rattle.version_read.proofs.{Words.{◌+◌, refl, get_or, arith, no_part}, Additions.{added_more, place_fits, room_left, still_rises}}
 use Rattle.version_read.proofs.index.add_parts.Goals as goal
 
 pub add-requires-clause-room : goal.add-requires-clause-room

@@ -1,6 +1,5 @@
 -- The parts so far are added.
-use Rattle.version_read.proofs.Words.{◌+◌}
-use Rattle.version_read.proofs.Additions.{AreAdded}
+use Rattle.version_read.proofs.{Words.◌+◌, Additions.AreAdded}
 use Rattle.version_read.proofs.index.add_parts.Given as goal
 
 abbrev pub invariant-loop-part : goal.invariant-loop-part

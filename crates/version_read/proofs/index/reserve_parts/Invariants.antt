@@ -1,6 +1,5 @@
 -- Room is made for the parts so far.
-use Rattle.version_read.proofs.Words.{length, ◌-◌}
-use Rattle.version_read.proofs.Rooms.{AreReserved}
+use Rattle.version_read.proofs.{Words.{length, ◌-◌}, Rooms.AreReserved}
 use Rattle.version_read.proofs.index.reserve_parts.Given as goal
 
 abbrev pub invariant-loop-first : goal.invariant-loop-first

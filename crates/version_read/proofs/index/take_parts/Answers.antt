@@ -1,6 +1,5 @@
 -- One part more.
-use Rattle.version_read.proofs.Words.{◌+◌, arith, sym, subst, AreAtMost}
-use Rattle.version_read.proofs.Additions.{first_fits, first_rises, taken_all, taken_more}
+use Rattle.version_read.proofs.{Words.{◌+◌, arith, sym, subst, AreAtMost}, Additions.{first_fits, first_rises, taken_all, taken_more}}
 use Rattle.version_read.proofs.index.take_parts.Goals as goal
 
 pub overflow_add-at-in-loop-part : goal.overflow_add-at-in-loop-part

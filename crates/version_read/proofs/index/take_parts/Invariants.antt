@@ -1,6 +1,5 @@
 -- The parts so far are taken, and the others follow.
-use Rattle.version_read.proofs.Words.{◌+◌, map, part_of}
-use Rattle.version_read.proofs.Additions.{AreTaken}
+use Rattle.version_read.proofs.{Words.{◌+◌, map, part_of}, Additions.AreTaken}
 use Rattle.version_read.proofs.index.take_parts.Given as goal
 
 abbrev pub invariant-loop-part : goal.invariant-loop-part

@@ -1,5 +1,4 @@
-use Rattle.version_read.proofs.Words.{◌∙◌, ap, Array, block_at, half_of}
-use Rattle.version_read.proofs.Fetched.{array_of, fetched, last_of, newest}
+use Rattle.version_read.proofs.{Words.{◌∙◌, ap, Array, block_at, half_of}, Fetched.{array_of, fetched, last_of, newest}}
 use Rattle.version_read.proofs.laws.blocks_are_those_of_the_history.Goals as goal
 
 pub returns-clause-upto : goal.returns-clause-upto

@@ -1,5 +1,4 @@
-use Rattle.version_read.proofs.Words.{Lies, image_size, no_version, upto, versions_in, all_at}
-use Rattle.version_read.proofs.Lying.{all_lie, all_upto, base_lies}
+use Rattle.version_read.proofs.{Words.{Lies, image_size, no_version, upto, versions_in, all_at}, Lying.{all_lie, all_upto, base_lies}}
 use Rattle.version_read.proofs.laws.versions_lie_in_the_image.Goals as goal
 
 pub returns-clause-all : goal.returns-clause-all

@@ -1,7 +1,6 @@
 -- The parts are those of runs, and the index has none yet.
 use Rattle.std.proofs.Common.{List, length, map, ap, arith, refl}
-use Rattle.version_read.proofs.Words.{Run, length-map, part_of}
-use Rattle.version_read.proofs.TestIndexes.{few_parts}
+use Rattle.version_read.proofs.{Words.{Run, length-map, part_of}, TestIndexes.few_parts}
 use Rattle.version_read.proofs.tests.index_of.Goals as goal
 
 pub take_parts-requires : goal.take_parts-requires

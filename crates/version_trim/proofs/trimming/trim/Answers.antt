@@ -1,9 +1,6 @@
 -- What is dropped shows nothing from the floor on.
 use Rattle.std.proofs.Common.{sym, subst, List}
-use Rattle.mv_index.specs.declared.version.Version.{Version}
-use Rattle.mv_index.specs.Shown.{ShowTheSame}
-use Rattle.mv_index.specs.Versions.{upto, versions_in}
-use Rattle.mv_index.proofs.Layers.{since_same}
+use Rattle.mv_index.{specs.declared.version.Version.Version, specs.Shown.ShowTheSame, specs.Versions.{upto, versions_in}, proofs.Layers.since_same}
 use Rattle.version_trim.proofs.trimming.trim.Goals as goal
 
 pub returns-clause-same : goal.returns-clause-same

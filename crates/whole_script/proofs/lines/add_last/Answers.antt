@@ -1,5 +1,4 @@
-use Rattle.whole_script.proofs.Words.{ap, sym, subst, Bool, ℕ, Some, ◌≡◌, ◌∙◌, BadLine, last_piece}
-use Rattle.whole_script.proofs.LastPieces.{cut_bad}
+use Rattle.whole_script.proofs.{Words.{ap, sym, subst, Bool, ℕ, Some, ◌≡◌, ◌∙◌, BadLine, last_piece}, LastPieces.cut_bad}
 use Rattle.whole_script.proofs.lines.add_last.Goals as goal
 
 pub returns-then-cut-clause-err : goal.returns-then-cut-clause-err

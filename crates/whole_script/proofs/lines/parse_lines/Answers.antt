@@ -1,6 +1,5 @@
-use Rattle.whole_script.proofs.Words.{◌≡◌, ℕ, false, length, nat_le, subst, sym, ◌∙◌, arith, ap, nat_tests, MAX_INPUT, Script, IsWhyOf}
+use Rattle.whole_script.proofs.{Words.{◌≡◌, ℕ, false, length, nat_le, subst, sym, ◌∙◌, arith, ap, nat_tests, MAX_INPUT, Script, IsWhyOf}, WholeScripts.{all_read, bad_in, bad_last, first_more, script_is}}
 use Rattle.std.proofs.lemmas.List.{length-append}
-use Rattle.whole_script.proofs.WholeScripts.{all_read, bad_in, bad_last, first_more, script_is}
 use Rattle.whole_script.proofs.lines.parse_lines.Goals as goal
 
 pub returns-in-Err-clause-bad : goal.returns-in-Err-clause-bad

@@ -1,5 +1,4 @@
-use Rattle.whole_script.proofs.Words.{◌+◌, ◌≤◌, length}
-use Rattle.whole_script.proofs.WholeScripts.{AreFirst}
+use Rattle.whole_script.proofs.{Words.{◌+◌, ◌≤◌, length}, WholeScripts.AreFirst}
 use Rattle.whole_script.proofs.lines.parse_lines.Given as goal
 
 abbrev pub invariant-loop-line : goal.invariant-loop-line

@@ -1,5 +1,4 @@
-use Rattle.whole_script.proofs.Words.{◌<◌, ℕ, List, length, ap, sym, subst, ◌∙◌, arith, MAX_INPUT, script, IsWhyOf}
-use Rattle.whole_script.proofs.Reading.{no_lines}
+use Rattle.whole_script.proofs.{Words.{◌<◌, ℕ, List, length, ap, sym, subst, ◌∙◌, arith, MAX_INPUT, script, IsWhyOf}, Reading.no_lines}
 use Rattle.whole_script.proofs.read.read_script.Goals as goal
 
 pub returns-in-Ok-parse_lines-clause-lines : goal.returns-in-Ok-parse_lines-clause-lines

@@ -1,5 +1,4 @@
-use Rattle.bench_script.proofs.Words.{◌∙◌, sym, ap, min, take, drop, length, Some, List, ℕ, bench_text, DrawnState}
-use Rattle.bench_script.proofs.Pieces.{given_front, gives_to_end}
+use Rattle.bench_script.proofs.{Words.{◌∙◌, sym, ap, min, take, drop, length, Some, List, ℕ, bench_text, DrawnState}, Pieces.{given_front, gives_to_end}}
 use Rattle.bench_script.proofs.drawn_script.DrawnScriptSource.take.Goals as goal
 
 pub returns-clause-bytes : goal.returns-clause-bytes

@@ -1,5 +1,4 @@
-use Rattle.bench_script.proofs.Words.{◌∙◌, sym, ap, subst, ℕ, List, DigestedState, IsTallied}
-use Rattle.bench_script.proofs.Counting.{all_counted}
+use Rattle.bench_script.proofs.{Words.{◌∙◌, sym, ap, subst, ℕ, List, DigestedState, IsTallied}, Counting.all_counted}
 use Rattle.bench_script.proofs.reply_digest.ReplyDigest.finish.Goals as goal
 
 pub returns-clause-commits : goal.returns-clause-commits

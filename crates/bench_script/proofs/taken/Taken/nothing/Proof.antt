@@ -1,7 +1,6 @@
 -- A value of no bytes, whose ghost field is the empty text.
-use Rattle.bench_script.proofs.Words.{[], ◌∷◌, refl, Ura, Fn, Val, SProp, ent, Memory, Routine, Calls, Loops, WpFn, Tables, Fun, tables, tables_of, WpFn-mono, Logic, ‵, raw, ◌⊛◌, ◌$◌, ◌∵◌, !, qed, move, keep, split, fjoin, suffices, done, agg, enter, returns, no_more, alloc_all, pass_all, free_all, look_at, sets, owns, types_at, nothing, Clauses, Ended, closing, alive, Meets, triple_of, entered, says, Stays, walk_of, ends_at, walk_Meets, #self}
+use Rattle.bench_script.proofs.{Words.{[], ◌∷◌, refl, Ura, Fn, Val, SProp, ent, Memory, Routine, Calls, Loops, WpFn, Tables, Fun, tables, tables_of, WpFn-mono, Logic, ‵, raw, ◌⊛◌, ◌$◌, ◌∵◌, !, qed, move, keep, split, fjoin, suffices, done, agg, enter, returns, no_more, alloc_all, pass_all, free_all, look_at, sets, owns, types_at, nothing, Clauses, Ended, closing, alive, Meets, triple_of, entered, says, Stays, walk_of, ends_at, walk_Meets, #self}, Walks.{none, none_made}}
 use types.Kit.{drop}
-use Rattle.bench_script.proofs.Walks.{none, none_made}
 use Rattle.bench_script.specs.contracts.taken.Taken as Taken
 use Rattle.bench_script.specs.contracts.taken.Taken.nothing as F
 use Rattle.bench_script.proofs.taken.Taken.nothing.Statement as stated

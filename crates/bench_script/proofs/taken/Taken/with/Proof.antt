@@ -1,11 +1,9 @@
 -- A value of no bytes, whose ghost field is the text of another with bytes behind it.
-use Rattle.bench_script.proofs.Words.{List, [], ◌∷◌, ◌++◌, refl, Ura, Fn, Val, vptr, SProp, ent, Memory, Routine, Calls, Loops, WpFn, Tables, Fun, tables, tables_of, WpFn-mono, Logic, ‵, raw, ◌⊛◌, prop, ◌$◌, ◌∵◌, !, qed, move, keep, split, fsplit, fjoin, feq_l, regoal, suffices, done, agg, enter, returns, no_more, alloc_all, pass_all, free_all, look_at, sets, yes, owns, RefOf, plain, types_at, named_lft, nothing, Clauses, Ended, closing, alive, Meets, triple_of, entered, says, Stays, stay_dropped, walk_of, ends_at, walk_Meets, Goes-dropped}
+use Rattle.bench_script.{proofs.Words.{List, [], ◌∷◌, ◌++◌, refl, Ura, Fn, Val, vptr, SProp, ent, Memory, Routine, Calls, Loops, WpFn, Tables, Fun, tables, tables_of, WpFn-mono, Logic, ‵, raw, ◌⊛◌, prop, ◌$◌, ◌∵◌, !, qed, move, keep, split, fsplit, fjoin, feq_l, regoal, suffices, done, agg, enter, returns, no_more, alloc_all, pass_all, free_all, look_at, sets, yes, owns, RefOf, plain, types_at, named_lft, nothing, Clauses, Ended, closing, alive, Meets, triple_of, entered, says, Stays, stay_dropped, walk_of, ends_at, walk_Meets, Goes-dropped}, proofs.Walks.{none, none_made}, specs.contracts.taken.Taken.with.Key.{name as #self}}
 use types.Kit.{drop}
-use Rattle.bench_script.proofs.Walks.{none, none_made}
 use Rattle.bench_script.specs.contracts.taken.Piece as Piece
 use Rattle.bench_script.specs.contracts.taken.Taken as Taken
 use Rattle.bench_script.specs.contracts.taken.Taken.with as F
-use Rattle.bench_script.specs.contracts.taken.Taken.with.Key.{name as #self}
 use Rattle.bench_script.proofs.taken.Taken.with.Statement as stated
 use Rattle.bench_script.proofs.taken.Taken.with.Code as code
 

@@ -1,6 +1,5 @@
 -- A span that begins behind the last run is one run more.
-use Rattle.byte_marks.proofs.Words.{◌≡◌, ◌+◌, ◌<◌, ◌≤◌, arith, List, ◌∷◌, ◌++◌, [], sym, subst, Extent, next_free, AreApartFrom}
-use Rattle.byte_marks.proofs.Apart.{AreApartFrom-append}
+use Rattle.byte_marks.proofs.{Words.{◌≡◌, ◌+◌, ◌<◌, ◌≤◌, arith, List, ◌∷◌, ◌++◌, [], sym, subst, Extent, next_free, AreApartFrom}, Apart.AreApartFrom-append}
 use Rattle.byte_marks.proofs.marks.Marks.add.Goals as goal
 
 pub invariant_of-self-then-next_free-added : goal.invariant_of-self-then-next_free-added

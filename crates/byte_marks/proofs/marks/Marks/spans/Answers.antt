@@ -1,6 +1,5 @@
 -- The spans of extents that do not touch are the maximal runs.
-use Rattle.byte_marks.proofs.Words.{◌≡◌, ◌∙◌, ap, subst, sym, List, map, list_any, Span, in_span, has, span_of, AreRuns}
-use Rattle.byte_marks.proofs.Apart.{runs_of, has_of_spans}
+use Rattle.byte_marks.proofs.{Words.{◌≡◌, ◌∙◌, ap, subst, sym, List, map, list_any, Span, in_span, has, span_of, AreRuns}, Apart.{runs_of, has_of_spans}}
 use Rattle.byte_marks.proofs.marks.Marks.spans.Goals as goal
 
 pub returns-clause-set : goal.returns-clause-set

@@ -1,6 +1,5 @@
 -- What is left after the first extent still rises and does not touch.
-use Rattle.byte_marks.proofs.Apart.{earlier}
-use Rattle.byte_marks.proofs.Words.{◌+◌, arith, subst, List, Extent, AreApartFrom}
+use Rattle.byte_marks.proofs.{Apart.earlier, Words.{◌+◌, arith, subst, List, Extent, AreApartFrom}}
 use Rattle.byte_marks.proofs.span_iter.SpanIterIterator.next.Goals as goal
 
 pub invariant_of-self : goal.invariant_of-self

@@ -1,8 +1,6 @@
 -- A block that has an entry keeps it with more bytes; another gets one at its place.
-use Rattle.byte_marks.proofs.Words.{◌≡◌, ◌≢◌, ℕ, ◌<◌, ◌≤◌, ◌&&◌, ◌||◌, ◌==◌, ◌∙◌, sym, ap, subst, arith, List, length, get_or, get_or_read, Extent, has, touches, RisesFrom}
-use Rattle.byte_marks.proofs.Blocks.{in_order, rises_set, touches_set, rises_insert, touches_insert}
+use Rattle.byte_marks.proofs.{Words.{◌≡◌, ◌≢◌, ℕ, ◌<◌, ◌≤◌, ◌&&◌, ◌||◌, ◌==◌, ◌∙◌, sym, ap, subst, arith, List, length, get_or, get_or_read, Extent, has, touches, RisesFrom}, Blocks.{in_order, rises_set, touches_set, rises_insert, touches_insert}, touched.Touched.put.Goals.{else-place-len-via-then-place-len+else-index-block, else-place-len-via-else-place-len}}
 use Rattle.byte_marks.proofs.touched.Touched.put.Goals as goal
-use Rattle.byte_marks.proofs.touched.Touched.put.Goals.{else-place-len-via-then-place-len+else-index-block, else-place-len-via-else-place-len}
 
 pub invariant_of-self-then-index-block : goal.invariant_of-self-then-index-block
 invariant_of-self-then-index-block c =

@@ -1,6 +1,5 @@
 -- A number above all of them may follow.
-use Rattle.conflict_rule.proofs.Words.{◌≡◌, ◌++◌, ◌∷◌, [], arith, length, ap, is_ok, Held, Note}
-use Rattle.conflict_rule.proofs.Numbers.{rises-append, rises_either}
+use Rattle.conflict_rule.proofs.{Words.{◌≡◌, ◌++◌, ◌∷◌, [], arith, length, ap, is_ok, Held, Note}, Numbers.{rises-append, rises_either}}
 use Rattle.conflict_rule.proofs.notes.Notes.add.Goals as goal
 
 pub invariant_of-self : goal.invariant_of-self

@@ -1,7 +1,6 @@
 -- The notes above a number are those from a place on.
-use Rattle.conflict_rule.proofs.Words.{◌≡◌, ◌∙◌, ◌-◌, ◌≤◌, ◌<◌, List, ap, arith, length, take, drop, sym, subst, take_all, Held, Note, above, note_of, RisesFrom}
+use Rattle.conflict_rule.proofs.{Words.{◌≡◌, ◌∙◌, ◌-◌, ◌≤◌, ◌<◌, List, ap, arith, length, take, drop, sym, subst, take_all, Held, Note, above, note_of, RisesFrom}, Numbers.{above_from, rises_above, held_above}}
 use Rattle.std.proofs.Common.{length-drop}
-use Rattle.conflict_rule.proofs.Numbers.{above_from, rises_above, held_above}
 use Rattle.conflict_rule.proofs.notes.Notes.after.Goals as goal
 
 pub returns-clause-notes : goal.returns-clause-notes

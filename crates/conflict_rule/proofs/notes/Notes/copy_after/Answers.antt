@@ -1,6 +1,5 @@
 -- The copied notes rise.
-use Rattle.conflict_rule.proofs.Words.{◌≡◌, ◌∙◌, List, ap, sym, subst, take, arith, take_all, Note, above, RisesFrom}
-use Rattle.conflict_rule.proofs.Numbers.{rises_above}
+use Rattle.conflict_rule.proofs.{Words.{◌≡◌, ◌∙◌, List, ap, sym, subst, take, arith, take_all, Note, above, RisesFrom}, Numbers.rises_above}
 use Rattle.conflict_rule.proofs.notes.Notes.copy_after.Goals as goal
 
 pub invariant_of-result : goal.invariant_of-result

@@ -1,6 +1,5 @@
 -- What is kept are the notes above the floor.
-use Rattle.conflict_rule.proofs.Words.{◌≡◌, ◌∙◌, ◌<◌, List, ap, arith, drop, drop_all, length, sym, subst, nat_lt, rules, filter_same, Held, Note, above, RisesFrom}
-use Rattle.conflict_rule.proofs.Numbers.{above_from, rises_above}
+use Rattle.conflict_rule.proofs.{Words.{◌≡◌, ◌∙◌, ◌<◌, List, ap, arith, drop, drop_all, length, sym, subst, nat_lt, rules, filter_same, Held, Note, above, RisesFrom}, Numbers.{above_from, rises_above}}
 use Rattle.conflict_rule.proofs.notes.Notes.drop_to.Goals as goal
 
 pub invariant_of-self-then-place-gt0 : goal.invariant_of-self-then-place-gt0

@@ -1,8 +1,6 @@
 -- The last note that is not above the number is that of the number, or there is none.
-use Rattle.conflict_rule.proofs.Words.{◌≡◌, ◌≢◌, ◌∙◌, ℕ, ◌-◌, ◌<◌, ◌≤◌, List, ap, arith, length, get_or, sym, Some, None, inl, inr, cases_lt, get_or_default, Held, Note, note_of, RisesFrom}
-use Rattle.conflict_rule.proofs.Numbers.{note_at, no_note, in_order}
+use Rattle.conflict_rule.proofs.{Words.{◌≡◌, ◌≢◌, ◌∙◌, ℕ, ◌-◌, ◌<◌, ◌≤◌, List, ap, arith, length, get_or, sym, Some, None, inl, inr, cases_lt, get_or_default, Held, Note, note_of, RisesFrom}, Numbers.{note_at, no_note, in_order}, notes.Notes.look_at.Goals.{else-place-gt0-via-then-place-gt0+else-index-number, else-place-gt0-via-else-place-gt0}}
 use Rattle.conflict_rule.proofs.notes.Notes.look_at.Goals as goal
-use Rattle.conflict_rule.proofs.notes.Notes.look_at.Goals.{else-place-gt0-via-then-place-gt0+else-index-number, else-place-gt0-via-else-place-gt0}
 
 pub returns-then-index-number-clause-note : goal.returns-then-index-number-clause-note
 returns-then-index-number-clause-note g c =

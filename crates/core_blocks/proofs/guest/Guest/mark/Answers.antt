@@ -1,5 +1,4 @@
-use Rattle.core_blocks.proofs.Words.{arith}
-use Rattle.core_blocks.proofs.Guests.{mark_keeps, works_on}
+use Rattle.core_blocks.proofs.{Words.arith, Guests.{mark_keeps, works_on}}
 use Rattle.core_blocks.proofs.guest.Guest.mark.Goals as goal
 
 pub invariant_of-self : goal.invariant_of-self

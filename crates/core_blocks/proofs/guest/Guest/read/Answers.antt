@@ -1,5 +1,4 @@
-use Rattle.core_blocks.proofs.Words.{◌≡◌, ◌∙◌, sym, ap, subst, arith, Some, Err, Array, own, block_at, read_access, up, Doing, Seen}
-use Rattle.core_blocks.proofs.Guests.{access_keeps, counts_failed, counts_ok, goes_on, if_told, ready_keeps, told_still}
+use Rattle.core_blocks.proofs.{Words.{◌≡◌, ◌∙◌, sym, ap, subst, arith, Some, Err, Array, own, block_at, read_access, up, Doing, Seen}, Guests.{access_keeps, counts_failed, counts_ok, goes_on, if_told, ready_keeps, told_still}}
 use Rattle.core_blocks.proofs.guest.Guest.read.Goals as goal
 
 pub invariant_of-self-in-Ok : goal.invariant_of-self-in-Ok

@@ -1,5 +1,4 @@
-use Rattle.handle_pass.proofs.Words.{ap, sym, ◌∙◌, own_in, own_of}
-use Rattle.handle_pass.proofs.Entering.{made_gone}
+use Rattle.handle_pass.proofs.{Words.{ap, sym, ◌∙◌, own_in, own_of}, Entering.made_gone}
 use Rattle.handle_pass.proofs.session.Session.abort_tx.Goals as goal
 
 pub returns-clause-did : goal.returns-clause-did

@@ -1,5 +1,4 @@
-use Rattle.handle_pass.proofs.Words.{ap, subst, sym, ◌∙◌, ℕ, Some, Checked, Begin, checked_of, own_of, Made}
-use Rattle.handle_pass.proofs.Entering.{is_none, made_new, made_port, new_own}
+use Rattle.handle_pass.proofs.{Words.{ap, subst, sym, ◌∙◌, ℕ, Some, Checked, Begin, checked_of, own_of, Made}, Entering.{is_none, made_new, made_port, new_own}}
 use Rattle.handle_pass.proofs.session.Session.begin_tx.Goals as goal
 
 pub returns-in-Ok-clause-did : goal.returns-in-Ok-clause-did

@@ -1,5 +1,4 @@
-use Rattle.handle_pass.proofs.Words.{ap, refl, subst, sym, ◌∙◌, ◌+◌, ◌≤◌, ℕ, Some, CoreError, view, prefix_self, most_steps, left_by, checked_of, own_in, own_of}
-use Rattle.handle_pass.proofs.Entering.{left_kept, made_gone, made_kept, own_same}
+use Rattle.handle_pass.proofs.{Words.{ap, refl, subst, sym, ◌∙◌, ◌+◌, ◌≤◌, ℕ, Some, CoreError, view, prefix_self, most_steps, left_by, checked_of, own_in, own_of}, Entering.{left_kept, made_gone, made_kept, own_same}}
 use Rattle.handle_pass.proofs.session.Session.end_tx.Goals as goal
 
 pub returns-in-Ok-clause-did : goal.returns-in-Ok-clause-did

@@ -1,5 +1,4 @@
-use Rattle.handle_pass.proofs.Words.{ap, refl, subst, sym, None, Option, view, EndsWith, own_of, Own}
-use Rattle.handle_pass.proofs.Entering.{made_gone}
+use Rattle.handle_pass.proofs.{Words.{ap, refl, subst, sym, None, Option, view, EndsWith, own_of, Own}, Entering.made_gone}
 use Rattle.handle_pass.proofs.session.Session.finish.Goals as goal
 
 pub returns-in-Some-clause-did : goal.returns-in-Some-clause-did

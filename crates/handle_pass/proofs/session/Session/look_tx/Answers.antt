@@ -1,5 +1,4 @@
-use Rattle.handle_pass.proofs.Words.{ap, sym, ◌∙◌, Checked, checked_of, own_in, own_of}
-use Rattle.handle_pass.proofs.Entering.{is_none, made_new, made_port}
+use Rattle.handle_pass.proofs.{Words.{ap, sym, ◌∙◌, Checked, checked_of, own_in, own_of}, Entering.{is_none, made_new, made_port}}
 use Rattle.handle_pass.proofs.session.Session.look_tx.Goals as goal
 
 pub returns-in-Some-clause-did : goal.returns-in-Some-clause-did

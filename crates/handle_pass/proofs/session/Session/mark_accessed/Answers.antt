@@ -1,5 +1,4 @@
-use Rattle.handle_pass.proofs.Words.{ap, Some, own_in, own_of}
-use Rattle.handle_pass.proofs.Entering.{own_by_parts, rested_by}
+use Rattle.handle_pass.proofs.{Words.{ap, Some, own_in, own_of}, Entering.{own_by_parts, rested_by}}
 use Rattle.handle_pass.proofs.session.Session.mark_accessed.Goals as goal
 
 pub returns-in-Ok-clause-did : goal.returns-in-Ok-clause-did

@@ -1,10 +1,7 @@
-use Rattle.handle_pass.proofs.Words.{◌≡◌, ℕ, List, Err, ap, refl, subst, sym, ◌∙◌, Some, Checked, view, prefix_self, post_cause, checked_of, own_in, own_of, Session, Start}
-use Rattle.handle_pass.specs.Handles.{HasPosted, Unposted}
-use Rattle.handle_pass.specs.declared.errors.PostTxError.{PostTxError}
+use Rattle.handle_pass.{proofs.Words.{◌≡◌, ℕ, List, Err, ap, refl, subst, sym, ◌∙◌, Some, Checked, view, prefix_self, post_cause, checked_of, own_in, own_of, Session, Start}, specs.Handles.{HasPosted, Unposted}, specs.declared.errors.PostTxError.PostTxError, proofs.Entering.{made_gone, made_kept, own_same}}
 use Rattle.handle_pass.specs.declared.errors.PostTxError.TheVariants as error
 use Rattle.tx_table.specs.declared.rack.PostError.{PostError}
 use Rattle.tx_table.specs.declared.rack.PostError.TheVariants as cause
-use Rattle.handle_pass.proofs.Entering.{made_gone, made_kept, own_same}
 use Rattle.handle_pass.proofs.session.Session.post_tx.Goals as goal
 
 pub returns-in-Ok-clause-did : goal.returns-in-Ok-clause-did

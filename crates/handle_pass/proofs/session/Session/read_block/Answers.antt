@@ -1,12 +1,10 @@
-use Rattle.handle_pass.proofs.Words.{ap, refl, rules, subst, ◌∙◌, ◌≡◌, List, Some, block_at, read_access, CoreError, Entry, Fetch, Refused, IsLegal, cause_of, view, prefix_trans, with_access, own_in, own_of, Own}
+use Rattle.handle_pass.proofs.{Words.{ap, refl, rules, subst, ◌∙◌, ◌≡◌, List, Some, block_at, read_access, CoreError, Entry, Fetch, Refused, IsLegal, cause_of, view, prefix_trans, with_access, own_in, own_of, Own}, Entering.{Through, down_by, fetched_is, made_through, own_by_parts, own_same}, session.Session.read_block.Goals.After-tell_port}
 use Rattle.iso_model.specs.Effect as effect
 use Rattle.iso_model.specs.declared.core_error.CoreError.TheVariants as error
 use Rattle.iso_shared.specs.declared.entry.Call.TheVariants as call
 use Rattle.iso_shared.specs.Ports.{Made}
-use Rattle.handle_pass.proofs.Entering.{Through, down_by, fetched_is, made_through, own_by_parts, own_same}
 use Rattle.handle_pass.proofs.session.Session.read_block.Given as given
 use Rattle.handle_pass.proofs.session.Session.read_block.Goals as goal
-use Rattle.handle_pass.proofs.session.Session.read_block.Goals.{After-tell_port}
 
 -- the call behind which the port is told
 through : (g : given.Over) (c : After-tell_port g) → Through g.O.Origin.start c.args.self.now c.tell_port.new.port c.in-Some.tx c.tell_tx.new.tx c.fetch-fetched.new.tx c.tell_port.new.tx

@@ -1,5 +1,4 @@
-use Rattle.handle_pass.proofs.Words.{ap, ◌∙◌, ◌≡◌, Some, write_access, with_access, own_in, own_of}
-use Rattle.handle_pass.proofs.Entering.{own_by_parts, rested_by}
+use Rattle.handle_pass.proofs.{Words.{ap, ◌∙◌, ◌≡◌, Some, write_access, with_access, own_in, own_of}, Entering.{own_by_parts, rested_by}}
 use Rattle.handle_pass.proofs.session.Session.write_block.Goals as goal
 
 pub returns-in_default-clause-did : goal.returns-in_default-clause-did

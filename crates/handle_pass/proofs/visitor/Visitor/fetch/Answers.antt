@@ -1,5 +1,4 @@
-use Rattle.handle_pass.proofs.Words.{ap, sym, ◌∙◌, Seen}
-use Rattle.handle_pass.proofs.Looking.{tried}
+use Rattle.handle_pass.proofs.{Words.{ap, sym, ◌∙◌, Seen}, Looking.tried}
 use Rattle.handle_pass.proofs.visitor.Visitor.fetch.Goals as goal
 
 pub read_block-answer-requires-clause-size : goal.read_block-answer-requires-clause-size

@@ -1,5 +1,4 @@
-use Rattle.handle_pass.proofs.Words.{subst, Marked, Seen, seen_by}
-use Rattle.handle_pass.proofs.Looking.{marked_by}
+use Rattle.handle_pass.proofs.{Words.{subst, Marked, Seen, seen_by}, Looking.marked_by}
 use Rattle.handle_pass.proofs.visitor.Visitor.mark.Goals as goal
 
 pub invariant_of-self : goal.invariant_of-self

@@ -1,5 +1,4 @@
-use Rattle.handle_pass.proofs.Words.{ap, subst, sym, ◌∙◌, Wrote, Seen, seen_by}
-use Rattle.handle_pass.proofs.Looking.{wrote}
+use Rattle.handle_pass.proofs.{Words.{ap, subst, sym, ◌∙◌, Wrote, Seen, seen_by}, Looking.wrote}
 use Rattle.handle_pass.proofs.visitor.Visitor.write.Goals as goal
 
 pub write_block-requires-clause-size : goal.write_block-requires-clause-size

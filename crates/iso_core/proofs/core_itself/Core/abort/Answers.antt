@@ -1,5 +1,4 @@
-use Rattle.iso_core.proofs.Words.{without}
-use Rattle.iso_core.proofs.Standings.{stands_on}
+use Rattle.iso_core.proofs.{Words.without, Standings.stands_on}
 use Rattle.iso_core.proofs.core_itself.Core.abort.Goals as goal
 
 pub leave-requires : goal.leave-requires

@@ -1,6 +1,4 @@
-use Rattle.iso_core.proofs.Words.{◌+◌, ◌++◌, ◌∷◌, [], mode_named, up}
-use Rattle.iso_core.proofs.Begins.{begun}
-use Rattle.iso_core.proofs.Standings.{if_ok, stands_on}
+use Rattle.iso_core.proofs.{Words.{◌+◌, ◌++◌, ◌∷◌, [], mode_named, up}, Begins.begun, Standings.{if_ok, stands_on}}
 use Rattle.iso_core.proofs.core_itself.Core.begin.Goals as goal
 
 pub returns-clause-begun : goal.returns-clause-begun

@@ -1,6 +1,4 @@
-use Rattle.iso_core.proofs.Words.{◌≡◌, ◌⊎◌, inl, inr, ap, subst, ℕ, IfOk, IfErr, weakened, Geometry, Disk, CoreReply, after_switch, switch_step, floor, Refuses, AreOf, up, HasForm}
-use Rattle.iso_core.proofs.Plans.{own_form}
-use Rattle.iso_core.proofs.Standings.{up_of}
+use Rattle.iso_core.proofs.{Words.{◌≡◌, ◌⊎◌, inl, inr, ap, subst, ℕ, IfOk, IfErr, weakened, Geometry, Disk, CoreReply, after_switch, switch_step, floor, Refuses, AreOf, up, HasForm}, Plans.own_form, Standings.up_of}
 use Rattle.iso_core.proofs.core_itself.Core.compact.Goals as goal
 
 pub switch_half-requires : goal.switch_half-requires

@@ -1,6 +1,4 @@
-use Rattle.iso_core.proofs.Words.{◌∙◌, refl, sym, subst, ◌≤◌, List, arith, AreNotesAfter, Note, dropped_after, floor}
-use Rattle.iso_core.proofs.Leaves.{has_begun}
-use Rattle.iso_core.proofs.Numbers.{log_last}
+use Rattle.iso_core.proofs.{Words.{◌∙◌, refl, sym, subst, ◌≤◌, List, arith, AreNotesAfter, Note, dropped_after, floor}, Leaves.has_begun, Numbers.log_last}
 use Rattle.iso_core.proofs.core_itself.Core.recent.Goals as goal
 
 pub returns-in-Ok-clause-notes : goal.returns-in-Ok-clause-notes

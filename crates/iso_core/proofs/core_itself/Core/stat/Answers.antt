@@ -1,6 +1,4 @@
-use Rattle.iso_core.proofs.Words.{◌∙◌}
-use Rattle.iso_core.proofs.Numbers.{log_last, log_used}
-use Rattle.iso_core.proofs.Stats.{live_is, versions_are}
+use Rattle.iso_core.proofs.{Words.◌∙◌, Numbers.{log_last, log_used}, Stats.{live_is, versions_are}}
 use Rattle.iso_core.proofs.core_itself.Core.stat.Goals as goal
 
 pub returns : goal.returns

@@ -1,5 +1,4 @@
-use Rattle.iso_core.proofs.Words.{Ok, floor, up}
-use Rattle.iso_core.proofs.Standings.{stands_on}
+use Rattle.iso_core.proofs.{Words.{Ok, floor, up}, Standings.stands_on}
 use Rattle.iso_core.proofs.core_itself.Core.trim.Goals as goal
 
 pub returns-clause-trimmed : goal.returns-clause-trimmed

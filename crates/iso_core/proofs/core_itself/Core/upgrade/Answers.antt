@@ -1,5 +1,4 @@
-use Rattle.iso_core.proofs.Plans.{second_form}
-use Rattle.iso_core.proofs.Standings.{up_of}
+use Rattle.iso_core.proofs.{Plans.second_form, Standings.up_of}
 use Rattle.iso_core.proofs.core_itself.Core.upgrade.Goals as goal
 
 pub switch_half-requires : goal.switch_half-requires

@@ -1,6 +1,4 @@
-use Rattle.iso_format.proofs.Words.{◌≡◌, ℕ, ◌+◌, ◌-◌, ◌++◌, [], length, take, drop, ap, ◌∙◌, arith, body_length, spell, Spelled, spelled, head}
-use Rattle.iso_format.proofs.Parts.{body_bound, count_bound}
-use Rattle.iso_format.proofs.Buffers.{finished, finished_is, parts_length, parts_count}
+use Rattle.iso_format.proofs.{Words.{◌≡◌, ℕ, ◌+◌, ◌-◌, ◌++◌, [], length, take, drop, ap, ◌∙◌, arith, body_length, spell, Spelled, spelled, head}, Parts.{body_bound, count_bound}, Buffers.{finished, finished_is, parts_length, parts_count}}
 use Rattle.iso_format.proofs.record_buffer.RecordBuffer.finish.Goals as goal
 
 pub overflow_cast-self-inside : goal.overflow_cast-self-inside

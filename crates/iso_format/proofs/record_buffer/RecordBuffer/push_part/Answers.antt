@@ -1,5 +1,4 @@
-use Rattle.iso_format.proofs.Words.{◌+◌, ◌++◌, ◌∷◌, [], subst, ap, sym, ◌∙◌, arith, Run, HoldsParts, Spelled, spelled}
-use Rattle.iso_format.proofs.Buffers.{IsPushed, pushed, count_less}
+use Rattle.iso_format.proofs.{Words.{◌+◌, ◌++◌, ◌∷◌, [], subst, ap, sym, ◌∙◌, arith, Run, HoldsParts, Spelled, spelled}, Buffers.{IsPushed, pushed, count_less}}
 use Rattle.iso_format.proofs.record_buffer.RecordBuffer.push_part.Goals as goal
 
 pub overflow_add-self : goal.overflow_add-self

@@ -1,5 +1,4 @@
-use Rattle.iso_format.proofs.Words.{length, sym, ap, ◌∙◌, arith}
-use Rattle.iso_format.proofs.PartLaws.{first_part, first_run}
+use Rattle.iso_format.proofs.{Words.{length, sym, ap, ◌∙◌, arith}, PartLaws.{first_part, first_run}}
 use Rattle.iso_format.proofs.record_view.PartIterIterator.next.Goals as goal
 
 pub invariant_of-self : goal.invariant_of-self

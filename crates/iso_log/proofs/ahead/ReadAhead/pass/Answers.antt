@@ -1,5 +1,4 @@
-use Rattle.iso_log.proofs.Words.{length, drop, ap, arith, ◌∙◌}
-use Rattle.iso_log.proofs.Pieces.{range_behind, range_size}
+use Rattle.iso_log.proofs.{Words.{length, drop, ap, arith, ◌∙◌}, Pieces.{range_behind, range_size}}
 use Rattle.iso_log.proofs.ahead.ReadAhead.pass.Goals as goal
 
 pub returns : goal.returns

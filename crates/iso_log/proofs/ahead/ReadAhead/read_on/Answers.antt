@@ -1,5 +1,4 @@
-use Rattle.iso_log.proofs.Words.{◌≡◌, ◌+◌, ◌-◌, ◌++◌, ℕ, List, length, take, sym, ap, arith, ◌∙◌, subst, length-contents, slice_range, StandAt}
-use Rattle.iso_log.proofs.Pieces.{range_size, stand_more}
+use Rattle.iso_log.proofs.{Words.{◌≡◌, ◌+◌, ◌-◌, ◌++◌, ℕ, List, length, take, sym, ap, arith, ◌∙◌, subst, length-contents, slice_range, StandAt}, Pieces.{range_size, stand_more}}
 use Rattle.iso_log.proofs.ahead.ReadAhead.read_on.Goals as goal
 
 pub returns-clause-told : goal.returns-clause-told

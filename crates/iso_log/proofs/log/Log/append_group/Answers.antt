@@ -1,5 +1,4 @@
-use Rattle.iso_log.proofs.Words.{◌++◌, ℕ, sym, ◌∙◌, subst, IsClosed, Extent, HasTold}
-use Rattle.iso_log.proofs.Groups.{opens, some_bytes, closed_next, gate_is, grown_is, told_run, told_end, held_run, held_end, held_extent}
+use Rattle.iso_log.proofs.{Words.{◌++◌, ℕ, sym, ◌∙◌, subst, IsClosed, Extent, HasTold}, Groups.{opens, some_bytes, closed_next, gate_is, grown_is, told_run, told_end, held_run, held_end, held_extent}}
 use Rattle.iso_log.proofs.log.Log.append_group.Goals as goal
 
 pub put_group-requires-clause-open : goal.put_group-requires-clause-open

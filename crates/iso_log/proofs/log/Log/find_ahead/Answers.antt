@@ -1,5 +1,4 @@
-use Rattle.iso_log.proofs.Words.{ap, arith, Extent}
-use Rattle.iso_log.proofs.Finds.{damaged_here, stands_here}
+use Rattle.iso_log.proofs.{Words.{ap, arith, Extent}, Finds.{damaged_here, stands_here}}
 use Rattle.iso_log.proofs.log.Log.find_ahead.Goals as goal
 
 pub returns-clause-damaged : goal.returns-clause-damaged

@@ -1,6 +1,4 @@
-use Rattle.iso_log.proofs.Words.{◌≡◌, ◌+◌, ◌-◌, ℕ, List, ap, arith, sym, subst, Extent, next_place, StandAt}
-use Rattle.iso_log.proofs.Finds.{found_some, taken_is}
-use Rattle.iso_log.proofs.Pieces.{stand_behind}
+use Rattle.iso_log.proofs.{Words.{◌≡◌, ◌+◌, ◌-◌, ℕ, List, ap, arith, sym, subst, Extent, next_place, StandAt}, Finds.{found_some, taken_is}, Pieces.stand_behind}
 use Rattle.iso_log.proofs.log.Log.pass.Goals as goal
 
 pub returns-clause-taken : goal.returns-clause-taken

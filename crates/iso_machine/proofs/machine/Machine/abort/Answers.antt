@@ -1,8 +1,6 @@
-use Rattle.iso_machine.proofs.Words.{◌≡◌, sym, refl, ap, subst, ℕ, List, Option, Some, None, after_leaving, in_transaction, step, World, Live, attached, disk_of, up, Attached, AreOf, live_of, IsHere}
+use Rattle.iso_machine.proofs.{Words.{◌≡◌, sym, refl, ap, subst, ℕ, List, Option, Some, None, after_leaving, in_transaction, step, World, Live, attached, disk_of, up, Attached, AreOf, live_of, IsHere}, Machines.left, Quiet.stays_with}
 use Rattle.script_model.specs.declared.script.Op.TheVariants as op
 use Rattle.script_model.specs.declared.script.Reply.TheVariants as reply
-use Rattle.iso_machine.proofs.Machines.{left}
-use Rattle.iso_machine.proofs.Quiet.{stays_with}
 use Rattle.iso_machine.proofs.machine.Machine.abort.Goals as goal
 
 abort_step : (W : World) (c : ℕ) (o : Option Live) → attached W c ≡ o → step W c op.Abort ≡ in_transaction W o (λ t. (reply.Done, after_leaving W t))

@@ -1,7 +1,4 @@
-use Rattle.iso_machine.proofs.Words.{refl, sym, ap, Option, in_transaction, Live, disk_of, act_step, live_of, shows}
-use Rattle.iso_machine.proofs.Machines.{act_leads, at_place, worked_on}
-use Rattle.iso_machine.proofs.Accesses.{readied}
-use Rattle.iso_machine.proofs.Quiet.{acted, answers_as, kept_for, stays_with}
+use Rattle.iso_machine.proofs.{Words.{refl, sym, ap, Option, in_transaction, Live, disk_of, act_step, live_of, shows}, Machines.{act_leads, at_place, worked_on}, Accesses.readied, Quiet.{acted, answers_as, kept_for, stays_with}}
 use Rattle.iso_machine.proofs.machine.Machine.access.Goals as goal
 
 pub returns-in_default : goal.returns-in_default

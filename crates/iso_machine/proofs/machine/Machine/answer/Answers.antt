@@ -1,7 +1,5 @@
-use Rattle.iso_machine.proofs.Words.{◌≡◌, ◌∙◌, ◌⊎◌, inl, inr, sym, refl, ap, subst, ℕ, List, Ok, Op, Reply, hash_delete_step, hash_get_step, hash_put_step, in_transaction, numbers, step, store_step, tree_put_step, tree_get_step, tree_delete_step, tree_scan_step, file_new_step, file_write_step, file_read_step, file_move_step, file_delete_step, World, attached, IsOp, disk_of, act_step, Always, GoesOn, store_act, IsPlain}
+use Rattle.iso_machine.proofs.{Words.{◌≡◌, ◌∙◌, ◌⊎◌, inl, inr, sym, refl, ap, subst, ℕ, List, Ok, Op, Reply, hash_delete_step, hash_get_step, hash_put_step, in_transaction, numbers, step, store_step, tree_put_step, tree_get_step, tree_delete_step, tree_scan_step, file_new_step, file_write_step, file_read_step, file_move_step, file_delete_step, World, attached, IsOp, disk_of, act_step, Always, GoesOn, store_act, IsPlain}, Quiet.{answers_as, stays_with}, Told.{never_plain, told_as, told_so}}
 use Rattle.script_model.specs.declared.script.Op.TheVariants as op
-use Rattle.iso_machine.proofs.Quiet.{answers_as, stays_with}
-use Rattle.iso_machine.proofs.Told.{never_plain, told_as, told_so}
 use Rattle.iso_machine.proofs.machine.Machine.answer.Goals as goal
 
 trim_is : (W : World) (c : ℕ) → step W 1 op.Trim ≡ step W c op.Trim

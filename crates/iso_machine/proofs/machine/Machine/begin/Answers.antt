@@ -1,14 +1,8 @@
-use Rattle.iso_machine.proofs.Words.{◌≡◌, ◌∙◌, sym, refl, ap, subst, all_push, AreListed, IsOff, is_under_label, key_of, nat_eq, List, [], ◌∷◌, ◌++◌, Some, None, get_or, IsTrue, Geometry, CoreReply, Reply, is_block_size, last, after_begin, begin_step, mode_named, as_step, step, World, client, unattached, IsWorld, step_leads, Core, Refuses, Answers, Always, answer_to, disk_of, up, Doing, Attached, shows, AreOf, IsSized, live_of, get}
+use Rattle.iso_machine.proofs.{Words.{◌≡◌, ◌∙◌, sym, refl, ap, subst, all_push, AreListed, IsOff, is_under_label, key_of, nat_eq, List, [], ◌∷◌, ◌++◌, Some, None, get_or, IsTrue, Geometry, CoreReply, Reply, is_block_size, last, after_begin, begin_step, mode_named, as_step, step, World, client, unattached, IsWorld, step_leads, Core, Refuses, Answers, Always, answer_to, disk_of, up, Doing, Attached, shows, AreOf, IsSized, live_of, get}, Begins.{began_at, begin_is, begin_keeps, begins_alike, has_begun, valid_block}, Lists.pick, Machines.begun, Quiet.{answers_as, answers_by, stays_with, wants_memory}, Refusals.refused_still, Whereabouts.clients_come}
 use Rattle.iso_model.specs.declared.core_reply.CoreReply.TheVariants as core
 use Rattle.script_model.specs.declared.script.Op.TheVariants as op
 use Rattle.script_model.specs.declared.script.Reply.TheVariants as reply
 use Rattle.iso_machine.specs.declared.attached.Spot.TheVariants as spot
-use Rattle.iso_machine.proofs.Begins.{began_at, begin_is, begin_keeps, begins_alike, has_begun, valid_block}
-use Rattle.iso_machine.proofs.Lists.{pick}
-use Rattle.iso_machine.proofs.Machines.{begun}
-use Rattle.iso_machine.proofs.Quiet.{answers_as, answers_by, stays_with, wants_memory}
-use Rattle.iso_machine.proofs.Refusals.{refused_still}
-use Rattle.iso_machine.proofs.Whereabouts.{clients_come}
 use Rattle.iso_machine.proofs.machine.Machine.begin.Goals as goal
 
 pub returns-in-Some : goal.returns-in-Some

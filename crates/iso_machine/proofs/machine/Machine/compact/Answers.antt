@@ -1,8 +1,6 @@
-use Rattle.iso_machine.proofs.Words.{◌∙◌, inl, sym, ap, weakened, as_step, floor}
+use Rattle.iso_machine.proofs.{Words.{◌∙◌, inl, sym, ap, weakened, as_step, floor}, Quiet.{answered, answers_as, answers_by}, Switches.{compact_is, switch_refused, switched}}
 use Rattle.script_model.specs.declared.script.Reply.TheVariants as reply
 use Rattle.iso_model.specs.declared.core_reply.CoreReply.TheVariants as core
-use Rattle.iso_machine.proofs.Quiet.{answered, answers_as, answers_by}
-use Rattle.iso_machine.proofs.Switches.{compact_is, switch_refused, switched}
 use Rattle.iso_machine.proofs.machine.Machine.compact.Goals as goal
 
 pub returns-in-Ok : goal.returns-in-Ok

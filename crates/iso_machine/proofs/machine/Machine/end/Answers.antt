@@ -1,10 +1,4 @@
-use Rattle.iso_machine.proofs.Words.{◌∙◌, sym, refl, ap, subst, ◌≡◌, List, Some, None, IsSome, remove, as_reply, end_step, disk_of, Attached, AreOf, live_of}
-use Rattle.iso_machine.proofs.Accesses.{prepared}
-use Rattle.iso_machine.proofs.Endings.{end_is, end_keeps, has_gone, unwritten}
-use Rattle.iso_machine.proofs.Lists.{remove_set}
-use Rattle.iso_machine.proofs.Machines.{at_place, left, worked_on}
-use Rattle.iso_machine.proofs.Quiet.{answered, answers_as, answers_by, stays_with}
-use Rattle.iso_machine.proofs.Refusals.{blames, refused}
+use Rattle.iso_machine.proofs.{Words.{◌∙◌, sym, refl, ap, subst, ◌≡◌, List, Some, None, IsSome, remove, as_reply, end_step, disk_of, Attached, AreOf, live_of}, Accesses.prepared, Endings.{end_is, end_keeps, has_gone, unwritten}, Lists.remove_set, Machines.{at_place, left, worked_on}, Quiet.{answered, answers_as, answers_by, stays_with}, Refusals.{blames, refused}}
 use Rattle.iso_machine.proofs.machine.Machine.end.Goals as goal
 
 pub returns-in_default : goal.returns-in_default

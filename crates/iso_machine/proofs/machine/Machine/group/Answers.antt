@@ -1,13 +1,7 @@
-use Rattle.iso_machine.proofs.Words.{◌≡◌, ◌∙◌, take, Geometry, IsTrue, is_block_size, refl, sym, ap, subst, List, [], Option, arith, map, with_items_is, GroupReply, found_ones, looks, group_step, grouped, reply_in, disk_of, up, HasTaken, filled}
+use Rattle.iso_machine.proofs.{Words.{◌≡◌, ◌∙◌, take, Geometry, IsTrue, is_block_size, refl, sym, ap, subst, List, [], Option, arith, map, with_items_is, GroupReply, found_ones, looks, group_step, grouped, reply_in, disk_of, up, HasTaken, filled}, Begins.valid_block, Ended.{behind, few, group_fails, moments_of, nobody, nobody_stands, ready, replies_are, stands, step_is}, Machines.known, Quiet.{answered, answers_as, answers_by, stays_with, wants_memory}, Taking.from_none, machine.Machine.group.Goals.In_default-take_members}
 use Rattle.script_model.specs.declared.script.Reply.TheVariants as reply
-use Rattle.iso_machine.proofs.Begins.{valid_block}
-use Rattle.iso_machine.proofs.Ended.{behind, few, group_fails, moments_of, nobody, nobody_stands, ready, replies_are, stands, step_is}
-use Rattle.iso_machine.proofs.Machines.{known}
-use Rattle.iso_machine.proofs.Quiet.{answered, answers_as, answers_by, stays_with, wants_memory}
-use Rattle.iso_machine.proofs.Taking.{from_none}
 use Rattle.iso_machine.proofs.machine.Machine.group.Given as given
 use Rattle.iso_machine.proofs.machine.Machine.group.Goals as goal
-use Rattle.iso_machine.proofs.machine.Machine.group.Goals.{In_default-take_members}
 
 pub take_members-requires-clause-known : goal.take_members-requires-clause-known
 take_members-requires-clause-known g c = known c.requires.stands.1 c.args.self.now.live.items refl

@@ -1,5 +1,4 @@
-use Rattle.iso_machine.proofs.Words.{arith}
-use Rattle.iso_machine.proofs.Machines.{known, nobody_at, place_here}
+use Rattle.iso_machine.proofs.{Words.arith, Machines.{known, nobody_at, place_here}}
 use Rattle.iso_machine.proofs.machine.Machine.place_at.Goals as goal
 
 pub index_at_client-requires-clause-distinct : goal.index_at_client-requires-clause-distinct

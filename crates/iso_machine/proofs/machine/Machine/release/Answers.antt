@@ -1,11 +1,7 @@
-use Rattle.iso_machine.proofs.Words.{MatchOption, ℕ, ◌≡◌, sym, subst, ◌<◌, List, Some, None, length, get_or, set, AreListed, IsOff, is_at_client, is_under_label, key_of, nat_eq, find, map, Option, ◌∙◌, ap, refl, Reply, placed, step, World, held, label, IsWorld, step_leads, disk_of, Attached, AreOf, IsSized, live_of, get}
+use Rattle.iso_machine.proofs.{Words.{MatchOption, ℕ, ◌≡◌, sym, subst, ◌<◌, List, Some, None, length, get_or, set, AreListed, IsOff, is_at_client, is_under_label, key_of, nat_eq, find, map, Option, ◌∙◌, ap, refl, Reply, placed, step, World, held, label, IsWorld, step_leads, disk_of, Attached, AreOf, IsSized, live_of, get}, Lists.{all_at, all_set, pick}, Machines.{changed, distinct, held_none, held_some, known, release_is, relisted}, Quiet.{stays_with, wants_memory}, Whereabouts.{alone, client_lone, clients_go, is_there, labels_come}}
 use Rattle.script_model.specs.declared.script.Op.TheVariants as op
 use Rattle.script_model.specs.declared.script.Reply.TheVariants as reply
 use Rattle.iso_machine.specs.declared.attached.Spot.TheVariants as spot
-use Rattle.iso_machine.proofs.Lists.{all_at, all_set, pick}
-use Rattle.iso_machine.proofs.Machines.{changed, distinct, held_none, held_some, known, release_is, relisted}
-use Rattle.iso_machine.proofs.Quiet.{stays_with, wants_memory}
-use Rattle.iso_machine.proofs.Whereabouts.{alone, client_lone, clients_go, is_there, labels_come}
 use Rattle.iso_machine.proofs.machine.Machine.release.Goals as goal
 
 pub returns-in_default : goal.returns-in_default

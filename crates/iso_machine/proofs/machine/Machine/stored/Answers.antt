@@ -1,8 +1,5 @@
-use Rattle.iso_machine.proofs.Words.{◌≤◌, refl, sym, ap, subst, Option, length, Ok, in_transaction, World, Live, IsWorld, accesses_are, live_at, disk_of, Doing, IsWorkedTo, Always, live_of, store_act, shows}
+use Rattle.iso_machine.proofs.{Words.{◌≤◌, refl, sym, ap, subst, Option, length, Ok, in_transaction, World, Live, IsWorld, accesses_are, live_at, disk_of, Doing, IsWorkedTo, Always, live_of, store_act, shows}, Machines.{at_place, worked_on}, Quiet.stays_with, Told.{store_keeps, stored_so, told_as, told_so}}
 use Rattle.script_model.specs.declared.script.Reply.TheVariants as reply
-use Rattle.iso_machine.proofs.Machines.{at_place, worked_on}
-use Rattle.iso_machine.proofs.Quiet.{stays_with}
-use Rattle.iso_machine.proofs.Told.{store_keeps, stored_so, told_as, told_so}
 use Rattle.iso_machine.proofs.machine.Machine.stored.Goals as goal
 
 pub returns-in_default : goal.returns-in_default

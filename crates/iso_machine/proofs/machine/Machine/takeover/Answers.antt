@@ -1,11 +1,7 @@
-use Rattle.iso_machine.proofs.Words.{◌≡◌, ◌∙◌, sym, refl, ap, subst, ℕ, ◌<◌, length, List, Some, None, get_or, set, AreListed, IsOff, find, is_under_label, key_of, map, nat_eq, slice_index_or, Option, Reply, placed, step, World, client, held, IsWorld, step_leads, disk_of, Doing, Attached, AreOf, IsSized, live_of, get}
+use Rattle.iso_machine.proofs.{Words.{◌≡◌, ◌∙◌, sym, refl, ap, subst, ℕ, ◌<◌, length, List, Some, None, get_or, set, AreListed, IsOff, find, is_under_label, key_of, map, nat_eq, slice_index_or, Option, Reply, placed, step, World, client, held, IsWorld, step_leads, disk_of, Doing, Attached, AreOf, IsSized, live_of, get}, Lists.{all_at, all_set, pick}, Machines.{changed, distinct, held_none, held_some, known, nobody_under, relisted, takeover_is}, Quiet.stays_with, Whereabouts.{all_off, alone, clients_come, is_there, label_lone, labels_go, listed_less}}
 use Rattle.script_model.specs.declared.script.Op.TheVariants as op
 use Rattle.script_model.specs.declared.script.Reply.TheVariants as reply
 use Rattle.iso_machine.specs.declared.attached.Spot.TheVariants as spot
-use Rattle.iso_machine.proofs.Lists.{all_at, all_set, pick}
-use Rattle.iso_machine.proofs.Machines.{changed, distinct, held_none, held_some, known, nobody_under, relisted, takeover_is}
-use Rattle.iso_machine.proofs.Quiet.{stays_with}
-use Rattle.iso_machine.proofs.Whereabouts.{all_off, alone, clients_come, is_there, label_lone, labels_go, listed_less}
 use Rattle.iso_machine.proofs.machine.Machine.takeover.Goals as goal
 
 pub returns-in-Some : goal.returns-in-Some

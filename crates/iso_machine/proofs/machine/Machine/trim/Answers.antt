@@ -1,7 +1,6 @@
-use Rattle.iso_machine.proofs.Words.{◌≡◌, ◌∙◌, sym, refl, ap, ℕ, after_trim, step, World, floor, disk_of}
+use Rattle.iso_machine.proofs.{Words.{◌≡◌, ◌∙◌, sym, refl, ap, ℕ, after_trim, step, World, floor, disk_of}, Quiet.stays_with}
 use Rattle.script_model.specs.declared.script.Op.TheVariants as op
 use Rattle.script_model.specs.declared.script.Reply.TheVariants as reply
-use Rattle.iso_machine.proofs.Quiet.{stays_with}
 use Rattle.iso_machine.proofs.machine.Machine.trim.Goals as goal
 
 trim_step : (W : World) (c : ℕ) → step W c op.Trim ≡ (reply.Trimmed (floor W), after_trim W)

@@ -1,5 +1,4 @@
-use Rattle.iso_memdisk.proofs.Words.{Vec, ℕ, Option, length, sym, ◌∙◌, ap, Global, held}
-use Rattle.iso_memdisk.proofs.Calls.{length-written}
+use Rattle.iso_memdisk.proofs.{Words.{Vec, ℕ, Option, length, sym, ◌∙◌, ap, Global, held}, Calls.length-written}
 use Rattle.iso_memdisk.proofs.disk.MemDisk.held.Goals as goal
 
 pub returns-in-Some-clause-length : goal.returns-in-Some-clause-length

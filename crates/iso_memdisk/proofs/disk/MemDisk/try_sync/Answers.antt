@@ -1,5 +1,4 @@
-use Rattle.iso_memdisk.proofs.Words.{List, [], ◌∷◌, ◌++◌, ◌≡◌, length, is_ok, sym, ◌∙◌, ap, subst, Call, Sync, held, written, AllFit}
-use Rattle.iso_memdisk.proofs.Calls.{AllFit-if, AllFit-sync, written-if, written-append}
+use Rattle.iso_memdisk.proofs.{Words.{List, [], ◌∷◌, ◌++◌, ◌≡◌, length, is_ok, sym, ◌∙◌, ap, subst, Call, Sync, held, written, AllFit}, Calls.{AllFit-if, AllFit-sync, written-if, written-append}}
 use Rattle.iso_memdisk.proofs.disk.MemDisk.try_sync.Goals as goal
 
 pub invariant_of-self-clause-writes_fit : goal.invariant_of-self-clause-writes_fit

@@ -1,5 +1,4 @@
-use Rattle.iso_memdisk.proofs.Words.{Vec, ℕ, Option, List, [], ◌∷◌, ◌++◌, ◌≡◌, ◌+◌, length, take, drop, sym, ◌∙◌, ap, subst, arith, rules, with_items_is, Global, AreBytes, bytes_append, bytes_drop, bytes_take, spliced, Call, Write, held, written, AllFit}
-use Rattle.iso_memdisk.proofs.Calls.{AllFit-push, written-append, length-written}
+use Rattle.iso_memdisk.proofs.{Words.{Vec, ℕ, Option, List, [], ◌∷◌, ◌++◌, ◌≡◌, ◌+◌, length, take, drop, sym, ◌∙◌, ap, subst, arith, rules, with_items_is, Global, AreBytes, bytes_append, bytes_drop, bytes_take, spliced, Call, Write, held, written, AllFit}, Calls.{AllFit-push, written-append, length-written}}
 use Rattle.iso_memdisk.proofs.disk.MemDisk.try_write.Goals as goal
 
 pub lay-requires : goal.lay-requires

@@ -1,5 +1,4 @@
-use Rattle.iso_memdisk.proofs.Words.{◌∙◌, ap, arith, Failures, Sync, Appends}
-use Rattle.iso_memdisk.proofs.Moves.{elapses_sync, contents_sync, settled_sync}
+use Rattle.iso_memdisk.proofs.{Words.{◌∙◌, ap, arith, Failures, Sync, Appends}, Moves.{elapses_sync, contents_sync, settled_sync}}
 use Rattle.iso_memdisk.proofs.disk.MemDiskDisk.sync.Goals as goal
 
 pub returns-in-Ok-clause-settled : goal.returns-in-Ok-clause-settled

@@ -1,5 +1,4 @@
-use Rattle.iso_memdisk.proofs.Words.{◌∙◌, ap, refl, arith, torn_from_old, Failures, Write, Appends}
-use Rattle.iso_memdisk.proofs.Moves.{elapses_untouched, elapses_write, contents_write, torn_now}
+use Rattle.iso_memdisk.proofs.{Words.{◌∙◌, ap, refl, arith, torn_from_old, Failures, Write, Appends}, Moves.{elapses_untouched, elapses_write, contents_write, torn_now}}
 use Rattle.iso_memdisk.proofs.disk.MemDiskDisk.write.Goals as goal
 
 pub returns-in_err-count_call-clause-crash : goal.returns-in_err-count_call-clause-crash

@@ -1,6 +1,5 @@
 -- The key has room for each byte, and tells the label.
-use Rattle.iso_model.proofs.Words.{◌≡◌, ◌∙◌, List, ℕ, IsTrue, ◌≤◌, length, take, drop, ap, subst, arith, common_steps, is_label, key_of}
-use Rattle.iso_model.proofs.Labels.{key_has_room, key_tells}
+use Rattle.iso_model.proofs.{Words.{◌≡◌, ◌∙◌, List, ℕ, IsTrue, ◌≤◌, length, take, drop, ap, subst, arith, common_steps, is_label, key_of}, Labels.{key_has_room, key_tells}}
 use Rattle.iso_model.proofs.label.Label.key.Goals as goal
 
 pub overflow_mul-key : goal.overflow_mul-key

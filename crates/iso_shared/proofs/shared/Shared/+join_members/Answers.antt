@@ -1,5 +1,4 @@
-use Rattle.iso_shared.proofs.Words.{sym, subst, ◌∷◌, ArePaired, IsNoteOf}
-use Rattle.iso_shared.proofs.HandedBack.{alone_by, note_of_on}
+use Rattle.iso_shared.proofs.{Words.{sym, subst, ◌∷◌, ArePaired, IsNoteOf}, HandedBack.{alone_by, note_of_on}}
 use Rattle.iso_shared.proofs.shared.Shared.+join_members.Goals as goal
 
 pub returns-clause-alone : goal.returns-clause-alone

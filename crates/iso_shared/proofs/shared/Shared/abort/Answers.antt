@@ -1,7 +1,4 @@
-use Rattle.iso_shared.proofs.Words.{inl, [], refl, ◌∙◌, prefix_trans, Abort, standing_of, state_at, tx_of}
-use Rattle.iso_shared.proofs.Cores.{did_abort, is_tx}
-use Rattle.iso_shared.proofs.Giving.{lends, live_lent, stands_call}
-use Rattle.iso_shared.proofs.Mades.{both_by, held_same}
+use Rattle.iso_shared.proofs.{Words.{inl, [], refl, ◌∙◌, prefix_trans, Abort, standing_of, state_at, tx_of}, Cores.{did_abort, is_tx}, Giving.{lends, live_lent, stands_call}, Mades.{both_by, held_same}}
 use Rattle.iso_shared.proofs.shared.Shared.abort.Goals as goal
 
 pub abort-requires : goal.abort-requires

@@ -1,11 +1,6 @@
-use Rattle.iso_shared.proofs.Words.{inl, ◌≡◌, [], ◌∷◌, ◌++◌, ap, refl, sym, subst, arith, ◌∙◌, rules, None, ℕ, IsTrue, unwrap_or, Checked, Mode, is_block_size, held_first, held_after, View, Doing, Entry, IsLegal, handed, returned, IsAhead, IsOwn, faults_of, standing_of, opened, state_at, begin_entry}
+use Rattle.iso_shared.proofs.{Words.{inl, ◌≡◌, [], ◌∷◌, ◌++◌, ap, refl, sym, subst, arith, ◌∙◌, rules, None, ℕ, IsTrue, unwrap_or, Checked, Mode, is_block_size, held_first, held_after, View, Doing, Entry, IsLegal, handed, returned, IsAhead, IsOwn, faults_of, standing_of, opened, state_at, begin_entry}, Begins.{began_ahead, began_own, begun_mode, block_size}, Cores.did_begin, Follows.follows_all, Giving.{entry_may, lends, stands_answer}, Mades.held_same}
 use Rattle.iso_shared.specs.declared.entry.Call.TheVariants as call
 use Rattle.iso_shared.specs.declared.entry.Entry.TheVariants as entry
-use Rattle.iso_shared.proofs.Begins.{began_ahead, began_own, begun_mode, block_size}
-use Rattle.iso_shared.proofs.Cores.{did_begin}
-use Rattle.iso_shared.proofs.Follows.{follows_all}
-use Rattle.iso_shared.proofs.Giving.{entry_may, lends, stands_answer}
-use Rattle.iso_shared.proofs.Mades.{held_same}
 use Rattle.iso_shared.proofs.shared.Shared.begin.Goals as goal
 
 pub give-requires-clause-value : goal.give-requires-clause-value

@@ -1,8 +1,6 @@
-use Rattle.iso_shared.proofs.Words.{inl, ap, refl, Done, disk_of, faults_of, state_at, compact_entry}
+use Rattle.iso_shared.proofs.{Words.{inl, ap, refl, Done, disk_of, faults_of, state_at, compact_entry}, Cores.{by_lost, did_compact}, Giving.{lends, moved_last, stands_answer}}
 use Rattle.iso_shared.specs.declared.entry.Call.TheVariants as call
 use Rattle.iso_shared.specs.declared.entry.Entry.TheVariants as entry
-use Rattle.iso_shared.proofs.Cores.{by_lost, did_compact}
-use Rattle.iso_shared.proofs.Giving.{lends, moved_last, stands_answer}
 use Rattle.iso_shared.proofs.shared.Shared.compact.Goals as goal
 
 pub give-requires-clause-value : goal.give-requires-clause-value

@@ -1,6 +1,4 @@
-use Rattle.iso_shared.proofs.Words.{Err, IfErr, ap, refl, sym, ◌≢◌, ◌∙◌, rules, subst, Doing, Entry, Made, TookFew, end_entry, OfDisk}
-use Rattle.iso_shared.specs.Ports.{IsTx}
-use Rattle.iso_shared.proofs.Mades.{both_on, joined_seen, made_on, units_by}
+use Rattle.iso_shared.{proofs.Words.{Err, IfErr, ap, refl, sym, ◌≢◌, ◌∙◌, rules, subst, Doing, Entry, Made, TookFew, end_entry, OfDisk}, specs.Ports.IsTx, proofs.Mades.{both_on, joined_seen, made_on, units_by}}
 use Rattle.iso_shared.proofs.shared.Shared.end.Goals as goal
 
 pub returns-in-Ok-clause-ok : goal.returns-in-Ok-clause-ok

@@ -1,10 +1,6 @@
-use Rattle.iso_shared.proofs.Words.{ap, refl, sym, ◌∙◌, subst, CoreError, List, Result, ℕ, AreHeld, numbers_handed, faults_of, group_entry, handed, held_after, returned, standing_of, state_at, txs_of, members_at, ends_at}
+use Rattle.iso_shared.proofs.{Words.{ap, refl, sym, ◌∙◌, subst, CoreError, List, Result, ℕ, AreHeld, numbers_handed, faults_of, group_entry, handed, held_after, returned, standing_of, state_at, txs_of, members_at, ends_at}, Ends.if_err_by, Giving.{entry_may, lends, refused_holds, stands_answer}, Groupings.{Groups, did_group, each_lent, group_args, group_only, held_again, moved_group}, Mades.made_by}
 use Rattle.iso_shared.specs.declared.entry.Call.TheVariants as call
 use Rattle.iso_shared.specs.declared.entry.Entry.TheVariants as entry
-use Rattle.iso_shared.proofs.Ends.{if_err_by}
-use Rattle.iso_shared.proofs.Giving.{entry_may, lends, refused_holds, stands_answer}
-use Rattle.iso_shared.proofs.Groupings.{Groups, did_group, each_lent, group_args, group_only, held_again, moved_group}
-use Rattle.iso_shared.proofs.Mades.{made_by}
 use Rattle.iso_shared.proofs.shared.Shared.end_at_turn.Goals as goal
 
 pub end_group-result-requires-clause-ready : goal.end_group-result-requires-clause-ready

@@ -1,10 +1,6 @@
-use Rattle.iso_shared.proofs.Words.{inl, [], ◌∷◌, ◌++◌, ap, refl, sym, arith, ◌∙◌, rules, ◌≤◌, ◌+◌, subst, ◌≡◌, Doing, held_after, disk_of, handed, returned, most_steps, faults_of, standing_of, state_at, tx_of, end_entry}
+use Rattle.iso_shared.proofs.{Words.{inl, [], ◌∷◌, ◌++◌, ap, refl, sym, arith, ◌∙◌, rules, ◌≤◌, ◌+◌, subst, ◌≡◌, Doing, held_after, disk_of, handed, returned, most_steps, faults_of, standing_of, state_at, tx_of, end_entry}, Cores.{by_lost, is_tx}, Ends.{ahead_same, checked_of, did_end, if_err_by, init_same, moved_end, may_have, on_same, own_same, work_of}, Giving.{at_turn, entry_keeps, entry_may, lends, refused_holds, settled_turn, stands_call}, Mades.{ahead_on, held_same, made_by, one_more, own_on}}
 use Rattle.iso_shared.specs.declared.entry.Call.TheVariants as call
 use Rattle.iso_shared.specs.declared.entry.Entry.TheVariants as entry
-use Rattle.iso_shared.proofs.Cores.{by_lost, is_tx}
-use Rattle.iso_shared.proofs.Ends.{ahead_same, checked_of, did_end, if_err_by, init_same, moved_end, may_have, on_same, own_same, work_of}
-use Rattle.iso_shared.proofs.Giving.{at_turn, entry_keeps, entry_may, lends, refused_holds, settled_turn, stands_call}
-use Rattle.iso_shared.proofs.Mades.{ahead_on, held_same, made_by, one_more, own_on}
 use Rattle.iso_shared.proofs.shared.Shared.end_in_turn.Goals as goal
 
 pub end-result-requires : goal.end-result-requires

@@ -1,8 +1,6 @@
-use Rattle.iso_shared.proofs.Words.{◌≡◌, ◌++◌, length, map, ap, sym, ◌∙◌, subst, List, ℕ, AllByRecursion, AreDistinct, AreHeld, GroupEnd, GroupReply, Member, IsEnd, Made, answered, cause_of, end_of, members_at, members_in, numbers_handed}
+use Rattle.iso_shared.proofs.{Words.{◌≡◌, ◌++◌, length, map, ap, sym, ◌∙◌, subst, List, ℕ, AllByRecursion, AreDistinct, AreHeld, GroupEnd, GroupReply, Member, IsEnd, Made, answered, cause_of, end_of, members_at, members_in, numbers_handed}, Groupings.{ends_of_joined, many_end, members_end, numbers_end}, HandedBack.{all_same, joined_notes, made_seen, pairs_many, taken_notes}}
 use Rattle.iso_shared.specs.declared.entry.Call.TheVariants as call
 use Rattle.iso_shared.specs.declared.entry.Entry.TheVariants as entry
-use Rattle.iso_shared.proofs.Groupings.{ends_of_joined, many_end, members_end, numbers_end}
-use Rattle.iso_shared.proofs.HandedBack.{all_same, joined_notes, made_seen, pairs_many, taken_notes}
 use Rattle.iso_shared.proofs.shared.Shared.end_joined.Goals as goal
 
 pub returns-in_default-clause-notes : goal.returns-in_default-clause-notes

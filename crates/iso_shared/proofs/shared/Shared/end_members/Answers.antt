@@ -1,8 +1,7 @@
-use Rattle.iso_shared.proofs.Words.{ap, sym, refl, ◌∙◌, subst, arith, List, ℕ, AreDistinct, AreHeld, CoreError, ArePaired, IsBack, times, Member, Entry, Made, answered, cause_of, members_in, numbers_in}
+use Rattle.iso_shared.proofs.{Words.{ap, sym, refl, ◌∙◌, subst, arith, List, ℕ, AreDistinct, AreHeld, CoreError, ArePaired, IsBack, times, Member, Entry, Made, answered, cause_of, members_in, numbers_in}, HandedBack.{back_all, back_are, joined_all, made_all, made_seen, many_units, members_held, noted_members, noted_numbers, noted_many, parts_many, same_numbers, told_all}}
 use Rattle.iso_model.specs.declared.core_error.CoreError.TheVariants as error
 use Rattle.iso_shared.specs.declared.entry.Call.TheVariants as call
 use Rattle.iso_shared.specs.declared.entry.Entry.TheVariants as entry
-use Rattle.iso_shared.proofs.HandedBack.{back_all, back_are, joined_all, made_all, made_seen, many_units, members_held, noted_members, noted_numbers, noted_many, parts_many, same_numbers, told_all}
 use Rattle.iso_shared.proofs.shared.Shared.end_members.Goals as goal
 
 pub end_joined-requires-clause-group : goal.end_joined-requires-clause-group

@@ -1,8 +1,6 @@
-use Rattle.iso_shared.proofs.Words.{◌≡◌, ◌++◌, length, map, ap, sym, ◌∙◌, subst, arith, List, GroupReply, Member, MemberEnd, Made, answered, bare_end, cause_of, ends_at, members_at, replies_of}
+use Rattle.iso_shared.proofs.{Words.{◌≡◌, ◌++◌, length, map, ap, sym, ◌∙◌, subst, arith, List, GroupReply, Member, MemberEnd, Made, answered, bare_end, cause_of, ends_at, members_at, replies_of}, Groupings.{members_many, same_members}, HandedBack.{answered_is, as_many, back_same, made_seen, same_many, taken_then}}
 use Rattle.iso_shared.specs.declared.entry.Call.TheVariants as call
 use Rattle.iso_shared.specs.declared.entry.Entry.TheVariants as entry
-use Rattle.iso_shared.proofs.Groupings.{members_many, same_members}
-use Rattle.iso_shared.proofs.HandedBack.{answered_is, as_many, back_same, made_seen, same_many, taken_then}
 use Rattle.iso_shared.proofs.shared.Shared.end_works.Goals as goal
 
 pub put_replies-requires : goal.put_replies-requires

@@ -1,10 +1,6 @@
-use Rattle.iso_shared.proofs.Words.{[], refl, sym, ◌∙◌, rules, ◌<◌, subst, ℕ, faults_of, standing_of, opened, state_at, tx_of}
+use Rattle.iso_shared.proofs.{Words.{[], refl, sym, ◌∙◌, rules, ◌<◌, subst, ℕ, faults_of, standing_of, opened, state_at, tx_of}, Cores.{did_fetch, is_tx}, Follows.follows_all, Giving.{entry_may, fetch_holds, lends, live_lent, moved_fetch, stands_answer}, Mades.{ahead_on, held_same, made_by, one_more, own_on}}
 use Rattle.iso_shared.specs.declared.entry.Call.TheVariants as call
 use Rattle.iso_shared.specs.declared.entry.Entry.TheVariants as entry
-use Rattle.iso_shared.proofs.Cores.{did_fetch, is_tx}
-use Rattle.iso_shared.proofs.Follows.{follows_all}
-use Rattle.iso_shared.proofs.Giving.{entry_may, fetch_holds, lends, live_lent, moved_fetch, stands_answer}
-use Rattle.iso_shared.proofs.Mades.{ahead_on, held_same, made_by, one_more, own_on}
 use Rattle.iso_shared.proofs.shared.Shared.fetch.Goals as goal
 
 pub fetch-result-requires : goal.fetch-result-requires

@@ -1,6 +1,4 @@
-use Rattle.iso_shared.proofs.Words.{◌≡◌, refl, sym, ap, subst, arith, ◌+◌, times, View, IsNote, IsPrefix}
-use Rattle.iso_shared.proofs.HandedBack.{holds_both}
-use Rattle.iso_shared.proofs.Mades.{ahead_on, own_on}
+use Rattle.iso_shared.proofs.{Words.{◌≡◌, refl, sym, ap, subst, arith, ◌+◌, times, View, IsNote, IsPrefix}, HandedBack.holds_both, Mades.{ahead_on, own_on}}
 use Rattle.iso_shared.proofs.shared.Shared.join_member.Goals as goal
 
 pub returns-clause-holds : goal.returns-clause-holds

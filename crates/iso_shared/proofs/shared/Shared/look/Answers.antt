@@ -1,9 +1,5 @@
-use Rattle.iso_shared.proofs.Words.{[], ◌∷◌, ◌++◌, ◌≡◌, ℕ, Option, Some, None, ap, rules, sym, ◌∙◌, bytes_eq, option_map, lookup, Checked, held_first, prefix_self, View, Entry, Posted, posting_in, state_at}
+use Rattle.iso_shared.proofs.{Words.{[], ◌∷◌, ◌++◌, ◌≡◌, ℕ, Option, Some, None, ap, rules, sym, ◌∙◌, bytes_eq, option_map, lookup, Checked, held_first, prefix_self, View, Entry, Posted, posting_in, state_at}, Begins.ahead_first, Giving.lends, Mades.{ahead_on, held_same, one_more, own_on}, Racked.{found_own, stands_look}}
 use Rattle.iso_shared.specs.declared.entry.Entry.TheVariants as entry
-use Rattle.iso_shared.proofs.Begins.{ahead_first}
-use Rattle.iso_shared.proofs.Giving.{lends}
-use Rattle.iso_shared.proofs.Mades.{ahead_on, held_same, one_more, own_on}
-use Rattle.iso_shared.proofs.Racked.{found_own, stands_look}
 use Rattle.iso_shared.proofs.shared.Shared.look.Goals as goal
 
 pub give-requires-clause-value : goal.give-requires-clause-value

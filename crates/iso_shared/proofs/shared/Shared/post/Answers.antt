@@ -1,7 +1,4 @@
-use Rattle.iso_shared.proofs.Words.{[], ◌∷◌, ◌++◌, ◌≡◌, ℕ, Ok, Err, ◌<◌, ap, refl, rules, subst, sym, ◌∙◌, IsErr, bytes_eq, lookup, prefix_trans, Doing, Entry, Posted, IsAhead, IsOwn, state_at, times, IsOn, StandsAt, post_entry}
-use Rattle.iso_shared.proofs.Giving.{lends}
-use Rattle.iso_shared.proofs.Mades.{ahead_on, both_by, held_same, made_by, one_more, own_on, units_by}
-use Rattle.iso_shared.proofs.Racked.{free_by, none_by, post_holds, stands_post, stands_unposted, taken_by}
+use Rattle.iso_shared.proofs.{Words.{[], ◌∷◌, ◌++◌, ◌≡◌, ℕ, Ok, Err, ◌<◌, ap, refl, rules, subst, sym, ◌∙◌, IsErr, bytes_eq, lookup, prefix_trans, Doing, Entry, Posted, IsAhead, IsOwn, state_at, times, IsOn, StandsAt, post_entry}, Giving.lends, Mades.{ahead_on, both_by, held_same, made_by, one_more, own_on, units_by}, Racked.{free_by, none_by, post_holds, stands_post, stands_unposted, taken_by}}
 use Rattle.iso_shared.proofs.shared.Shared.post.Goals as goal
 
 settled_same : (old new : Doing) → new ≡ old → new ≡ record old { settled = new.settled }

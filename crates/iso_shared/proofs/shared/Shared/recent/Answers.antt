@@ -1,10 +1,6 @@
-use Rattle.iso_shared.proofs.Words.{inl, [], ◌∷◌, ◌++◌, ◌≡◌, ap, refl, rules, subst, sym, ◌∙◌, IsRecent, faults_of, standing_of, state_at, tx_of, recent_entry}
+use Rattle.iso_shared.proofs.{Words.{inl, [], ◌∷◌, ◌++◌, ◌≡◌, ap, refl, rules, subst, sym, ◌∙◌, IsRecent, faults_of, standing_of, state_at, tx_of, recent_entry}, Begins.{did_recent, if_ok_by, is_recent, recent_state}, Cores.is_tx, Giving.{at_turn, entry_may, lends, recent_holds, stands_answer}, Mades.{ahead_on, held_same, made_by, one_more, own_on}}
 use Rattle.iso_shared.specs.declared.entry.Call.TheVariants as call
 use Rattle.iso_shared.specs.declared.entry.Entry.TheVariants as entry
-use Rattle.iso_shared.proofs.Begins.{did_recent, if_ok_by, is_recent, recent_state}
-use Rattle.iso_shared.proofs.Cores.{is_tx}
-use Rattle.iso_shared.proofs.Giving.{at_turn, entry_may, lends, recent_holds, stands_answer}
-use Rattle.iso_shared.proofs.Mades.{ahead_on, held_same, made_by, one_more, own_on}
 use Rattle.iso_shared.proofs.shared.Shared.recent.Goals as goal
 
 pub recent-result-requires : goal.recent-result-requires

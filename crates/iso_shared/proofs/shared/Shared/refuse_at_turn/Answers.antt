@@ -1,9 +1,6 @@
-use Rattle.iso_shared.proofs.Words.{inl, [], ap, refl, sym, ◌∙◌, subst, Err, ℕ, List, AreHeld, members_in, numbers_in, state_at, wanting_entry}
+use Rattle.iso_shared.proofs.{Words.{inl, [], ap, refl, sym, ◌∙◌, subst, Err, ℕ, List, AreHeld, members_in, numbers_in, state_at, wanting_entry}, Giving.{entry_keeps, entry_may, lends, stands_call}, Groupings.{did_wanting, joined_args, numbers_member, wanting_holds}, Mades.made_by}
 use Rattle.iso_shared.specs.declared.entry.Call.TheVariants as call
 use Rattle.iso_shared.specs.declared.entry.Entry.TheVariants as entry
-use Rattle.iso_shared.proofs.Giving.{entry_keeps, entry_may, lends, stands_call}
-use Rattle.iso_shared.proofs.Groupings.{did_wanting, joined_args, numbers_member, wanting_holds}
-use Rattle.iso_shared.proofs.Mades.{made_by}
 use Rattle.iso_shared.proofs.shared.Shared.refuse_at_turn.Goals as goal
 
 pub give_wanting-requires-clause-value : goal.give_wanting-requires-clause-value

@@ -1,5 +1,4 @@
-use Rattle.iso_shared.proofs.Words.{ap, subst, sym, ◌∙◌, AreHeld}
-use Rattle.iso_shared.proofs.HandedBack.{split_holds, still_held}
+use Rattle.iso_shared.proofs.{Words.{ap, subst, sym, ◌∙◌, AreHeld}, HandedBack.{split_holds, still_held}}
 use Rattle.iso_shared.proofs.shared.Shared.split_member.Goals as goal
 
 pub returns-clause-others : goal.returns-clause-others

@@ -1,7 +1,5 @@
-use Rattle.iso_shared.proofs.Words.{inl, refl, state_at, numbers_of}
+use Rattle.iso_shared.proofs.{Words.{inl, refl, state_at, numbers_of}, Cores.did_stat, Giving.{lends, stands_call}}
 use Rattle.iso_shared.specs.declared.entry.Entry.TheVariants as entry
-use Rattle.iso_shared.proofs.Cores.{did_stat}
-use Rattle.iso_shared.proofs.Giving.{lends, stands_call}
 use Rattle.iso_shared.proofs.shared.Shared.stat.Goals as goal
 
 pub give-requires-clause-value : goal.give-requires-clause-value

@@ -1,8 +1,4 @@
-use Rattle.iso_shared.proofs.Words.{inl, [], sym, ◌∙◌, standing_of, state_at, tx_of}
-use Rattle.iso_shared.proofs.Cores.{did_abort, is_tx}
-use Rattle.iso_shared.proofs.Giving.{lends}
-use Rattle.iso_shared.proofs.Mades.{all_by}
-use Rattle.iso_shared.proofs.Racked.{first_is, stands_sweep, stands_unswept, swept_live}
+use Rattle.iso_shared.proofs.{Words.{inl, [], sym, ◌∙◌, standing_of, state_at, tx_of}, Cores.{did_abort, is_tx}, Giving.lends, Mades.all_by, Racked.{first_is, stands_sweep, stands_unswept, swept_live}}
 use Rattle.iso_shared.proofs.shared.Shared.sweep.Goals as goal
 
 pub abort-requires : goal.abort-requires

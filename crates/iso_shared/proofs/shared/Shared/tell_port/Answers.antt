@@ -1,5 +1,4 @@
-use Rattle.iso_shared.proofs.Words.{ap, rules, subst, sym, View, Entry, IsAhead, IsOwn, state_at}
-use Rattle.iso_shared.proofs.Mades.{held_same}
+use Rattle.iso_shared.proofs.{Words.{ap, rules, subst, sym, View, Entry, IsAhead, IsOwn, state_at}, Mades.held_same}
 use Rattle.iso_shared.proofs.shared.Shared.tell_port.Goals as goal
 
 pub returns-clause-tx : goal.returns-clause-tx

@@ -1,5 +1,4 @@
-use Rattle.iso_shared.proofs.Words.{rules}
-use Rattle.iso_shared.proofs.Mades.{ahead_on, held_same, own_on}
+use Rattle.iso_shared.proofs.{Words.rules, Mades.{ahead_on, held_same, own_on}}
 use Rattle.iso_shared.proofs.shared.Shared.tell_tx.Goals as goal
 
 pub returns-clause-tx : goal.returns-clause-tx

@@ -1,8 +1,6 @@
-use Rattle.iso_shared.proofs.Words.{inl, refl, faults_of, state_at}
+use Rattle.iso_shared.proofs.{Words.{inl, refl, faults_of, state_at}, Cores.did_trim, Giving.{lends, stands_answer}}
 use Rattle.iso_shared.specs.declared.entry.Call.TheVariants as call
 use Rattle.iso_shared.specs.declared.entry.Entry.TheVariants as entry
-use Rattle.iso_shared.proofs.Cores.{did_trim}
-use Rattle.iso_shared.proofs.Giving.{lends, stands_answer}
 use Rattle.iso_shared.proofs.shared.Shared.trim.Goals as goal
 
 pub give-requires-clause-value : goal.give-requires-clause-value

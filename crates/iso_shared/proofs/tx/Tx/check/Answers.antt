@@ -1,6 +1,4 @@
-use Rattle.iso_shared.proofs.Words.{◌≡◌, ◌<◌, ◌≤◌, ℕ, true, ap, arith, refl, subst, sym, ◌∙◌, up_to, dropped_after, AreTouched, Read, Write, clash, History, Doing, state_at}
-use Rattle.iso_shared.proofs.Begins.{some_size, up_to_twice}
-use Rattle.iso_shared.proofs.Ends.{ahead_same, on_same, own_same}
+use Rattle.iso_shared.proofs.{Words.{◌≡◌, ◌<◌, ◌≤◌, ℕ, true, ap, arith, refl, subst, sym, ◌∙◌, up_to, dropped_after, AreTouched, Read, Write, clash, History, Doing, state_at}, Begins.{some_size, up_to_twice}, Ends.{ahead_same, on_same, own_same}}
 use Rattle.iso_shared.proofs.tx.Tx.check.Goals as goal
 
 settled_so : (old new : Doing) → new ≡ record old { settled = true } → new ≡ record old { settled = new.settled }

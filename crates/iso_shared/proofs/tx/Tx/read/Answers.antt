@@ -1,5 +1,4 @@
-use Rattle.iso_shared.proofs.Words.{ap, subst, sym, ◌∙◌, Doing, IsTxOf, state_at}
-use Rattle.iso_shared.proofs.Begins.{ahead_gone_on, own_gone_on}
+use Rattle.iso_shared.proofs.{Words.{ap, subst, sym, ◌∙◌, Doing, IsTxOf, state_at}, Begins.{ahead_gone_on, own_gone_on}}
 use Rattle.iso_shared.proofs.tx.Tx.read.Goals as goal
 
 pub returns-clause-tx : goal.returns-clause-tx

@@ -1,5 +1,4 @@
-use Rattle.iso_tree.proofs.Words.{◌∙◌, sym, ap, is_node}
-use Rattle.iso_tree.proofs.Facts.{node_parts}
+use Rattle.iso_tree.proofs.{Words.{◌∙◌, sym, ap, is_node}, Facts.node_parts}
 use Rattle.iso_tree.proofs.node.NodeView.of.Goals as goal
 
 pub invariant_of-result : goal.invariant_of-result

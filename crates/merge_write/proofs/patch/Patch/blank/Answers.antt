@@ -1,6 +1,5 @@
 -- A patch with no mask bit has no value.
-use Rattle.merge_write.proofs.Words.{◌≡◌, ◌/◌, rules, replicate}
-use Rattle.merge_write.proofs.Values.{blank_values}
+use Rattle.merge_write.proofs.{Words.{◌≡◌, ◌/◌, rules, replicate}, Values.blank_values}
 use Rattle.merge_write.proofs.patch.Patch.blank.Goals as goal
 
 pub returns : goal.returns

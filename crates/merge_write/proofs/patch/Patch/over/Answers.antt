@@ -1,6 +1,5 @@
 -- There are as many bytes as values.
-use Rattle.merge_write.proofs.Words.{◌∙◌, sym, ap, length}
-use Rattle.merge_write.proofs.Values.{length-values_from}
+use Rattle.merge_write.proofs.{Words.{◌∙◌, sym, ap, length}, Values.length-values_from}
 use Rattle.merge_write.proofs.patch.Patch.over.Goals as goal
 
 pub lay-requires-clause-into : goal.lay-requires-clause-into

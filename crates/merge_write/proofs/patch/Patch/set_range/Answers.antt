@@ -1,6 +1,5 @@
 -- The places from `from` up to `to` have the new bytes and their bits set, and the others what they had.
-use Rattle.merge_write.proofs.Words.{◌≡◌, ◌∙◌, ap, sym, ℕ, ◌<◌, ◌&&◌, ◌||◌, List, Option, Some, None, cond, length, get_or, nat_le, nat_lt, arith, with_items_is, with_items, is_set, values_from}
-use Rattle.merge_write.proofs.Values.{length-values_from, ranged_values}
+use Rattle.merge_write.proofs.{Words.{◌≡◌, ◌∙◌, ap, sym, ℕ, ◌<◌, ◌&&◌, ◌||◌, List, Option, Some, None, cond, length, get_or, nat_le, nat_lt, arith, with_items_is, with_items, is_set, values_from}, Values.{length-values_from, ranged_values}}
 use Rattle.merge_write.proofs.patch.Patch.set_range.Goals as goal
 
 pub copy_range-requires-clause-bytes : goal.copy_range-requires-clause-bytes

@@ -1,6 +1,5 @@
 -- The later bytes are laid over the first ones, and their bits are set too.
-use Rattle.merge_write.proofs.Values.{length-values_from, followed_values}
-use Rattle.merge_write.proofs.Words.{laid_at, followed_is, ◌≡◌, ◌∙◌, ap, sym, ℕ, ◌<◌, ◌||◌, List, Option, None, length, get_or, unwrap_or, arith, with_items_is, with_items, is_set, laid, followed, values_from}
+use Rattle.merge_write.proofs.{Values.{length-values_from, followed_values}, Words.{laid_at, followed_is, ◌≡◌, ◌∙◌, ap, sym, ℕ, ◌<◌, ◌||◌, List, Option, None, length, get_or, unwrap_or, arith, with_items_is, with_items, is_set, laid, followed, values_from}}
 use Rattle.merge_write.proofs.patch.Patch.then.Goals as goal
 
 pub lay-requires-clause-into : goal.lay-requires-clause-into

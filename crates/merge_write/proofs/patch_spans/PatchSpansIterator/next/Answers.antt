@@ -1,6 +1,5 @@
 -- The piece that comes next is the first of the maximal runs that are left.
-use Rattle.merge_write.proofs.Words.{◌≡◌, ◌∙◌, sym, ap, ◌<◌, true, false, inl, inr, arith, length, map, cases_lt, is_set, piece}
-use Rattle.merge_write.proofs.Pieces.{none_left, next_piece}
+use Rattle.merge_write.proofs.{Words.{◌≡◌, ◌∙◌, sym, ap, ◌<◌, true, false, inl, inr, arith, length, map, cases_lt, is_set, piece}, Pieces.{none_left, next_piece}}
 use Rattle.merge_write.proofs.patch_spans.PatchSpansIterator.next.Goals as goal
 
 pub returns-then-from-end-clause-steps : goal.returns-then-from-end-clause-steps

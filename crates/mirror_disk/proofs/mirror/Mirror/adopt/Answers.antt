@@ -1,5 +1,4 @@
-use Rattle.mirror_disk.proofs.Words.{Err, ap, DiskState, IsSettled}
-use Rattle.mirror_disk.proofs.Mirrored.{state_pair}
+use Rattle.mirror_disk.proofs.{Words.{Err, ap, DiskState, IsSettled}, Mirrored.state_pair}
 use Rattle.mirror_disk.proofs.mirror.Mirror.adopt.Goals as goal
 
 pub returns-in-Ok-clause-settled : goal.returns-in-Ok-clause-settled

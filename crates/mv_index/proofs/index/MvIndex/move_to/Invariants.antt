@@ -1,6 +1,5 @@
 -- The rows so far are moved.
-use Rattle.mv_index.proofs.Words.{moved_to}
-use Rattle.mv_index.proofs.Trims.{AreTrimmed}
+use Rattle.mv_index.proofs.{Words.moved_to, Trims.AreTrimmed}
 use Rattle.mv_index.proofs.index.MvIndex.move_to.Given as goal
 
 abbrev pub invariant-loop-row : goal.invariant-loop-row

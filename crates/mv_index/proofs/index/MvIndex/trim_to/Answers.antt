@@ -1,6 +1,5 @@
 -- One row more.
-use Rattle.mv_index.proofs.Words.{◌≡◌, ◌∙◌, ◌<◌, ap, length, get_or, arith, get_or_default, BlockVersions, no_versions, shown_since}
-use Rattle.mv_index.proofs.Trims.{trimmed_more}
+use Rattle.mv_index.proofs.{Words.{◌≡◌, ◌∙◌, ◌<◌, ap, length, get_or, arith, get_or_default, BlockVersions, no_versions, shown_since}, Trims.trimmed_more}
 use Rattle.mv_index.proofs.index.MvIndex.trim_to.Goals as goal
 
 pub loop-row-preserved : goal.loop-row-preserved

@@ -1,6 +1,5 @@
 -- A version more, with the pieces over which it is laid.
-use Rattle.mv_index.proofs.Words.{sym, subst, arith, ◌^◌, ◌-◌, List, Version, IsRow, AreAtMost, BlockVersions}
-use Rattle.mv_index.proofs.Showing.{pieces_lie, row_more}
+use Rattle.mv_index.proofs.{Words.{sym, subst, arith, ◌^◌, ◌-◌, List, Version, IsRow, AreAtMost, BlockVersions}, Showing.{pieces_lie, row_more}}
 use Rattle.mv_index.proofs.row.Row.add.Goals as goal
 
 pub lay-requires-clause-order : goal.lay-requires-clause-order

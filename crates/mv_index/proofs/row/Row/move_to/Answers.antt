@@ -1,7 +1,5 @@
 -- The pieces are moved with their versions.
-use Rattle.mv_index.proofs.Words.{List, sym, subst, arith, Version, AreSplit, moved_to, IsRow, AllLie, BlockVersions}
-use Rattle.mv_index.proofs.Moves.{row_moved}
-use Rattle.mv_index.proofs.Showing.{pieces_lie}
+use Rattle.mv_index.proofs.{Words.{List, sym, subst, arith, Version, AreSplit, moved_to, IsRow, AllLie, BlockVersions}, Moves.row_moved, Showing.pieces_lie}
 use Rattle.mv_index.proofs.row.Row.move_to.Goals as goal
 
 pub move_list-requires : goal.move_list-requires

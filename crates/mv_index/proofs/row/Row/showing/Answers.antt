@@ -1,9 +1,5 @@
 -- The pieces of a row.
-use Rattle.mv_index.proofs.Words.{sym, ap, subst, List, Version, ArePieces, BlockVersions, no_version}
-use Rattle.mv_index.proofs.Few.{pieces_few}
-use Rattle.mv_index.proofs.Layers.{same_place}
-use Rattle.mv_index.proofs.Orders.{once, some_at}
-use Rattle.mv_index.proofs.Showing.{pieces_lie}
+use Rattle.mv_index.proofs.{Words.{sym, ap, subst, List, Version, ArePieces, BlockVersions, no_version}, Few.pieces_few, Layers.same_place, Orders.{once, some_at}, Showing.pieces_lie}
 use Rattle.mv_index.proofs.row.Row.showing.Goals as goal
 
 are : (c : goal.After-as_slice) → ArePieces c.as_slice.result.now c.args.self.now.versions

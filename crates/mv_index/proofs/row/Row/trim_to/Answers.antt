@@ -1,6 +1,5 @@
 -- What is left rises, and the pieces are those of what is left.
-use Rattle.mv_index.proofs.Words.{List, sym, subst, Version, IsRow}
-use Rattle.mv_index.proofs.Showing.{row_trimmed}
+use Rattle.mv_index.proofs.{Words.{List, sym, subst, Version, IsRow}, Showing.row_trimmed}
 use Rattle.mv_index.proofs.row.Row.trim_to.Goals as goal
 
 pub invariant_of-self : goal.invariant_of-self

@@ -1,7 +1,6 @@
 -- What is left is not above the last number.
 use Rattle.std.proofs.Common.{◌∙◌, sym, subst}
-use Rattle.mv_index.specs.Versions.{AreAtMost, versions_in}
-use Rattle.mv_index.proofs.Sublists.{most_shown}
+use Rattle.mv_index.{specs.Versions.{AreAtMost, versions_in}, proofs.Sublists.most_shown}
 use Rattle.mv_index.proofs.tests.OneBlock.trim.Goals as goal
 
 pub invariant_of-self : goal.invariant_of-self

@@ -1,10 +1,7 @@
 use Rattle.std.proofs.Common.{◌∙◌, sym, ap, length, arith}
-use Rattle.iso_model.specs.Array.{Array}
-use Rattle.iso_model.specs.Premises.{block_at}
-use Rattle.iso_model.specs.Effect.{own}
+use Rattle.iso_model.specs.{Array.Array, Premises.block_at, Effect.own}
 use Rattle.tx_table.specs.Work.{Doing}
-use Rattle.plain_tx.specs.Plain.{blocks_of}
-use Rattle.plain_tx.proofs.Causes.{copied, same_some}
+use Rattle.plain_tx.{specs.Plain.blocks_of, proofs.Causes.{copied, same_some}}
 use Rattle.plain_tx.proofs.plain_tx.PlainTxTxBlocks.read_block.Goals as goal
 
 pub returns-clause-bytes : goal.returns-clause-bytes

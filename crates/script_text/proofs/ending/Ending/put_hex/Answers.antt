@@ -1,5 +1,4 @@
-use Rattle.script_text.proofs.Words.{◌∙◌, ◌++◌, ℕ, List, ap, arith, drop, hex_text, WithFront}
-use Rattle.script_text.proofs.Fronts.{from_part}
+use Rattle.script_text.proofs.{Words.{◌∙◌, ◌++◌, ℕ, List, ap, arith, drop, hex_text, WithFront}, Fronts.from_part}
 use Rattle.script_text.proofs.ending.Ending.put_hex.Goals as goal
 
 pub returns-clause-text : goal.returns-clause-text

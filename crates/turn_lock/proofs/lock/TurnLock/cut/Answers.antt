@@ -1,5 +1,4 @@
-use Rattle.turn_lock.proofs.Words.{rules}
-use Rattle.turn_lock.proofs.Keeps.{splits}
+use Rattle.turn_lock.proofs.{Words.rules, Keeps.splits}
 use Rattle.turn_lock.proofs.lock.TurnLock.cut.Goals as goal
 
 pub split_seat-requires : goal.split_seat-requires

@@ -1,5 +1,4 @@
-use Rattle.turn_lock.proofs.Words.{rules}
-use Rattle.turn_lock.proofs.Keeps.{draws_from}
+use Rattle.turn_lock.proofs.{Words.rules, Keeps.draws_from}
 use Rattle.turn_lock.proofs.lock.TurnLock.draw.Goals as goal
 
 pub compare_exchange-found-requires : goal.compare_exchange-found-requires

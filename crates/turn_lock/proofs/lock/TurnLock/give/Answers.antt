@@ -1,5 +1,4 @@
-use Rattle.turn_lock.proofs.Words.{rules, refl, ◌∙◌}
-use Rattle.turn_lock.proofs.Keeps.{gives_back, rests_after, handed_after}
+use Rattle.turn_lock.proofs.{Words.{rules, refl, ◌∙◌}, Keeps.{gives_back, rests_after, handed_after}}
 use Rattle.turn_lock.proofs.lock.TurnLock.give.Goals as goal
 
 pub store-requires : goal.store-requires

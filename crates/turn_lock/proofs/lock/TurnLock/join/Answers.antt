@@ -1,6 +1,4 @@
-use Rattle.turn_lock.proofs.Words.{rules, arith, ◌≡◌, ap, sym, ◌∙◌, times, merge, turn_number}
-use Rattle.turn_lock.proofs.Rising.{times_merge}
-use Rattle.turn_lock.proofs.Keeps.{joins, settles_both, whole_after, turn_after, rest_after}
+use Rattle.turn_lock.proofs.{Words.{rules, arith, ◌≡◌, ap, sym, ◌∙◌, times, merge, turn_number}, Rising.times_merge, Keeps.{joins, settles_both, whole_after, turn_after, rest_after}}
 use Rattle.turn_lock.proofs.lock.TurnLock.join.Goals as goal
 
 pub join_seat-requires : goal.join_seat-requires

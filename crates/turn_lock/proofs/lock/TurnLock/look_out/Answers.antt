@@ -1,5 +1,4 @@
-use Rattle.turn_lock.proofs.Words.{rules, arith}
-use Rattle.turn_lock.proofs.Keeps.{rings}
+use Rattle.turn_lock.proofs.{Words.{rules, arith}, Keeps.rings}
 use Rattle.turn_lock.proofs.lock.TurnLock.look_out.Goals as goal
 
 pub store-requires : goal.store-requires

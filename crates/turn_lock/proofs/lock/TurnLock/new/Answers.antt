@@ -1,5 +1,4 @@
-use Rattle.turn_lock.proofs.Words.{◌≡◌, [], ◌∷◌, subst, sym, Some, List, Option, replicate, fresh, Fair, opening}
-use Rattle.turn_lock.proofs.Keeps.{starts}
+use Rattle.turn_lock.proofs.{Words.{◌≡◌, [], ◌∷◌, subst, sym, Some, List, Option, replicate, fresh, Fair, opening}, Keeps.starts}
 use Rattle.turn_lock.proofs.lock.TurnLock.new.Goals as goal
 
 pub new-requires : goal.new-requires

@@ -1,5 +1,4 @@
-use Rattle.turn_lock.proofs.Words.{rules}
-use Rattle.turn_lock.proofs.Keeps.{rings}
+use Rattle.turn_lock.proofs.{Words.rules, Keeps.rings}
 use Rattle.turn_lock.proofs.lock.TurnLock.ring.Goals as goal
 
 pub store-requires : goal.store-requires

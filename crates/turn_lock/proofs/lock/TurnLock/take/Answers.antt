@@ -1,5 +1,4 @@
-use Rattle.turn_lock.proofs.Words.{rules, ◌∙◌}
-use Rattle.turn_lock.proofs.Keeps.{looks_from, comes_to_turn, has_slot, has_turn}
+use Rattle.turn_lock.proofs.{Words.{rules, ◌∙◌}, Keeps.{looks_from, comes_to_turn, has_slot, has_turn}}
 use Rattle.turn_lock.proofs.lock.TurnLock.take.Goals as goal
 
 pub load-served-requires : goal.load-served-requires

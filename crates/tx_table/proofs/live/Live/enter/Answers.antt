@@ -1,5 +1,4 @@
-use Rattle.tx_table.proofs.Words.{◌∷◌, [], sym, ap, arith, length, length-append, subst, List, ℕ, AreBefore, Begun, BeginFrom, RisesFrom}
-use Rattle.tx_table.proofs.Begins.{begin_push, rises_push}
+use Rattle.tx_table.proofs.{Words.{◌∷◌, [], sym, ap, arith, length, length-append, subst, List, ℕ, AreBefore, Begun, BeginFrom, RisesFrom}, Begins.{begin_push, rises_push}}
 use Rattle.tx_table.proofs.live.Live.enter.Goals as goal
 
 pub invariant_of-self-2 : goal.invariant_of-self-2

@@ -1,5 +1,4 @@
-use Rattle.tx_table.proofs.Words.{◌∙◌, sym, ap, ℕ, List, map, subst, floor_of, Begun, BeginFrom, at_work}
-use Rattle.tx_table.proofs.Begins.{floor_first}
+use Rattle.tx_table.proofs.{Words.{◌∙◌, sym, ap, ℕ, List, map, subst, floor_of, Begun, BeginFrom, at_work}, Begins.floor_first}
 use Rattle.tx_table.proofs.live.Live.floor.Goals as goal
 
 pub returns : goal.returns

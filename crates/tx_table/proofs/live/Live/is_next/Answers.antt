@@ -1,5 +1,4 @@
-use Rattle.tx_table.proofs.Words.{◌∙◌, sym, subst, AreBefore, BeginFrom, RisesFrom}
-use Rattle.tx_table.proofs.Begins.{before_last}
+use Rattle.tx_table.proofs.{Words.{◌∙◌, sym, subst, AreBefore, BeginFrom, RisesFrom}, Begins.before_last}
 use Rattle.tx_table.proofs.live.Live.is_next.Goals as goal
 
 pub returns : goal.returns

@@ -1,5 +1,4 @@
-use Rattle.tx_table.proofs.Words.{sym, arith, length, subst, List, ℕ, ◌<◌, Begun, BeginFrom, RisesFrom}
-use Rattle.tx_table.proofs.Begins.{begin_without, rises_without}
+use Rattle.tx_table.proofs.{Words.{sym, arith, length, subst, List, ℕ, ◌<◌, Begun, BeginFrom, RisesFrom}, Begins.{begin_without, rises_without}}
 use Rattle.tx_table.proofs.live.Live.leave.Goals as goal
 
 pub invariant_of-self : goal.invariant_of-self

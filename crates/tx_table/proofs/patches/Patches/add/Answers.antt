@@ -1,7 +1,5 @@
 -- The first of the blank slots, at the place of the block.
-use Rattle.tx_table.proofs.Words.{◌≡◌, ◌∙◌, ℕ, ◌+◌, ◌<◌, ◌≤◌, Bool, ◌||◌, ◌==◌, true, false, List, ◌∷◌, ◌++◌, [], Option, None, ap, sym, subst, arith, length, get_or, take, drop, replicate, nat_lt, vec_capacity, ltb-true, common_steps, has_patch, patch_at, Held, RisesFrom, entries_of, AreSlots, and_parts, or-true}
-use Rattle.tx_table.proofs.Blocks.{has_insert, patch_insert, rises_insert}
-use Rattle.tx_table.proofs.Slots.{entries_insert, key_at, length-entries, length_insert, rises_entries, rises_order, slots_insert}
+use Rattle.tx_table.proofs.{Words.{◌≡◌, ◌∙◌, ℕ, ◌+◌, ◌<◌, ◌≤◌, Bool, ◌||◌, ◌==◌, true, false, List, ◌∷◌, ◌++◌, [], Option, None, ap, sym, subst, arith, length, get_or, take, drop, replicate, nat_lt, vec_capacity, ltb-true, common_steps, has_patch, patch_at, Held, RisesFrom, entries_of, AreSlots, and_parts, or-true}, Blocks.{has_insert, patch_insert, rises_insert}, Slots.{entries_insert, key_at, length-entries, length_insert, rises_entries, rises_order, slots_insert}}
 use Rattle.tx_table.proofs.patches.Patches.add.Goals as goal
 
 module _ (c : goal.After-insert_within) where

@@ -1,8 +1,5 @@
 -- All slots are blank, and the order stays.
-use Rattle.tx_table.proofs.Words.{◌≡◌, ◌∙◌, ◌<◌, ℕ, [], None, ap, arith, length, get_or, replicate, has_patch, AreBlankFrom, Held, entries_of}
-use Rattle.tx_table.proofs.Blocks.{all_blank}
-use Rattle.tx_table.proofs.Held.{blank_sizes, cleared_slots, has_entries}
-use Rattle.tx_table.proofs.Slots.{blank_at}
+use Rattle.tx_table.proofs.{Words.{◌≡◌, ◌∙◌, ◌<◌, ℕ, [], None, ap, arith, length, get_or, replicate, has_patch, AreBlankFrom, Held, entries_of}, Blocks.all_blank, Held.{blank_sizes, cleared_slots, has_entries}, Slots.blank_at}
 use Rattle.tx_table.proofs.patches.Patches.clear.Goals as goal
 
 blank : (c : goal.After-clear_slots) → AreBlankFrom c.self.inside.size 0 c.clear_slots.new.slots.items

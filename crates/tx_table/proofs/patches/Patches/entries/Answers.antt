@@ -1,6 +1,5 @@
 -- The order rises, and its slots are those of patches.
-use Rattle.tx_table.proofs.Words.{ℕ, [], List, Option, length, subst, sym, RisesFrom}
-use Rattle.tx_table.proofs.Slots.{rises_entries, slots_inside}
+use Rattle.tx_table.proofs.{Words.{ℕ, [], List, Option, length, subst, sym, RisesFrom}, Slots.{rises_entries, slots_inside}}
 use Rattle.tx_table.proofs.patches.Patches.entries.Goals as goal
 
 pub of-requires : goal.of-requires

@@ -1,6 +1,5 @@
 -- All slots are blank, and the order is empty.
-use Rattle.tx_table.proofs.Words.{◌≡◌, ◌∙◌, ◌≤◌, ℕ, [], List, arith, length, subst, sym, AreBlankFrom, RisesFrom, AreSlots}
-use Rattle.tx_table.proofs.Held.{blank_sizes, cleared_slots}
+use Rattle.tx_table.proofs.{Words.{◌≡◌, ◌∙◌, ◌≤◌, ℕ, [], List, arith, length, subst, sym, AreBlankFrom, RisesFrom, AreSlots}, Held.{blank_sizes, cleared_slots}}
 use Rattle.tx_table.proofs.patches.Patches.forget.Goals as goal
 
 pub invariant_of-self : goal.invariant_of-self

@@ -1,6 +1,5 @@
 -- The block has a slot, or no place has it.
-use Rattle.tx_table.proofs.Words.{◌∙◌, ap, sym, has_patch, Held}
-use Rattle.tx_table.proofs.Held.{has_slot, held_none}
+use Rattle.tx_table.proofs.{Words.{◌∙◌, ap, sym, has_patch, Held}, Held.{has_slot, held_none}}
 use Rattle.tx_table.proofs.patches.Patches.holds.Goals as goal
 
 pub returns-in-Some : goal.returns-in-Some

@@ -1,10 +1,6 @@
 -- The patch in the slot of the block is laid, or there is nothing to lay.
-use Rattle.tx_table.proofs.Words.{◌≡◌, ◌∙◌, ℕ, [], List, Option, None, ap, sym, arith, length, get_or, replicate, get_or_default, laid, patch_at, Held, entries_of}
-use Rattle.tx_table.proofs.Blocks.{laid_none}
-use Rattle.tx_table.proofs.Held.{HasSlot, has_slot, held_none}
-use Rattle.tx_table.proofs.Slots.{all_there}
+use Rattle.tx_table.proofs.{Words.{◌≡◌, ◌∙◌, ℕ, [], List, Option, None, ap, sym, arith, length, get_or, replicate, get_or_default, laid, patch_at, Held, entries_of}, Blocks.laid_none, Held.{HasSlot, has_slot, held_none}, Slots.all_there, patches.Patches.lay.Goals.In-Some}
 use Rattle.tx_table.proofs.patches.Patches.lay.Goals as goal
-use Rattle.tx_table.proofs.patches.Patches.lay.Goals.{In-Some}
 
 pub returns-in_default : goal.returns-in_default
 returns-in_default c =

@@ -1,10 +1,6 @@
 -- The patch in the slot of the block is that of the block.
-use Rattle.tx_table.proofs.Words.{◌≡◌, ◌∙◌, ℕ, ◌<◌, [], List, Option, ap, sym, arith, length, get_or, set, inl, inr, length-set, get_or-set_same, get_or-set_other, refl, both_ways, cases_eq, get_or_default, written, has_patch, patch_at, Held, entries_of}
-use Rattle.tx_table.proofs.Blocks.{has_set, patch_set, set_value}
-use Rattle.tx_table.proofs.Held.{HasSlot, has_slot, held_none}
-use Rattle.tx_table.proofs.Slots.{all_from, all_there, entry_is, length-entries, rises_entries, set_entries}
+use Rattle.tx_table.proofs.{Words.{◌≡◌, ◌∙◌, ℕ, ◌<◌, [], List, Option, ap, sym, arith, length, get_or, set, inl, inr, length-set, get_or-set_same, get_or-set_other, refl, both_ways, cases_eq, get_or_default, written, has_patch, patch_at, Held, entries_of}, Blocks.{has_set, patch_set, set_value}, Held.{HasSlot, has_slot, held_none}, Slots.{all_from, all_there, entry_is, length-entries, rises_entries, set_entries}, patches.Patches.set.Goals.{After-index_mut, After-set_spans, In-Some}}
 use Rattle.tx_table.proofs.patches.Patches.set.Goals as goal
-use Rattle.tx_table.proofs.patches.Patches.set.Goals.{After-index_mut, After-set_spans, In-Some}
 
 pub returns-in_default-clause-values : goal.returns-in_default-clause-values
 returns-in_default-clause-values c b =

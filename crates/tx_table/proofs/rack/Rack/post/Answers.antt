@@ -1,6 +1,5 @@
 -- A label that is not held goes last.
-use Rattle.tx_table.proofs.Words.{◌∙◌, ap, nat_eq, is_some, both_ways, insert_entry-new}
-use Rattle.tx_table.proofs.Keys.{held_is, none_from, post_shows, post_stands}
+use Rattle.tx_table.proofs.{Words.{◌∙◌, ap, nat_eq, is_some, both_ways, insert_entry-new}, Keys.{held_is, none_from, post_shows, post_stands}}
 use Rattle.tx_table.proofs.rack.Rack.post.Goals as goal
 
 pub returns-then-contains_key-clause-free : goal.returns-then-contains_key-clause-free

@@ -1,6 +1,5 @@
 -- Nothing is done.
-use Rattle.tx_table.proofs.Words.{◌≡◌, ℕ, ap, sym, arith, ◌<◌, ◌≤◌, length, subst, map, List, [], Option, AllByRecursion, no_effects, Row, AreEffects, HavePatches, Held, access_of, IsRow}
-use Rattle.tx_table.proofs.Applied.{none_touched}
+use Rattle.tx_table.proofs.{Words.{◌≡◌, ℕ, ap, sym, arith, ◌<◌, ◌≤◌, length, subst, map, List, [], Option, AllByRecursion, no_effects, Row, AreEffects, HavePatches, Held, access_of, IsRow}, Applied.none_touched}
 use Rattle.tx_table.proofs.work.Work.begin.Goals as goal
 
 pub invariant_of-result : goal.invariant_of-result

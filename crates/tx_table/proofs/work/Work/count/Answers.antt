@@ -1,5 +1,4 @@
-use Rattle.tx_table.proofs.Words.{subst, AreWithin, Doing}
-use Rattle.tx_table.proofs.Last.{rows_within}
+use Rattle.tx_table.proofs.{Words.{subst, AreWithin, Doing}, Last.rows_within}
 use Rattle.tx_table.proofs.work.Work.count.Goals as goal
 
 pub returns-clause-within : goal.returns-clause-within

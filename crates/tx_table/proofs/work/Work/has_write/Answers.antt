@@ -1,8 +1,6 @@
 -- A row that is a write, or one more that is none.
-use Rattle.tx_table.proofs.Words.{◌≡◌, ◌∙◌, ◌+◌, ◌<◌, List, ap, sym, subst, length, get_or, map, take, Access, Kind, Write, has_write, is_write, same_kind, Row, access_of, Doing}
-use Rattle.tx_table.proofs.Covered.{no_write_more, write_there}
+use Rattle.tx_table.proofs.{Words.{◌≡◌, ◌∙◌, ◌+◌, ◌<◌, List, ap, sym, subst, length, get_or, map, take, Access, Kind, Write, has_write, is_write, same_kind, Row, access_of, Doing}, Covered.{no_write_more, write_there}, work.Work.has_write.Goals.After-row-item}
 use Rattle.tx_table.proofs.work.Work.has_write.Goals as goal
-use Rattle.tx_table.proofs.work.Work.has_write.Goals.{After-row-item}
 
 -- the row of the turn
 inside : (c : After-row-item) → c.loop-row.row-index < length c.self.inside.rows.items

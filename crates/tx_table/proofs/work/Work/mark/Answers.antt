@@ -1,7 +1,5 @@
 -- The last row has one mark more, and none of what is up to date has the last row.
-use Rattle.tx_table.proofs.Words.{◌≡◌, ◌∙◌, ℕ, ◌+◌, ◌-◌, ◌<◌, ◌≤◌, false, ◌==◌, ◌&&◌, List, ◌∷◌, [], ◌++◌, Some, None, sym, ap, subst, arith, refl, inl, inr, length, get_or, set, map, take, ne_eqb, length-set, vec_capacity, get_or_default, AreTouched, Access, Read, Write, TooManyMarks, Span, mark_fault, marked, IsSpan, Row, AreEffects, HavePatches, access_of, Doing, IsRow, span_at}
-use Rattle.tx_table.proofs.Last.{all_set, fault_of, full_fault, have_kept, have_set, if_some, marked_row, marked_set, no_fault, take_set}
-use Rattle.tx_table.proofs.Slots.{all_there}
+use Rattle.tx_table.proofs.{Words.{◌≡◌, ◌∙◌, ℕ, ◌+◌, ◌-◌, ◌<◌, ◌≤◌, false, ◌==◌, ◌&&◌, List, ◌∷◌, [], ◌++◌, Some, None, sym, ap, subst, arith, refl, inl, inr, length, get_or, set, map, take, ne_eqb, length-set, vec_capacity, get_or_default, AreTouched, Access, Read, Write, TooManyMarks, Span, mark_fault, marked, IsSpan, Row, AreEffects, HavePatches, access_of, Doing, IsRow, span_at}, Last.{all_set, fault_of, full_fault, have_kept, have_set, if_some, marked_row, marked_set, no_fault, take_set}, Slots.all_there}
 use Rattle.tx_table.proofs.work.Work.mark.Goals as goal
 
 pub returns-then-index-ge-MAX_SPANS-clause-err : goal.returns-then-index-ge-MAX_SPANS-clause-err

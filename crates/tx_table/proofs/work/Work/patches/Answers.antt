@@ -1,7 +1,5 @@
 -- The patches are up to date, so their runs are those of the accesses.
-use Rattle.tx_table.proofs.Words.{arith, length-map, take_all, ◌≡◌, ◌∙◌, sym, ap, subst, List, map, take, length, flat_map, Access, runs, runs_from, AreEffects, RisesFrom, access_of, Doing}
-use Rattle.tx_table.proofs.Covered.{settled_is}
-use Rattle.tx_table.proofs.Runs.{runs_of_patches}
+use Rattle.tx_table.proofs.{Words.{arith, length-map, take_all, ◌≡◌, ◌∙◌, sym, ap, subst, List, map, take, length, flat_map, Access, runs, runs_from, AreEffects, RisesFrom, access_of, Doing}, Covered.settled_is, Runs.runs_of_patches}
 use Rattle.tx_table.proofs.work.Work.patches.Goals as goal
 
 pub returns-clause-runs : goal.returns-clause-runs

@@ -1,7 +1,5 @@
 -- What is laid over the block are the own writes.
-use Rattle.tx_table.proofs.Words.{length-map, ◌≡◌, ◌∙◌, ◌⊎◌, ℕ, ◌<◌, ◌≤◌, true, false, sym, ap, subst, arith, refl, List, [], map, take, length, Option, Some, vec_capacity, IfSome, both_ways, Read, is_write, AreBytes, has_patch, HavePatches, IsRow, Access, own, block_at, AreEffects, access_of, Doing}
-use Rattle.tx_table.proofs.Last.{appended, have_kept, unmarked_row}
-use Rattle.tx_table.proofs.Applied.{rows_have_bytes, shown_of}
+use Rattle.tx_table.proofs.{Words.{length-map, ◌≡◌, ◌∙◌, ◌⊎◌, ℕ, ◌<◌, ◌≤◌, true, false, sym, ap, subst, arith, refl, List, [], map, take, length, Option, Some, vec_capacity, IfSome, both_ways, Read, is_write, AreBytes, has_patch, HavePatches, IsRow, Access, own, block_at, AreEffects, access_of, Doing}, Last.{appended, have_kept, unmarked_row}, Applied.{rows_have_bytes, shown_of}}
 use Rattle.tx_table.proofs.work.Work.read.Goals as goal
 
 pub returns-clause-shown : goal.returns-clause-shown

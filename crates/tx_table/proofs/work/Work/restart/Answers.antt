@@ -1,6 +1,5 @@
 -- Nothing is done any more.
-use Rattle.tx_table.proofs.Words.{◌≡◌, ◌∙◌, ℕ, ◌<◌, ◌≤◌, [], List, Option, sym, subst, arith, length, map, AllByRecursion, no_effects, Row, AreEffects, HavePatches, access_of, IsRow}
-use Rattle.tx_table.proofs.Applied.{none_touched}
+use Rattle.tx_table.proofs.{Words.{◌≡◌, ◌∙◌, ℕ, ◌<◌, ◌≤◌, [], List, Option, sym, subst, arith, length, map, AllByRecursion, no_effects, Row, AreEffects, HavePatches, access_of, IsRow}, Applied.none_touched}
 use Rattle.tx_table.proofs.work.Work.restart.Goals as goal
 
 pub invariant_of-self : goal.invariant_of-self
