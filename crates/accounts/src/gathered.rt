@@ -2,7 +2,6 @@
 ghost use Rattle.std.specs.Prelude.{◌≡◌, ◌+◌, ◌<◌};
 ghost use Rattle.handle_pass.specs.Sessions.{device, units};
 ghost use Rattle.iso_shared.specs.Ports.{IsPort, first_geometry, port_view};
-ghost use Rattle.account_laws.specs.Sums.{Accounts};
 ghost use Rattle.accounts.specs.Kept.{Hold, IsKept};
 ghost use Rattle.accounts.specs.Made.{opening_of};
 

@@ -12,6 +12,3 @@ mod tally;
 pub use drawn_script::DrawnScript;
 pub use reply_digest::ReplyDigest;
 pub use tally::Tally;
-
-#[cfg(test)]
-mod tests;

@@ -11,6 +11,3 @@ mod touched;
 pub use marks::Marks;
 pub use span_iter::SpanIter;
 pub use touched::Touched;
-
-#[cfg(test)]
-mod tests;

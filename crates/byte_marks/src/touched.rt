@@ -1,5 +1,5 @@
 // A set of bytes for each block.
-ghost use Rattle.std.specs.Prelude.{◌≡◌, ℕ, ◌+◌, ◌<◌, ◌≤◌, ◌==◌, ◌||◌, ◌&&◌, false, IsTrue, IfOk, OnOk, OnErr, IfSome, IfNone, List, length, slice_index_or};
+ghost use Rattle.std.specs.Prelude.{◌≡◌, ℕ, ◌<◌, ◌≤◌, ◌==◌, ◌||◌, ◌&&◌, false, IsTrue, IfOk, OnOk, OnErr, IfSome, IfNone, List, length, slice_index_or};
 ghost use Rattle.std.specs.Bool.{OnTrue, OnFalse};
 ghost use Rattle.byte_marks.specs.declared.extent.Extent.{Extent};
 ghost use Rattle.byte_marks.specs.Marks.{has};

@@ -12,6 +12,3 @@ mod value;
 
 pub use request::{Request, read_words};
 pub use task::Task;
-
-#[cfg(test)]
-mod tests;

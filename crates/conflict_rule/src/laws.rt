@@ -1,5 +1,5 @@
 // How notes follow a history.
-ghost use Rattle.std.specs.Prelude.{◌≡◌, ℕ, ◌+◌, ◌<◌, ◌≤◌, List, [], ◌∷◌, ◌++◌, length};
+ghost use Rattle.std.specs.Prelude.{ℕ, ◌+◌, ◌<◌, ◌≤◌, List, [], ◌∷◌, ◌++◌, length};
 ghost use Rattle.byte_marks.specs.Touched.{AreTouched};
 ghost use Rattle.iso_model.specs.declared.access.Commit.{Commit};
 ghost use Rattle.iso_model.specs.declared.access.Geometry.{Geometry};

@@ -8,6 +8,3 @@ mod rest;
 
 pub use decision::{Checked, decide};
 pub use notes::Notes;
-
-#[cfg(test)]
-mod tests;

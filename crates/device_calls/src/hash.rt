@@ -1,5 +1,5 @@
 // The calls of the hash store on a session's transaction, each in one step.
-ghost use Rattle.std.specs.Prelude.{◌≡◌, ◌+◌, ◌≤◌, IsTrue};
+ghost use Rattle.std.specs.Prelude.{◌+◌, ◌≤◌, IsTrue};
 ghost use Rattle.iso_model.specs.Geometry.{is_valid};
 ghost use Rattle.store_model.specs.HashRegion.{IsHashArea};
 ghost use Rattle.handle_pass.specs.Sessions.{IsSession};

@@ -19,6 +19,3 @@ pub use regions::{hash_region, tree_region};
 pub use retry::{Retry, RetryError, end_or_again};
 pub use tree::{tree_delete, tree_get, tree_put, tree_scan};
 pub use visit::on_blocks;
-
-#[cfg(test)]
-mod tests;

@@ -1,6 +1,6 @@
 // An end that begins again after a conflict.
-ghost use Rattle.std.specs.Prelude.{◌≡◌, ◌<◌};
-ghost use Rattle.handle_pass.specs.Sessions.{device, units, IsSession};
+ghost use Rattle.std.specs.Prelude.{◌<◌};
+ghost use Rattle.handle_pass.specs.Sessions.{units, IsSession};
 ghost use Rattle.device_calls.specs.Retries.{HasRetried};
 
 use crate::ending::end_now;

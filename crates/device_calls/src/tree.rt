@@ -1,5 +1,5 @@
 // The calls of the tree store on a session's transaction, each in one step.
-ghost use Rattle.std.specs.Prelude.{◌≡◌, ◌+◌, ◌≤◌, ◌<◌, IsTrue};
+ghost use Rattle.std.specs.Prelude.{◌+◌, ◌≤◌, ◌<◌, IsTrue};
 ghost use Rattle.iso_model.specs.Geometry.{is_valid};
 ghost use Rattle.store_model.specs.TreeRegion.{IsTreeArea};
 ghost use Rattle.handle_pass.specs.Sessions.{IsSession};

@@ -5,7 +5,5 @@ mod aborts;
 mod answers;
 mod commit;
 mod members;
-#[cfg(test)]
-mod tests;
 
 pub use commit::commit_group;

@@ -6,4 +6,3 @@ pub mod Kept
 pub mod Lays
 pub mod Nexts
 pub mod Tells
-pub mod TestDisk

@@ -1,4 +1,3 @@
 pub mod Laid
 pub mod Plan
 pub mod Put
-pub mod TestImage

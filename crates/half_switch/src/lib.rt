@@ -14,6 +14,3 @@ pub use fill::fill_half;
 pub use gates::{close_half, open_half};
 pub use iso_image::{HalfPlace, half_place};
 pub use plan::{FillPlan, SwitchError};
-
-#[cfg(test)]
-mod tests;

@@ -9,8 +9,6 @@ mod labels;
 mod session;
 mod session_blocks;
 mod split;
-#[cfg(test)]
-mod tests;
 mod upkeep;
 mod visit;
 mod visitor;

@@ -1,5 +1,5 @@
 // The transaction of a session as a transaction over blocks.
-ghost use Rattle.std.specs.Prelude.{◌≡◌, ℕ, Some, IsTrue, false};
+ghost use Rattle.std.specs.Prelude.{◌≡◌, Some, IsTrue, false};
 ghost use Rattle.iso_model.specs.Geometry.{is_valid};
 ghost use Rattle.tx_blocks.specs.Tx.{IsTx};
 ghost use Rattle.handle_pass.specs.Sessions.{IsSession};

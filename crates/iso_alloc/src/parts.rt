@@ -1,7 +1,7 @@
 // Parts of a block: numbers, zeros, and the parts that spell a key or a value.
-ghost use Rattle.std.specs.Prelude.{◌≡◌, ◌+◌, ◌-◌, ◌*◌, ◌<◌, ◌≤◌, length, slice_index, take, drop};
+ghost use Rattle.std.specs.Prelude.{◌≡◌, ◌+◌, ◌-◌, ◌*◌, ◌<◌, ◌≤◌, length, replicate, slice_index, take, drop};
 ghost use Rattle.std.specs.List.{list_all};
-ghost use Rattle.store_model.specs.Cells.{cell_count, is_part, is_zero, key_mark, laid_at, part_of, text_of, word_at};
+ghost use Rattle.store_model.specs.Cells.{block_with, cell_count, is_part, is_zero, key_mark, laid_at, part_of, text_of, value_part, word_at};
 ghost use Rattle.store_model.specs.Stores.{bytes_in};
 
 use byteorder::{BigEndian, ByteOrder};
@@ -87,4 +87,30 @@ pub fn spell(part: &mut [u8], text: &[u8])
     part.fill(0);
     part[0] = text.len() as u8;
     lay(part, 1, text);
+}
+
+/// The value part that spells a value.
+pub fn value_part(value: &[u8]) -> [u8; 33]
+    requires { length value.now ≤ 32 }
+    ensures { result ≡ value_part value.now }
+{
+    let mut part = [0u8; 33];
+    spell(&mut part, value);
+    part
+}
+
+/// Zeros throughout.
+pub fn clear(into: &mut [u8])
+    ensures { into.new ≡ replicate (length into.old) 0 }
+{
+    into.fill(0);
+}
+
+/// Zeros, but for these bytes from `at` on.
+pub fn lay_alone(into: &mut [u8], at: usize, bytes: &[u8])
+    requires { at + length bytes.now ≤ length into.old }
+    ensures { into.new ≡ block_with (length into.old) at bytes.now }
+{
+    into.fill(0);
+    lay(into, at, bytes);
 }

@@ -1,8 +1,6 @@
 // Whether a transaction with a write conflicts.
-ghost use Rattle.std.specs.Prelude.{◌≡◌, ◌+◌, ◌-◌, ◌≤◌, true, IfOk, OnOk};
-ghost use Rattle.conflict_rule.specs.Decision.{up_to};
+ghost use Rattle.std.specs.Prelude.{◌≡◌, ◌+◌, ◌-◌, ◌≤◌, IfOk, OnOk};
 ghost use Rattle.iso_model.specs.Conflict.{clash};
-ghost use Rattle.iso_model.specs.Effect.{has_write};
 ghost use Rattle.iso_model.specs.History.{last};
 ghost use Rattle.iso_model.specs.World.{World, Live};
 ghost use Rattle.iso_core.specs.Calls.{IsCheckedOf, IsTx, IsWorkOf};

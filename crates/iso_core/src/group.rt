@@ -2,7 +2,6 @@
 ghost use Rattle.std.specs.Prelude.{◌≡◌, ◌≢◌, ◌⊎◌, ◌+◌, ◌<◌, ◌++◌, true, false, List, [], ◌∷◌, OnOk, IfErr, IsErrOf, length};
 ghost use Rattle.iso_disk.specs.Disk.{LeavesOnly, StaysTold};
 ghost use Rattle.iso_model.specs.declared.access.Commit.{Commit};
-ghost use Rattle.iso_model.specs.Image.{written};
 ghost use Rattle.iso_model.specs.World.{World, Live};
 ghost use Rattle.iso_core.specs.Calls.{BlamesDisk};
 ghost use Rattle.iso_core.specs.Core.{AreOf};

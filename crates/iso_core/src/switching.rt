@@ -1,5 +1,5 @@
 // The base of a core, moved to the floor.
-ghost use Rattle.std.specs.Prelude.{◌≡◌, ◌≢◌, ◌⊎◌, ◌≤◌, ℕ, [], OnOk, IfOk, IfErr, IsErrOf};
+ghost use Rattle.std.specs.Prelude.{◌≡◌, ◌≢◌, ◌⊎◌, ℕ, [], OnOk, IfOk, IfErr, IsErrOf};
 ghost use Rattle.iso_disk.specs.Disk.{LeavesOnly, StaysTold};
 ghost use Rattle.iso_model.specs.declared.limits.TheConstants.{LAST};
 ghost use Rattle.iso_model.specs.Step.{after_switch, switch_step};

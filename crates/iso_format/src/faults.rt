@@ -1,7 +1,5 @@
 // The tests of a record's bytes, in their order.
 ghost use Rattle.std.specs.Prelude.{◌≡◌, ◌+◌, ◌≤◌, ◌<◌, ◌^◌, None, length, IfNone};
-ghost use Rattle.std.specs.Int.{w32};
-ghost use Rattle.iso_format.specs.Reading.{number_at};
 ghost use Rattle.iso_format.specs.Records.{body_of, fault_of, follows, head_fault, lies_in, number_fault, part_end, part_fault, part_size, parts_fault, record_window};
 
 use crate::format_error::FormatError;

@@ -1,5 +1,5 @@
 // The header of a half.
-ghost use Rattle.std.specs.Prelude.{◌≡◌, ◌↔◌, ℕ, ◌+◌, ◌^◌, ◌<◌, ◌≤◌, ◌==◌, true, not, position, length, IsTrue, IsFalse, IsSome};
+ghost use Rattle.std.specs.Prelude.{◌≡◌, ◌↔◌, ℕ, ◌+◌, ◌^◌, ◌<◌, ◌==◌, true, not, position, length, IsTrue, IsFalse, IsSome};
 ghost use Rattle.iso_model.specs.Image.{half_header};
 ghost use Rattle.iso_format.specs.Reading.{half_of, unclean_place};
 

@@ -10,8 +10,6 @@ mod numbers;
 mod record_buffer;
 mod record_view;
 mod superblock;
-#[cfg(test)]
-mod tests;
 
 pub use format_error::FormatError;
 pub use half::{HalfHeader, read_half, unclean_place, write_half};

@@ -31,7 +31,7 @@ impl Model for RecordBuffer {
 }
 
 impl RecordBuffer {
-    ghost use Rattle.std.specs.Prelude.{◌≡◌, ◌⊎◌, ◌<◌, ◌≤◌, ◌^◌, ◌++◌, [], ◌∷◌, length, IfOk, slice_index, OnOk, OnErr};
+    ghost use Rattle.std.specs.Prelude.{◌≡◌, ◌⊎◌, ◌<◌, ◌≤◌, ◌^◌, ◌++◌, [], ◌∷◌, length, IfOk, OnOk, OnErr};
     ghost use Rattle.iso_model.specs.Image.{spell};
     ghost use Rattle.iso_format.specs.Writing.{LieInAnImage};
 

@@ -1,12 +1,11 @@
 // Where a call works, the tests of its arguments, and bytes laid into a block.
-ghost use Rattle.std.specs.Prelude.{◌≡◌, ◌+◌, ◌≤◌, IfErr, IfOk, length, replicate, []};
+ghost use Rattle.std.specs.Prelude.{◌≡◌, ◌≤◌, IfErr, IfOk, length, []};
 ghost use Rattle.std.specs.Int.{w32, to_be_bytes};
-ghost use Rattle.store_model.specs.Cells.{block_with};
 ghost use Rattle.store_model.specs.FileCalls.{is_many};
 ghost use Rattle.store_model.specs.FileNodes.{file_block};
 ghost use Rattle.iso_fs.specs.Ends.{areas_of};
 
-use iso_alloc::{buffer, lay};
+use iso_alloc::{buffer, clear, lay};
 use std::alloc::Global;
 use store_model::{Area, FileAreas, FsRegion, StoreError};
 use tx_blocks::TxBlocks;
@@ -50,22 +49,6 @@ pub fn is_many(count: usize) -> bool
     ensures { result ≡ is_many count }
 {
     1 <= count && count <= 4096
-}
-
-/// Zeros, but for these bytes from `at` on.
-pub fn lay_alone(into: &mut [u8], at: usize, bytes: &[u8])
-    requires { at + length bytes.now ≤ length into.old }
-    ensures { into.new ≡ block_with (length into.old) at bytes.now }
-{
-    into.fill(0);
-    lay(into, at, bytes);
-}
-
-// Zeros throughout.
-fn clear(into: &mut [u8])
-    ensures { into.new ≡ replicate (length into.old) 0 }
-{
-    into.fill(0);
 }
 
 /// The number of a block in four bytes.

@@ -1,5 +1,5 @@
 // The file block of a name.
-ghost use Rattle.std.specs.Prelude.{false, ◌≡◌, ◌+◌, ◌<◌, ◌≤◌, length, true, None};
+ghost use Rattle.std.specs.Prelude.{false, ◌≡◌, ◌+◌, ◌<◌, length, true, None};
 ghost use Rattle.store_model.specs.HashCalls.{is_key};
 ghost use Rattle.store_model.specs.FileCalls.{at_file, numbered, with_file};
 ghost use Rattle.store_model.specs.FileRegion.{AreFileAreas};

@@ -1,8 +1,8 @@
 // The map without the blocks of a file, and the write of the bytes that change.
-ghost use Rattle.std.specs.Prelude.{◌≡◌, ◌+◌, ◌-◌, ◌*◌, ◌<◌, ◌≤◌, IfErr, OnErr, OnOk, [], ◌∷◌, length, map, take, true};
+ghost use Rattle.std.specs.Prelude.{◌≡◌, ◌+◌, ◌-◌, ◌*◌, ◌<◌, ◌≤◌, IfErr, OnErr, OnOk, [], ◌∷◌, length, map, true};
 ghost use Rattle.std.specs.List.{range_with_len};
 ghost use Rattle.store_model.specs.Cells.{block_with};
-ghost use Rattle.store_model.specs.FreeMap.{map_bytes, map_mark};
+ghost use Rattle.store_model.specs.FreeMap.{map_mark};
 ghost use Rattle.store_model.specs.Stores.{bytes_in, store_access};
 ghost use Rattle.store_model.specs.TreeRegion.{IsTreeArea};
 ghost use Rattle.store_model.specs.FileCalls.{bits_mark, high_place, low_place, without_bits};
@@ -12,10 +12,9 @@ ghost use Rattle.tx_blocks.specs.Runs.{IsCause};
 ghost use Rattle.iso_fs.specs.Ends.{HasArea};
 ghost use Rattle.iso_fs.specs.Finds.{ArePlaces};
 
-use crate::buffers::lay_alone;
 use crate::file::{data_count, entry_at};
 use crate::names::region_of;
-use iso_alloc::{give_back, piece};
+use iso_alloc::{give_back, lay_alone, piece};
 use iso_model::Span;
 use store_model::{Area, TxError};
 use tx_blocks::{TxBlocks, store};

@@ -12,9 +12,9 @@ ghost use Rattle.store_model.specs.FileCalls.{create_new, create_op, create_prog
 ghost use Rattle.store_model.specs.FileNodes.{file_block};
 ghost use Rattle.store_model.specs.FileRegion.{files, AreFileAreas, AreFileRegions};
 
-use crate::buffers::{areas_of, lay_alone, lay_empty, spelled};
+use crate::buffers::{areas_of, lay_empty, spelled};
 use crate::names::{put_value, region_of, value_of};
-use iso_alloc::{buffer, is_key, take_lowest};
+use iso_alloc::{buffer, is_key, lay_alone, take_lowest};
 use iso_model::{Bytes, Span};
 use iso_tree::map_mark;
 use std::alloc::Global;

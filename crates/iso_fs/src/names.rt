@@ -1,5 +1,5 @@
 // The calls of the tree store, by its area.
-ghost use Rattle.std.specs.Prelude.{◌≡◌, ◌≢◌, ◌+◌, ◌≤◌, IsTrue, IfErr, OnErr, OnOk, true};
+ghost use Rattle.std.specs.Prelude.{◌≡◌, ◌≢◌, IsTrue, IfErr, OnErr, OnOk};
 ghost use Rattle.store_model.specs.HashCalls.{is_key, is_value};
 ghost use Rattle.store_model.specs.TreeCalls.{del_program, get_program, put_program};
 ghost use Rattle.store_model.specs.TreeRegion.{IsTreeArea};

@@ -10,10 +10,9 @@ ghost use Rattle.tx_blocks.proofs.Progress.{IsAt};
 ghost use Rattle.iso_tree.specs.Rows.{AreBlocks};
 ghost use Rattle.iso_fs.specs.Ends.{FsBehaves, HasArea, HasRun, IsOfTx, IsPart};
 
-use crate::buffers::lay_alone;
 use crate::file::entry_at;
 use crate::reading::piece_mark;
-use iso_alloc::piece;
+use iso_alloc::{lay_alone, piece};
 use iso_model::Span;
 use store_model::{Area, FsError, StoreError, TxError};
 use tx_blocks::{TxBlocks, store};

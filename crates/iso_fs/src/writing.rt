@@ -9,7 +9,7 @@ ghost use Rattle.tx_blocks.specs.Tx.{IsLater};
 ghost use Rattle.tx_blocks.specs.Runs.{IsLocalCall};
 ghost use Rattle.iso_tree.specs.FirstBlock.{Up};
 ghost use Rattle.iso_tree.specs.Rows.{AreBlocks};
-ghost use Rattle.iso_fs.specs.Ends.{areas_of, FsBehaves, HasArea, HasRun, IsFsCause, IsOfTx, IsPart, IsUnwritten};
+ghost use Rattle.iso_fs.specs.Ends.{areas_of, HasArea, HasRun, IsFsCause, IsOfTx, IsPart, IsUnwritten};
 ghost use Rattle.iso_fs.specs.Finds.{found_as, on_found, with_taken};
 ghost use Rattle.store_model.specs.FileCalls.{is_many, with_new, write_op, write_program, write_sized, write_to};
 ghost use Rattle.store_model.specs.FileNodes.{blocks_for, bytes_of, data_count, is_file, most_bytes};

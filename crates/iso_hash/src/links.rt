@@ -1,18 +1,18 @@
 // The writes that take a block into a chain, or out of it.
-ghost use Rattle.std.specs.Prelude.{◌≡◌, ◌+◌, ◌-◌, ◌<◌, ◌≤◌, ℕ, length, Ok, Some, None, OnOk, OnErr, IfErr, true, [], ◌∷◌, replicate, slice_index};
+ghost use Rattle.std.specs.Prelude.{◌≡◌, ◌+◌, ◌-◌, ◌<◌, ◌≤◌, length, Ok, Some, None, OnOk, OnErr, IfErr, true, [], ◌∷◌, replicate, slice_index};
 ghost use Rattle.std.specs.Int.{w32, to_be_bytes};
 ghost use Rattle.store_model.specs.Cells.{block_with, next_mark};
-ghost use Rattle.store_model.specs.FreeMap.{bit_mark, bit_place, clear_bit, lowest_free, map_mark, set_bit};
+ghost use Rattle.store_model.specs.FreeMap.{bit_mark, bit_place, clear_bit, lowest_free, map_mark};
 ghost use Rattle.store_model.specs.HashCalls.{new_block, put_new};
 ghost use Rattle.store_model.specs.HashRegion.{bucket_of, buckets, last_position, IsHashArea};
-ghost use Rattle.store_model.specs.Stores.{store_access, bytes_in, Done, Look, Reserve, Store};
-ghost use Rattle.tx_blocks.specs.Tx.{room_of, with_accesses, IsLater};
-ghost use Rattle.tx_blocks.specs.Runs.{Behaves, HasRun, IsCause, HasRead};
+ghost use Rattle.store_model.specs.Stores.{store_access, Done, Look, Reserve, Store};
+ghost use Rattle.tx_blocks.specs.Tx.{room_of, with_accesses};
+ghost use Rattle.tx_blocks.specs.Runs.{Behaves, HasRun, IsCause};
 
 use crate::bucket::{bucket_of, buckets};
-use crate::writes::{lay_alone, lay_cell};
+use crate::writes::lay_cell;
 use byteorder::{BigEndian, ByteOrder};
-use iso_alloc::{give_back, lay, take_lowest};
+use iso_alloc::{give_back, lay, lay_alone, take_lowest};
 use iso_model::Span;
 use store_model::{Area, Region, StoreError, TxError};
 use tx_blocks::{TxBlocks, look, reserve, store};

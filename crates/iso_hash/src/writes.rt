@@ -1,27 +1,16 @@
 // The writes that puts and removals are made of.
 ghost use Rattle.std.specs.Prelude.{◌≡◌, ◌+◌, ◌*◌, ◌<◌, ◌≤◌, length, Ok, true, [], ◌∷◌, replicate};
-ghost use Rattle.std.specs.List.{AllByRecursion};
-ghost use Rattle.store_model.specs.Cells.{block_with, cell_count, key_mark, keys_end, laid_at, value_mark, value_part};
+ghost use Rattle.store_model.specs.Cells.{block_with, cell_count, key_mark, keys_end, value_mark, value_part};
 ghost use Rattle.store_model.specs.HashCalls.{with_cell};
 ghost use Rattle.store_model.specs.HashRegion.{IsHashArea};
-ghost use Rattle.iso_model.specs.Premises.{IsSpan};
 ghost use Rattle.store_model.specs.Stores.{Done, Store};
 ghost use Rattle.tx_blocks.specs.Runs.{Behaves, HasRun};
 ghost use Rattle.iso_hash.specs.Walks.{IsSpot};
 
-use iso_alloc::{cell_count, lay, spell};
+use iso_alloc::{cell_count, lay, lay_alone, spell, value_part};
 use iso_model::Span;
 use store_model::{Area, Spot, StoreError};
-use tx_blocks::{TxBlocks, store};
-
-/// Zeros, but for these bytes from `at` on.
-pub fn lay_alone(into: &mut [u8], at: usize, bytes: &[u8])
-    requires { at + length bytes.now ≤ length into.old }
-    ensures { into.new ≡ block_with (length into.old) at bytes.now }
-{
-    into.fill(0);
-    lay(into, at, bytes);
-}
+use tx_blocks::{TxBlocks, last_store, store};
 
 /// Puts the key part and the value part of a cell in place.
 pub fn lay_cell(into: &mut [u8], cell: usize, key: &[u8], value: &[u8])
@@ -36,29 +25,7 @@ pub fn lay_cell(into: &mut [u8], cell: usize, key: &[u8], value: &[u8])
     let mut key_part = [0u8; 31];
     spell(&mut key_part, key);
     lay(into, 64 + 31 * cell, &key_part);
-    let mut value_part = [0u8; 33];
-    spell(&mut value_part, value);
-    lay(into, end + 33 * cell, &value_part);
-}
-
-/// The one write of a call, or its last.
-pub fn last_store<T: TxBlocks>(
-    tx: &mut T,
-    block: u32,
-    spans: &[Span],
-    bytes: &[u8],
-) -> Result<(), StoreError>
-    requires bytes { length bytes.now ≡ (T.state tx.old).size }
-    requires block { block < (T.state tx.old).blocks }
-    requires spans { AllByRecursion (IsSpan (T.state tx.old).size) spans.now }
-    requires few { length spans.now ≤ 8 }
-    ensures run { HasRun (Store block spans.now bytes.now (Done (Ok tt))) (T.state tx.old) (T.state tx.new) result }
-    ensures behaves { Behaves (T.state tx.old) (T.state tx.new) 1 (T.device tx.old) (T.device tx.new) result }
-{
-    match store(tx, block, spans, bytes) {
-        Ok(()) => Ok(()),
-        Err(e) => Err(StoreError::Tx(e)),
-    }
+    lay(into, end + 33 * cell, &value_part(value));
 }
 
 /// Writes the value of a cell that has the key.
@@ -80,9 +47,7 @@ pub fn put_value<T: TxBlocks>(
     ensures behaves { Behaves (T.state tx.old) (T.state tx.new) 1 (T.device tx.old) (T.device tx.new) result }
 {
     let at = 64 + 31 * cell_count(area.size as usize) + 33 * spot.cell as usize;
-    let mut part = [0u8; 33];
-    spell(&mut part, value);
-    lay_alone(buffer, at, &part);
+    lay_alone(buffer, at, &value_part(value));
     let span = Span {
         off: at as u16,
         len: 33,

@@ -4,8 +4,6 @@
 mod kind;
 pub mod laws;
 mod places;
-#[cfg(test)]
-mod tests;
 
 pub use kind::kind_of;
 pub use places::{HalfPlace, base_size, half_place, half_size, image_size};

@@ -1,5 +1,5 @@
 // A source over bytes in memory.
-ghost use Rattle.std.specs.Prelude.{◌≡◌, ◌≤◌, ◌<◌, ◌↔◌, ◌^◌, ◌-◌, [], false, min, length, take, IfOk, IsErr, OnErr};
+ghost use Rattle.std.specs.Prelude.{◌≡◌, ◌≤◌, ◌<◌, ◌↔◌, ◌^◌, ◌-◌, false, min, length, take, IfOk, IsErr, OnErr};
 ghost use Rattle.fault_count.specs.Count.{FailsNext, HasCause, faults_after, one_more};
 ghost use Rattle.iso_io.specs.Source.{GivesUpToEnd, Took, ended_after};
 ghost use Rattle.iso_io.specs.Memory.{source_state};

@@ -5,4 +5,3 @@ pub mod Finds
 pub mod Groups
 pub mod Offsets
 pub mod Pieces
-pub mod Puts

@@ -7,8 +7,6 @@ mod log;
 mod log_error;
 mod put;
 mod scan;
-#[cfg(test)]
-mod tests;
 
 pub use ahead::ReadAhead;
 pub use log::Log;

@@ -1,5 +1,5 @@
 // Writes and marks of one transaction.
-ghost use Rattle.std.specs.Prelude.{◌≡◌, [], None, ◌∷◌, ◌++◌, ◌+◌, ◌-◌, ◌==◌, ◌<◌, ◌≤◌, not, IfOk, OnErr, OnOk, length, replicate, slice_index, IfSome, false};
+ghost use Rattle.std.specs.Prelude.{◌≡◌, None, ◌++◌, ◌+◌, ◌-◌, ◌==◌, ◌<◌, ◌≤◌, IfOk, OnErr, OnOk, length, replicate, IfSome, false};
 ghost use Rattle.iso_model.specs.declared.access.Access.{Access};
 ghost use Rattle.script_model.specs.declared.script.Reply.{Reply};
 ghost use Rattle.iso_model.specs.Marks.{is_outside, mark_fault, marked};

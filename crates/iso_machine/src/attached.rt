@@ -1,5 +1,5 @@
 // A live transaction and where it is.
-ghost use Rattle.std.specs.Prelude.{◌≡◌, ◌==◌, ◌<◌, Some, None, IfOk, MatchOption, bytes_eq, find, length, map};
+ghost use Rattle.std.specs.Prelude.{◌≡◌, ◌==◌, ◌<◌, Some, None, IfOk, MatchOption, find, length, map};
 ghost use Rattle.std.specs.List.{AllByRecursion, HoldsAt};
 ghost use Rattle.iso_model.specs.World.{is_at_client, is_under_label};
 ghost use Rattle.iso_model.specs.Worlds.{AreDistinct};

@@ -1,5 +1,5 @@
 // Transactions that end.
-ghost use Rattle.std.specs.Prelude.{◌≡◌, ◌≢◌, ◌⊎◌, ◌<◌, ◌≤◌, IfErr, IfOk, OnOk};
+ghost use Rattle.std.specs.Prelude.{◌≡◌, ◌≢◌, ◌⊎◌, ◌<◌, IfErr, IfOk, OnOk};
 ghost use Rattle.iso_disk.specs.Disk.{LeavesOnly, StaysTold};
 ghost use Rattle.script_model.specs.declared.script.Op.TheVariants.{Abort, End};
 ghost use Rattle.script_model.specs.CoreReplies.{as_reply};

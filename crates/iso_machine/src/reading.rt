@@ -1,5 +1,5 @@
 // Reads of one transaction.
-ghost use Rattle.std.specs.Prelude.{◌≡◌, ◌∷◌, ◌++◌, [], ◌+◌, ◌<◌, ◌≤◌, Some, None, false, IfOk, IsErrOf, OnErr, OnOk, drop, length, take, vec_len};
+ghost use Rattle.std.specs.Prelude.{◌≡◌, ◌∷◌, ◌++◌, [], ◌+◌, ◌<◌, ◌≤◌, Some, None, false, IfOk, IsErrOf, OnErr, OnOk, drop, length, take};
 ghost use Rattle.fault_count.specs.Count.{HasCause};
 ghost use Rattle.iso_disk.specs.Disk.{WritesNothing};
 ghost use Rattle.script_model.specs.Step.{get_step, read_step};

@@ -9,7 +9,6 @@ ghost use Rattle.iso_model.specs.declared.access.Kind.TheVariants.{Write};
 ghost use Rattle.iso_model.specs.declared.access.Mode.{Mode};
 ghost use Rattle.iso_model.specs.declared.access.Mode.TheVariants.{Serial, Snapshot};
 ghost use Rattle.iso_model.specs.declared.access.Run.{Run};
-ghost use Rattle.iso_model.specs.declared.limits.TheConstants.{LAST};
 ghost use Rattle.iso_model.specs.Array.{Array, byte_at, covered, put};
 ghost use Rattle.iso_model.specs.Conflict.{clash, IsClash, IsSerialAt, IsSnapshotAt, NotAfter};
 ghost use Rattle.iso_model.specs.Effect.{effect_at, has_write, own, runs, touches};
@@ -19,8 +18,8 @@ ghost use Rattle.iso_model.specs.Image.{commits_of, held, written, AreRuns, IsIm
 ghost use Rattle.iso_model.specs.Isolation.{IsIsolated};
 ghost use Rattle.iso_model.specs.Premises.{appended, block_at, value_in, AreAccesses, AreBytes, HasBytes, HasShape, IsAccess, IsHistory, Limits};
 ghost use Rattle.iso_model.specs.Step.{put_access, read_access};
-ghost use Rattle.iso_model.specs.World.{empty_history, fresh, World};
-ghost use Rattle.iso_model.specs.Worlds.{Extends, IsWorld, LeadsTo, MayHave};
+ghost use Rattle.iso_model.specs.World.{empty_history, fresh};
+ghost use Rattle.iso_model.specs.Worlds.{Extends, IsWorld, MayHave};
 
 /// A valid geometry keeps its limits, and the image is small.
 pub fn valid_geometry_keeps_limits()

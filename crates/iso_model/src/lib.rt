@@ -25,6 +25,3 @@ pub use limits::{LAST, MAX_ACCESSES, MAX_INPUT, MAX_LINE, MAX_LIVE, MAX_SPANS};
 pub use memory::{InTx, Memory, NotInTx};
 pub use parts::PartList;
 pub use reserved::Reserved;
-
-#[cfg(test)]
-mod tests;

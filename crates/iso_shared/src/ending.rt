@@ -1,5 +1,5 @@
 // The end of a transaction, in one turn.
-ghost use Rattle.std.specs.Prelude.{◌≡◌, ◌≢◌, ◌+◌, ◌-◌, ◌<◌, ◌≤◌, ℕ, List, [], ◌∷◌, ◌++◌, Some, None, Ok, Err, length, IfOk, IfErr, IfSome, IfNone, MatchOption, MatchResult};
+ghost use Rattle.std.specs.Prelude.{◌≡◌, ◌≢◌, ◌+◌, ◌-◌, ◌<◌, ◌≤◌, ℕ, Some, None, Ok, Err, length, IfOk, IfErr, IfSome, IfNone, MatchOption, MatchResult};
 ghost use Rattle.iso_model.specs.declared.core_error.CoreError.TheVariants.{Disk as OfDisk};
 ghost use Rattle.iso_shared.specs.declared.entry.Call.TheVariants as TheCall;
 ghost use Rattle.iso_shared.specs.declared.entry.Entry.TheVariants.{End, Refused};
@@ -7,7 +7,7 @@ ghost use Rattle.iso_shared.specs.Ports.{IsPort, IsSameTx, IsTx, Made, MadeBoth,
 ghost use Rattle.iso_shared.specs.Told.{cause_of, end_entry};
 ghost use Rattle.tx_table.specs.Work.{AreWithin};
 ghost use Rattle.turn_lock.specs.Lock.{lock_id};
-ghost use Rattle.turn_lock.specs.Pass.{view, HasNoTurn};
+ghost use Rattle.turn_lock.specs.Pass.{HasNoTurn};
 
 use crate::guarded::Origin;
 use crate::shared::{Port, Shared};

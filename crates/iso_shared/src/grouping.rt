@@ -15,7 +15,7 @@ ghost use Rattle.iso_shared.specs.Standing.{StandsAt};
 ghost use Rattle.turn_lock.specs.Lists.{AreDistinct};
 ghost use Rattle.turn_lock.specs.Lock.{lock_id, turn_value};
 ghost use Rattle.turn_lock.specs.Numbers.{AreHeld};
-ghost use Rattle.turn_lock.specs.Pass.{view, HasNoTurn, HasTurn};
+ghost use Rattle.turn_lock.specs.Pass.{view, HasTurn};
 
 use crate::entry::Entry;
 use crate::guarded::{Guarded, Origin};

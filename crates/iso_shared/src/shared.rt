@@ -1,10 +1,10 @@
 // The shared device itself, and its ports.
-ghost use Rattle.std.specs.Prelude.{◌≡◌, ◌+◌, ◌<◌, ℕ, [], ◌∷◌, ◌++◌, Some, None, length, IfOk, IfErr, option_to_list};
+ghost use Rattle.std.specs.Prelude.{◌≡◌, ◌+◌, ◌<◌, ℕ, [], ◌∷◌, ◌++◌, None, length, IfOk, IfErr};
 ghost use mathlib.Core.List.{IsPrefix};
 ghost use Rattle.turn_lock.specs.Lists.{longer, places, times};
-ghost use Rattle.turn_lock.specs.Lock.{lock_id, turn_number, turn_value};
+ghost use Rattle.turn_lock.specs.Lock.{lock_id, turn_value};
 ghost use Rattle.turn_lock.specs.Numbers.{AreHeld};
-ghost use Rattle.turn_lock.specs.Pass.{view, HasNoTurn, HasTurn, IsAlike, IsSamePass};
+ghost use Rattle.turn_lock.specs.Pass.{view, HasTurn, IsAlike};
 ghost use Rattle.turn_lock.specs.Views.{fresh, given_part, kept_part};
 ghost use Rattle.iso_core.specs.Core.{disk_of};
 ghost use Rattle.iso_shared.specs.Legal.{IsLegal, needed, returned};
@@ -40,7 +40,7 @@ pub struct Port<D: Disk + Drop, O: Origin> {
 }
 
 impl<D: Disk + Drop, O: Origin> Shared<D, O> {
-    ghost use Rattle.iso_shared.specs.Ports.{IsGiven, IsIsolatedAt, IsOf, IsPort, IsSameTx, IsTx, IsTxOf, doing_of, first_geometry, port_view, tx_view};
+    ghost use Rattle.iso_shared.specs.Ports.{IsGiven, IsIsolatedAt, IsOf, IsPort, IsSameTx, IsTx, doing_of, first_geometry, port_view, tx_view};
 
     /// A device over a core that is up and has no live transaction, and its first port, which has all units. It takes all
     /// memory of the lock.

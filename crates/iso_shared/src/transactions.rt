@@ -1,13 +1,10 @@
 // The calls of a transaction: its begin, its fetches and its end.
-ghost use Rattle.std.specs.Prelude.{◌≡◌, ◌≢◌, ◌+◌, ◌-◌, ◌<◌, ◌≤◌, ℕ, List, [], ◌∷◌, ◌++◌, Some, None, Ok, Err, length, IfOk, IfErr, IfSome, IfNone, MatchResult};
-ghost use mathlib.Core.List.{IsPrefix};
-ghost use Rattle.iso_model.specs.declared.core_error.CoreError.TheVariants.{Disk as OfDisk};
+ghost use Rattle.std.specs.Prelude.{◌≡◌, ◌+◌, ◌-◌, ◌<◌, ℕ, [], Some, None, Ok, Err, length, IfOk, IfErr, MatchResult};
 ghost use Rattle.iso_model.specs.Step.{mode_named};
 ghost use Rattle.iso_shared.specs.declared.entry.Call.TheVariants as TheCall;
-ghost use Rattle.iso_shared.specs.declared.entry.Entry.TheVariants.{Abort, Begin, End, Refused};
-ghost use Rattle.iso_shared.specs.Ports.{IsOf, IsPort, IsSameTx, IsTx, IsTxOf, Made, MadeBoth, check_of, doing_of, number_of, port_view, tx_view};
-ghost use Rattle.iso_shared.specs.Told.{begin_entry, cause_of, end_entry, fetch_entry};
-ghost use Rattle.turn_lock.specs.Pass.{view};
+ghost use Rattle.iso_shared.specs.declared.entry.Entry.TheVariants.{Abort, Begin, Refused};
+ghost use Rattle.iso_shared.specs.Ports.{IsPort, IsSameTx, IsTx, Made, MadeBoth, check_of, doing_of, number_of, port_view, tx_view};
+ghost use Rattle.iso_shared.specs.Told.{cause_of, fetch_entry};
 
 use crate::guarded::Origin;
 use crate::shared::{Port, Shared};

@@ -1,5 +1,5 @@
 // A transaction's pass, with what it does.
-ghost use Rattle.std.specs.Prelude.{◌≡◌, ℕ, ◌+◌, ◌<◌, ◌≤◌, [], ◌∷◌, ◌++◌, Some, None, Ok, Err, OnErr, OnOk, false, length};
+ghost use Rattle.std.specs.Prelude.{◌≡◌, ℕ, ◌+◌, ◌<◌, [], ◌∷◌, ◌++◌, Some, None, Ok, Err, OnErr, OnOk, false, length};
 ghost use Rattle.iso_model.specs.Array.{Array};
 ghost use Rattle.iso_model.specs.Effect.{own};
 ghost use Rattle.iso_model.specs.Marks.{mark_fault, marked};

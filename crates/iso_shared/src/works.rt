@@ -1,5 +1,5 @@
 // The works of the members of a group: the core has them for the time of its call.
-ghost use Rattle.std.specs.Prelude.{◌≡◌, ◌+◌, ◌≤◌, [], ◌∷◌, ◌++◌, length, map, vec_capacity, vec_len};
+ghost use Rattle.std.specs.Prelude.{◌≡◌, ◌+◌, ◌≤◌, ◌++◌, length, map, vec_capacity, vec_len};
 ghost use Rattle.iso_shared.specs.Groups.{ArePaired, IsTaken, end_of};
 ghost use Rattle.iso_shared.specs.Ports.{doing_of};
 ghost use Rattle.iso_shared.specs.Told.{ends_at};

@@ -1,5 +1,5 @@
 // The core that a call is made on: of an image that is made, or of one that is opened.
-ghost use Rattle.std.specs.Prelude.{◌≡◌, [], IfErr, IfOk, IfSome, IsTrue, Some, None};
+ghost use Rattle.std.specs.Prelude.{IfErr, IfOk, IfSome, IsTrue, Some, None};
 ghost use Rattle.command_line.specs.Requests.{IsOpenGeometry};
 ghost use Rattle.iso_model.specs.Geometry.{is_valid};
 ghost use Rattle.iso_top.specs.Begun.{HasCore, HasNoCore};

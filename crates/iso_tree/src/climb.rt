@@ -5,7 +5,7 @@ ghost use Rattle.store_model.specs.Stores.{Done, Program, Store};
 ghost use Rattle.tx_blocks.specs.Tx.{room_of};
 ghost use Rattle.tx_blocks.specs.Runs.{HasRun};
 ghost use Rattle.store_model.specs.TreeNodes.{count_of, node_bytes, used_cells, Cell, IsBlock};
-ghost use Rattle.iso_tree.specs.Rows.{nodes_from, row_from, upto_from, AreBlocks, AreInside, AreUsable, IsUsable};
+ghost use Rattle.iso_tree.specs.Rows.{nodes_from, row_from, AreBlocks, AreInside, AreUsable};
 ghost use Rattle.iso_tree.specs.Walks.{HasWritten, IsFollowed};
 ghost use Rattle.store_model.specs.Trees.{emptied};
 ghost use Rattle.store_model.specs.TreeCalls.{Answer, climb, need_of, placed, store_nodes};

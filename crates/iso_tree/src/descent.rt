@@ -1,5 +1,5 @@
 // The way from the root to the leaf of a key.
-ghost use Rattle.std.specs.Prelude.{◌≡◌, ◌+◌, ◌*◌, ◌<◌, ◌≤◌, [], IfOk, OnOk, length, true};
+ghost use Rattle.std.specs.Prelude.{◌≡◌, ◌+◌, ◌*◌, ◌<◌, ◌≤◌, [], IfOk, OnOk, length};
 ghost use Rattle.store_model.specs.Cells.{cell_count, keys_mark, value_mark};
 ghost use Rattle.store_model.specs.Stores.{bytes_in};
 ghost use Rattle.tx_blocks.specs.Runs.{AreBytesOf, HasRun};

@@ -1,5 +1,5 @@
 // The write of a region's first block, where a put takes blocks.
-ghost use Rattle.std.specs.Prelude.{◌≡◌, ◌+◌, ◌-◌, ◌*◌, ◌/◌, ◌<◌, ◌≤◌, ◌++◌, ℕ, List, OnOk, OnErr, IfErr, length, take, drop, [], ◌∷◌, true};
+ghost use Rattle.std.specs.Prelude.{◌≡◌, ◌+◌, ◌-◌, ◌/◌, ◌<◌, ◌≤◌, ◌++◌, ℕ, List, OnOk, OnErr, IfErr, length, take, drop, [], ◌∷◌, true};
 ghost use Rattle.std.specs.Int.{w32, to_be_bytes};
 ghost use Rattle.store_model.specs.Cells.{block_with, laid_at};
 ghost use Rattle.store_model.specs.FreeMap.{map_bytes};

@@ -1,7 +1,7 @@
 // A put that takes new blocks.
-ghost use Rattle.std.specs.Prelude.{◌≡◌, ◌+◌, ◌-◌, ◌*◌, ◌<◌, ◌≤◌, ◌↔◌, IsTrue, not, List, ℕ, OnOk, OnErr, IfErr, Err, length, map, take, [], ◌∷◌, true};
+ghost use Rattle.std.specs.Prelude.{◌≡◌, ◌+◌, ◌-◌, ◌*◌, ◌<◌, ◌≤◌, ◌↔◌, IsTrue, not, List, ℕ, OnOk, IfErr, Err, length, map, take, true};
 ghost use Rattle.std.specs.List.{filter, range_with_len};
-ghost use Rattle.store_model.specs.Cells.{are_key_parts, cell_count, keys_end};
+ghost use Rattle.store_model.specs.Cells.{are_key_parts, cell_count};
 ghost use Rattle.store_model.specs.FreeMap.{free_count, map_bit, map_bytes};
 ghost use Rattle.store_model.specs.Stores.{Program};
 ghost use Rattle.tx_blocks.specs.Runs.{HasRun};

@@ -1,5 +1,5 @@
 // The put of a key.
-ghost use Rattle.std.specs.Prelude.{◌≡◌, ◌↔◌, ◌+◌, ◌*◌, ◌<◌, ◌≤◌, Err, IsFalse, IsTrue, true, IfOk, IfErr, OnOk, length};
+ghost use Rattle.std.specs.Prelude.{◌≡◌, ◌↔◌, ◌+◌, ◌<◌, ◌≤◌, Err, IsFalse, IsTrue, true, IfOk, IfErr, OnOk, length};
 ghost use Rattle.store_model.specs.HashCalls.{is_key, is_value};
 ghost use Rattle.store_model.specs.HashRegion.{put_op};
 ghost use Rattle.tx_blocks.specs.Tx.{IsLater};

@@ -11,28 +11,9 @@ ghost use Rattle.iso_tree.specs.Walks.{IsLeaf};
 
 use crate::descent::{Leaf, value_mark};
 use crate::fill::{fill_row, upto};
-use iso_alloc::{cell_count, lay, piece, spell};
+use iso_alloc::{cell_count, lay_alone, piece, value_part};
 use store_model::{Area, StoreError};
-use tx_blocks::{TxBlocks, look_whole, store};
-
-/// The value part that spells a value.
-pub fn value_part(value: &[u8]) -> [u8; 33]
-    requires { length value.now ≤ 32 }
-    ensures { result ≡ value_part value.now }
-{
-    let mut part = [0u8; 33];
-    spell(&mut part, value);
-    part
-}
-
-// Zeros, but for these bytes from `at` on.
-fn lay_alone(into: &mut [u8], at: usize, bytes: &[u8])
-    requires { at + length bytes.now ≤ length into.old }
-    ensures { into.new ≡ block_with (length into.old) at bytes.now }
-{
-    into.fill(0);
-    lay(into, at, bytes);
-}
+use tx_blocks::{TxBlocks, last_store, look_whole, store};
 
 /// Writes the value of the cell that has the key.
 pub fn put_value<T: TxBlocks>(
@@ -57,10 +38,7 @@ pub fn put_value<T: TxBlocks>(
     let span = value_mark(area.size, cell);
     let part = value_part(value);
     lay_alone(into, span.off as usize, &part);
-    match store(tx, area.start + block, &[span], into) {
-        Ok(()) => Ok(()),
-        Err(e) => Err(StoreError::Tx(e)),
-    }
+    last_store(tx, area.start + block, &[span], into)
 }
 
 /// Writes the leaf with a new cell. The leaf is read once more, unmarked, so that the put depends on all of it: its bytes are

@@ -3,7 +3,6 @@ ghost use Rattle.std.specs.Prelude.{◌≡◌, ◌⊎◌, ◌↔◌, ◌&&◌, �
 ghost use Rattle.std.specs.List.{list_all};
 ghost use Rattle.store_model.specs.Cells.{are_key_parts, cell_count, is_part, keys_end};
 ghost use Rattle.store_model.specs.HashCalls.{is_key};
-ghost use Rattle.store_model.specs.Stores.{bytes_in};
 ghost use Rattle.store_model.specs.TreeCalls.{pairs_with, parts_of, scan_below, scan_program};
 ghost use Rattle.store_model.specs.TreeNodes.{child_of};
 ghost use Rattle.store_model.specs.TreeRegion.{scan_op, tree_map, IsTreeArea, IsTreeRegion};

@@ -1,5 +1,5 @@
 // What the contracts of a patch come to together.
-ghost use Rattle.std.specs.Prelude.{◌≡◌, ◌≢◌, ◌++◌, ℕ, IsTrue, List, [], ◌∷◌, ◌==◌, None, Option, length, map, replicate};
+ghost use Rattle.std.specs.Prelude.{◌≡◌, ◌≢◌, ◌++◌, ℕ, IsTrue, List, [], ◌∷◌, None, Option, length, map, replicate};
 ghost use Rattle.std.specs.List.{AllByRecursion};
 ghost use Rattle.iso_model.specs.declared.access.Access.{Access};
 ghost use Rattle.iso_model.specs.declared.access.Span.{Span};

@@ -11,6 +11,3 @@ mod patch_spans;
 pub use masks::{next_place, set_bits};
 pub use patch::Patch;
 pub use patch_spans::PatchSpans;
-
-#[cfg(test)]
-mod tests;

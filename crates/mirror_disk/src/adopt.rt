@@ -2,7 +2,7 @@
 ghost use Rattle.std.specs.Prelude.{◌≡◌, ◌≢◌, ◌↔◌, ◌⊎◌, ◌+◌, ◌<◌, ◌≤◌, [], ℕ, List, None, Err, Some, IfErr, IfOk, IfSome, OnOk, OnErr};
 ghost use Rattle.std.specs.Option.{ForSome};
 ghost use Rattle.iso_disk.specs.Disk.{IsSettled, WritesNothing};
-ghost use Rattle.fault_count.specs.Count.{HasCause, Rose};
+ghost use Rattle.fault_count.specs.Count.{Rose};
 ghost use Rattle.mirror_disk.specs.Adopting.{AdoptFails, AdoptRefuses, AdoptsFrom};
 ghost use Rattle.mirror_disk.specs.declared.adopt.MirrorError.TheVariants.{Disk, NotMirror, SizesDiffer};
 ghost use Rattle.mirror_disk.specs.Header.{IsHeader, body, chosen, last_epoch};

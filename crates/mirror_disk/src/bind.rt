@@ -1,5 +1,5 @@
 // Binding a mirror to a name.
-ghost use Rattle.std.specs.Prelude.{◌≡◌, ◌≢◌, ◌⊎◌, ◌+◌, ◌-◌, ◌^◌, ◌<◌, ◌≤◌, [], ℕ, List, Some, None, true, false, length, replicate, IfOk, OnOk, OnErr, IfNone, IfSome, IsSome};
+ghost use Rattle.std.specs.Prelude.{◌≡◌, ◌⊎◌, ◌+◌, ◌-◌, ◌^◌, ◌<◌, ◌≤◌, [], ℕ, List, Some, None, true, false, length, replicate, IfOk, OnOk, OnErr, IfNone, IfSome, IsSome};
 ghost use Rattle.std.specs.Option.{ForSome};
 ghost use Rattle.iso_disk.specs.Disk.{IsSettled};
 ghost use Rattle.fault_count.specs.Count.{HasCause, Rose, one_more};

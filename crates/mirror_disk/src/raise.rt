@@ -1,6 +1,6 @@
 // Raising the epoch of a side.
-ghost use Rattle.std.specs.Prelude.{◌≡◌, ◌≢◌, ◌+◌, ◌<◌, ◌≤◌, ℕ, List, OnOk, OnErr, Some, length, slice_index, IsTrue};
-ghost use Rattle.iso_disk.specs.Disk.{IsSettled, LeavesOnly, TornFrom};
+ghost use Rattle.std.specs.Prelude.{◌≡◌, ◌<◌, ◌≤◌, ℕ, List, OnOk};
+ghost use Rattle.iso_disk.specs.Disk.{IsSettled, LeavesOnly};
 ghost use Rattle.commit_gate.specs.Gate.{IsClosed};
 ghost use Rattle.fault_count.specs.Count.{HasCause};
 ghost use Rattle.mirror_disk.specs.Slots.{other, place};

@@ -15,6 +15,5 @@ pub mod Movings
 pub mod Moves
 pub mod Showing
 pub mod Sublists
-pub mod TestWeights
 pub mod Trims
 pub mod Weights

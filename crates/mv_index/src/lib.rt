@@ -16,6 +16,3 @@ pub use index::MvIndex;
 pub use mask::see;
 pub use step_count::{Blank, Ledger, Steps};
 pub use version::Version;
-
-#[cfg(test)]
-mod tests;

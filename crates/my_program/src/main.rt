@@ -3,7 +3,7 @@
 
 ghost use Rattle.std.specs.Prelude.{◌≡◌, ◌<◌, [], IsTrue, None};
 ghost use Rattle.device_calls.specs.Beginnings.{BeginsAt};
-ghost use Rattle.handle_pass.specs.Sessions.{device, own, units, IsSession};
+ghost use Rattle.handle_pass.specs.Sessions.{device, units, IsSession};
 ghost use Rattle.iso_core.specs.Core.{disk_of};
 ghost use Rattle.iso_model.specs.Geometry.{is_valid};
 ghost use Rattle.iso_model.specs.World.{World};

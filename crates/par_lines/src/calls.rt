@@ -1,5 +1,5 @@
 // The lines that begin, end and abort a client's transaction.
-ghost use Rattle.std.specs.Prelude.{◌≡◌, ◌<◌};
+ghost use Rattle.std.specs.Prelude.{◌<◌};
 ghost use Rattle.script_model.specs.declared.script.Op.TheVariants.{Abort, Begin, End};
 ghost use Rattle.handle_pass.specs.Sessions.{units, IsSession};
 ghost use Rattle.par_lines.specs.Answers.{Answered};

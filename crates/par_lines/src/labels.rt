@@ -1,5 +1,5 @@
 // The lines that hand a transaction on under a label.
-ghost use Rattle.std.specs.Prelude.{◌≡◌, ◌<◌};
+ghost use Rattle.std.specs.Prelude.{◌<◌};
 ghost use Rattle.script_model.specs.declared.script.Op.TheVariants.{Await, Release, Takeover};
 ghost use Rattle.handle_pass.specs.Sessions.{units, IsSession};
 ghost use Rattle.par_lines.specs.Answers.{Answered};

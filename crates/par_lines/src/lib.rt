@@ -15,6 +15,3 @@ mod stores;
 mod upkeep;
 
 pub use par::{ParEnd, par_lines};
-
-#[cfg(test)]
-mod tests;

@@ -1,8 +1,7 @@
 // The lines of several clients, beside each other.
-ghost use Rattle.std.specs.Prelude.{◌≡◌, ◌+◌, ◌*◌, ◌<◌, ◌≤◌, [], ℕ, All, IsTrue, OnOk, length, map, reverse, sum_by, vec_capacity};
+ghost use Rattle.std.specs.Prelude.{◌≡◌, ◌+◌, ◌<◌, ◌≤◌, [], All, IsTrue, length, map, reverse, sum_by, vec_capacity};
 ghost use Rattle.std.specs.List.{list_any};
 ghost use Rattle.iso_model.specs.Geometry.{is_valid};
-ghost use Rattle.turn_lock.specs.Lists.{times};
 ghost use Rattle.turn_lock.specs.Views.{fresh};
 ghost use Rattle.iso_shared.specs.Ports.{IsPort, first_geometry, port_view};
 ghost use Rattle.par_script.specs.Told.{clients_in, lines_of};

@@ -1,5 +1,5 @@
 // The lines that need no transaction.
-ghost use Rattle.std.specs.Prelude.{◌≡◌, Ok};
+ghost use Rattle.std.specs.Prelude.{Ok};
 ghost use Rattle.script_model.specs.declared.script.Op.TheVariants.{Compact, Stat, Trim, Upgrade};
 ghost use Rattle.handle_pass.specs.Sessions.{IsSession};
 ghost use Rattle.par_lines.specs.Answers.{Answered};

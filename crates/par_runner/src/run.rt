@@ -1,5 +1,5 @@
 // Jobs in threads.
-ghost use Rattle.std.specs.Prelude.{◌≡◌, ℕ, ◌<◌, All, length, slice_index_or};
+ghost use Rattle.std.specs.Prelude.{ℕ, ◌<◌, All, length, slice_index_or};
 ghost use denote.Param.Send.{IsSync, IsSend};
 ghost use Rattle.par_runner.specs.Runs.{Ran, JobRan};
 

@@ -1,5 +1,4 @@
 //! Runs of small clients: what no clause says.
-ghost use Rattle.std.specs.Prelude.{ℕ};
 
 use crate::{Client, Flow, Gate, Job, run_all};
 use script_model::{Line, Op};

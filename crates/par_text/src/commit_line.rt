@@ -1,5 +1,5 @@
 // The commits of a run, with the lines that made them.
-ghost use Rattle.std.specs.Prelude.{◌≡◌, ◌++◌, IfOk, OnOk, OnErr, decimal, flat_map};
+ghost use Rattle.std.specs.Prelude.{◌≡◌, ◌++◌, IfOk, OnOk, decimal, flat_map};
 ghost use Rattle.par_text.specs.Output.{commit_by, commit_in, commit_line, commits_of, AreCommits};
 
 use crate::part::Part;

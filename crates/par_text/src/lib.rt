@@ -9,6 +9,3 @@ pub use commit_line::CommitLine;
 pub use part::Part;
 pub use script_model::Stop;
 pub use text::par_text;
-
-#[cfg(test)]
-mod tests;

@@ -1,31 +1,18 @@
 // The laws of the definitions: each function does nothing, and its contract is the law.
-ghost use Rattle.std.specs.Prelude.{◌≡◌, ◌≢◌, ◌↔◌, ℕ, ◌<◌, ◌≤◌, ◌+◌, ◌-◌, IsTrue, IsFalse, IsSome, IfSome, List, Some, None, length, map, slice_get, slice_index, unwrap_or};
-ghost use Rattle.std.specs.List.{AllByRecursion};
-ghost use Rattle.iso_model.specs.declared.access.Access.{Access};
-ghost use Rattle.iso_model.specs.declared.access.Clash.{Clash};
-ghost use Rattle.iso_model.specs.declared.access.Commit.{Commit};
+ghost use Rattle.std.specs.Prelude.{◌≡◌, ℕ, ◌≤◌, IsTrue, List};
 ghost use Rattle.iso_model.specs.declared.access.Geometry.{Geometry};
-ghost use Rattle.iso_model.specs.declared.access.Kind.TheVariants.{Write};
-ghost use Rattle.iso_model.specs.declared.access.Mode.{Mode};
-ghost use Rattle.iso_model.specs.declared.access.Mode.TheVariants.{Serial, Snapshot};
-ghost use Rattle.iso_model.specs.declared.access.Run.{Run};
+ghost use Rattle.iso_model.specs.declared.access.Mode.TheVariants.{Serial};
 ghost use Rattle.iso_model.specs.declared.limits.TheConstants.{LAST};
 ghost use Rattle.script_model.specs.declared.script.Line.{Line};
 ghost use Rattle.script_model.specs.declared.script.Op.{Op};
-ghost use Rattle.iso_model.specs.Array.{Array, byte_at, covered, put};
-ghost use Rattle.iso_model.specs.Conflict.{clash, IsClash, IsSerialAt, IsSnapshotAt, NotAfter};
-ghost use Rattle.iso_model.specs.Effect.{effect_at, has_write, own, runs, touches};
+ghost use Rattle.iso_model.specs.Conflict.{IsSerialAt};
 ghost use Rattle.iso_model.specs.Geometry.{is_valid};
-ghost use Rattle.iso_model.specs.History.{array_at, last, History};
-ghost use Rattle.iso_model.specs.Image.{commits_of, held, written, AreRuns, IsImage, IsRecord, SameEffect, Shows, recorded};
-ghost use Rattle.iso_model.specs.Isolation.{IsIsolated};
-ghost use Rattle.iso_model.specs.Premises.{appended, block_at, value_in, AreAccesses, AreBytes, HasBytes, HasShape, IsAccess, IsHistory, Limits};
+ghost use Rattle.iso_model.specs.History.{last};
 ghost use Rattle.script_model.specs.Script.{after, script};
-ghost use Rattle.iso_model.specs.Step.{put_access, read_access};
 ghost use Rattle.script_model.specs.Step.{step};
 ghost use Rattle.iso_model.specs.World.{empty_history, fresh, World};
 ghost use Rattle.script_model.specs.Operations.{AreLines, IsOp};
-ghost use Rattle.iso_model.specs.Worlds.{Extends, IsWorld, LeadsTo, MayHave};
+ghost use Rattle.iso_model.specs.Worlds.{IsWorld, LeadsTo};
 
 /// Each step of a sound world, and so each script, keeps the geometry but for the form, extends the history and leads to a
 /// sound world, in which every commit is isolated.

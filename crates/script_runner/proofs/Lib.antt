@@ -9,5 +9,5 @@ pub mod Replying
 pub mod Steps
 pub mod Answering
 pub mod Endings
-mod Rehearsals
+pub mod Rehearsals
 mod ReplyRows

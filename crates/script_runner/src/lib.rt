@@ -11,6 +11,3 @@ mod runner;
 pub use machine::ScriptMachine;
 pub use run_end::RunEnd;
 pub use runner::run;
-
-#[cfg(test)]
-mod tests;

@@ -1,5 +1,5 @@
 //! The laws of the language: each function does nothing, and its contract is the law.
-ghost use Rattle.std.specs.Prelude.{◌≡◌, ◌≤◌, ◌∷◌, Ok, length};
+ghost use Rattle.std.specs.Prelude.{◌≡◌, ◌≤◌, Ok, length};
 ghost use Rattle.iso_model.specs.declared.limits.TheConstants.{MAX_LINE};
 ghost use Rattle.script_model.specs.declared.script.Line.{Line};
 ghost use Rattle.script_model.specs.declared.script.Op.{Op};

@@ -27,6 +27,3 @@ pub use reply_line::ReplyLine;
 pub use round::Round;
 pub use script_model::{BadLine, Line, LineError, Op, Parsed, Reply};
 pub use word::number_of;
-
-#[cfg(test)]
-mod tests;

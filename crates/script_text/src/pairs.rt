@@ -1,5 +1,5 @@
 // The line of a reply that tells pairs of a store.
-ghost use Rattle.std.specs.Prelude.{◌≡◌, ◌++◌, OnErr, OnOk, codes, decimal, flat_map};
+ghost use Rattle.std.specs.Prelude.{◌≡◌, ◌++◌, OnErr, OnOk, flat_map};
 ghost use Rattle.script_model.specs.declared.script.Reply.TheVariants.{Pairs};
 ghost use Rattle.script_model.specs.Text.{pair_text, reply_line};
 ghost use Rattle.script_text.specs.Printing.{Extends};

@@ -1,5 +1,5 @@
 // What the calls of a device answer through the lock, one after another: the check ahead, labels and upkeep.
-ghost use Rattle.std.specs.Prelude.{◌≡◌, ◌+◌, ◌<◌, ◌≤◌, ℕ, IfSome, MatchOption};
+ghost use Rattle.std.specs.Prelude.{◌≡◌, ◌+◌, ◌<◌, IfSome, MatchOption};
 ghost use Rattle.iso_memdisk.specs.MemDisk.{state_of};
 ghost use Rattle.iso_shared.specs.Ports.{IsPort, IsTx, port_view, tx_view};
 ghost use Rattle.iso_shared.specs.TestImage.{small, MayStart};

@@ -1,6 +1,6 @@
 // Runs over a device in memory: threads, and what the calls answer through the lock. The image has four blocks of 64 bytes and
 // logs of 4,096 bytes.
-ghost use Rattle.std.specs.Prelude.{◌≡◌, ◌+◌, ◌<◌, ◌≤◌, ℕ, replicate, IfOk, IsTrue};
+ghost use Rattle.std.specs.Prelude.{◌≡◌, ◌+◌, ◌<◌, replicate, IfOk, IsTrue};
 ghost use denote.Param.Send.{IsSync};
 ghost use Rattle.iso_core.specs.Core.{StandsFor};
 ghost use Rattle.iso_core.specs.Standing.{up};

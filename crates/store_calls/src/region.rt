@@ -2,7 +2,7 @@
 ghost use Rattle.std.specs.Prelude.{◌≡◌, ◌+◌, ◌*◌, ◌≤◌, IsTrue};
 ghost use Rattle.iso_model.specs.Geometry.{is_valid};
 ghost use Rattle.store_model.specs.HashCalls.{is_key};
-ghost use Rattle.script_model.specs.FilesArea.{blocks_behind, file_blocks};
+ghost use Rattle.script_model.specs.FilesArea.{file_blocks};
 ghost use Rattle.store_calls.specs.Calls.{is_empty_scan, placed, store_areas};
 
 use iso_model::Geometry;

@@ -1,5 +1,5 @@
 // The laws of stores, at a hash store and a tree store that one transaction calls.
-ghost use Rattle.std.specs.Prelude.{◌≡◌, ◌≢◌, ℕ, Bool, IsTrue, ◌<◌, ◌≤◌, ◌-◌, IfSome, IsFalse, List, [], ◌∷◌, ◌++◌, Ok, Option, slice_get};
+ghost use Rattle.std.specs.Prelude.{◌≢◌, ℕ, Bool, IsTrue, ◌<◌, ◌≤◌, ◌-◌, IfSome, IsFalse, List, [], ◌∷◌, ◌++◌, Ok, Option, slice_get};
 ghost use Rattle.iso_model.specs.declared.access.Geometry.{Geometry};
 ghost use Rattle.store_model.specs.declared.stores.Area.{Area};
 ghost use Rattle.iso_model.specs.Array.{zeros, Array};

@@ -15,6 +15,3 @@ pub use files::FileStore;
 pub use hash::HashStore;
 pub use store::RegionStore;
 pub use tree::TreeStore;
-
-#[cfg(test)]
-mod tests;

@@ -1,5 +1,5 @@
 // Drawn calls on files against a plain map, in transactions that are kept or aborted.
-ghost use Rattle.std.specs.Prelude.{◌≡◌, ◌<◌, ◌≤◌, IfOk, length};
+ghost use Rattle.std.specs.Prelude.{◌<◌, IfOk};
 ghost use Rattle.plain_tx.specs.Plain.{state_of};
 ghost use Rattle.store_tests.specs.Ready.{IsReady};
 

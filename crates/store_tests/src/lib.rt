@@ -1,4 +1,4 @@
-//! The tests of `iso_hash`, `iso_tree` and `iso_fs`, over a transaction on an array in memory.
+//! The tests of `iso_hash`, `iso_tree` and `iso_fs`, and of `store_laws` on them, over a transaction on an array in memory.
 #![tactic(auto)]
 
 #[cfg(test)]
@@ -7,5 +7,7 @@ mod drawn_file_tests;
 mod file_tests;
 #[cfg(test)]
 mod hash_tests;
+#[cfg(test)]
+mod law_tests;
 #[cfg(test)]
 mod tree_tests;

@@ -11,12 +11,3 @@ mod view;
 pub use lock::{Pass, TurnLock};
 pub use turn::Turn;
 pub use view::{LAST, Names, Stage, Stands, View};
-
-#[cfg(test)]
-mod tests;
-#[cfg(test)]
-mod tests_ahead;
-#[cfg(test)]
-mod tests_crowd;
-#[cfg(test)]
-mod tests_doors;

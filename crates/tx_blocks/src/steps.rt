@@ -1,17 +1,17 @@
 // The steps that calls over a transaction are made of: a read or a write with its marks, and a test of the room.
-ghost use Rattle.std.specs.Prelude.{◌≡◌, ◌+◌, ◌<◌, ◌≤◌, OnOk, OnErr, IfErr, IfOk, length, [], ◌∷◌, true, Some, None};
+ghost use Rattle.std.specs.Prelude.{◌≡◌, ◌<◌, ◌≤◌, OnOk, OnErr, IfErr, Ok, length, [], ◌∷◌, true, None};
 ghost use Rattle.std.specs.List.{AllByRecursion};
 ghost use Rattle.std.specs.Option.{ForSome};
 ghost use Rattle.iso_model.specs.Effect.{own};
 ghost use Rattle.iso_model.specs.Marks.{marked};
 ghost use Rattle.iso_model.specs.Premises.{block_at, IsSpan};
-ghost use Rattle.store_model.specs.Stores.{look_access, store_access};
+ghost use Rattle.store_model.specs.Stores.{Done, Store, look_access, store_access};
 ghost use Rattle.tx_blocks.specs.Tx.{mark_refusal, room_of, with_accesses, IsLater, Tx};
-ghost use Rattle.tx_blocks.specs.Runs.{AreBytesOf, IsCause};
+ghost use Rattle.tx_blocks.specs.Runs.{AreBytesOf, Behaves, HasRun, IsCause};
 
 use crate::TxBlocks;
 use iso_model::Span;
-use store_model::TxError;
+use store_model::{StoreError, TxError};
 
 /// Marks a range of the last access, which has fewer than 8 marks. It takes no memory.
 pub fn mark<T: TxBlocks>(tx: &mut T, span: Span)
@@ -91,4 +91,24 @@ pub fn store<T: TxBlocks>(
         mark(tx, *span);
     }
     Ok(())
+}
+
+/// The one write of a store's call, or its last.
+pub fn last_store<T: TxBlocks>(
+    tx: &mut T,
+    block: u32,
+    spans: &[Span],
+    bytes: &[u8],
+) -> Result<(), StoreError>
+    requires bytes { length bytes.now ≡ (T.state tx.old).size }
+    requires block { block < (T.state tx.old).blocks }
+    requires spans { AllByRecursion (IsSpan (T.state tx.old).size) spans.now }
+    requires few { length spans.now ≤ 8 }
+    ensures run { HasRun (Store block spans.now bytes.now (Done (Ok tt))) (T.state tx.old) (T.state tx.new) result }
+    ensures behaves { Behaves (T.state tx.old) (T.state tx.new) 1 (T.device tx.old) (T.device tx.new) result }
+{
+    match store(tx, block, spans, bytes) {
+        Ok(()) => Ok(()),
+        Err(e) => Err(StoreError::Tx(e)),
+    }
 }

@@ -1,5 +1,5 @@
 // The trait of a transaction over blocks.
-ghost use Rattle.std.specs.Prelude.{◌≡◌, ◌≢◌, ◌≤◌, ◌-◌, Err, OnOk, OnErr, cond, length, [], ◌∷◌};
+ghost use Rattle.std.specs.Prelude.{◌≡◌, ◌≢◌, ◌-◌, Err, OnOk, OnErr, cond, length, [], ◌∷◌};
 ghost use Rattle.std.specs.Option.{ForSome};
 ghost use Rattle.iso_model.specs.Effect.{own};
 ghost use Rattle.iso_model.specs.Marks.{marked};

@@ -13,6 +13,3 @@ pub use live::{Begun, EnterError, Live};
 pub use patch_iter::PatchIter;
 pub use rack::{PostError, Rack};
 pub use work::Work;
-
-#[cfg(test)]
-mod tests;

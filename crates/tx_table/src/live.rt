@@ -1,5 +1,5 @@
 // The transactions that are live.
-ghost use Rattle.std.specs.Prelude.{◌≡◌, ℕ, ◌+◌, ◌<◌, ◌≤◌, [], ◌∷◌, ◌++◌, Some, None, Err, IfNone, IfSome, IsSome, OnOk, OnErr, length, nat_eq, map, option_map, slice_index_or};
+ghost use Rattle.std.specs.Prelude.{◌≡◌, ℕ, ◌+◌, ◌<◌, ◌≤◌, [], ◌∷◌, ◌++◌, Some, None, Err, IfNone, IfSome, IsSome, OnOk, OnErr, length, nat_eq, map, slice_index_or};
 ghost use Rattle.std.specs.Bool.{OnTrue};
 ghost use Rattle.std.specs.Map.{lookup, remove_entry};
 ghost use Rattle.iso_model.specs.declared.limits.TheConstants.{MAX_LIVE};

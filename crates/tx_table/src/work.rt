@@ -1,5 +1,5 @@
 // What a transaction does.
-ghost use Rattle.std.specs.Prelude.{◌≡◌, ℕ, ◌+◌, ◌<◌, ◌≤◌, [], ◌∷◌, ◌++◌, true, false, Some, None, Ok, Err, IsTrue, IsOk, OnOk, OnErr, length, flat_map};
+ghost use Rattle.std.specs.Prelude.{◌≡◌, ◌+◌, ◌<◌, ◌≤◌, [], ◌∷◌, ◌++◌, true, false, Some, None, Ok, Err, IsTrue, IsOk, OnOk, OnErr, length, flat_map};
 ghost use Rattle.byte_marks.specs.Touched.{AreTouched};
 ghost use Rattle.iso_model.specs.declared.access.Geometry.{Geometry};
 ghost use Rattle.iso_model.specs.declared.access.Kind.TheVariants.{Read, Write};

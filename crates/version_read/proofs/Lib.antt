@@ -12,6 +12,5 @@ pub mod Records
 pub mod Rooms
 pub mod Stands
 pub mod Taking
-pub mod TestIndexes
 pub mod Walks
 pub mod Wanted

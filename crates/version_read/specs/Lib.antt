@@ -1,4 +1,3 @@
 pub mod Blocks
 pub mod Fills
 pub mod Parts
-pub mod TestParts

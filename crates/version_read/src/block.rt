@@ -1,5 +1,5 @@
 // A block, read by its versions.
-ghost use Rattle.std.specs.Prelude.{◌≡◌, ◌+◌, ◌-◌, ◌*◌, ◌<◌, ◌≤◌, ◌++◌, ◌||◌, ℕ, IfOk, OnOk, [], ◌∷◌, count_by, drop, length, not, slice_index_or, take, true};
+ghost use Rattle.std.specs.Prelude.{◌≡◌, ◌+◌, ◌-◌, ◌<◌, ◌≤◌, ◌++◌, ◌||◌, ℕ, IfOk, OnOk, [], ◌∷◌, count_by, drop, length, not, slice_index_or, take, true};
 ghost use Rattle.std.specs.List.{range_with_len, slice_range};
 ghost use Rattle.std.specs.Option.{ForSome};
 ghost use Rattle.iso_disk.specs.Disk.{WritesNothing};

@@ -9,6 +9,3 @@ mod part_span;
 pub use block::{read_block, read_pieces};
 pub use index::{add_parts, reserve_parts, take_parts};
 pub use part_span::PartSpan;
-
-#[cfg(test)]
-mod tests;

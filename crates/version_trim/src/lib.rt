@@ -4,6 +4,3 @@
 mod trimming;
 
 pub use trimming::trim;
-
-#[cfg(test)]
-mod tests;

@@ -6,6 +6,3 @@ mod read;
 
 pub use lines::ScriptError;
 pub use read::read_script;
-
-#[cfg(test)]
-mod tests;

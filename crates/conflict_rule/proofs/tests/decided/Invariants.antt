@@ -1,5 +1,0 @@
--- The ledger is the new one.
-use Rattle.conflict_rule.proofs.tests.decided.Given as goal
-
-abbrev pub ghosts-decided_in : goal.ghosts-decided_in
-ghosts-decided_in a = record { name = a.blank.name; parts = a.blank.parts }

@@ -1,5 +1,0 @@
--- The ledger is the new one.
-use Rattle.conflict_rule.proofs.tests.holds.Given as goal
-
-abbrev pub ghosts-holds_in : goal.ghosts-holds_in
-ghosts-holds_in a = record { name = a.blank.name; parts = a.blank.parts }

@@ -1,5 +1,0 @@
-use Rattle.half_switch.proofs.TestDisk.{failing_settled}
-use Rattle.half_switch.proofs.tests.image.Goals as goal
-
-pub returns-clause-settled : goal.returns-clause-settled
-returns-clause-settled c = failing_settled _ _ _ c.new-disk.ensures.stable c.fail.ensures.untouched

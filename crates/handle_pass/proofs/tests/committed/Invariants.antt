@@ -1,5 +1,0 @@
--- The ledger is the new one.
-use Rattle.handle_pass.proofs.tests.committed.Given as goal
-
-abbrev pub ghosts-ended : goal.ghosts-ended
-ghosts-ended g a = record { name = a.blank.name; parts = a.blank.parts }

@@ -1,0 +1,218 @@
+// Groups over a device in memory, in two threads and in one. The image has four blocks of 64 bytes and logs of 4,096 bytes.
+ghost use Rattle.std.specs.Prelude.{◌≡◌, ◌<◌, ◌≤◌, [], length, vec_capacity};
+ghost use denote.Param.Send.{IsSync};
+ghost use Rattle.iso_memdisk.specs.MemDisk.{state_of};
+ghost use Rattle.iso_shared.specs.Ports.{IsPort, port_view};
+ghost use Rattle.iso_shared.specs.TestImage.{small, MayStart};
+ghost use Rattle.handle_pass.specs.Sessions.{device, units, IsSession};
+ghost use Rattle.group_commit.specs.Groups.{AreMembers};
+
+use crate::small_image::core_failing;
+use group_commit::commit_group;
+use handle_pass::Session;
+use iso_core::{Core, Stat};
+use iso_memdisk::MemDisk;
+use iso_model::{CoreError, GroupReply, Label, LabelReplies};
+use iso_shared::{Origin, Port, Shared, Tx};
+use std::alloc::Global;
+use std::marker::Brand;
+use std::sync::Wait;
+use std::test::Fail;
+use std::thread::{Threads, join_mut};
+
+/// A transaction under a label that has written a block, and may have read the first one before.
+fn posted<O: Origin, R: Wait>(
+    rt: &R,
+    session: &mut Session<MemDisk, O>,
+    reads: bool,
+    block: u32,
+    label: Label,
+) -> Option<()>
+    requires session { IsSession O.start session.old × (1 < units session.old) }
+    requires image { O.start.world.geometry ≡ small }
+    ensures session { IsSession O.start session.new }
+    ensures device { device session.new ≡ device session.old }
+{
+    session.begin_tx(rt, None).ok()?;
+    if reads {
+        let mut bytes = [0; 64];
+        session.read_block(rt, 0, &mut bytes).ok()?;
+    }
+    session.write_block(block, &[7; 64]).ok()?;
+    session.post_tx(rt, label).ok()
+}
+
+/// What is held under the two labels and under one more, place by place. Each look takes one of the port's units.
+fn looked<O: Origin, R: Wait>(
+    rt: &R,
+    shared: &Shared<MemDisk, O>,
+    port: &mut Port<MemDisk, O>,
+    labels: &[Label; 3],
+    members: &mut Vec<Option<Tx<MemDisk, O>>>,
+)
+    requires port { IsPort shared.now port.old × (16 < (port_view port.old).units) }
+    requires members { members.old.items ≡ [] }
+    requires room { 3 ≤ vec_capacity members.old }
+    ensures port { IsPort shared.now port.new }
+    ensures members { AreMembers shared.now O.start members.new.items × (length members.new.items ≡ 3) }
+{
+    let first = shared.look(rt, port, &labels[0]);
+    let second = shared.look(rt, port, &labels[1]);
+    let third = shared.look(rt, port, &labels[2]);
+    members.push_reserved(first);
+    members.push_reserved(second);
+    members.push_reserved(third);
+}
+
+/// A group of these, through a port that is split off a session and joined back.
+fn grouped<O: Origin, R: Wait>(
+    rt: &R,
+    alloc: Global,
+    shared: &Shared<MemDisk, O>,
+    session: &mut Session<MemDisk, O>,
+    labels: &[Label; 3],
+) -> Result<LabelReplies, CoreError>
+    requires session { IsSession O.start session.old × (33 < units session.old) }
+    requires device { device session.old ≡ shared.now }
+    ensures session { IsSession O.start session.new × (device session.new ≡ device session.old) }
+{
+    let mut members = Vec::new(alloc);
+    if let Err(_) = members.reserve(3) {
+        members.destroy_empty();
+        return Err(CoreError::Memory);
+    }
+    let mut port = session.split_port();
+    looked(rt, shared, &mut port, labels, &mut members);
+    let told = commit_group(rt, alloc, shared, &mut port, members);
+    session.join_port(port);
+    told
+}
+
+/// What a group was told, and the numbers of the image behind it.
+type Told = (Result<LabelReplies, CoreError>, Stat);
+
+/// Two transactions are put under labels in two threads; then a third session ends them as a group. The second one may read what
+/// the first one writes.
+fn across<O: Origin + Send + Sync, R: Threads + Wait + Sync>(
+    rt: &R,
+    first: &mut Session<MemDisk, O>,
+    second: &mut Session<MemDisk, O>,
+    reads: bool,
+) -> Option<()>
+    requires first { IsSession O.start first.old × (1 < units first.old) }
+    requires second { IsSession O.start second.old × (1 < units second.old) }
+    requires image { O.start.world.geometry ≡ small }
+    ensures first { IsSession O.start first.new }
+    ensures second { IsSession O.start second.new }
+{
+    let (one, two) = join_mut(
+        rt,
+        &mut || -> Option<()>
+            requires { IsSync R.row × IsSession O.start first.now × (1 < units first.now) × (O.start.world.geometry ≡ small) }
+            ensures { IsSession O.start first.exit.now }
+        { posted(rt, first, false, 0, Label::new(b"a")?) },
+        &mut || -> Option<()>
+            requires { IsSync R.row × IsSession O.start second.now × (1 < units second.now) × (O.start.world.geometry ≡ small) }
+            ensures { IsSession O.start second.exit.now }
+        { posted(rt, second, reads, 1, Label::new(b"b")?) },
+    );
+    one?;
+    two
+}
+
+/// What the third session is told of the group, and the numbers of the image behind it.
+fn ended<O: Origin, R: Wait>(
+    rt: &R,
+    alloc: Global,
+    shared: &Shared<MemDisk, O>,
+    session: &mut Session<MemDisk, O>,
+) -> Option<Told>
+    requires session { IsSession O.start session.old × (33 < units session.old) × (device session.old ≡ shared.now) }
+    ensures session { IsSession O.start session.new }
+{
+    let labels = [Label::new(b"a")?, Label::new(b"zz")?, Label::new(b"b")?];
+    let told = grouped(rt, alloc, shared, session, &labels);
+    Some((told, session.stat(rt)))
+}
+
+/// Both of three sessions over a core.
+fn run_across<O: Origin + Send + Sync, R: Threads + Wait + Sync>(
+    rt: &R,
+    alloc: Global,
+    core: Core<MemDisk>,
+    reads: bool,
+) -> Option<Told>
+    requires start { MayStart state_of O.start O.disk core }
+{
+    match Shared::<MemDisk, O>::new(alloc, core) {
+        Err((_memory, _core)) => None,
+        Ok((shared, mut port)) => {
+            let one = shared.port(&mut port, 1 << 32);
+            let two = shared.port(&mut port, 1 << 32);
+            let mut first = Session::new(&shared, one);
+            let mut second = Session::new(&shared, two);
+            let mut third = Session::new(&shared, port);
+            let told = match across(rt, &mut first, &mut second, reads) {
+                Some(()) => ended(rt, alloc, &shared, &mut third),
+                None => None,
+            };
+            let _ = first.finish(rt);
+            let _ = second.finish(rt);
+            let _ = third.finish(rt);
+            told
+        }
+    }
+}
+
+/// The same over a new core, whose disk fails from so many calls on.
+fn across_threads<R: Threads + Wait + Sync>(
+    rt: &R,
+    alloc: Global,
+    calls: u64,
+    reads: bool,
+) -> Option<Told> {
+    let core = core_failing(alloc, calls).ok()?;
+    run_across::<Brand, R>(rt, alloc, core, reads)
+}
+
+#[test]
+fn what_was_posted_in_another_thread_is_committed_as_a_group(rt: HostRuntime) -> Result<(), Fail> {
+    let (told, stat) = across_threads(&rt, rt.alloc(), 1_000, false).expect(&rt, "a group");
+    assert_eq!(rt; stat.last, 2);
+    assert_eq!(rt; stat.live, 0);
+    match &told {
+        Ok(replies) => {
+            assert_eq!(rt; replies.len(), 3);
+            assert!(rt; matches!(replies.get(0), Some(Some(GroupReply::Committed(1)))));
+            assert!(rt; matches!(replies.get(1), Some(None)));
+            assert!(rt; matches!(replies.get(2), Some(Some(GroupReply::Committed(2)))));
+        }
+        Err(_) => assert!(rt; false),
+    }
+    Ok(())
+}
+
+#[test]
+fn a_member_that_read_what_an_earlier_one_wrote_conflicts(rt: HostRuntime) -> Result<(), Fail> {
+    let (told, stat) = across_threads(&rt, rt.alloc(), 1_000, true).expect(&rt, "a group");
+    assert_eq!(rt; stat.last, 1);
+    assert_eq!(rt; stat.live, 0);
+    match &told {
+        Ok(replies) => {
+            assert!(rt; matches!(replies.get(0), Some(Some(GroupReply::Committed(1)))));
+            assert!(rt; matches!(replies.get(2), Some(Some(GroupReply::Conflict(_)))));
+        }
+        Err(_) => assert!(rt; false),
+    }
+    Ok(())
+}
+
+#[test]
+fn a_fault_of_the_disk_ends_all_members(rt: HostRuntime) -> Result<(), Fail> {
+    // the disk makes the five calls of a formatting
+    let (told, stat) = across_threads(&rt, rt.alloc(), 5, false).expect(&rt, "a group");
+    assert!(rt; matches!(told, Err(CoreError::Disk)));
+    assert_eq!(rt; stat.live, 0);
+    assert!(rt; stat.down);
+    Ok(())
+}

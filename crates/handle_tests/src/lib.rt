@@ -1,0 +1,13 @@
+//! The tests of `handle_pass`, `device_calls`, `group_commit` and `par_lines`, over new images in memory.
+#![tactic(auto)]
+
+#[cfg(test)]
+mod call_tests;
+#[cfg(test)]
+mod client_tests;
+#[cfg(test)]
+mod group_tests;
+#[cfg(test)]
+mod session_tests;
+#[cfg(test)]
+mod small_image;

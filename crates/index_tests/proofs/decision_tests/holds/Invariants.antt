@@ -1,0 +1,5 @@
+-- The ledger is the new one.
+use Rattle.index_tests.proofs.decision_tests.holds.Given as goal
+
+abbrev pub ghosts-holds_in : goal.ghosts-holds_in
+ghosts-holds_in a = record { name = a.blank.name; parts = a.blank.parts }

@@ -1,0 +1,18 @@
+//! The tests of the byte sets, patches, decisions, tables and versions that a core stands on: of `byte_marks`, `merge_write`,
+//! `conflict_rule`, `tx_table`, `mv_index`, `version_trim` and `version_read`.
+#![tactic(auto)]
+
+#[cfg(test)]
+mod decision_tests;
+#[cfg(test)]
+mod marks_tests;
+#[cfg(test)]
+mod patch_tests;
+#[cfg(test)]
+mod reading_tests;
+#[cfg(test)]
+mod table_tests;
+#[cfg(test)]
+mod trim_tests;
+#[cfg(test)]
+mod versions_tests;

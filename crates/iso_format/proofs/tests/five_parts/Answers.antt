@@ -1,6 +1,0 @@
-use Rattle.iso_format.proofs.TestParts.{five_lie}
-use Rattle.iso_format.proofs.tests.five_parts.Goals as goal
-
-pub returns-clause-lie : goal.returns-clause-lie
-returns-clause-lie c =
-    rw (c.in_ok-push-5.ensures.ok, c.in_ok-push-4.ensures.ok, c.in_ok-push-3.ensures.ok, c.in_ok-push-2.ensures.ok, c.in_ok-push.ensures.ok, c.empty-parts.ensures) five_lie

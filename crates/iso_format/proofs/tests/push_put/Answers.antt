@@ -1,5 +1,0 @@
-use Rattle.iso_format.proofs.TestParts.{put_lies}
-use Rattle.iso_format.proofs.tests.push_put.Goals as goal
-
-pub finish-requires-clause-runs : goal.finish-requires-clause-runs
-finish-requires-clause-runs c = rw (c.in_ok-push_part.ensures.ok, c.requires) put_lies

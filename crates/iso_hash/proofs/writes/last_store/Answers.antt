@@ -1,9 +1,0 @@
-use Rattle.iso_hash.proofs.Words.{Ok, Result, StoreError, Program, Done, Store, at_start, cut_at_store}
-use Rattle.iso_hash.proofs.writes.last_store.Goals as goal
-
-pub returns-in-Err-clause-run : goal.returns-in-Err-clause-run
-returns-in-Err-clause-run g c =
-    let state = g.T.TxBlocks.state in
-    let whole : Program (Result (Unit {0}) StoreError) = Store c.args.block c.args.spans.now c.args.bytes.now (Done (Ok tt)) in
-    cut_at_store whole c.args.block c.args.spans.now c.args.bytes.now (Done (Ok tt)) (state c.args.tx.now) (state c.args.tx.now) (state c.store.new.tx)
-    (g.T.TxBlocks.device c.args.tx.now) (g.T.TxBlocks.device c.store.new.tx) c.in-Err.e (at_start whole (state c.args.tx.now)) c.in-Err.ensures.kept c.in-Err.ensures.cause

@@ -1,6 +1,0 @@
-use Rattle.iso_memdisk.specs.MemDisk.{state_of}
-use Rattle.iso_log.proofs.Puts.{IsScanned}
-use Rattle.iso_log.proofs.tests.count_told.Given as goal
-
-abbrev pub invariant-loop : goal.invariant-loop
-invariant-loop l = IsScanned l.log l.ahead (state_of l.disk)

@@ -1,5 +1,0 @@
--- The ledger is the new one.
-use Rattle.mv_index.proofs.tests.OneBlock.found.Given as goal
-
-abbrev pub ghosts-found_by : goal.ghosts-found_by
-ghosts-found_by a = record { name = a.blank.name; parts = a.blank.parts }

@@ -1,6 +1,0 @@
--- The versions lie in the first 300 bytes.
-use Rattle.std.proofs.Common.{arith}
-use Rattle.mv_index.proofs.tests.later_versions_move_alone.Goals as goal
-
-pub move_to-requires-clause-room : goal.move_to-requires-clause-room
-move_to-requires-clause-room g c = (64, 300, c.in_ok-index.ensures.lie, omega arith)

@@ -1,0 +1,5 @@
+use Rattle.record_tests.proofs.Puts.{blank_ready}
+use Rattle.record_tests.proofs.log_tests.blank.Goals as goal
+
+pub returns : goal.returns
+returns c = blank_ready c.args.room c.requires c.new.result _ c.new.ensures.stable c.in_ok-bytes.ensures

@@ -1,7 +1,0 @@
-use Rattle.std.proofs.Common.{◌≡◌}
-use Rattle.turn_lock.specs.Pass.{view}
-use Rattle.turn_lock.proofs.tests_crowd.held.Given as goal
-
--- one lock, and the same units
-abbrev pub invariant-loop-turn : goal.invariant-loop-turn
-invariant-loop-turn g l = (l.caller.lock.now ≡ l.initial.caller.lock.now) × ((view l.caller.pass).units ≡ (view l.initial.caller.pass).units)

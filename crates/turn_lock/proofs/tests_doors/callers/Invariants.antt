@@ -1,8 +1,0 @@
-use Rattle.std.proofs.Common.{◌≡◌, ◌+◌}
-use Rattle.turn_lock.specs.{Lock.lock_id, Pass.{view, HasNoTurn, IsSamePass}}
-use Rattle.turn_lock.proofs.tests_doors.callers.Given as goal
-
--- one lock, and a unit less for each caller
-abbrev pub invariant-loop-number : goal.invariant-loop-number
-invariant-loop-number g l =
-    IsSamePass l.fn.pass l.pass × HasNoTurn l.pass × ((view l.pass).units + l.number ≡ (view l.fn.pass).units) × (l.pass.table_id ≡ lock_id l.fn.lock)

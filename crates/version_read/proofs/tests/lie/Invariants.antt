@@ -1,7 +1,0 @@
--- The versions so far lie on the disk.
-use Rattle.std.proofs.Common.{◌<◌, ℕ, get_or}
-use Rattle.mv_index.specs.{Shown.Lies, Versions.no_version}
-use Rattle.version_read.proofs.tests.lie.Given as goal
-
-abbrev pub invariant-loop-version : goal.invariant-loop-version
-invariant-loop-version l = (i : ℕ) → i < l.version-index → Lies 64 512 (get_or l.versions i no_version)
