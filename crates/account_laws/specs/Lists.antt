@@ -1,23 +1,14 @@
 -- Lists of a shared device whose transactions are those of accounts.
-use Rattle.std.specs.Prelude.{◌≡◌, ℕ, ◌≤◌, List, [], ◌∷◌, ◌++◌, Some}
-use Rattle.std.specs.List.{AllByRecursion}
-use Rattle.iso_model.specs.declared.access.Commit.{Commit}
-use Rattle.iso_model.specs.declared.access.EndReply.TheVariants.{Committed}
-use Rattle.iso_model.specs.declared.access.Geometry.{Geometry}
-use Rattle.iso_model.specs.Array.{Array}
-use Rattle.iso_model.specs.History.{History, array_at, last}
-use Rattle.iso_model.specs.World.{World}
+use Rattle.std.specs.{Prelude.{◌≡◌, ℕ, ◌≤◌, List, [], ◌∷◌, ◌++◌, Some}, List.AllByRecursion}
+use Rattle.iso_model.specs.{declared.access.Commit.Commit, declared.access.EndReply.TheVariants.Committed, declared.access.Geometry.Geometry, Array.Array, History.{History, array_at, last}, World.World}
 use Rattle.iso_refusal.specs.Refusal.{Opened, opened, recovered}
 use Rattle.iso_shared.specs.declared.entry.Call.TheVariants as call
 use Rattle.iso_shared.specs.declared.entry.Cause.TheVariants as cause
-use Rattle.iso_shared.specs.declared.entry.Entry.{Entry}
+use Rattle.iso_shared.specs.{declared.entry.Entry.Entry, Standing.whole, States.{Start, lost_commits, members_of, state_at}}
 use Rattle.iso_shared.specs.declared.entry.Entry.TheVariants as entry
-use Rattle.iso_shared.specs.Standing.{whole}
-use Rattle.iso_shared.specs.States.{Start, lost_commits, members_of, state_at}
 use Rattle.store_entries.specs.InOrder.{commit_at, world_at}
 use Rattle.store_scripts.specs.Stores.{image_hash}
-use Rattle.account_laws.specs.Sums.{Accounts, KeepsSum}
-use Rattle.account_laws.specs.Transactions.{CommitsAccounts}
+use Rattle.account_laws.specs.{Sums.{Accounts, KeepsSum}, Transactions.CommitsAccounts}
 
 -- the commits that an entry makes where the world is this, or leaves open behind a fault of the disk
 abbrev pub commits_by : World → Entry → List Commit

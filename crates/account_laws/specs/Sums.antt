@@ -1,7 +1,5 @@
 -- The amounts of a store whose pairs are accounts.
-use Rattle.std.specs.Prelude.{◌≡◌, ◌≢◌, ◌⊎◌, ℕ, List, [], ◌∷◌, Option, Some, None, sum_by}
-use Rattle.std.specs.FinMap.{empty, entries, get}
-use Rattle.std.specs.Int.{from_be_bytes, w64}
+use Rattle.std.specs.{Prelude.{◌≡◌, ◌≢◌, ◌⊎◌, ℕ, List, [], ◌∷◌, Option, Some, None, sum_by}, FinMap.{empty, entries, get}, Int.{from_be_bytes, w64}}
 use Rattle.store_model.specs.HashRegion.{Pairs}
 
 -- the number that a value of eight bytes is

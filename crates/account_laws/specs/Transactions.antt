@@ -1,11 +1,7 @@
 -- What the transactions of accounts do, as calls of the hash store and their answers.
 use Rattle.std.specs.Prelude.{◌≡◌, ◌≢◌, ◌⊎◌, ℕ, ◌+◌, List, [], ◌∷◌, Some, None}
-use Rattle.iso_model.specs.declared.access.Commit.{Commit}
-use Rattle.iso_model.specs.declared.access.Geometry.{Geometry}
-use Rattle.iso_model.specs.History.{History}
-use Rattle.store_laws.specs.Both.{IsOfBoth, firsts}
-use Rattle.store_laws.specs.Calls.{Get, Got, KeyCall, Put, StoreAnswer, WasPut}
-use Rattle.store_laws.specs.Parts.{answers_in, calls_in}
+use Rattle.iso_model.specs.{declared.access.Commit.Commit, declared.access.Geometry.Geometry, History.History}
+use Rattle.store_laws.specs.{Both.{IsOfBoth, firsts}, Calls.{Get, Got, KeyCall, Put, StoreAnswer, WasPut}, Parts.{answers_in, calls_in}}
 use Rattle.store_scripts.specs.Stores.{image_hash, image_tree}
 use Rattle.account_laws.specs.Sums.{Accounts, amount}
 

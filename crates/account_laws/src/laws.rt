@@ -1,21 +1,12 @@
 // The laws of accounts: each function does nothing, and its contract is the law.
-ghost use Rattle.std.specs.Prelude.{◌≡◌, ◌+◌, [], List, ℕ};
-ghost use Rattle.std.specs.FinMap.{insert, get};
-ghost use Rattle.iso_model.specs.History.{array_at, last};
-ghost use Rattle.iso_model.specs.Worlds.{IsWorld};
-ghost use Rattle.iso_shared.specs.declared.entry.Entry.{Entry};
-ghost use Rattle.iso_shared.specs.Legal.{IsLegal};
-ghost use Rattle.iso_shared.specs.Standing.{ShowsSince};
-ghost use Rattle.iso_shared.specs.States.{Start};
+ghost use Rattle.std.specs.{Prelude.{◌≡◌, ◌+◌, [], List, ℕ}, FinMap.{insert, get}};
+ghost use Rattle.iso_model.specs.{History.{array_at, last}, Worlds.IsWorld, declared.access.Geometry.Geometry};
+ghost use Rattle.iso_shared.specs.{declared.entry.Entry.Entry, Legal.IsLegal, Standing.ShowsSince, States.Start};
 ghost use Rattle.store_entries.specs.InOrder.{StoresAreWell};
-ghost use Rattle.store_laws.specs.Calls.{KeyCall, StoreAnswer};
-ghost use Rattle.store_laws.specs.Parts.{run};
+ghost use Rattle.store_laws.specs.{Calls.{KeyCall, StoreAnswer}, Parts.run};
 ghost use Rattle.store_model.specs.HashRegion.{Pairs};
 ghost use Rattle.store_scripts.specs.Stores.{image_hash, image_tree};
-ghost use Rattle.iso_model.specs.declared.access.Geometry.{Geometry};
-ghost use Rattle.account_laws.specs.Lists.{AreOfAccounts, KeepsSumAt, KeepsSumIn, OpensWithSum};
-ghost use Rattle.account_laws.specs.Sums.{Accounts, KeepsSum, amount, amount_in, total};
-ghost use Rattle.account_laws.specs.Transactions.{IsOfAccounts};
+ghost use Rattle.account_laws.specs.{Lists.{AreOfAccounts, KeepsSumAt, KeepsSumIn, OpensWithSum}, Sums.{Accounts, KeepsSum, amount, amount_in, total}, Transactions.IsOfAccounts};
 
 /// A put changes the sum of all accounts by what it changes at its key.
 pub fn puts_change_the_sum_at_their_key()

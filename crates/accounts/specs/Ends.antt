@@ -1,15 +1,10 @@
 -- What is promised of accounts on a device, from its first entry to its last.
 use Rattle.std.specs.Prelude.{◌≡◌, true, List}
-use Rattle.account_laws.specs.Lists.{KeepsSumAt, KeepsSumIn, OpensWithSum}
-use Rattle.account_laws.specs.Sums.{Accounts}
-use Rattle.iso_core.specs.declared.core_itself.Core.{Core}
-use Rattle.iso_core.specs.Core.{disk_of}
+use Rattle.account_laws.specs.{Lists.{KeepsSumAt, KeepsSumIn, OpensWithSum}, Sums.Accounts}
+use Rattle.iso_core.specs.{declared.core_itself.Core.Core, Core.disk_of}
 use Rattle.iso_disk.specs.Disk.{DiskState, LeavesOnly}
 use Rattle.iso_model.specs.History.{array_at, last}
-use Rattle.iso_shared.specs.declared.entry.Entry.{Entry}
-use Rattle.iso_shared.specs.Legal.{IsLegal}
-use Rattle.iso_shared.specs.Standing.{Holds}
-use Rattle.iso_shared.specs.States.{Start, state_at}
+use Rattle.iso_shared.specs.{declared.entry.Entry.Entry, Legal.IsLegal, Standing.Holds, States.{Start, state_at}}
 use Rattle.store_entries.specs.InOrder.{StoresAreWell}
 use Rattle.store_scripts.specs.Stores.{image_tree}
 

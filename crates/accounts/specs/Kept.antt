@@ -1,34 +1,17 @@
 -- What is known of a session, of a transaction that was given away and of a port whose transactions are those of accounts.
-use Rattle.std.specs.Prelude.{◌≡◌, ◌≢◌, ℕ, ◌<◌, true, List, [], ◌∷◌, ◌++◌, Option, Some, None, IfSome, length}
-use Rattle.std.specs.List.{AllByRecursion}
+use Rattle.std.specs.{Prelude.{◌≡◌, ◌≢◌, ℕ, ◌<◌, true, List, [], ◌∷◌, ◌++◌, Option, Some, None, IfSome, length}, List.AllByRecursion}
 use mathlib.Core.List.{IsPrefix}
-use Rattle.iso_model.specs.declared.access.Mode.TheVariants.{Serial}
-use Rattle.iso_model.specs.History.{array_at}
-use Rattle.iso_model.specs.Worlds.{IsWorld}
-use Rattle.iso_shared.specs.declared.entry.Entry.{Entry}
+use Rattle.iso_model.specs.{declared.access.Mode.TheVariants.Serial, History.array_at, Worlds.IsWorld}
+use Rattle.iso_shared.specs.{declared.entry.Entry.Entry, declared.shared.Port.Port, declared.shared.Shared.Shared, declared.tx.Tx.Tx, Legal.IsLegal, Ports.{IsTx, port_view, tx_view}, States.Start}
 use Rattle.iso_shared.specs.declared.entry.Entry.TheVariants as entry
-use Rattle.iso_shared.specs.declared.shared.Port.{Port}
-use Rattle.iso_shared.specs.declared.shared.Shared.{Shared}
-use Rattle.iso_shared.specs.declared.tx.Tx.{Tx}
-use Rattle.iso_shared.specs.Legal.{IsLegal}
-use Rattle.iso_shared.specs.Ports.{IsTx, port_view, tx_view}
-use Rattle.iso_shared.specs.States.{Start}
 use Rattle.store_entries.specs.InOrder.{world_at}
-use Rattle.store_laws.specs.Both.{AreMixed, firsts}
-use Rattle.store_laws.specs.BothStores.{StorePart}
-use Rattle.store_laws.specs.Calls.{KeyCall, StoreAnswer}
-use Rattle.store_laws.specs.Parts.{accesses_in, answers_in, calls_in}
+use Rattle.store_laws.specs.{Both.{AreMixed, firsts}, BothStores.StorePart, Calls.{KeyCall, StoreAnswer}, Parts.{accesses_in, answers_in, calls_in}}
 use Rattle.store_model.specs.declared.stores.Region.{Region}
 use Rattle.store_scripts.specs.Stores.{image_hash, image_tree}
 use Rattle.turn_lock.specs.Lists.{times}
-use Rattle.handle_pass.specs.declared.session.Session.{Session}
-use Rattle.handle_pass.specs.Handles.{tx_of}
-use Rattle.handle_pass.specs.Sessions.{IsSession, Own, count, device, own, own_in, seen, units}
-use Rattle.account_laws.specs.Lists.{IsOfAccountsAt}
-use Rattle.account_laws.specs.Sums.{Accounts}
-use Rattle.account_laws.specs.Transactions.{IsOfAccounts}
-use Rattle.accounts.specs.declared.half.Half.{Half}
-use Rattle.accounts.specs.Made.{IsTakenFor}
+use Rattle.handle_pass.specs.{declared.session.Session.Session, Handles.tx_of, Sessions.{IsSession, Own, count, device, own, own_in, seen, units}}
+use Rattle.account_laws.specs.{Lists.IsOfAccountsAt, Sums.Accounts, Transactions.IsOfAccounts}
+use Rattle.accounts.specs.{declared.half.Half.Half, Made.IsTakenFor}
 
 -- a list that begins on a sound world without a transaction
 pub record IsReady (A : Start) : Type 0 where

@@ -1,21 +1,12 @@
 -- What calls of the hash store add to a transaction over blocks.
-use Rattle.std.specs.Prelude.{◌≡◌, ◌≢◌, ℕ, ◌+◌, ◌<◌, List, [], ◌∷◌, ◌++◌, Some, map}
-use Rattle.std.specs.Int.{to_be_bytes, w64}
-use Rattle.account_laws.specs.Sums.{Accounts, amount}
-use Rattle.account_laws.specs.Transactions.{IsOfAccounts}
-use Rattle.iso_model.specs.declared.access.Geometry.{Geometry}
-use Rattle.iso_model.specs.Array.{Array}
-use Rattle.store_laws.specs.Both.{firsts}
-use Rattle.store_laws.specs.BothStores.{StorePart}
-use Rattle.store_laws.specs.Calls.{Get, Got, KeyCall, Put, StoreAnswer, WasPut}
-use Rattle.store_laws.specs.Growing.{IsMadeOfBoth}
-use Rattle.store_laws.specs.Parts.{answers_in, calls_in}
-use Rattle.store_model.specs.declared.stores.Area.{Area}
-use Rattle.store_model.specs.Areas.{hash_area}
+use Rattle.std.specs.{Prelude.{◌≡◌, ◌≢◌, ℕ, ◌+◌, ◌<◌, List, [], ◌∷◌, ◌++◌, Some, map}, Int.{to_be_bytes, w64}}
+use Rattle.account_laws.specs.{Sums.{Accounts, amount}, Transactions.IsOfAccounts}
+use Rattle.iso_model.specs.{declared.access.Geometry.Geometry, Array.Array}
+use Rattle.store_laws.specs.{Both.firsts, BothStores.StorePart, Calls.{Get, Got, KeyCall, Put, StoreAnswer, WasPut}, Growing.IsMadeOfBoth, Parts.{answers_in, calls_in}}
+use Rattle.store_model.specs.{declared.stores.Area.Area, Areas.hash_area}
 use Rattle.store_scripts.specs.Stores.{image_hash, image_tree}
 use Rattle.tx_blocks.specs.Tx.{Tx}
-use Rattle.accounts.specs.declared.account.Account.{Account}
-use Rattle.accounts.specs.declared.account.Step.{Step}
+use Rattle.accounts.specs.{declared.account.Account.Account, declared.account.Step.Step}
 use Rattle.accounts.specs.declared.account.Step.TheVariants as step
 
 -- the transaction is on the same blocks

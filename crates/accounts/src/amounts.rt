@@ -1,6 +1,5 @@
 // One account in the hash store, by any transaction over blocks.
-ghost use Rattle.std.specs.Prelude.{◌≡◌, ◌+◌, ◌<◌, ◌≤◌, [], ◌∷◌, List, ℕ, IfOk, IfSome, None, OnOk, Some};
-ghost use Rattle.std.specs.Int.{to_be_bytes, w64};
+ghost use Rattle.std.specs.{Prelude.{◌≡◌, ◌+◌, ◌<◌, ◌≤◌, [], ◌∷◌, List, ℕ, IfOk, IfSome, None, OnOk, Some}, Int.{to_be_bytes, w64}};
 ghost use Rattle.account_laws.specs.Sums.{amount};
 ghost use Rattle.store_laws.specs.Calls.{Get, Got, Put, WasPut};
 ghost use Rattle.store_model.specs.HashRegion.{IsHashArea};

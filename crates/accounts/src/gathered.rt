@@ -2,8 +2,7 @@
 ghost use Rattle.std.specs.Prelude.{◌≡◌, ◌+◌, ◌<◌};
 ghost use Rattle.handle_pass.specs.Sessions.{device, units};
 ghost use Rattle.iso_shared.specs.Ports.{IsPort, first_geometry, port_view};
-ghost use Rattle.accounts.specs.Kept.{Hold, IsKept};
-ghost use Rattle.accounts.specs.Made.{opening_of};
+ghost use Rattle.accounts.specs.{Kept.{Hold, IsKept}, Made.opening_of};
 
 use crate::account::Account;
 use handle_pass::Session;

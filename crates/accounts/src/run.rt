@@ -2,16 +2,10 @@
 ghost use Rattle.std.specs.Prelude.{◌≡◌, ◌≢◌, ◌+◌, ◌<◌, ◌≤◌, [], length, IfErr, IfOk, IfSome};
 ghost use Rattle.group_commit.specs.Groups.{found_in, units_all};
 ghost use Rattle.handle_pass.specs.Sessions.{device, units};
-ghost use Rattle.iso_core.specs.Core.{disk_of};
-ghost use Rattle.iso_core.specs.declared.group_end.TheConstants.{MAX_GROUP};
-ghost use Rattle.iso_shared.specs.Groups.{units_of};
-ghost use Rattle.iso_shared.specs.Ports.{IsPort, first_geometry, port_view};
-ghost use Rattle.iso_shared.specs.Standing.{Came, Holds};
-ghost use Rattle.iso_shared.specs.States.{opened as opened_at};
+ghost use Rattle.iso_core.specs.{Core.disk_of, declared.group_end.TheConstants.MAX_GROUP};
+ghost use Rattle.iso_shared.specs.{Groups.units_of, Ports.{IsPort, first_geometry, port_view}, Standing.{Came, Holds}, States.{opened as opened_at}};
 ghost use Rattle.turn_lock.specs.Views.{fresh};
-ghost use Rattle.accounts.specs.Ends.{SumStays};
-ghost use Rattle.accounts.specs.Jobs.{IsEnder, IsMover, planned};
-ghost use Rattle.accounts.specs.Kept.{AreGiven, HasStore, Hold, IsHalf, IsKept, Stays, half_units};
+ghost use Rattle.accounts.specs.{Ends.SumStays, Jobs.{IsEnder, IsMover, planned}, Kept.{AreGiven, HasStore, Hold, IsHalf, IsKept, Stays, half_units}};
 
 use crate::account::{AccountError, Plan, Report, Work};
 use crate::gathered::{gather, session_on};

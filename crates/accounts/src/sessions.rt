@@ -2,8 +2,7 @@
 ghost use Rattle.std.specs.Prelude.{◌≡◌, ◌+◌, ◌<◌, ◌≤◌, IfOk, IfSome, OnErr};
 ghost use Rattle.account_laws.specs.Transactions.{IsOfAccounts};
 ghost use Rattle.handle_pass.specs.Sessions.{device, units};
-ghost use Rattle.accounts.specs.Kept.{HasStore, IsHalf, IsHeld, IsKept, IsReady, IsWhole, Stays, given_units, half_units};
-ghost use Rattle.accounts.specs.Made.{calls_of, opening_of};
+ghost use Rattle.accounts.specs.{Kept.{HasStore, IsHalf, IsHeld, IsKept, IsReady, IsWhole, Stays, given_units, half_units}, Made.{calls_of, opening_of}};
 
 use crate::account::{Account, AccountError, Step, Transfer, Work};
 use crate::call::AccountCall;

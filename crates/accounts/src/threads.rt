@@ -1,12 +1,10 @@
 // What threads do: transactions of their own, some that are given away, and a group of those.
 ghost use Rattle.std.specs.Prelude.{◌≡◌, ◌+◌, ◌<◌, ◌≤◌, IfSome, None, length};
 ghost use Rattle.iso_core.specs.declared.group_end.TheConstants.{MAX_GROUP};
-ghost use Rattle.iso_shared.specs.Ports.{IsPort, port_view};
+ghost use Rattle.iso_shared.specs.{Ports.{IsPort, port_view}, Groups.units_of};
 ghost use Rattle.group_commit.specs.Groups.{found_in, units_all};
 ghost use Rattle.handle_pass.specs.Sessions.{device, units};
-ghost use Rattle.iso_shared.specs.Groups.{units_of};
-ghost use Rattle.accounts.specs.Kept.{AreGiven, HasStore, Hold, IsHalf, IsKept, IsReady, Stays, half_units};
-ghost use Rattle.accounts.specs.Made.{opening_of};
+ghost use Rattle.accounts.specs.{Kept.{AreGiven, HasStore, Hold, IsHalf, IsKept, IsReady, Stays, half_units}, Made.opening_of};
 
 use crate::account::{Account, AccountError, Transfer, Work};
 use crate::half::Half;

@@ -4,12 +4,9 @@
 
 ghost use Rattle.std.specs.Prelude.{◌≡◌, ◌≢◌, ◌≤◌, [], IsTrue, length};
 ghost use Rattle.device_calls.specs.Beginnings.{BeginsAt};
-ghost use Rattle.iso_core.specs.Core.{disk_of};
-ghost use Rattle.iso_core.specs.declared.group_end.TheConstants.{MAX_GROUP};
-ghost use Rattle.iso_model.specs.Geometry.{is_valid};
-ghost use Rattle.iso_model.specs.World.{World};
-ghost use Rattle.iso_shared.specs.Standing.{Came, Holds};
-ghost use Rattle.iso_shared.specs.States.{opened};
+ghost use Rattle.iso_core.specs.{Core.disk_of, declared.group_end.TheConstants.MAX_GROUP};
+ghost use Rattle.iso_model.specs.{Geometry.is_valid, World.World};
+ghost use Rattle.iso_shared.specs.{Standing.{Came, Holds}, States.opened};
 
 mod bank;
 mod sums;

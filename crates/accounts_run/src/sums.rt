@@ -3,10 +3,8 @@ ghost use Rattle.std.specs.Prelude.{◌≡◌, ◌<◌, [], IsTrue};
 ghost use Rattle.device_calls.specs.Beginnings.{BeginsAt};
 ghost use Rattle.handle_pass.specs.Sessions.{device, units, IsSession};
 ghost use Rattle.iso_core.specs.Core.{disk_of};
-ghost use Rattle.iso_model.specs.Geometry.{is_valid};
-ghost use Rattle.iso_model.specs.World.{World};
-ghost use Rattle.iso_shared.specs.Standing.{Came, Holds};
-ghost use Rattle.iso_shared.specs.States.{opened};
+ghost use Rattle.iso_model.specs.{Geometry.is_valid, World.World};
+ghost use Rattle.iso_shared.specs.{Standing.{Came, Holds}, States.opened};
 
 use accounts::Account;
 use device_calls::{Beginning, beginning_of, end_now, hash_get, hash_region};

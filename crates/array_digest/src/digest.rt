@@ -1,15 +1,10 @@
 // The digest of the array, block after block.
-ghost use Rattle.std.specs.Prelude.{◌≡◌, ◌+◌, ◌≤◌, [], IfOk, IsErrOf, OnOk, length, vec_len};
-ghost use Rattle.std.specs.Option.{ForSome};
+ghost use Rattle.std.specs.{Prelude.{◌≡◌, ◌+◌, ◌≤◌, [], IfOk, IsErrOf, OnOk, length, vec_len}, Option.ForSome};
 ghost use Rattle.fault_count.specs.Count.{Rose};
-ghost use Rattle.iso_core.specs.Calls.{IsTx};
-ghost use Rattle.iso_core.specs.Core.{StandsFor, disk_of};
-ghost use Rattle.iso_core.specs.Standing.{up};
+ghost use Rattle.iso_core.specs.{Calls.IsTx, Core.{StandsFor, disk_of}, Standing.up};
 ghost use Rattle.iso_disk.specs.Disk.{WritesNothing};
-ghost use Rattle.iso_model.specs.declared.limits.TheConstants.{LAST};
+ghost use Rattle.iso_model.specs.{declared.limits.TheConstants.LAST, History.{array_at, last}, World.{World, Live}};
 ghost use Rattle.script_model.specs.Bench.{array_bytes};
-ghost use Rattle.iso_model.specs.History.{array_at, last};
-ghost use Rattle.iso_model.specs.World.{World, Live};
 ghost use Rattle.sha2.specs.Sha256.{sha256};
 
 use iso_core::Core;

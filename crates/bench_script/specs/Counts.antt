@@ -1,11 +1,8 @@
 -- How far the digest of replies has come in their text.
 use Rattle.std.specs.Prelude.{◌≡◌, ℕ, ◌+◌, ◌≤◌, List, ◌++◌, filter, length}
-use Rattle.script_model.specs.declared.script.Line.{Line}
-use Rattle.script_model.specs.declared.script.Reply.{Reply}
-use Rattle.script_model.specs.Bench.{is_committed, is_conflict}
+use Rattle.script_model.specs.{declared.script.Line.Line, declared.script.Reply.Reply, Bench.{is_committed, is_conflict}}
 use Rattle.script_runner.specs.Replies.{text_of}
-use Rattle.sha2.specs.Hashers.{Holds256}
-use Rattle.sha2.specs.declared.Sha256.{Sha256}
+use Rattle.sha2.specs.{Hashers.Holds256, declared.Sha256.Sha256}
 
 -- of these replies, what is left of their text is that of some last ones, and the others are counted
 pub record IsLeft (given : List Reply) (rest : List ℕ) (commits conflicts : ℕ) : Type 0 where

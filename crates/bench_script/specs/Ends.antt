@@ -1,7 +1,6 @@
 -- What contracts see of the script of a bench and of the digest of its replies.
 use Rattle.std.specs.Prelude.{ℕ, Bool, List, Some}
-use Rattle.iso_io.specs.Source.{SourceState}
-use Rattle.iso_io.specs.Sink.{SinkState}
+use Rattle.iso_io.specs.{Source.SourceState, Sink.SinkState}
 
 pub record DrawnState : Type 0 where
   pub left : List ℕ  -- the text that is left

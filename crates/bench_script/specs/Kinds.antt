@@ -1,8 +1,6 @@
 -- What a reply tells, as far as a tally counts it.
 use Rattle.std.specs.Prelude.{ℕ, cond}
-use Rattle.script_model.specs.declared.script.Reply.{Reply}
-use Rattle.script_model.specs.declared.script.Reply.TheVariants.{Committed, Conflict, Grouped}
-use Rattle.script_model.specs.Bench.{tells_first}
+use Rattle.script_model.specs.{declared.script.Reply.Reply, declared.script.Reply.TheVariants.{Committed, Conflict, Grouped}, Bench.tells_first}
 use Rattle.bench_script.specs.declared.line_kind.LineKind.{LineKind}
 use Rattle.bench_script.specs.declared.line_kind.LineKind.TheVariants as kind
 

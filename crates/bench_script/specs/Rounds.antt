@@ -1,8 +1,6 @@
 -- What the replies to the script of a bench are, by the numbers that are drawn.
 use Rattle.std.specs.Prelude.{◌≡◌, ℕ, zero, suc, ◌+◌, ◌*◌, Bool, ◌==◌, if◌then◌else◌, List, [], ◌∷◌}
-use Rattle.script_model.specs.declared.script.Reply.{Reply}
-use Rattle.script_model.specs.declared.script.Reply.TheVariants.{Began, Committed, Conflict, Done, Shown}
-use Rattle.script_model.specs.Bench.{after_draws, nth_drawn}
+use Rattle.script_model.specs.{declared.script.Reply.Reply, declared.script.Reply.TheVariants.{Began, Committed, Conflict, Done, Shown}, Bench.{after_draws, nth_drawn}}
 
 -- both places of the round that is drawn from this state are one
 abbrev pub is_one_place : (x : ℕ) → Bool

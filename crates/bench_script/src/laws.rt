@@ -1,14 +1,9 @@
 //! The laws of a bench: each function does nothing, and its contract is the law.
 ghost use Rattle.std.specs.Prelude.{◌≡◌, ℕ, ◌+◌, ◌*◌, ◌≤◌, List, None, filter, length};
-ghost use Rattle.script_model.specs.declared.script.Line.{Line};
-ghost use Rattle.script_model.specs.declared.script.Reply.{Reply};
-ghost use Rattle.script_model.specs.Bench.{answers_to, bench_text, bench_world, is_committed, is_conflict};
-ghost use Rattle.script_model.specs.Script.{replies, script};
+ghost use Rattle.script_model.specs.{declared.script.Line.Line, declared.script.Reply.Reply, Bench.{answers_to, bench_text, bench_world, is_committed, is_conflict}, Script.{replies, script}};
 ghost use Rattle.iso_model.specs.World.{World};
-ghost use Rattle.script_runner.specs.Replies.{AreSameButShown, text_of};
-ghost use Rattle.script_runner.specs.Told.{ArePlain};
-ghost use Rattle.bench_script.specs.Ends.{DrawnState, drawn_state};
-ghost use Rattle.bench_script.specs.Rounds.{AreRoundReplies, one_places};
+ghost use Rattle.script_runner.specs.{Replies.{AreSameButShown, text_of}, Told.ArePlain};
+ghost use Rattle.bench_script.specs.{Ends.{DrawnState, drawn_state}, Rounds.{AreRoundReplies, one_places}};
 
 /// No line of a bench is bad: it is read to its end. No line calls a store.
 pub fn drawn_scripts_are_good()

@@ -1,7 +1,6 @@
 // What the line of a reply tells.
 ghost use Rattle.std.specs.Prelude.{◌≡◌, ℕ, ◌∷◌, ◌++◌, decimal};
-ghost use Rattle.script_model.specs.declared.script.Reply.{Reply};
-ghost use Rattle.script_model.specs.Text.{reply_text};
+ghost use Rattle.script_model.specs.{declared.script.Reply.Reply, Text.reply_text};
 ghost use Rattle.bench_script.specs.Kinds.{kind_of};
 
 use crate::split::split_near;

@@ -2,9 +2,7 @@
 ghost use Rattle.std.specs.Prelude.{◌≡◌, ◌≤◌, ℕ, List, [], filter, length, take, IfOk, OnErr};
 ghost use Rattle.fault_count.specs.Count.{HasCause, faults_after};
 ghost use Rattle.iso_io.specs.Sink.{Wrote, refusals_after};
-ghost use Rattle.script_model.specs.declared.script.Line.{Line};
-ghost use Rattle.script_model.specs.declared.script.Reply.{Reply};
-ghost use Rattle.script_model.specs.Bench.{is_committed, is_conflict};
+ghost use Rattle.script_model.specs.{declared.script.Line.Line, declared.script.Reply.Reply, Bench.{is_committed, is_conflict}};
 ghost use Rattle.script_runner.specs.Replies.{text_of};
 ghost use Rattle.sha2.specs.Sha256.{sha256};
 ghost use Rattle.bench_script.specs.Ends.{digested_state};
@@ -33,8 +31,7 @@ pub struct ReplyDigest {
 }
 
 impl Model for ReplyDigest {
-    ghost use Rattle.bench_script.specs.Ends.{DigestedState};
-    ghost use Rattle.bench_script.specs.Counts.{IsFed};
+    ghost use Rattle.bench_script.specs.{Ends.DigestedState, Counts.IsFed};
 
     ghost Value = { DigestedState };
 

@@ -1,7 +1,6 @@
 // How many replies tell of a commit, and how many of a conflict.
 ghost use Rattle.std.specs.Prelude.{◌≡◌, ◌+◌, ◌-◌, ◌<◌, ◌≤◌, ◌^◌, ℕ, List, Contains, drop, length};
-ghost use Rattle.bench_script.specs.Counts.{IsTallied};
-ghost use Rattle.bench_script.specs.Kinds.{commits_in, conflicts_in};
+ghost use Rattle.bench_script.specs.{Counts.IsTallied, Kinds.{commits_in, conflicts_in}};
 
 use crate::line_kind::{LineKind, kind_of_line};
 use crate::split::split_at_byte;

@@ -1,6 +1,5 @@
 -- What contracts see of `Marks`: a set of bytes of one block.
-use Rattle.std.specs.Prelude.{ℕ, ◌+◌, ◌-◌, ◌<◌, ◌≤◌, Bool, ◌&&◌, List, [], ◌∷◌, length, nat_le, nat_lt}
-use Rattle.std.specs.List.{list_any}
+use Rattle.std.specs.{Prelude.{ℕ, ◌+◌, ◌-◌, ◌<◌, ◌≤◌, Bool, ◌&&◌, List, [], ◌∷◌, length, nat_le, nat_lt}, List.list_any}
 use Rattle.byte_marks.specs.declared.extent.Extent.{Extent}
 use Rattle.iso_model.specs.declared.access.Span.{Span}
 

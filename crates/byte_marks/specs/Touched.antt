@@ -1,10 +1,7 @@
 -- What contracts see of `Touched`: a set of bytes for each block.
-use Rattle.std.specs.Prelude.{◌≡◌, ℕ, ◌+◌, ◌≤◌, ◌==◌, ◌&&◌, Bool, List, [], ◌∷◌, nat_lt}
-use Rattle.std.specs.List.{list_any}
-use Rattle.byte_marks.specs.declared.extent.Extent.{Extent}
-use Rattle.byte_marks.specs.Marks.{has}
-use Rattle.iso_model.specs.declared.access.Access.{Access}
-use Rattle.iso_model.specs.declared.access.Kind.{Kind}
+use Rattle.std.specs.{Prelude.{◌≡◌, ℕ, ◌+◌, ◌≤◌, ◌==◌, ◌&&◌, Bool, List, [], ◌∷◌, nat_lt}, List.list_any}
+use Rattle.byte_marks.specs.{declared.extent.Extent.Extent, Marks.has}
+use Rattle.iso_model.specs.{declared.access.Access.Access, declared.access.Kind.Kind}
 use Rattle.iso_model.specs.Effect as model
 
 -- whether the entry has the byte p of block b

@@ -1,7 +1,5 @@
 // A set of bytes of one block.
-ghost use Rattle.std.specs.Prelude.{◌≡◌, ℕ, ◌+◌, ◌<◌, ◌≤◌, ◌||◌, ◌&&◌, false, IsTrue, IfOk, OnOk, OnErr, IfSome, IfNone, length};
-ghost use Rattle.std.specs.Bool.{OnTrue, OnFalse};
-ghost use Rattle.std.specs.List.{list_any};
+ghost use Rattle.std.specs.{Prelude.{◌≡◌, ℕ, ◌+◌, ◌<◌, ◌≤◌, ◌||◌, ◌&&◌, false, IsTrue, IfOk, OnOk, OnErr, IfSome, IfNone, length}, Bool.{OnTrue, OnFalse}, List.list_any};
 ghost use Rattle.iso_model.specs.Array.{in_span};
 ghost use Rattle.byte_marks.specs.Marks.{has, in_extent, run_count, AreApartFrom, AreRuns};
 
@@ -22,8 +20,7 @@ pub struct Marks {
 
 impl Model for Marks {
     ghost use Rattle.std.specs.Prelude.{List};
-    ghost use Rattle.byte_marks.specs.declared.extent.Extent.{Extent};
-    ghost use Rattle.byte_marks.specs.Marks.{AreApartFrom};
+    ghost use Rattle.byte_marks.specs.{declared.extent.Extent.Extent, Marks.AreApartFrom};
 
     ghost Value = { List Extent };
 

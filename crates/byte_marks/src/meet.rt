@@ -1,6 +1,5 @@
 // Rising lists of extents, read from the front on.
-ghost use Rattle.std.specs.Prelude.{◌≡◌, ℕ, ◌+◌, ◌<◌, ◌&&◌, false, IsTrue, IfSome, IfNone};
-ghost use Rattle.std.specs.Bool.{OnTrue, OnFalse};
+ghost use Rattle.std.specs.{Prelude.{◌≡◌, ℕ, ◌+◌, ◌<◌, ◌&&◌, false, IsTrue, IfSome, IfNone}, Bool.{OnTrue, OnFalse}};
 ghost use Rattle.iso_model.specs.Array.{in_span};
 ghost use Rattle.byte_marks.specs.Marks.{has, AreApartFrom};
 

@@ -1,7 +1,5 @@
 // Two rising lists of extents walked side by side.
-ghost use Rattle.std.specs.Prelude.{◌≡◌, ℕ, ◌+◌, ◌<◌, ◌≤◌, ◌||◌, false, None, IfOk, OnErr, IfSome, IfNone, length};
-ghost use Rattle.std.specs.List.{last_or};
-ghost use Rattle.std.specs.Bool.{OnTrue, OnFalse};
+ghost use Rattle.std.specs.{Prelude.{◌≡◌, ℕ, ◌+◌, ◌<◌, ◌≤◌, ◌||◌, false, None, IfOk, OnErr, IfSome, IfNone, length}, List.last_or, Bool.{OnTrue, OnFalse}};
 ghost use Rattle.byte_marks.specs.Marks.{has, in_extent, next_free, AreApartFrom};
 
 use crate::extent::Extent;

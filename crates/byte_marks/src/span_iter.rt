@@ -1,6 +1,5 @@
 // The runs of a set of bytes, one by one.
-ghost use Rattle.std.specs.Prelude.{◌≡◌, map};
-ghost use Rattle.std.specs.Iterator.{YieldsFirst, item_count};
+ghost use Rattle.std.specs.{Prelude.{◌≡◌, map}, Iterator.{YieldsFirst, item_count}};
 ghost use Rattle.byte_marks.specs.Marks.{span_of, AreApartFrom};
 
 use crate::extent::Extent;

@@ -1,9 +1,6 @@
 // A set of bytes for each block.
-ghost use Rattle.std.specs.Prelude.{◌≡◌, ℕ, ◌<◌, ◌≤◌, ◌==◌, ◌||◌, ◌&&◌, false, IsTrue, IfOk, OnOk, OnErr, IfSome, IfNone, List, length, slice_index_or};
-ghost use Rattle.std.specs.Bool.{OnTrue, OnFalse};
-ghost use Rattle.byte_marks.specs.declared.extent.Extent.{Extent};
-ghost use Rattle.byte_marks.specs.Marks.{has};
-ghost use Rattle.byte_marks.specs.Touched.{touches, RisesFrom};
+ghost use Rattle.std.specs.{Prelude.{◌≡◌, ℕ, ◌<◌, ◌≤◌, ◌==◌, ◌||◌, ◌&&◌, false, IsTrue, IfOk, OnOk, OnErr, IfSome, IfNone, List, length, slice_index_or}, Bool.{OnTrue, OnFalse}};
+ghost use Rattle.byte_marks.specs.{declared.extent.Extent.Extent, Marks.has, Touched.{touches, RisesFrom}};
 
 use crate::Marks;
 use iso_model::Memory;
@@ -19,8 +16,7 @@ pub struct Touched {
 
 impl Model for Touched {
     ghost use Rattle.std.specs.Prelude.{List, ℕ};
-    ghost use Rattle.byte_marks.specs.declared.extent.Extent.{Extent};
-    ghost use Rattle.byte_marks.specs.Touched.{RisesFrom};
+    ghost use Rattle.byte_marks.specs.{declared.extent.Extent.Extent, Touched.RisesFrom};
 
     ghost Value = { List (ℕ × List Extent) };
 

@@ -1,8 +1,6 @@
 -- The grammar of the words, as clap defines it.
-use Rattle.std.specs.Prelude.{true, List, [], ◌∷◌, Option, Some, None, String, fold, map, string_bytes, codes}
-use Rattle.std.specs.declared.alloc.Global.{Global}
-use Rattle.clap.specs.Words.{App, Kinds, Row, Rule, Shape, Text, fault_of, new_app, new_rule, subcommand_of, with_rule, with_subcommand}
-use Rattle.clap.specs.declared.builder.action.ArgAction.TheVariants.{Set}
+use Rattle.std.specs.{Prelude.{true, List, [], ◌∷◌, Option, Some, None, String, fold, map, string_bytes, codes}, declared.alloc.Global.Global}
+use Rattle.clap.specs.{Words.{App, Kinds, Row, Rule, Shape, Text, fault_of, new_app, new_rule, subcommand_of, with_rule, with_subcommand}, declared.builder.action.ArgAction.TheVariants.Set}
 
 -- the texts of the words
 abbrev pub texts : List (String Global) → List Text

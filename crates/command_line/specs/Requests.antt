@@ -1,14 +1,9 @@
 -- What the words ask for.
 use Rattle.std.specs.Prelude.{◌≡◌, ℕ, ◌<◌, ◌≤◌, ◌^◌, IsTrue, if◌then◌else◌, List, Option, Some, None, option_and_then, option_map, codes, bytes_eq}
 use Rattle.clap.specs.Words.{Row, Text, first_of}
-use Rattle.iso_model.specs.declared.access.Geometry.{Geometry}
-use Rattle.iso_model.specs.declared.access.Mode.{Mode}
+use Rattle.iso_model.specs.{declared.access.Geometry.Geometry, declared.access.Mode.Mode, Geometry.is_valid}
 use Rattle.script_model.specs.Bench.{bench_geometry}
-use Rattle.iso_model.specs.Geometry.{is_valid}
-use Rattle.command_line.specs.declared.task.Task.{Task}
-use Rattle.command_line.specs.declared.task.Task.TheVariants.{New, Run, Par, Recover, Bench}
-use Rattle.command_line.specs.Grammar.{rows_found}
-use Rattle.command_line.specs.Values.{count_of, long_number_of, mode_or_serial, number_or}
+use Rattle.command_line.specs.{declared.task.Task.Task, declared.task.Task.TheVariants.{New, Run, Par, Recover, Bench}, Grammar.rows_found, Values.{count_of, long_number_of, mode_or_serial, number_or}}
 
 -- an image of the first form
 abbrev pub geometry_with : (block blocks log : ℕ) → Mode → (hash tree : ℕ) → Geometry

@@ -1,8 +1,7 @@
 -- What words look like, and the values that they spell.
 use Rattle.std.specs.Prelude.{ℕ, ◌^◌, ◌&&◌, ◌==◌, Bool, false, [], ◌∷◌, Option, Some, None, if◌then◌else◌, option_and_then, nat_le, nat_lt}
 use Rattle.clap.specs.Words.{Text}
-use Rattle.iso_model.specs.declared.access.Mode.{Mode}
-use Rattle.iso_model.specs.declared.access.Mode.TheVariants.{Serial}
+use Rattle.iso_model.specs.{declared.access.Mode.Mode, declared.access.Mode.TheVariants.Serial}
 use Rattle.script_model.specs.Text.{is_decimal, mode_of, number_of, value_of}
 
 abbrev pub begins_with_hyphen : Text → Bool

@@ -1,7 +1,6 @@
 // The command that clap is given: it has what the grammar of the words says.
 ghost use Rattle.std.specs.Prelude.{◌≡◌, IfOk, false};
-ghost use Rattle.clap.specs.Words.{app_of, rule_of};
-ghost use Rattle.clap.specs.declared.builder.command.Command.TheViews.{out-Command as fields_of};
+ghost use Rattle.clap.specs.{Words.{app_of, rule_of}, declared.builder.command.Command.TheViews.{out-Command as fields_of}};
 ghost use Rattle.command_line.specs.Grammar.{bare_app, bench_app, image_app, isotope_app, new_image_app, placed_rule, valued_rule};
 
 use clap::{Arg, ArgAction, Command};

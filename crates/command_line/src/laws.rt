@@ -1,11 +1,8 @@
 // The laws of the grammar: each function does nothing, and its contract is the law.
 ghost use Rattle.std.specs.Prelude.{◌≡◌, ◌≤◌, ℕ, IsTrue, IsFalse, [], ◌∷◌, ◌++◌, Some, codes};
 ghost use Rattle.clap.specs.Words.{Text};
-ghost use Rattle.command_line.specs.declared.task.Task.TheVariants.{Bench, New, Par, Recover, Run};
-ghost use Rattle.command_line.specs.Requests.{geometry_with, request_of};
-ghost use Rattle.command_line.specs.Values.{begins_with_hyphen, long_number_of};
-ghost use Rattle.iso_model.specs.Geometry.{is_valid};
-ghost use Rattle.iso_model.specs.declared.access.Mode.{Mode};
+ghost use Rattle.command_line.specs.{declared.task.Task.TheVariants.{Bench, New, Par, Recover, Run}, Requests.{geometry_with, request_of}, Values.{begins_with_hyphen, long_number_of}};
+ghost use Rattle.iso_model.specs.{Geometry.is_valid, declared.access.Mode.Mode};
 ghost use Rattle.script_model.specs.Text.{mode_of, number_of};
 
 /// Every word that does not begin with a hyphen names an image, and behind `--` every word does.

@@ -1,7 +1,6 @@
 // What the words ask for.
 ghost use Rattle.std.specs.Prelude.{◌≡◌, IfOk, IfSome, option_map};
-ghost use Rattle.command_line.specs.Grammar.{texts};
-ghost use Rattle.command_line.specs.Requests.{request_of, KeepsLimits};
+ghost use Rattle.command_line.specs.{Grammar.texts, Requests.{request_of, KeepsLimits}};
 
 use crate::matching::matches_of;
 use crate::task::{Task, task_of};

@@ -2,8 +2,7 @@
 ghost use Rattle.std.specs.Prelude.{◌≡◌, [], ◌∷◌, Some, None, codes};
 ghost use Rattle.iso_model.specs.declared.access.Mode.TheVariants.{Serial, Snapshot};
 ghost use Rattle.script_model.specs.Text.{words_of};
-ghost use Rattle.command_line.specs.declared.task.Task.TheVariants.{New, Run, Par, Recover, Bench};
-ghost use Rattle.command_line.specs.Requests.{geometry_with, request_of};
+ghost use Rattle.command_line.specs.{declared.task.Task.TheVariants.{New, Run, Par, Recover, Bench}, Requests.{geometry_with, request_of}};
 
 /// Each command has its task, with the values given or those by default.
 pub fn commands_have_their_tasks()

@@ -1,6 +1,5 @@
 -- A gate in an image, and the body behind it.
-use Rattle.std.specs.Prelude.{◌≡◌, ◌≢◌, ℕ, ◌+◌, List, length, slice_index}
-use Rattle.std.specs.List.{slice_range}
+use Rattle.std.specs.{Prelude.{◌≡◌, ◌≢◌, ℕ, ◌+◌, List, length, slice_index}, List.slice_range}
 
 -- the gate byte is 1
 abbrev pub IsOpen : ℕ → List ℕ → Type 0

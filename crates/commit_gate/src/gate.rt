@@ -1,6 +1,5 @@
 // Each call makes the device calls that its docs name, and no other.
-ghost use Rattle.std.specs.Prelude.{◌≡◌, ◌+◌, ◌<◌, ◌≤◌, ◌↔◌, [], ◌∷◌, ℕ, List, length, slice_index, false, IsTrue, OnOk, OnErr, IfOk};
-ghost use Rattle.std.specs.Option.{ForSome};
+ghost use Rattle.std.specs.{Prelude.{◌≡◌, ◌+◌, ◌<◌, ◌≤◌, ◌↔◌, [], ◌∷◌, ℕ, List, length, slice_index, false, IsTrue, OnOk, OnErr, IfOk}, Option.ForSome};
 ghost use Rattle.iso_disk.specs.Disk.{Splices, TornFrom, TellsTorn, IsSettled, LeavesOnly, WritesNothing};
 ghost use Rattle.fault_count.specs.Count.{HasCause};
 ghost use Rattle.commit_gate.specs.Gate.{IsOpen, IsClosed, HasBody};

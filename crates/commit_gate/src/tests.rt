@@ -1,6 +1,5 @@
 // The device calls that each call makes, over eight bytes that count them. Of its bytes the disk tells nothing.
-ghost use Rattle.std.specs.Prelude.{None};
-ghost use Rattle.std.proofs.Common.{lit<};
+ghost use Rattle.std.{specs.Prelude.None, proofs.Common.lit<};
 ghost use Rattle.fault_count.specs.Count.{HasCause};
 ghost use Rattle.iso_disk.specs.Untold.{untold, untold_is_lawful};
 

@@ -1,17 +1,7 @@
 -- What a decision is: over the notes alone, and over a history.
 use Rattle.std.specs.Prelude.{◌≡◌, ◌⊎◌, ℕ, ◌+◌, ◌-◌, ◌<◌, ◌≤◌, ◌&&◌, false, IsTrue, List, [], ◌∷◌, Option, Some, None, take, drop}
-use Rattle.byte_marks.specs.declared.extent.Extent.{Extent}
-use Rattle.byte_marks.specs.Touched.{touches, AreTouched}
-use Rattle.iso_model.specs.declared.access.Access.{Access}
-use Rattle.iso_model.specs.declared.access.Clash.{Clash}
-use Rattle.iso_model.specs.declared.access.Commit.{Commit}
-use Rattle.iso_model.specs.declared.access.Geometry.{Geometry}
-use Rattle.iso_model.specs.declared.access.Kind.TheVariants.{Read, Write}
-use Rattle.iso_model.specs.declared.access.Mode.{Mode}
-use Rattle.iso_model.specs.declared.access.Mode.TheVariants.{Serial, Snapshot}
-use Rattle.iso_model.specs.Conflict.{clash, first_after}
-use Rattle.iso_model.specs.History.{History}
-use Rattle.iso_model.specs.Premises.{AreAccesses}
+use Rattle.byte_marks.specs.{declared.extent.Extent.Extent, Touched.{touches, AreTouched}}
+use Rattle.iso_model.specs.{declared.access.Access.Access, declared.access.Clash.Clash, declared.access.Commit.Commit, declared.access.Geometry.Geometry, declared.access.Kind.TheVariants.{Read, Write}, declared.access.Mode.Mode, declared.access.Mode.TheVariants.{Serial, Snapshot}, Conflict.{clash, first_after}, History.History, Premises.AreAccesses}
 use Rattle.conflict_rule.specs.Notes.{Note, above}
 
 -- sets of bytes of blocks, as contracts see a `Touched`

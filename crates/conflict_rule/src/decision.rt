@@ -1,12 +1,8 @@
 // The decision.
 ghost use Rattle.std.specs.Prelude.{◌≡◌, ℕ, ◌+◌, ◌≤◌, true, false, Some, None, IsSome, List, length};
 ghost use Rattle.byte_marks.specs.Touched.{touches};
-ghost use Rattle.iso_model.specs.declared.access.Access.{Access};
-ghost use Rattle.iso_model.specs.declared.access.Geometry.{Geometry};
-ghost use Rattle.iso_model.specs.Conflict.{clash};
-ghost use Rattle.iso_model.specs.History.{History};
-ghost use Rattle.conflict_rule.specs.Notes.{above};
-ghost use Rattle.conflict_rule.specs.Decision.{guarded_bytes, IsAsked, IsLeastMeeting};
+ghost use Rattle.iso_model.specs.{declared.access.Access.Access, declared.access.Geometry.Geometry, Conflict.clash, History.History};
+ghost use Rattle.conflict_rule.specs.{Notes.above, Decision.{guarded_bytes, IsAsked, IsLeastMeeting}};
 
 use crate::Notes;
 use byte_marks::Touched;

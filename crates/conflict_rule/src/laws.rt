@@ -1,12 +1,8 @@
 // How notes follow a history.
 ghost use Rattle.std.specs.Prelude.{ℕ, ◌+◌, ◌<◌, ◌≤◌, List, [], ◌∷◌, ◌++◌, length};
 ghost use Rattle.byte_marks.specs.Touched.{AreTouched};
-ghost use Rattle.iso_model.specs.declared.access.Commit.{Commit};
-ghost use Rattle.iso_model.specs.declared.access.Geometry.{Geometry};
-ghost use Rattle.iso_model.specs.declared.access.Kind.TheVariants.{Write};
-ghost use Rattle.iso_model.specs.History.{History};
-ghost use Rattle.conflict_rule.specs.Notes.{above, Note};
-ghost use Rattle.conflict_rule.specs.Decision.{AreNotesAfter, Bytes};
+ghost use Rattle.iso_model.specs.{declared.access.Commit.Commit, declared.access.Geometry.Geometry, declared.access.Kind.TheVariants.Write, History.History};
+ghost use Rattle.conflict_rule.specs.{Notes.{above, Note}, Decision.{AreNotesAfter, Bytes}};
 
 /// After the last commit there are no notes; the notes after a commit stay so when the history grows by one;
 /// and those above a later number are the notes after that one.

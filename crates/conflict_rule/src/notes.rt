@@ -1,6 +1,5 @@
 // What each commit wrote.
-ghost use Rattle.std.specs.Prelude.{◌≡◌, ℕ, ◌+◌, ◌<◌, ◌≤◌, [], ◌∷◌, ◌++◌, OnOk, IsOk, IfOk, List, Some, length, option_copied, slice_index_or};
-ghost use Rattle.std.specs.List.{All};
+ghost use Rattle.std.specs.{Prelude.{◌≡◌, ℕ, ◌+◌, ◌<◌, ◌≤◌, [], ◌∷◌, ◌++◌, OnOk, IsOk, IfOk, List, Some, length, option_copied, slice_index_or}, List.All};
 ghost use Rattle.byte_marks.specs.declared.extent.Extent.{Extent};
 ghost use Rattle.conflict_rule.specs.Notes.{above, note_of, RisesFrom};
 

@@ -1,17 +1,11 @@
 -- A transaction of a core while a store's call is made on it.
-use Rattle.std.specs.Prelude.{◌≡◌, ℕ, ◌<◌, ◌≤◌, IsSome, Option}
-use Rattle.std.specs.Option.{ForSome}
+use Rattle.std.specs.{Prelude.{◌≡◌, ℕ, ◌<◌, ◌≤◌, IsSome, Option}, Option.ForSome}
 use Rattle.fault_count.specs.Count.{Rose}
 use Rattle.iso_disk.specs.Disk.{DiskState, WritesNothing}
-use Rattle.iso_model.specs.Array.{Array}
-use Rattle.iso_model.specs.History.{array_at}
-use Rattle.iso_model.specs.World.{World, Live}
+use Rattle.iso_model.specs.{Array.Array, History.array_at, World.{World, Live}}
 use Rattle.tx_table.specs.Work.{Doing}
 use Rattle.tx_blocks.specs.Tx.{Tx, IsTx as AreLimits}
-use Rattle.iso_core.specs.declared.core_itself.Core.{Core}
-use Rattle.iso_core.specs.Calls.{IsTx}
-use Rattle.iso_core.specs.Core.{StandsFor, disk_of}
-use Rattle.iso_core.specs.Standing.{up}
+use Rattle.iso_core.specs.{declared.core_itself.Core.Core, Calls.IsTx, Core.{StandsFor, disk_of}, Standing.up}
 
 -- what a store sees of the transaction
 abbrev pub tx_of : Option Array → Doing → Tx

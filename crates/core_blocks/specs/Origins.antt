@@ -1,7 +1,6 @@
 -- The origin of no transaction.
 use Rattle.std.specs.Prelude.{[], None, true}
-use Rattle.iso_disk.specs.Disk.{DiskState}
-use Rattle.iso_disk.specs.Untold.{untold}
+use Rattle.iso_disk.specs.{Disk.DiskState, Untold.untold}
 use Rattle.iso_model.specs.declared.access.Mode.TheVariants.{Serial}
 use Rattle.tx_table.specs.Work.{Doing}
 

@@ -1,14 +1,9 @@
 -- The array that a core shows a transaction, read from its disk.
-use Rattle.std.specs.Prelude.{ℕ, ◌+◌, ◌*◌, List, Option, map, option_map, slice_index, unwrap_or}
-use Rattle.std.specs.List.{range_with_len}
+use Rattle.std.specs.{Prelude.{ℕ, ◌+◌, ◌*◌, List, Option, map, option_map, slice_index, unwrap_or}, List.range_with_len}
 use Rattle.iso_disk.specs.Disk.{DiskState}
-use Rattle.iso_model.specs.Array.{Array}
-use Rattle.iso_model.specs.Geometry.{base_place}
-use Rattle.mv_index.specs.declared.version.Version.{Version}
-use Rattle.mv_index.specs.Shown.{byte_in}
-use Rattle.mv_index.specs.Versions.{upto, versions_in}
-use Rattle.iso_core.specs.declared.core_itself.Core.{Core}
-use Rattle.iso_core.specs.declared.kept.Kept.{Kept}
+use Rattle.iso_model.specs.{Array.Array, Geometry.base_place}
+use Rattle.mv_index.specs.{declared.version.Version.Version, Shown.byte_in, Versions.{upto, versions_in}}
+use Rattle.iso_core.specs.{declared.core_itself.Core.Core, declared.kept.Kept.Kept}
 
 -- so many bytes of the image from a place on, with the versions over them
 abbrev pub over_bytes : (image : List ℕ) → (base size : ℕ) → List Version → List ℕ

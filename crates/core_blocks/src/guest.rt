@@ -1,9 +1,6 @@
 // A transaction of a core, with all that is known of it.
-ghost use Rattle.std.specs.Prelude.{◌≡◌, ◌≢◌, ◌≤◌, Err, OnOk, OnErr, cond, false, length, [], ◌∷◌};
-ghost use Rattle.std.specs.Option.{ForSome};
-ghost use Rattle.iso_model.specs.Effect.{own};
-ghost use Rattle.iso_model.specs.Marks.{marked};
-ghost use Rattle.iso_model.specs.Premises.{block_at};
+ghost use Rattle.std.specs.{Prelude.{◌≡◌, ◌≢◌, ◌≤◌, Err, OnOk, OnErr, cond, false, length, [], ◌∷◌}, Option.ForSome};
+ghost use Rattle.iso_model.specs.{Effect.own, Marks.marked, Premises.block_at};
 ghost use Rattle.store_model.specs.Stores.{look_access, store_access};
 ghost use Rattle.tx_blocks.specs.Tx.{IsFree, IsRefused, IsTx, access_refusal, mark_refusal, room_of, with_accesses};
 

@@ -6,8 +6,7 @@ use std::marker::Brand;
 pub trait Origin {
     ghost use Rattle.std.specs.Prelude.{ℕ, Option};
     ghost use Rattle.iso_disk.specs.Disk.{DiskState};
-    ghost use Rattle.iso_model.specs.Array.{Array};
-    ghost use Rattle.iso_model.specs.World.{World};
+    ghost use Rattle.iso_model.specs.{Array.Array, World.World};
     ghost use Rattle.tx_table.specs.Work.{Doing};
 
     /// The worlds that the core stood for.

@@ -1,8 +1,6 @@
 -- What a core stands for that a device may begin with.
 use Rattle.std.specs.Prelude.{◌≡◌, []}
-use Rattle.iso_core.specs.declared.core_itself.Core.{Core}
-use Rattle.iso_core.specs.Core.{StandsFor}
-use Rattle.iso_core.specs.Standing.{up}
+use Rattle.iso_core.specs.{declared.core_itself.Core.Core, Core.StandsFor, Standing.up}
 use Rattle.iso_disk.specs.Disk.{DiskState}
 use Rattle.iso_model.specs.World.{World}
 

@@ -1,15 +1,10 @@
 -- What an end makes of a session that begins again after a conflict.
 use Rattle.std.specs.Prelude.{ℕ, Option, Result, Ok, Err}
-use Rattle.iso_model.specs.declared.access.Clash.{Clash}
-use Rattle.iso_model.specs.declared.access.EndReply.TheVariants.{Conflict}
-use Rattle.iso_model.specs.declared.access.Mode.{Mode}
+use Rattle.iso_model.specs.{declared.access.Clash.Clash, declared.access.EndReply.TheVariants.Conflict, declared.access.Mode.Mode}
 use Rattle.iso_shared.specs.States.{Start}
-use Rattle.handle_pass.specs.declared.errors.BeginError.{BeginError}
-use Rattle.handle_pass.specs.declared.session.Session.{Session}
-use Rattle.handle_pass.specs.Calls.{HasBegun, HasEnded}
-use Rattle.device_calls.specs.declared.retry.Retry.{Retry}
+use Rattle.handle_pass.specs.{declared.errors.BeginError.BeginError, declared.session.Session.Session, Calls.{HasBegun, HasEnded}}
+use Rattle.device_calls.specs.{declared.retry.Retry.Retry, declared.retry.RetryError.RetryError}
 use Rattle.device_calls.specs.declared.retry.Retry.TheVariants as retry
-use Rattle.device_calls.specs.declared.retry.RetryError.{RetryError}
 use Rattle.device_calls.specs.declared.retry.RetryError.TheVariants as error
 
 module _ {D O : Type 0} (A : Start) where

@@ -1,17 +1,10 @@
 -- What calls of the stores do to a transaction over blocks.
 use Rattle.std.specs.Prelude.{◌≡◌, ◌↔◌, ◌⊎◌, ℕ, ◌&&◌, Bool, IsFalse, IsTrue, List, Option, Result, Err, IfErr, IfOk, OnOk}
 use Rattle.iso_model.specs.Array.{Array}
-use Rattle.store_model.specs.declared.stores.Area.{Area}
-use Rattle.store_model.specs.declared.stores.StoreError.{StoreError}
-use Rattle.store_model.specs.declared.stores.StoreError.TheVariants.{BadKey, BadValue}
+use Rattle.store_model.specs.{declared.stores.Area.Area, declared.stores.StoreError.StoreError, declared.stores.StoreError.TheVariants.{BadKey, BadValue}, HashCalls.{is_key, is_value}, HashRegion.{IsHashRegion, del_op, get_op, hash_map, put_op}, Stores.Program, TreeRegion.{IsTreeRegion, scan_op, tree_map}}
 use Rattle.store_model.specs.HashCalls as hash
-use Rattle.store_model.specs.HashCalls.{is_key, is_value}
-use Rattle.store_model.specs.HashRegion.{IsHashRegion, del_op, get_op, hash_map, put_op}
-use Rattle.store_model.specs.Stores.{Program}
 use Rattle.store_model.specs.TreeCalls as tree
-use Rattle.store_model.specs.TreeRegion.{IsTreeRegion, scan_op, tree_map}
-use Rattle.tx_blocks.specs.Runs.{HasEnded, HasRead, IsLocalCall, IsStoreCause, IsUnwritten, Passed, WantsMemory}
-use Rattle.tx_blocks.specs.Tx.{Device, IsLater, Tx}
+use Rattle.tx_blocks.specs.{Runs.{HasEnded, HasRead, IsLocalCall, IsStoreCause, IsUnwritten, Passed, WantsMemory}, Tx.{Device, IsLater, Tx}}
 
 -- A call that makes at most so many writes. With an answer it is local for the operation on the map of its region. A refusal has its
 -- cause, and is the key's exactly where it is no key.

@@ -1,11 +1,8 @@
 -- What a call on the transaction of a session did.
 use Rattle.std.specs.Prelude.{ℕ, Bool, false, Option}
-use Rattle.iso_shared.specs.declared.entry.Cause.{Cause}
-use Rattle.iso_shared.specs.States.{Start}
+use Rattle.iso_shared.specs.{declared.entry.Cause.Cause, States.Start}
 use Rattle.tx_blocks.specs.Tx.{Device, Tx}
-use Rattle.handle_pass.specs.declared.session.Session.{Session}
-use Rattle.handle_pass.specs.Accesses.{tx_on}
-use Rattle.handle_pass.specs.Visits.{Failed, Visited, base_in}
+use Rattle.handle_pass.specs.{declared.session.Session.Session, Accesses.tx_on, Visits.{Failed, Visited, base_in}}
 
 -- no fault of the disk was met, and the device is not known to be down
 abbrev pub calm : Device

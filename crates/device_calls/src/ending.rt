@@ -1,7 +1,6 @@
 // An end that makes its own steps.
 ghost use Rattle.std.specs.Prelude.{◌≡◌, ◌<◌, ℕ};
-ghost use Rattle.handle_pass.specs.Calls.{HasEnded};
-ghost use Rattle.handle_pass.specs.Sessions.{IsSession};
+ghost use Rattle.handle_pass.specs.{Calls.HasEnded, Sessions.IsSession};
 
 use handle_pass::{EndError, Session};
 use iso_disk::Disk;

@@ -4,9 +4,7 @@ ghost use Rattle.iso_model.specs.Geometry.{is_valid};
 ghost use Rattle.store_model.specs.HashRegion.{IsHashArea};
 ghost use Rattle.handle_pass.specs.Sessions.{IsSession};
 ghost use Rattle.tx_blocks.specs.Runs.{area_of};
-ghost use Rattle.device_calls.specs.Regions.{area_in};
-ghost use Rattle.device_calls.specs.Stores.{HashGets, HashPuts, HashRemoves};
-ghost use Rattle.device_calls.specs.Visits.{HasCalled};
+ghost use Rattle.device_calls.specs.{Regions.area_in, Stores.{HashGets, HashPuts, HashRemoves}, Visits.HasCalled};
 
 use crate::blocks_call::BlocksCall;
 use crate::visit::on_blocks;

@@ -1,9 +1,7 @@
 // Where the stores of an image are.
 ghost use Rattle.std.specs.Prelude.{◌≡◌, ◌+◌, ◌≤◌, IfNone, IfSome, IsTrue};
 ghost use Rattle.iso_model.specs.Geometry.{is_valid};
-ghost use Rattle.store_model.specs.Areas.{hash_area, tree_area};
-ghost use Rattle.store_model.specs.HashRegion.{IsHashArea};
-ghost use Rattle.store_model.specs.TreeRegion.{IsTreeArea};
+ghost use Rattle.store_model.specs.{Areas.{hash_area, tree_area}, HashRegion.IsHashArea, TreeRegion.IsTreeArea};
 ghost use Rattle.device_calls.specs.Regions.{area_in};
 
 use iso_model::Geometry;

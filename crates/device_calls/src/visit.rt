@@ -1,9 +1,7 @@
 // A call on a session's transaction over blocks, in one step.
 ghost use Rattle.std.specs.Prelude.{◌≡◌, ◌≢◌, IfSome, IsTrue, None, Some};
 ghost use Rattle.iso_model.specs.Geometry.{is_valid};
-ghost use Rattle.handle_pass.specs.Accesses.{tx_on};
-ghost use Rattle.handle_pass.specs.Sessions.{IsSession};
-ghost use Rattle.handle_pass.specs.Visits.{base_in};
+ghost use Rattle.handle_pass.specs.{Accesses.tx_on, Sessions.IsSession, Visits.base_in};
 ghost use Rattle.device_calls.specs.Visits.{HasCalled};
 
 use crate::blocks_call::BlocksCall;

@@ -1,7 +1,6 @@
 // The disk over a real file. It tells no contents, so its clauses are on sizes, counts, causes and what is bound: what
 // the file holds is trusted.
-ghost use Rattle.std.specs.Prelude.{◌≡◌, ◌^◌, ◌<◌, ◌≤◌, None};
-ghost use Rattle.std.specs.Option.{option_map};
+ghost use Rattle.std.specs.{Prelude.{◌≡◌, ◌^◌, ◌<◌, ◌≤◌, None}, Option.option_map};
 ghost use Rattle.fault_count.specs.Count.{HasCause, Rose};
 ghost use Rattle.iso_disk.specs.Untold.{untold, untold_is_lawful};
 

@@ -1,21 +1,12 @@
 -- What a group of transactions makes of the list, and what is told of it.
-use Rattle.std.specs.Prelude.{◌≡◌, ◌⊎◌, ℕ, ◌+◌, ◌<◌, Bool, true, false, List, [], ◌∷◌, Option, Some, None, Result, Ok, Err, IfSome, is_some, length, map}
-use Rattle.std.specs.List.{AllByRecursion}
+use Rattle.std.specs.{Prelude.{◌≡◌, ◌⊎◌, ℕ, ◌+◌, ◌<◌, Bool, true, false, List, [], ◌∷◌, Option, Some, None, Result, Ok, Err, IfSome, is_some, length, map}, List.AllByRecursion}
 use mathlib.Core.List.{IsPrefix}
-use Rattle.iso_model.specs.declared.access.GroupReply.{GroupReply}
-use Rattle.iso_model.specs.declared.core_error.CoreError.{CoreError}
+use Rattle.iso_model.specs.{declared.access.GroupReply.GroupReply, declared.core_error.CoreError.CoreError}
 use Rattle.iso_model.specs.declared.core_error.CoreError.TheVariants as error
 use Rattle.iso_shared.specs.declared.entry.Call.TheVariants as call
-use Rattle.iso_shared.specs.declared.entry.Entry.{Entry}
+use Rattle.iso_shared.specs.{declared.entry.Entry.Entry, declared.shared.Shared.Shared, declared.tx.Tx.Tx, Groups.{answered, made_in, units_of}, Ports.{IsTx, number_of, tx_view}, States.Start, Told.{cause_of, members_in}}
 use Rattle.iso_shared.specs.declared.entry.Entry.TheVariants as entry
-use Rattle.iso_shared.specs.declared.shared.Shared.{Shared}
-use Rattle.iso_shared.specs.declared.tx.Tx.{Tx}
-use Rattle.iso_shared.specs.Groups.{answered, made_in, units_of}
-use Rattle.iso_shared.specs.Ports.{IsTx, number_of, tx_view}
-use Rattle.iso_shared.specs.States.{Start}
-use Rattle.iso_shared.specs.Told.{cause_of, members_in}
-use Rattle.turn_lock.specs.declared.view.View.{View}
-use Rattle.turn_lock.specs.Lists.{times}
+use Rattle.turn_lock.specs.{declared.view.View.View, Lists.times}
 use Rattle.handle_pass.specs.Logs.{AreNext}
 
 -- the replies at the places that are marked, in order, and none at the others

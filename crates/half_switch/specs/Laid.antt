@@ -1,8 +1,6 @@
 -- Runs laid over the bytes of blocks.
 use Rattle.std.specs.Prelude.{◌≡◌, ℕ, ◌+◌, ◌*◌, cond, nat_le, List, [], ◌∷◌, ◌++◌, length}
-use Rattle.iso_model.specs.declared.access.Geometry.{Geometry}
-use Rattle.iso_model.specs.declared.access.Run.{Run}
-use Rattle.iso_model.specs.Image.{Written, records}
+use Rattle.iso_model.specs.{declared.access.Geometry.Geometry, declared.access.Run.Run, Image.{Written, records}}
 use Rattle.iso_disk.specs.Disk.{spliced}
 
 -- where a run stands among the bytes of blocks of this size

@@ -1,12 +1,7 @@
 -- What a half is filled with, and from which half.
 use Rattle.std.specs.Prelude.{◌≡◌, ℕ, ◌+◌, ◌-◌, ◌<◌, ◌≤◌, List, length, drop}
-use Rattle.iso_model.specs.declared.access.Geometry.{Geometry}
-use Rattle.iso_model.specs.declared.limits.TheConstants.{LAST}
-use Rattle.iso_model.specs.Geometry.{header_place, base_place, log_place}
-use Rattle.iso_model.specs.History.{array_at}
-use Rattle.iso_image.specs.declared.places.HalfPlace.{HalfPlace}
-use Rattle.iso_image.specs.Changes.{MaySwitch}
-use Rattle.iso_image.specs.Half.{Half, IsFilled, IsHeld, history_of, in_form, last_told, told_bytes}
+use Rattle.iso_model.specs.{declared.access.Geometry.Geometry, declared.limits.TheConstants.LAST, Geometry.{header_place, base_place, log_place}, History.array_at}
+use Rattle.iso_image.specs.{declared.places.HalfPlace.HalfPlace, Changes.MaySwitch, Half.{Half, IsFilled, IsHeld, history_of, in_form, last_told, told_bytes}}
 use Rattle.half_switch.specs.declared.plan.FillPlan.{FillPlan}
 
 -- where the parts of half 0 or 1 begin

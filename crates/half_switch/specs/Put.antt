@@ -1,13 +1,9 @@
 -- What three writes behind the gate of a half leave of an image.
-use Rattle.std.specs.Prelude.{◌≡◌, ℕ, ◌+◌, ◌-◌, ◌≤◌, List, [], ◌∷◌, ◌++◌, Option, Some, length, take, drop}
-use Rattle.std.specs.List.{AllByRecursion}
-use Rattle.iso_model.specs.declared.access.Geometry.{Geometry}
-use Rattle.iso_model.specs.declared.limits.TheConstants.{LAST}
-use Rattle.iso_model.specs.Image.{IsRecord, Written, half_header, records}
+use Rattle.std.specs.{Prelude.{◌≡◌, ℕ, ◌+◌, ◌-◌, ◌≤◌, List, [], ◌∷◌, ◌++◌, Option, Some, length, take, drop}, List.AllByRecursion}
+use Rattle.iso_model.specs.{declared.access.Geometry.Geometry, declared.limits.TheConstants.LAST, Image.{IsRecord, Written, half_header, records}}
 use Rattle.iso_disk.specs.Disk.{spliced}
 use Rattle.iso_image.specs.declared.places.HalfPlace.{HalfPlace}
-use Rattle.half_switch.specs.declared.plan.FillPlan.{FillPlan}
-use Rattle.half_switch.specs.Laid.{all_laid}
+use Rattle.half_switch.specs.{declared.plan.FillPlan.FillPlan, Laid.all_laid}
 
 -- a header behind its gate
 abbrev pub header_tail : (form generation base : ℕ) → List ℕ

@@ -1,8 +1,6 @@
 // Which half is the current one.
 ghost use Rattle.std.specs.Prelude.{◌≡◌, ◌≢◌, ◌↔◌, ◌==◌, ℕ, List, None, take, drop};
-ghost use Rattle.iso_model.specs.declared.access.Geometry.{Geometry};
-ghost use Rattle.iso_model.specs.Geometry.{header_place};
-ghost use Rattle.iso_model.specs.Image.{chosen_half, current_half};
+ghost use Rattle.iso_model.specs.{declared.access.Geometry.Geometry, Geometry.header_place, Image.{chosen_half, current_half}};
 ghost use Rattle.iso_format.specs.Reading.{half_of};
 
 use iso_format::HalfHeader;

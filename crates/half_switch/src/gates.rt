@@ -1,8 +1,6 @@
 // The gate of a half that is not the current one.
-ghost use Rattle.std.specs.Prelude.{◌≡◌, ◌⊎◌, ◌+◌, ◌<◌, ◌∷◌, [], ℕ, List, OnOk, OnErr};
-ghost use Rattle.std.specs.Option.{ForSome};
-ghost use Rattle.iso_model.specs.declared.access.Geometry.{Geometry};
-ghost use Rattle.iso_model.specs.Geometry.{header_place};
+ghost use Rattle.std.specs.{Prelude.{◌≡◌, ◌⊎◌, ◌+◌, ◌<◌, ◌∷◌, [], ℕ, List, OnOk, OnErr}, Option.ForSome};
+ghost use Rattle.iso_model.specs.{declared.access.Geometry.Geometry, Geometry.header_place};
 ghost use Rattle.iso_disk.specs.Disk.{IsSettled, LeavesOnly, Splices, StaysTold, TellsTorn, TornFrom, WritesNothing};
 ghost use Rattle.fault_count.specs.Count.{HasCause};
 ghost use Rattle.commit_gate.specs.Gate.{IsClosed};

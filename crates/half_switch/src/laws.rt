@@ -1,8 +1,6 @@
 // A law of halves that are filled: the function does nothing, and its contract is the law.
 ghost use Rattle.std.specs.Prelude.{◌≡◌, ◌+◌, ◌-◌, ◌≤◌, ℕ};
-ghost use Rattle.iso_model.specs.declared.access.Geometry.{Geometry};
-ghost use Rattle.iso_model.specs.History.{History};
-ghost use Rattle.iso_model.specs.Premises.{IsHistory};
+ghost use Rattle.iso_model.specs.{declared.access.Geometry.Geometry, History.History, Premises.IsHistory};
 ghost use Rattle.iso_image.specs.Half.{half_of};
 ghost use Rattle.half_switch.specs.Plan.{refilled};
 

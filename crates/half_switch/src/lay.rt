@@ -1,8 +1,6 @@
 // Commits laid over the bytes of a base.
-ghost use Rattle.std.specs.Prelude.{◌≡◌, ◌+◌, ◌*◌, ◌≤◌, ◌<◌, ◌^◌, List, length, take, IsTrue};
-ghost use Rattle.std.specs.List.{AllByRecursion};
-ghost use Rattle.iso_model.specs.Geometry.{is_valid};
-ghost use Rattle.iso_model.specs.Image.{IsRecord, Written, records};
+ghost use Rattle.std.specs.{Prelude.{◌≡◌, ◌+◌, ◌*◌, ◌≤◌, ◌<◌, ◌^◌, List, length, take, IsTrue}, List.AllByRecursion};
+ghost use Rattle.iso_model.specs.{Geometry.is_valid, Image.{IsRecord, Written, records}};
 ghost use Rattle.iso_disk.specs.Disk.{spliced};
 ghost use Rattle.half_switch.specs.Laid.{AreBytesOf, all_laid, laid};
 

@@ -1,22 +1,16 @@
 -- How the reads, writes and marks of a session end.
 use Rattle.std.specs.Prelude.{◌≡◌, ℕ, ◌⊎◌, true, List, [], ◌∷◌, ◌++◌, Option, Some, None, Result, Ok, Err, is_some}
-use Rattle.iso_model.specs.declared.access.Access.{Access}
+use Rattle.iso_model.specs.{declared.access.Access.Access, Array.Array, History.array_at, Marks.marked, Premises.block_at, Step.{read_access, write_access}}
 use Rattle.store_model.specs.declared.stores.TxError.{TxError}
 use Rattle.store_model.specs.declared.stores.TxError.TheVariants as error
-use Rattle.iso_model.specs.Array.{Array}
 use Rattle.iso_model.specs.Effect as effect
-use Rattle.iso_model.specs.History.{array_at}
-use Rattle.iso_model.specs.Marks.{marked}
-use Rattle.iso_model.specs.Premises.{block_at}
-use Rattle.iso_model.specs.Step.{read_access, write_access}
 use Rattle.iso_shared.specs.declared.entry.Call.TheVariants as call
 use Rattle.iso_shared.specs.declared.entry.Cause.TheVariants as cause
 use Rattle.iso_shared.specs.declared.entry.Entry.TheVariants as entry
 use Rattle.iso_shared.specs.States.{Start, state_at}
 use Rattle.tx_blocks.specs.Tx.{Tx, access_refusal, mark_refusal}
 use Rattle.tx_table.specs.Work.{span_at}
-use Rattle.handle_pass.specs.declared.session.Session.{Session}
-use Rattle.handle_pass.specs.Sessions.{Own, own, Made, Rested}
+use Rattle.handle_pass.specs.{declared.session.Session.Session, Sessions.{Own, own, Made, Rested}}
 
 abbrev pub accesses_of : Option Own → List Access
 accesses_of None = []

@@ -1,25 +1,14 @@
 -- How the calls of a session end that begin, check, end and abort its transaction.
 use Rattle.std.specs.Prelude.{◌≡◌, ℕ, ◌+◌, ◌≤◌, ◌⊎◌, [], Option, Some, None, IsSome, Result, Ok, Err}
-use Rattle.iso_model.specs.declared.access.EndReply.{EndReply}
-use Rattle.iso_model.specs.declared.access.Mode.{Mode}
-use Rattle.iso_model.specs.declared.core_error.CoreError.{CoreError}
+use Rattle.iso_model.specs.{declared.access.EndReply.EndReply, declared.access.Mode.Mode, declared.core_error.CoreError.CoreError, declared.memory.NotInTx.NotInTx, Step.mode_named}
 use Rattle.iso_model.specs.declared.core_error.CoreError.TheVariants as error
-use Rattle.iso_model.specs.declared.memory.NotInTx.{NotInTx}
-use Rattle.iso_model.specs.Step.{mode_named}
 use Rattle.iso_shared.specs.declared.entry.Call.TheVariants as call
-use Rattle.iso_shared.specs.declared.entry.Entry.{Entry}
+use Rattle.iso_shared.specs.{declared.entry.Entry.Entry, Ports.most_steps, States.Start, Told.cause_of}
 use Rattle.iso_shared.specs.declared.entry.Entry.TheVariants as entry
-use Rattle.iso_shared.specs.Ports.{most_steps}
-use Rattle.iso_shared.specs.States.{Start}
-use Rattle.iso_shared.specs.Told.{cause_of}
-use Rattle.turn_lock.specs.declared.view.View.{View}
-use Rattle.turn_lock.specs.Lists.{times}
-use Rattle.handle_pass.specs.declared.errors.BeginError.{BeginError}
+use Rattle.turn_lock.specs.{declared.view.View.View, Lists.times}
+use Rattle.handle_pass.specs.{declared.errors.BeginError.BeginError, declared.errors.EndError.EndError, declared.session.Session.Session, Sessions.{Own, checked, count, own, seen, Entered, KeepsTx, Made}}
 use Rattle.handle_pass.specs.declared.errors.BeginError.TheVariants as begin
-use Rattle.handle_pass.specs.declared.errors.EndError.{EndError}
 use Rattle.handle_pass.specs.declared.errors.EndError.TheVariants as end
-use Rattle.handle_pass.specs.declared.session.Session.{Session}
-use Rattle.handle_pass.specs.Sessions.{Own, checked, count, own, seen, Entered, KeepsTx, Made}
 
 -- the transaction after its end was refused so: a fault of the disk has ended it
 abbrev pub left_by : CoreError → Own → Option Own

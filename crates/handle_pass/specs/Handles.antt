@@ -1,23 +1,14 @@
 -- How a transaction leaves a session and comes to another one: in a handle, or under a label.
 use Rattle.std.specs.Prelude.{◌≡◌, ℕ, ◌+◌, List, Option, Some, None, IsSome, Result, Ok, Err}
 use mathlib.Core.List.{IsPrefix}
-use Rattle.iso_model.specs.declared.memory.InTx.{InTx}
-use Rattle.iso_model.specs.declared.memory.NotInTx.{NotInTx}
+use Rattle.iso_model.specs.{declared.memory.InTx.InTx, declared.memory.NotInTx.NotInTx}
 use Rattle.iso_shared.specs.declared.entry.Call.TheVariants as call
-use Rattle.iso_shared.specs.declared.entry.Cause.{Cause}
+use Rattle.iso_shared.specs.{declared.entry.Cause.Cause, declared.entry.Entry.Entry, declared.shared.Shared.Shared, declared.tx.Tx.Tx, Ports.{IsTx, check_of, tx_view}, States.Start}
 use Rattle.iso_shared.specs.declared.entry.Cause.TheVariants as cause
-use Rattle.iso_shared.specs.declared.entry.Entry.{Entry}
 use Rattle.iso_shared.specs.declared.entry.Entry.TheVariants as entry
-use Rattle.iso_shared.specs.declared.shared.Shared.{Shared}
-use Rattle.iso_shared.specs.declared.tx.Tx.{Tx}
-use Rattle.iso_shared.specs.Ports.{IsTx, check_of, tx_view}
-use Rattle.iso_shared.specs.States.{Start}
 use Rattle.turn_lock.specs.Lists.{times}
-use Rattle.handle_pass.specs.declared.errors.PostTxError.{PostTxError}
+use Rattle.handle_pass.specs.{declared.errors.PostTxError.PostTxError, declared.handle.Handle.Handle, declared.session.Session.Session, Sessions.{Own, checked, count, device, own, own_in, seen, units, KeepsTx, Made}}
 use Rattle.handle_pass.specs.declared.errors.PostTxError.TheVariants as post
-use Rattle.handle_pass.specs.declared.handle.Handle.{Handle}
-use Rattle.handle_pass.specs.declared.session.Session.{Session}
-use Rattle.handle_pass.specs.Sessions.{Own, checked, count, device, own, own_in, seen, units, KeepsTx, Made}
 
 module _ {D O : Type 0} where
   -- the transaction of a handle, and what it is to its holder

@@ -1,14 +1,10 @@
 -- The entries that a session made, by their places.
 use Rattle.std.specs.Prelude.{◌≡◌, ℕ, ◌+◌, List, [], ◌∷◌, ◌++◌, length, map, slice_index_or}
 use mathlib.Core.List.{IsPrefix}
-use Rattle.iso_shared.specs.declared.entry.Entry.{Entry}
+use Rattle.iso_shared.specs.{declared.entry.Entry.Entry, Legal.IsLegal, States.Start}
 use Rattle.iso_shared.specs.declared.entry.Entry.TheVariants as entry
-use Rattle.iso_shared.specs.Legal.{IsLegal}
-use Rattle.iso_shared.specs.States.{Start}
-use Rattle.turn_lock.specs.declared.view.View.{View}
-use Rattle.turn_lock.specs.Lists.{hit, times, AllBelow, RisesFrom}
-use Rattle.handle_pass.specs.declared.session.Session.{Session}
-use Rattle.handle_pass.specs.Sessions.{count, seen, units}
+use Rattle.turn_lock.specs.{declared.view.View.View, Lists.{hit, times, AllBelow, RisesFrom}}
+use Rattle.handle_pass.specs.{declared.session.Session.Session, Sessions.{count, seen, units}}
 
 -- the entries at these places
 abbrev pub entries_at : List Entry → List ℕ → List Entry

@@ -1,14 +1,9 @@
 -- What one call on a session's transaction makes of what is seen of it.
-use Rattle.std.specs.Prelude.{◌≡◌, ◌≢◌, ℕ, ◌||◌, Bool, true, false, List, [], ◌∷◌, Result, Ok, Err, OnOk, OnErr, nat_lt}
-use Rattle.std.specs.Option.{ForSome}
-use Rattle.store_model.specs.declared.stores.TxError.{TxError}
+use Rattle.std.specs.{Prelude.{◌≡◌, ◌≢◌, ℕ, ◌||◌, Bool, true, false, List, [], ◌∷◌, Result, Ok, Err, OnOk, OnErr, nat_lt}, Option.ForSome}
+use Rattle.store_model.specs.{declared.stores.TxError.TxError, Stores.{look_access, store_access}}
 use Rattle.store_model.specs.declared.stores.TxError.TheVariants as error
-use Rattle.iso_model.specs.Effect.{own}
-use Rattle.iso_model.specs.Marks.{marked}
-use Rattle.iso_model.specs.Premises.{block_at}
-use Rattle.store_model.specs.Stores.{look_access, store_access}
-use Rattle.tx_blocks.specs.Tx.{Device, IsFree, IsLater, IsRefused, IsTx, access_refusal, mark_refusal, with_accesses}
-use Rattle.tx_blocks.specs.Runs.{Passed}
+use Rattle.iso_model.specs.{Effect.own, Marks.marked, Premises.block_at}
+use Rattle.tx_blocks.specs.{Tx.{Device, IsFree, IsLater, IsRefused, IsTx, access_refusal, mark_refusal, with_accesses}, Runs.Passed}
 use Rattle.handle_pass.specs.Visits.{Seen}
 
 -- whether a fetch was refused

@@ -1,17 +1,8 @@
 -- What contracts see of a session, and what an entry of its own changes.
 use Rattle.std.specs.Prelude.{◌≡◌, ℕ, ◌+◌, ◌<◌, List, [], ◌∷◌, ◌++◌, Option, Some, None, IfSome, length}
 use mathlib.Core.List.{IsPrefix}
-use Rattle.iso_shared.specs.declared.entry.Entry.{Entry}
-use Rattle.iso_shared.specs.declared.entry.Posting.{Posting}
-use Rattle.iso_shared.specs.declared.shared.Port.{Port}
-use Rattle.iso_shared.specs.declared.shared.Shared.{Shared}
-use Rattle.iso_shared.specs.declared.tx.Tx.{Tx}
-use Rattle.iso_shared.specs.Legal.{IsLegal}
-use Rattle.iso_shared.specs.Ports.{IsPort, IsTx, check_of, doing_of, first_geometry, number_of, port_view, tx_view}
-use Rattle.iso_shared.specs.States.{Start}
-use Rattle.iso_shared.specs.Told.{posting_of_tx}
-use Rattle.turn_lock.specs.declared.view.View.{View}
-use Rattle.turn_lock.specs.Lists.{hit, times}
+use Rattle.iso_shared.specs.{declared.entry.Entry.Entry, declared.entry.Posting.Posting, declared.shared.Port.Port, declared.shared.Shared.Shared, declared.tx.Tx.Tx, Legal.IsLegal, Ports.{IsPort, IsTx, check_of, doing_of, first_geometry, number_of, port_view, tx_view}, States.Start, Told.posting_of_tx}
+use Rattle.turn_lock.specs.{declared.view.View.View, Lists.{hit, times}}
 use Rattle.handle_pass.specs.declared.session.Session.{Session}
 
 -- A transaction as its holder sees it: its number, its begin, its mode, and its accesses with their marks. It is what a look

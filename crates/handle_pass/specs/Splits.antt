@@ -1,11 +1,9 @@
 -- A port that is split off a session, and one that is joined into it.
 use Rattle.std.specs.Prelude.{◌≡◌, ℕ, ◌+◌}
 use mathlib.Core.List.{IsPrefix}
-use Rattle.iso_shared.specs.declared.shared.Port.{Port}
-use Rattle.iso_shared.specs.Ports.{IsPort, port_view}
+use Rattle.iso_shared.specs.{declared.shared.Port.Port, Ports.{IsPort, port_view}}
 use Rattle.turn_lock.specs.Lists.{times}
-use Rattle.handle_pass.specs.declared.session.Session.{Session}
-use Rattle.handle_pass.specs.Sessions.{count, device, seen, units, KeepsTx}
+use Rattle.handle_pass.specs.{declared.session.Session.Session, Sessions.{count, device, seen, units, KeepsTx}}
 
 module _ {D O : Type 0} where
   -- the session gave 32 of its units to a new port, which knows what the session does and has no place; all else stayed

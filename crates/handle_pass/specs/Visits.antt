@@ -1,24 +1,12 @@
 -- A session while calls are made on its transaction: what was fetched since the first of them, and what it saw.
-use Rattle.std.specs.Prelude.{◌≡◌, ℕ, ◌<◌, Bool, true, false, cond, List, [], ◌∷◌, ◌++◌, Option, Some, None, map, option_map, slice_index}
-use Rattle.std.specs.List.{AllByRecursion, range_with_len}
-use Rattle.std.specs.Option.{ForSome}
-use Rattle.iso_model.specs.declared.access.Access.{Access}
-use Rattle.iso_model.specs.declared.access.Geometry.{Geometry}
-use Rattle.iso_model.specs.Array.{Array}
-use Rattle.iso_model.specs.Effect.{is_write}
-use Rattle.iso_model.specs.History.{array_at}
-use Rattle.iso_model.specs.Premises.{block_at}
+use Rattle.std.specs.{Prelude.{◌≡◌, ℕ, ◌<◌, Bool, true, false, cond, List, [], ◌∷◌, ◌++◌, Option, Some, None, map, option_map, slice_index}, List.{AllByRecursion, range_with_len}, Option.ForSome}
+use Rattle.iso_model.specs.{declared.access.Access.Access, declared.access.Geometry.Geometry, Array.Array, Effect.is_write, History.array_at, Premises.block_at}
 use Rattle.iso_shared.specs.declared.entry.Call.TheVariants as call
-use Rattle.iso_shared.specs.declared.entry.Cause.{Cause}
+use Rattle.iso_shared.specs.{declared.entry.Cause.Cause, declared.entry.Entry.Entry, States.{Start, state_at}}
 use Rattle.iso_shared.specs.declared.entry.Cause.TheVariants as cause
-use Rattle.iso_shared.specs.declared.entry.Entry.{Entry}
 use Rattle.iso_shared.specs.declared.entry.Entry.TheVariants as entry
-use Rattle.iso_shared.specs.States.{Start, state_at}
 use Rattle.tx_blocks.specs.Tx.{Device, Tx, IsTx as AreLimits}
-use Rattle.handle_pass.specs.declared.session.Session.{Session}
-use Rattle.handle_pass.specs.Accesses.{accesses_of, tx_on}
-use Rattle.handle_pass.specs.Logs.{AreNext, Moves}
-use Rattle.handle_pass.specs.Sessions.{Own, count, own, seen, IsSession}
+use Rattle.handle_pass.specs.{declared.session.Session.Session, Accesses.{accesses_of, tx_on}, Logs.{AreNext, Moves}, Sessions.{Own, count, own, seen, IsSession}}
 
 -- the blocks of the geometry, each with the array's bytes: the array itself, where it has that shape
 abbrev pub shaped : Geometry → Array → Array

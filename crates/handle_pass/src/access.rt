@@ -1,7 +1,6 @@
 // Reads, writes and marks of a session's transaction.
 ghost use Rattle.std.specs.Prelude.{◌≡◌, length};
-ghost use Rattle.handle_pass.specs.Accesses.{access_answer, mark_answer, HasMarked, HasRead, HasWritten, IsReadCause, IsWriteCause};
-ghost use Rattle.handle_pass.specs.Sessions.{IsSession};
+ghost use Rattle.handle_pass.specs.{Accesses.{access_answer, mark_answer, HasMarked, HasRead, HasWritten, IsReadCause, IsWriteCause}, Sessions.IsSession};
 ghost use Rattle.tx_blocks.specs.Tx.{IsRefused};
 
 use crate::session::Session;

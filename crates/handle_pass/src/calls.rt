@@ -1,7 +1,6 @@
 // The begin of a session's transaction, its end and its abort, and the check ahead of its end.
 ghost use Rattle.std.specs.Prelude.{◌≡◌, ◌<◌, IfOk};
-ghost use Rattle.handle_pass.specs.Calls.{HasAborted, HasBegun, HasChecked, HasEnded};
-ghost use Rattle.handle_pass.specs.Sessions.{checked, units, IsSession};
+ghost use Rattle.handle_pass.specs.{Calls.{HasAborted, HasBegun, HasChecked, HasEnded}, Sessions.{checked, units, IsSession}};
 
 use crate::errors::{BeginError, EndError};
 use crate::session::{Session, attach};

@@ -1,7 +1,6 @@
 // A transaction that goes from one session to another, without an entry of the list.
 ghost use Rattle.std.specs.Prelude.{◌≡◌};
-ghost use Rattle.handle_pass.specs.Handles.{HasReleased, HasTakenOver, IsHandle, tx_of};
-ghost use Rattle.handle_pass.specs.Sessions.{device, IsSession};
+ghost use Rattle.handle_pass.specs.{Handles.{HasReleased, HasTakenOver, IsHandle, tx_of}, Sessions.{device, IsSession}};
 
 use crate::session::{Session, attach};
 use iso_disk::Disk;

@@ -1,7 +1,6 @@
 // Transactions under labels.
 ghost use Rattle.std.specs.Prelude.{◌≡◌, ◌<◌, IfOk, IfSome};
-ghost use Rattle.handle_pass.specs.Handles.{HasLooked, HasPosted};
-ghost use Rattle.handle_pass.specs.Sessions.{checked, units, IsSession};
+ghost use Rattle.handle_pass.specs.{Handles.{HasLooked, HasPosted}, Sessions.{checked, units, IsSession}};
 ghost use Rattle.handle_pass.specs.declared.errors.PostTxError.TheVariants as TheError;
 ghost use Rattle.tx_table.specs.declared.rack.PostError.TheVariants as TheCause;
 

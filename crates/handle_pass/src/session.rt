@@ -1,9 +1,7 @@
 // The session itself.
 ghost use Rattle.std.specs.Prelude.{◌≡◌, ◌-◌, ◌≤◌, None, Some, cond, is_some, length, option_map};
 ghost use Rattle.iso_shared.specs.Ports.{IsPort, first_geometry, port_view};
-ghost use Rattle.handle_pass.specs.Accesses.{accesses_of};
-ghost use Rattle.handle_pass.specs.Calls.{HasFinished};
-ghost use Rattle.handle_pass.specs.Sessions.{device, own, port_of, units, IsSession};
+ghost use Rattle.handle_pass.specs.{Accesses.accesses_of, Calls.HasFinished, Sessions.{device, own, port_of, units, IsSession}};
 
 use iso_disk::Disk;
 use iso_model::Mode;

@@ -2,8 +2,7 @@
 ghost use Rattle.std.specs.Prelude.{◌≡◌, Some, IsTrue, false};
 ghost use Rattle.iso_model.specs.Geometry.{is_valid};
 ghost use Rattle.tx_blocks.specs.Tx.{IsTx};
-ghost use Rattle.handle_pass.specs.Sessions.{IsSession};
-ghost use Rattle.handle_pass.specs.Visits.{seen_by};
+ghost use Rattle.handle_pass.specs.{Sessions.IsSession, Visits.seen_by};
 
 use crate::session::Session;
 use crate::visit::Visit;

@@ -1,8 +1,7 @@
 // A port that is split off a session and joined back, for calls of the device that are none of the session.
 ghost use Rattle.std.specs.Prelude.{◌<◌};
 ghost use Rattle.iso_shared.specs.Ports.{IsPort, port_view};
-ghost use Rattle.handle_pass.specs.Sessions.{device, port_of, IsSession};
-ghost use Rattle.handle_pass.specs.Splits.{Joined, Split};
+ghost use Rattle.handle_pass.specs.{Sessions.{device, port_of, IsSession}, Splits.{Joined, Split}};
 
 use crate::session::Session;
 use iso_disk::Disk;

@@ -1,7 +1,6 @@
 // The calls that need no transaction, and leave the one that there is.
 ghost use Rattle.std.specs.Prelude.{ℕ};
-ghost use Rattle.iso_shared.specs.declared.entry.Entry.TheVariants.{Stat as OfStat};
-ghost use Rattle.iso_shared.specs.Told.{compact_entry, numbers_of, trim_entry, upgrade_entry};
+ghost use Rattle.iso_shared.specs.{declared.entry.Entry.TheVariants.{Stat as OfStat}, Told.{compact_entry, numbers_of, trim_entry, upgrade_entry}};
 ghost use Rattle.handle_pass.specs.Sessions.{KeepsTx, IsSession, Made};
 
 use crate::session::Session;

@@ -1,10 +1,8 @@
 // The calls over an image in memory that has both stores: 8 blocks of 256 bytes, the first four a hash store, the others a tree store.
 ghost use Rattle.std.specs.Prelude.{◌≡◌, ◌<◌, [], IsTrue};
 ghost use Rattle.iso_core.specs.Core.{disk_of};
-ghost use Rattle.iso_model.specs.Geometry.{is_valid};
-ghost use Rattle.iso_model.specs.World.{World};
-ghost use Rattle.iso_shared.specs.Standing.{Came, Holds};
-ghost use Rattle.iso_shared.specs.States.{opened};
+ghost use Rattle.iso_model.specs.{Geometry.is_valid, World.World};
+ghost use Rattle.iso_shared.specs.{Standing.{Came, Holds}, States.opened};
 ghost use Rattle.handle_pass.specs.Sessions.{units, IsSession};
 ghost use Rattle.device_calls.specs.Beginnings.{BeginsAt};
 

@@ -2,8 +2,7 @@
 ghost use Rattle.std.specs.Prelude.{◌≡◌, ◌<◌, ◌≤◌, [], length, vec_capacity};
 ghost use denote.Param.Send.{IsSync};
 ghost use Rattle.iso_memdisk.specs.MemDisk.{state_of};
-ghost use Rattle.iso_shared.specs.Ports.{IsPort, port_view};
-ghost use Rattle.iso_shared.specs.TestImage.{small, MayStart};
+ghost use Rattle.iso_shared.specs.{Ports.{IsPort, port_view}, TestImage.{small, MayStart}};
 ghost use Rattle.handle_pass.specs.Sessions.{device, units, IsSession};
 ghost use Rattle.group_commit.specs.Groups.{AreMembers};
 

@@ -4,8 +4,7 @@ ghost use denote.Param.Send.{IsSync};
 ghost use Rattle.iso_memdisk.specs.MemDisk.{state_of};
 ghost use Rattle.iso_model.specs.Geometry.{is_valid};
 ghost use Rattle.iso_shared.specs.TestImage.{small, MayStart};
-ghost use Rattle.handle_pass.specs.Handles.{IsHandle};
-ghost use Rattle.handle_pass.specs.Sessions.{device, own, units, IsSession};
+ghost use Rattle.handle_pass.specs.{Handles.IsHandle, Sessions.{device, own, units, IsSession}};
 
 use crate::small_image::{new_core, small};
 use handle_pass::{EndError, Handle, Left, PostTxError, Session, Visit};

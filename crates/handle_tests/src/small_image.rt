@@ -1,10 +1,8 @@
 // New images of the tests, in memory: four blocks of 64 bytes and logs of 4,096 bytes.
 ghost use Rattle.std.specs.Prelude.{◌≡◌, replicate, IfOk, IsTrue};
-ghost use Rattle.iso_core.specs.Core.{StandsFor};
-ghost use Rattle.iso_core.specs.Standing.{up};
+ghost use Rattle.iso_core.specs.{Core.StandsFor, Standing.up};
 ghost use Rattle.iso_memdisk.specs.MemDisk.{state_of};
-ghost use Rattle.iso_model.specs.Geometry.{is_valid};
-ghost use Rattle.iso_model.specs.World.{empty_history, fresh};
+ghost use Rattle.iso_model.specs.{Geometry.is_valid, World.{empty_history, fresh}};
 ghost use Rattle.iso_shared.specs.TestImage.{small};
 
 use iso_core::Core;

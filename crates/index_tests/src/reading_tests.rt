@@ -1,8 +1,7 @@
 // What no clause says: that calls succeed with ample memory, and which reads they make. The disk has 512 bytes, each of them
 // its place modulo 251.
 ghost use Rattle.std.specs.Prelude.{◌≡◌, ◌^◌, ◌<◌, true, length, IfOk, IsTrue};
-ghost use Rattle.iso_model.specs.Geometry.{is_valid};
-ghost use Rattle.iso_model.specs.Image.{AreRuns};
+ghost use Rattle.iso_model.specs.{Geometry.is_valid, Image.AreRuns};
 ghost use Rattle.iso_memdisk.specs.MemDisk.{state_of};
 ghost use Rattle.mv_index.specs.Shown.{AllLie};
 ghost use Rattle.index_tests.specs.Small.{small};

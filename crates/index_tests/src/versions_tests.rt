@@ -1,7 +1,5 @@
 ghost use Rattle.std.specs.Prelude.{◌≡◌, ◌<◌, ℕ, IfOk, length};
-ghost use Rattle.mv_index.specs.Moves.{AreSplit};
-ghost use Rattle.mv_index.specs.Shown.{AllLie};
-ghost use Rattle.mv_index.specs.Versions.{AreAtMost, versions_in};
+ghost use Rattle.mv_index.specs.{Moves.AreSplit, Shown.AllLie, Versions.{AreAtMost, versions_in}};
 
 use crate::marks_tests::same;
 use iso_model::Memory;

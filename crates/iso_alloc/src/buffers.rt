@@ -1,7 +1,6 @@
 // Buffers of a call, and the tests of its arguments.
 ghost use Rattle.std.specs.Prelude.{◌≡◌, ◌≤◌, IfOk, IfErr, length, take, true};
-ghost use Rattle.store_model.specs.Cells.{is_part, text_of};
-ghost use Rattle.store_model.specs.HashCalls.{is_key, is_value};
+ghost use Rattle.store_model.specs.{Cells.{is_part, text_of}, HashCalls.{is_key, is_value}};
 
 use crate::parts::text_of;
 use std::alloc::Global;

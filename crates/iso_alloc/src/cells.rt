@@ -1,7 +1,6 @@
 // The cells of a block.
 ghost use Rattle.std.specs.Prelude.{◌≡◌, ◌+◌, ◌*◌, ◌<◌, ◌≤◌, length, slice_index};
-ghost use Rattle.store_model.specs.Cells.{cell_count, key_at, key_mark, text_of, value_mark};
-ghost use Rattle.store_model.specs.Stores.{bytes_in};
+ghost use Rattle.store_model.specs.{Cells.{cell_count, key_at, key_mark, text_of, value_mark}, Stores.bytes_in};
 
 use crate::parts::{cell_count, key_part, piece, text_of};
 use std::marker::Model;

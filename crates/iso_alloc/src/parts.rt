@@ -1,8 +1,6 @@
 // Parts of a block: numbers, zeros, and the parts that spell a key or a value.
-ghost use Rattle.std.specs.Prelude.{◌≡◌, ◌+◌, ◌-◌, ◌*◌, ◌<◌, ◌≤◌, length, replicate, slice_index, take, drop};
-ghost use Rattle.std.specs.List.{list_all};
-ghost use Rattle.store_model.specs.Cells.{block_with, cell_count, is_part, is_zero, key_mark, laid_at, part_of, text_of, value_part, word_at};
-ghost use Rattle.store_model.specs.Stores.{bytes_in};
+ghost use Rattle.std.specs.{Prelude.{◌≡◌, ◌+◌, ◌-◌, ◌*◌, ◌<◌, ◌≤◌, length, replicate, slice_index, take, drop}, List.list_all};
+ghost use Rattle.store_model.specs.{Cells.{block_with, cell_count, is_part, is_zero, key_mark, laid_at, part_of, text_of, value_part, word_at}, Stores.bytes_in};
 
 use byteorder::{BigEndian, ByteOrder};
 

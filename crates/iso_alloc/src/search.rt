@@ -1,7 +1,6 @@
 // Tests and look-ups in the head and the key parts of a block.
 ghost use Rattle.std.specs.Prelude.{◌≡◌, ◌+◌, ◌*◌, ◌<◌, ◌≤◌, ◌==◌, ◌||◌, true, length, IfSome};
-ghost use Rattle.store_model.specs.Cells.{cell_count, keys_end, are_key_parts, cell_with, is_unused, unused_cell};
-ghost use Rattle.store_model.specs.HashCalls.{is_alone};
+ghost use Rattle.store_model.specs.{Cells.{cell_count, keys_end, are_key_parts, cell_with, is_unused, unused_cell}, HashCalls.is_alone};
 
 use crate::parts::{cell_count, is_part, key_part, text_of};
 

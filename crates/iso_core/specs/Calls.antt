@@ -1,17 +1,11 @@
 -- The words of a core's calls: whose they are, and what they answer.
 use Rattle.std.specs.Prelude.{◌≡◌, ◌≢◌, ◌⊎◌, ℕ, ◌≤◌, List, [], ◌∷◌, Option, Some, None, Result, Ok, Err, OnOk, IfErr, IsErrOf}
 use Rattle.fault_count.specs.Count.{Rose}
-use Rattle.conflict_rule.specs.declared.decision.Checked.{Checked}
-use Rattle.conflict_rule.specs.Decision.{up_to}
-use Rattle.iso_model.specs.declared.access.EndReply.{EndReply}
+use Rattle.conflict_rule.specs.{declared.decision.Checked.Checked, Decision.up_to}
+use Rattle.iso_model.specs.{declared.access.EndReply.EndReply, declared.core_error.CoreError.CoreError, declared.core_reply.CoreReply.CoreReply, Conflict.clash, History.last, World.{World, Live}}
 use Rattle.iso_model.specs.declared.access.EndReply.TheVariants as ended
-use Rattle.iso_model.specs.declared.core_error.CoreError.{CoreError}
 use Rattle.iso_model.specs.declared.core_error.CoreError.TheVariants as error
-use Rattle.iso_model.specs.declared.core_reply.CoreReply.{CoreReply}
 use Rattle.iso_model.specs.declared.core_reply.CoreReply.TheVariants as reply
-use Rattle.iso_model.specs.Conflict.{clash}
-use Rattle.iso_model.specs.History.{last}
-use Rattle.iso_model.specs.World.{World, Live}
 use Rattle.tx_table.specs.Work.{Doing}
 use Rattle.iso_core.specs.Kept.{bare}
 

@@ -2,12 +2,8 @@
 use Rattle.std.specs.Prelude.{◌≡◌, ℕ, List}
 use Rattle.iso_disk.specs.Disk.{DiskState, IsSettled}
 use Rattle.iso_image.specs.Half.{IsHeld, half_of_world}
-use Rattle.iso_model.specs.Geometry.{image_size}
-use Rattle.iso_model.specs.World.{World}
-use Rattle.iso_core.specs.declared.core_itself.Core.{Core}
-use Rattle.iso_core.specs.declared.kept.Kept.{Kept}
-use Rattle.iso_core.specs.Kept.{IsOf}
-use Rattle.iso_core.specs.Standing.{Standing, up, down, is_down, ShowsWith}
+use Rattle.iso_model.specs.{Geometry.image_size, World.World}
+use Rattle.iso_core.specs.{declared.core_itself.Core.Core, declared.kept.Kept.Kept, Kept.IsOf, Standing.{Standing, up, down, is_down, ShowsWith}}
 
 -- every image that a crash now may leave is what a read gives, and holds the half of the world
 pub record AllHold (d : DiskState) (half : ℕ) (W : World) : Type 0 where

@@ -1,25 +1,12 @@
 -- What stands between the steps of an end.
-use Rattle.std.specs.Prelude.{◌≡◌, ℕ, ◌+◌, ◌<◌, ◌≤◌, true, List, [], ◌∷◌, length, map, None}
-use Rattle.std.specs.List.{AllByRecursion}
-use Rattle.byte_marks.specs.declared.extent.Extent.{Extent}
-use Rattle.byte_marks.specs.Touched.{AreTouched}
+use Rattle.std.specs.{Prelude.{◌≡◌, ℕ, ◌+◌, ◌<◌, ◌≤◌, true, List, [], ◌∷◌, length, map, None}, List.AllByRecursion}
+use Rattle.byte_marks.specs.{declared.extent.Extent.Extent, Touched.AreTouched}
 use Rattle.iso_image.specs.Half.{MayFollow, half_of_world, next_gate, with_records}
 use Rattle.iso_log.specs.Extent.{Extent as LogExtent, extent_of}
-use Rattle.iso_model.specs.declared.access.Kind.TheVariants.{Write}
-use Rattle.iso_model.specs.declared.limits.TheConstants.{LAST, MAX_ACCESSES}
-use Rattle.iso_model.specs.Conflict.{clash}
-use Rattle.iso_model.specs.Effect.{has_write}
-use Rattle.iso_model.specs.History.{last}
-use Rattle.iso_model.specs.Image.{IsRecord, Written, records, written}
-use Rattle.iso_model.specs.Premises.{AreAccesses}
-use Rattle.iso_model.specs.Step.{after_commit, commit_from}
-use Rattle.iso_model.specs.World.{World, Live}
-use Rattle.iso_model.specs.Worlds.{IsWorld}
+use Rattle.iso_model.specs.{declared.access.Kind.TheVariants.Write, declared.limits.TheConstants.{LAST, MAX_ACCESSES}, Conflict.clash, Effect.has_write, History.last, Image.{IsRecord, Written, records, written}, Premises.AreAccesses, Step.{after_commit, commit_from}, World.{World, Live}, Worlds.IsWorld}
 use Rattle.tx_table.specs.Work.{Doing}
 use Rattle.version_read.specs.Parts.{HasRoom, part_of}
-use Rattle.iso_core.specs.declared.kept.Kept.{Kept}
-use Rattle.iso_core.specs.Calls.{IsTx, IsWorkOf}
-use Rattle.iso_core.specs.Kept.{IsOf}
+use Rattle.iso_core.specs.{declared.kept.Kept.Kept, Calls.{IsTx, IsWorkOf}, Kept.IsOf}
 
 -- the record that it becomes
 abbrev pub written_of : World → Live → Written

@@ -1,12 +1,9 @@
 -- What a core keeps in memory, and of which world it is.
 use Rattle.std.specs.Prelude.{◌≡◌, ℕ, ◌+◌, ◌≤◌, [], map}
-use Rattle.conflict_rule.specs.Decision.{AreNotesAfter}
-use Rattle.conflict_rule.specs.Notes.{Held}
+use Rattle.conflict_rule.specs.{Decision.AreNotesAfter, Notes.Held}
 use Rattle.iso_image.specs.Half.{half_of_world}
 use Rattle.iso_log.specs.Extent.{extent_of}
-use Rattle.iso_model.specs.Geometry.{log_place}
-use Rattle.iso_model.specs.World.{World, Live, floor, unattached}
-use Rattle.iso_model.specs.Worlds.{IsWorld}
+use Rattle.iso_model.specs.{Geometry.log_place, World.{World, Live, floor, unattached}, Worlds.IsWorld}
 use Rattle.mv_index.specs.Placed.{IsIndexOf}
 use Rattle.tx_table.specs.Live.{at_work}
 use Rattle.iso_core.specs.declared.kept.Kept.{Kept}

@@ -2,10 +2,7 @@
 use Rattle.std.specs.Prelude.{◌≡◌, ◌+◌, ◌≤◌}
 use Rattle.iso_image.specs.Half.{half_of_world}
 use Rattle.iso_log.specs.Extent.{extent_of}
-use Rattle.iso_model.specs.Geometry.{log_place}
-use Rattle.iso_model.specs.History.{History}
-use Rattle.iso_model.specs.World.{World, fresh}
-use Rattle.iso_model.specs.Worlds.{IsWorld}
+use Rattle.iso_model.specs.{Geometry.log_place, History.History, World.{World, fresh}, Worlds.IsWorld}
 use Rattle.mv_index.specs.Placed.{IsIndexOf}
 use Rattle.iso_core.specs.declared.opening.Opened.{Opened}
 

@@ -1,33 +1,14 @@
 -- What stands between the steps of a group.
-use Rattle.std.specs.Prelude.{◌≡◌, ◌≢◌, ℕ, ◌+◌, ◌≤◌, Bool, true, false, IsTrue, List, [], ◌∷◌, ◌++◌, length, map, flat_map, Option, None}
-use Rattle.std.specs.List.{AllByRecursion}
+use Rattle.std.specs.{Prelude.{◌≡◌, ◌≢◌, ℕ, ◌+◌, ◌≤◌, Bool, true, false, IsTrue, List, [], ◌∷◌, ◌++◌, length, map, flat_map, Option, None}, List.AllByRecursion}
 use Rattle.conflict_rule.specs.Decision.{AreNotes}
-use Rattle.iso_model.specs.declared.access.Commit.{Commit}
-use Rattle.iso_model.specs.declared.access.Geometry.{Geometry}
+use Rattle.iso_model.specs.{declared.access.Commit.Commit, declared.access.Geometry.Geometry, Effect.record_length, History.last, Geometry.{is_valid, log_place}, Image.{IsRecord, records, written}, Step.{after_commit, end_step}, World.{World, Live}, Worlds.IsWorld, declared.access.GroupReply.GroupReply, Group.{ahead, decided}}
 use Rattle.iso_image.specs.Half.{Half, MayFollow, half_of_world, last_told, next_gate, with_records}
 use Rattle.iso_log.specs.Extent.{Extent as LogExtent, extent_of}
-use Rattle.iso_model.specs.Effect.{record_length}
-use Rattle.iso_model.specs.History.{last}
-use Rattle.iso_model.specs.Geometry.{is_valid, log_place}
-use Rattle.iso_model.specs.Image.{IsRecord, records, written}
-use Rattle.mv_index.specs.Placed.{IsIndexOf}
-use Rattle.iso_model.specs.Step.{after_commit, end_step}
-use Rattle.iso_model.specs.World.{World, Live}
-use Rattle.iso_model.specs.Worlds.{IsWorld}
+use Rattle.mv_index.specs.{Placed.IsIndexOf, Versions.BlockVersions}
 use Rattle.iso_model.specs.declared.core_reply.CoreReply.TheVariants as reply
-use Rattle.mv_index.specs.Versions.{BlockVersions}
-use Rattle.version_read.specs.declared.part_span.PartSpan.{PartSpan}
-use Rattle.version_read.specs.Parts.{HasRoom, part_of}
-use Rattle.iso_model.specs.declared.access.GroupReply.{GroupReply}
+use Rattle.version_read.specs.{declared.part_span.PartSpan.PartSpan, Parts.{HasRoom, part_of}}
 use Rattle.iso_model.specs.declared.access.GroupReply.TheVariants as member
-use Rattle.iso_core.specs.declared.group_end.GroupEnd.{GroupEnd}
-use Rattle.iso_core.specs.declared.kept.Kept.{Kept}
-use Rattle.iso_core.specs.declared.plan.Plan.{Plan}
-use Rattle.iso_core.specs.declared.plan.Staged.{Staged}
-use Rattle.iso_core.specs.Calls.{IsTx, IsWorkOf}
-use Rattle.iso_core.specs.Ends.{AreNextRecords, IsSettledOf, written_of}
-use Rattle.iso_model.specs.Group.{ahead, decided}
-use Rattle.iso_core.specs.Kept.{IsOf}
+use Rattle.iso_core.specs.{declared.group_end.GroupEnd.GroupEnd, declared.kept.Kept.Kept, declared.plan.Plan.Plan, declared.plan.Staged.Staged, Calls.{IsTx, IsWorkOf}, Ends.{AreNextRecords, IsSettledOf, written_of}, Kept.IsOf}
 
 -- a member is a live transaction with its work, and has no reply yet
 pub record IsMember (W : World) (m : GroupEnd) (t : Live) : Type 0 where

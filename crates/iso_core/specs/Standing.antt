@@ -1,9 +1,6 @@
 -- Whether a core is up, and what its images show.
 use Rattle.std.specs.Prelude.{◌⊎◌, ℕ, Bool, true, false, List}
-use Rattle.iso_model.specs.declared.access.Commit.{Commit}
-use Rattle.iso_model.specs.Between.{ShowsLast}
-use Rattle.iso_model.specs.History.{with_commits}
-use Rattle.iso_model.specs.World.{World}
+use Rattle.iso_model.specs.{declared.access.Commit.Commit, Between.ShowsLast, History.with_commits, World.World}
 
 -- a core is up, or a fault of the disk set it down; then these commits may stand behind its history
 pub data Standing : Type 0 where

@@ -1,8 +1,6 @@
 -- A switch of a core to the other half.
 use Rattle.std.specs.Prelude.{ℕ, ◌⊎◌, ◌≤◌, List}
-use Rattle.iso_model.specs.History.{History}
-use Rattle.iso_model.specs.Image.{IsImage}
-use Rattle.iso_model.specs.World.{World}
+use Rattle.iso_model.specs.{History.History, Image.IsImage, World.World}
 
 -- the form that the other half gets: it does not fall, and there is no third one
 pub record IsForm (W : World) (form : ℕ) : Type 0 where

@@ -4,11 +4,8 @@ ghost use Rattle.fault_count.specs.Count.{HasCause};
 ghost use Rattle.iso_disk.specs.Disk.{IsSettled, LeavesOnly, StaysTold};
 ghost use Rattle.iso_image.specs.Half.{IsHeld, half_of_world, next_gate, with_records};
 ghost use Rattle.iso_log.specs.Extent.{extent_of};
-ghost use Rattle.iso_model.specs.Image.{Written};
-ghost use Rattle.iso_model.specs.World.{World, used};
-ghost use Rattle.iso_core.specs.Core.{AreOf};
-ghost use Rattle.iso_core.specs.Ends.{AreNextRecords};
-ghost use Rattle.iso_core.specs.Standing.{up};
+ghost use Rattle.iso_model.specs.{Image.Written, World.{World, used}};
+ghost use Rattle.iso_core.specs.{Core.AreOf, Ends.AreNextRecords, Standing.up};
 
 use crate::kept::Kept;
 use iso_disk::{Disk, DiskFault};

@@ -1,12 +1,8 @@
 // The begin of a transaction.
 ghost use Rattle.std.specs.Prelude.{◌≡◌, ℕ, ◌+◌, ◌&&◌, ◌==◌, IfOk, IfErr, IsErrOf, OnErr, not};
-ghost use Rattle.iso_model.specs.declared.limits.TheConstants.{LAST};
-ghost use Rattle.iso_model.specs.Geometry.{same_mode};
-ghost use Rattle.iso_model.specs.Step.{after_begin, begin_step, mode_named};
-ghost use Rattle.iso_model.specs.World.{World, unattached};
+ghost use Rattle.iso_model.specs.{declared.limits.TheConstants.LAST, Geometry.same_mode, Step.{after_begin, begin_step, mode_named}, World.{World, unattached}};
 ghost use Rattle.iso_model.specs.declared.core_reply.CoreReply.TheVariants as reply;
-ghost use Rattle.iso_core.specs.Calls.{Refuses};
-ghost use Rattle.iso_core.specs.Kept.{IsOf};
+ghost use Rattle.iso_core.specs.{Calls.Refuses, Kept.IsOf};
 
 use crate::answers::Begun;
 use crate::kept::Kept;

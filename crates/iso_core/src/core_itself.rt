@@ -1,11 +1,6 @@
 // The core itself.
 ghost use Rattle.std.specs.Prelude.{◌≡◌, ◌≢◌, ◌⊎◌, ℕ, ◌+◌, ◌-◌, ◌<◌, ◌≤◌, List, [], ◌∷◌, Some, Ok, Err, OnOk, OnErr, IfOk, IfErr, IsErrOf, drop, length, map, take};
-ghost use Rattle.iso_model.specs.declared.access.Commit.{Commit};
-ghost use Rattle.iso_model.specs.declared.limits.TheConstants.{LAST};
-ghost use Rattle.iso_model.specs.History.{last};
-ghost use Rattle.iso_model.specs.Step.{after_begin, after_leaving, after_switch, after_trim, begin_step, end_step, mode_named, switch_step};
-ghost use Rattle.iso_model.specs.World.{World, Live, floor, unattached, used};
-ghost use Rattle.iso_model.specs.declared.core_reply.CoreReply.{CoreReply};
+ghost use Rattle.iso_model.specs.{declared.access.Commit.Commit, declared.limits.TheConstants.LAST, History.last, Step.{after_begin, after_leaving, after_switch, after_trim, begin_step, end_step, mode_named, switch_step}, World.{World, Live, floor, unattached, used}, declared.core_reply.CoreReply.CoreReply};
 ghost use Rattle.iso_model.specs.declared.core_reply.CoreReply.TheVariants as reply;
 ghost use Rattle.iso_model.specs.Versions.{versions};
 
@@ -42,20 +37,8 @@ impl<D: Disk> Core<D> {
     ghost use Rattle.conflict_rule.specs.Decision.{AreNotesAfter};
     ghost use Rattle.std.specs.Option.{ForSome};
     ghost use Rattle.iso_disk.specs.Disk.{LeavesOnly, StaysTold, WritesNothing};
-    ghost use Rattle.iso_model.specs.History.{History, array_at};
-    ghost use Rattle.iso_model.specs.Premises.{block_at};
-    ghost use Rattle.iso_core.specs.Calls.{BlamesDisk, IsCheckedOf, IsTx, IsWorkOf, Refuses, Writes, reply_of};
-    ghost use Rattle.iso_model.specs.Step.{commit_from};
-    ghost use Rattle.iso_core.specs.Core.{AllHold, StandsFor, disk_of};
-    ghost use Rattle.iso_core.specs.Opening.{IsOpenedTo, opened_world};
-    ghost use Rattle.iso_model.specs.Geometry.{image_size};
-    ghost use Rattle.iso_model.specs.Group.{group, leave_all};
-    ghost use Rattle.iso_model.specs.History.{with_commits};
-    ghost use Rattle.iso_core.specs.Planned.{AreEach, IsMember, bare_end, reply_in, unsettled};
-    ghost use Rattle.iso_core.specs.declared.group_end.TheConstants.{MAX_GROUP};
-    ghost use Rattle.iso_core.specs.Standing.{Standing, up, down, is_down};
-    ghost use Rattle.iso_core.specs.Switching.{HasForm, HasFormOr};
-    ghost use Rattle.iso_model.specs.Between.{ShowsEither, ShowsLast};
+    ghost use Rattle.iso_model.specs.{History.{History, array_at, with_commits}, Premises.block_at, Step.commit_from, Geometry.image_size, Group.{group, leave_all}, Between.{ShowsEither, ShowsLast}};
+    ghost use Rattle.iso_core.specs.{Calls.{BlamesDisk, IsCheckedOf, IsTx, IsWorkOf, Refuses, Writes, reply_of}, Core.{AllHold, StandsFor, disk_of}, Opening.{IsOpenedTo, opened_world}, Planned.{AreEach, IsMember, bare_end, reply_in, unsettled}, declared.group_end.TheConstants.MAX_GROUP, Standing.{Standing, up, down, is_down}, Switching.{HasForm, HasFormOr}};
 
     /// A core over an image that was just opened or made. It takes no memory.
     pub fn over(alloc: Global, disk: D, opened: Opened) -> Core<D>

@@ -1,11 +1,7 @@
 // Whether a transaction with a write conflicts.
 ghost use Rattle.std.specs.Prelude.{◌≡◌, ◌+◌, ◌-◌, ◌≤◌, IfOk, OnOk};
-ghost use Rattle.iso_model.specs.Conflict.{clash};
-ghost use Rattle.iso_model.specs.History.{last};
-ghost use Rattle.iso_model.specs.World.{World, Live};
-ghost use Rattle.iso_core.specs.Calls.{IsCheckedOf, IsTx, IsWorkOf};
-ghost use Rattle.iso_core.specs.Kept.{IsOf};
-ghost use Rattle.iso_core.specs.Ends.{IsSettledOf};
+ghost use Rattle.iso_model.specs.{Conflict.clash, History.last, World.{World, Live}};
+ghost use Rattle.iso_core.specs.{Calls.{IsCheckedOf, IsTx, IsWorkOf}, Kept.IsOf, Ends.IsSettledOf};
 
 use crate::kept::Kept;
 use conflict_rule::{Checked, decide};

@@ -1,14 +1,9 @@
 // The end of a transaction.
 ghost use Rattle.std.specs.Prelude.{◌≡◌, ◌≢◌, ◌⊎◌, ◌+◌, ◌-◌, ◌≤◌, ℕ, [], ◌∷◌, Some, OnOk, IfOk, IfErr, IsErrOf};
 ghost use Rattle.iso_disk.specs.Disk.{LeavesOnly, StaysTold};
-ghost use Rattle.iso_model.specs.declared.limits.TheConstants.{LAST};
-ghost use Rattle.iso_model.specs.History.{last};
-ghost use Rattle.iso_model.specs.Step.{after_leaving, end_step, commit_from};
-ghost use Rattle.iso_model.specs.World.{World, Live};
+ghost use Rattle.iso_model.specs.{declared.limits.TheConstants.LAST, History.last, Step.{after_leaving, end_step, commit_from}, World.{World, Live}};
 ghost use Rattle.iso_model.specs.declared.core_reply.CoreReply.TheVariants as reply;
-ghost use Rattle.iso_core.specs.Calls.{BlamesDisk, IsCheckedOf, IsTx, IsWorkOf, Refuses, Writes, reply_of};
-ghost use Rattle.iso_core.specs.Core.{AreOf};
-ghost use Rattle.iso_core.specs.Standing.{up, down};
+ghost use Rattle.iso_core.specs.{Calls.{BlamesDisk, IsCheckedOf, IsTx, IsWorkOf, Refuses, Writes, reply_of}, Core.AreOf, Standing.{up, down}};
 ghost use Rattle.iso_model.specs.Between.{ShowsEither};
 
 use crate::commit::commit;

@@ -1,18 +1,11 @@
 // Bytes of a block as a transaction is shown them.
-ghost use Rattle.std.specs.Prelude.{◌≡◌, ◌⊎◌, ◌+◌, ◌*◌, ◌<◌, ◌≤◌, ℕ, OnOk, drop, length, take};
-ghost use Rattle.std.specs.List.{AllByRecursion};
-ghost use Rattle.std.specs.Option.{ForSome};
+ghost use Rattle.std.specs.{Prelude.{◌≡◌, ◌⊎◌, ◌+◌, ◌*◌, ◌<◌, ◌≤◌, ℕ, OnOk, drop, length, take}, List.AllByRecursion, Option.ForSome};
 ghost use Rattle.fault_count.specs.Count.{HasCause};
 ghost use Rattle.iso_disk.specs.Disk.{WritesNothing};
-ghost use Rattle.iso_model.specs.History.{array_at, last};
-ghost use Rattle.iso_model.specs.Premises.{block_at};
-ghost use Rattle.iso_model.specs.World.{World, Live};
-ghost use Rattle.mv_index.specs.Shown.{AllLie, Lies, ShowTheSameIn};
-ghost use Rattle.mv_index.specs.Versions.{upto, versions_in};
+ghost use Rattle.iso_model.specs.{History.{array_at, last}, Premises.block_at, World.{World, Live}};
+ghost use Rattle.mv_index.specs.{Shown.{AllLie, Lies, ShowTheSameIn}, Versions.{upto, versions_in}};
 ghost use Rattle.version_read.specs.Blocks.{IsOverIn};
-ghost use Rattle.iso_core.specs.Calls.{IsTx};
-ghost use Rattle.iso_core.specs.Core.{AreOf};
-ghost use Rattle.iso_core.specs.Standing.{up};
+ghost use Rattle.iso_core.specs.{Calls.IsTx, Core.AreOf, Standing.up};
 
 use crate::kept::Kept;
 use iso_disk::{Disk, DiskFault};

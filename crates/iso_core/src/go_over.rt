@@ -1,10 +1,8 @@
 // A core that goes over to the other half.
 ghost use Rattle.std.specs.Prelude.{◌≡◌, ◌-◌};
-ghost use Rattle.iso_model.specs.Geometry.{log_place};
-ghost use Rattle.iso_model.specs.Step.{after_switch};
+ghost use Rattle.iso_model.specs.{Geometry.log_place, Step.after_switch};
 ghost use Rattle.iso_model.specs.World as model;
-ghost use Rattle.iso_model.specs.World.{World};
-ghost use Rattle.iso_model.specs.Worlds.{IsWorld};
+ghost use Rattle.iso_model.specs.{World.World, Worlds.IsWorld};
 ghost use Rattle.iso_core.specs.Kept.{IsOf};
 
 use crate::kept::Kept;

@@ -1,16 +1,8 @@
 // The end of a group.
 ghost use Rattle.std.specs.Prelude.{◌≡◌, ◌≢◌, ◌⊎◌, ◌+◌, ◌<◌, ◌++◌, true, false, List, [], ◌∷◌, OnOk, IfErr, IsErrOf, length};
 ghost use Rattle.iso_disk.specs.Disk.{LeavesOnly, StaysTold};
-ghost use Rattle.iso_model.specs.declared.access.Commit.{Commit};
-ghost use Rattle.iso_model.specs.World.{World, Live};
-ghost use Rattle.iso_core.specs.Calls.{BlamesDisk};
-ghost use Rattle.iso_core.specs.Core.{AreOf};
-ghost use Rattle.iso_model.specs.Group.{group, leave_all};
-ghost use Rattle.iso_core.specs.Kept.{IsOf};
-ghost use Rattle.iso_core.specs.Planned.{AreEach, IsPlannedFor, IsReady};
-ghost use Rattle.iso_core.specs.Standing.{down, up};
-ghost use Rattle.iso_model.specs.Between.{ShowsEither};
-ghost use Rattle.iso_model.specs.History.{with_commits};
+ghost use Rattle.iso_model.specs.{declared.access.Commit.Commit, World.{World, Live}, Group.{group, leave_all}, Between.ShowsEither, History.with_commits};
+ghost use Rattle.iso_core.specs.{Calls.BlamesDisk, Core.AreOf, Kept.IsOf, Planned.{AreEach, IsPlannedFor, IsReady}, Standing.{down, up}};
 
 use crate::append::append_all;
 use crate::group_end::GroupEnd;

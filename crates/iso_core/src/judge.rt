@@ -1,23 +1,10 @@
 // How a member of a group ends, after those before it.
 ghost use Rattle.std.specs.Prelude.{◌≡◌, ℕ, ◌+◌, ◌<◌, ◌++◌, [], ◌∷◌, true, List, None, OnOk, IfNone, IfOk, IfSome, map};
-ghost use Rattle.byte_marks.specs.declared.extent.Extent.{Extent};
-ghost use Rattle.byte_marks.specs.Touched.{AreTouched};
-ghost use Rattle.iso_model.specs.declared.access.Kind.TheVariants.{Read, Write};
+ghost use Rattle.byte_marks.specs.{declared.extent.Extent.Extent, Touched.AreTouched};
+ghost use Rattle.iso_model.specs.{declared.access.Kind.TheVariants.{Read, Write}, declared.access.Commit.Commit, declared.access.Geometry.Geometry, Conflict.clash, History.{History, last}, Step.{end_step, commit_from}, declared.limits.TheConstants.LAST, Worlds.IsWorld, World.{World, Live}, Group.{ahead, made_by, member_reply}};
 ghost use Rattle.conflict_rule.specs.Decision.{IsAsked};
-ghost use Rattle.iso_model.specs.declared.access.Commit.{Commit};
-ghost use Rattle.iso_model.specs.declared.access.Geometry.{Geometry};
-ghost use Rattle.iso_model.specs.Conflict.{clash};
-ghost use Rattle.iso_model.specs.History.{History, last};
-ghost use Rattle.iso_model.specs.Step.{end_step, commit_from};
-ghost use Rattle.iso_model.specs.declared.limits.TheConstants.{LAST};
-ghost use Rattle.iso_model.specs.Worlds.{IsWorld};
 ghost use Rattle.version_read.specs.Parts.{part_of};
-ghost use Rattle.iso_model.specs.World.{World, Live};
-ghost use Rattle.iso_core.specs.Ends.{AreNextRecords, IsSettledOf, MayCommit, written_of};
-ghost use Rattle.iso_model.specs.Group.{ahead, made_by, member_reply};
-ghost use Rattle.iso_core.specs.Kept.{IsOf};
-ghost use Rattle.iso_core.specs.Calls.{IsTx};
-ghost use Rattle.iso_core.specs.Planned.{is_commit, IfCommits, IsAhead, AreEach, HasPlanned, IsNextStaged, IsReady};
+ghost use Rattle.iso_core.specs.{Ends.{AreNextRecords, IsSettledOf, MayCommit, written_of}, Kept.IsOf, Calls.IsTx, Planned.{is_commit, IfCommits, IsAhead, AreEach, HasPlanned, IsNextStaged, IsReady}};
 
 use crate::group_end::GroupEnd;
 use crate::kept::Kept;

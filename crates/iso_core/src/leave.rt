@@ -1,9 +1,7 @@
 // The end of a transaction without a commit.
 ghost use Rattle.std.specs.Prelude.{◌≡◌};
-ghost use Rattle.iso_model.specs.Step.{after_leaving};
-ghost use Rattle.iso_model.specs.World.{World, Live};
-ghost use Rattle.iso_core.specs.Calls.{IsTx};
-ghost use Rattle.iso_core.specs.Kept.{IsOf};
+ghost use Rattle.iso_model.specs.{Step.after_leaving, World.{World, Live}};
+ghost use Rattle.iso_core.specs.{Calls.IsTx, Kept.IsOf};
 
 use crate::kept::Kept;
 

@@ -1,15 +1,8 @@
 // The members of a group: their works are settled, they end, and each is told how.
 ghost use Rattle.std.specs.Prelude.{◌≡◌, ◌≢◌, ◌⊎◌, List, Some, OnOk, OnErr, IfErr, IsErrOf, map};
 ghost use Rattle.iso_disk.specs.Disk.{LeavesOnly, StaysTold};
-ghost use Rattle.iso_model.specs.declared.access.Commit.{Commit};
-ghost use Rattle.iso_model.specs.Between.{ShowsEither};
-ghost use Rattle.iso_model.specs.Group.{group, leave_all};
-ghost use Rattle.iso_model.specs.History.{with_commits};
-ghost use Rattle.iso_model.specs.World.{World, Live};
-ghost use Rattle.iso_core.specs.Calls.{BlamesDisk};
-ghost use Rattle.iso_core.specs.Core.{AreOf};
-ghost use Rattle.iso_core.specs.Planned.{AreEach, IsMember, bare_end, reply_in, unsettled};
-ghost use Rattle.iso_core.specs.Standing.{down, up};
+ghost use Rattle.iso_model.specs.{declared.access.Commit.Commit, Between.ShowsEither, Group.{group, leave_all}, History.with_commits, World.{World, Live}};
+ghost use Rattle.iso_core.specs.{Calls.BlamesDisk, Core.AreOf, Planned.{AreEach, IsMember, bare_end, reply_in, unsettled}, Standing.{down, up}};
 
 use crate::group::end_ready;
 use crate::group_end::GroupEnd;

@@ -1,9 +1,7 @@
 // A core over an image whose half was read or made.
 ghost use Rattle.std.specs.Prelude.{◌≡◌, false};
-ghost use Rattle.iso_model.specs.History.{History};
-ghost use Rattle.iso_model.specs.World.{fresh};
-ghost use Rattle.iso_core.specs.Kept.{IsOf};
-ghost use Rattle.iso_core.specs.Opening.{IsOpenedTo};
+ghost use Rattle.iso_model.specs.{History.History, World.fresh};
+ghost use Rattle.iso_core.specs.{Kept.IsOf, Opening.IsOpenedTo};
 
 use crate::kept::Kept;
 use conflict_rule::Notes;

@@ -1,9 +1,7 @@
 // What a commit wants before the first call of the disk.
 ghost use Rattle.std.specs.Prelude.{◌≡◌, ◌+◌, ◌<◌, ◌≤◌, IfOk, OnOk, length};
-ghost use Rattle.iso_model.specs.declared.limits.TheConstants.{LAST};
-ghost use Rattle.iso_model.specs.World.{World, Live};
-ghost use Rattle.iso_core.specs.Ends.{IsPrepared, IsSpelled, MayCommit};
-ghost use Rattle.iso_core.specs.Kept.{IsOf};
+ghost use Rattle.iso_model.specs.{declared.limits.TheConstants.LAST, World.{World, Live}};
+ghost use Rattle.iso_core.specs.{Ends.{IsPrepared, IsSpelled, MayCommit}, Kept.IsOf};
 
 use crate::kept::Kept;
 use crate::spelling::spell;

@@ -4,8 +4,7 @@ ghost use Rattle.fault_count.specs.Count.{Rose};
 ghost use Rattle.half_switch.specs.Plan.{AreHalves, Copies, place_of, refilled};
 ghost use Rattle.iso_disk.specs.Disk.{IsSettled, LeavesOnly, StaysTold};
 ghost use Rattle.iso_image.specs.Half.{Half, IsHeld, in_form};
-ghost use Rattle.iso_model.specs.declared.access.Geometry.{Geometry};
-ghost use Rattle.iso_model.specs.Geometry.{image_size, is_valid};
+ghost use Rattle.iso_model.specs.{declared.access.Geometry.Geometry, Geometry.{image_size, is_valid}};
 
 use half_switch::{FillPlan, HalfPlace, SwitchError, close_half, fill_half, open_half};
 use iso_disk::Disk;

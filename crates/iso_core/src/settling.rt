@@ -1,8 +1,7 @@
 // The works of a group are settled, and its replies handed out.
 ghost use Rattle.std.specs.Prelude.{◌≡◌, ◌<◌, List, [], ◌∷◌, Some, IfNone, IfSome, OnOk, length, map};
 ghost use Rattle.iso_model.specs.World.{World, Live};
-ghost use Rattle.iso_core.specs.declared.group_end.GroupEnd.{GroupEnd};
-ghost use Rattle.iso_core.specs.Planned.{AreEach, IsMember, IsReady, unsettled, without_reply};
+ghost use Rattle.iso_core.specs.{declared.group_end.GroupEnd.GroupEnd, Planned.{AreEach, IsMember, IsReady, unsettled, without_reply}};
 
 use crate::group_end::GroupEnd;
 use iso_model::{GroupReply, Memory};

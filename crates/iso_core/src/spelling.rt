@@ -1,9 +1,7 @@
 // The record of a transaction, spelled from its patches.
 ghost use Rattle.std.specs.Prelude.{◌≡◌, ◌⊎◌, ◌+◌, ◌<◌, ◌≤◌, ◌++◌, [], true, OnOk, length, map};
 ghost use Rattle.iso_format.specs.Writing.{LieInAnImage};
-ghost use Rattle.iso_model.specs.declared.access.Geometry.{Geometry};
-ghost use Rattle.iso_model.specs.Effect.{runs, runs_from};
-ghost use Rattle.iso_model.specs.Image.{spell};
+ghost use Rattle.iso_model.specs.{declared.access.Geometry.Geometry, Effect.{runs, runs_from}, Image.spell};
 ghost use Rattle.version_read.specs.Parts.{part_of};
 
 use iso_format::RecordBuffer;

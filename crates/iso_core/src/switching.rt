@@ -1,16 +1,10 @@
 // The base of a core, moved to the floor.
 ghost use Rattle.std.specs.Prelude.{◌≡◌, ◌≢◌, ◌⊎◌, ℕ, [], OnOk, IfOk, IfErr, IsErrOf};
 ghost use Rattle.iso_disk.specs.Disk.{LeavesOnly, StaysTold};
-ghost use Rattle.iso_model.specs.declared.limits.TheConstants.{LAST};
-ghost use Rattle.iso_model.specs.Step.{after_switch, switch_step};
+ghost use Rattle.iso_model.specs.{declared.limits.TheConstants.LAST, Step.{after_switch, switch_step}};
 ghost use Rattle.iso_model.specs.World as model;
-ghost use Rattle.iso_model.specs.World.{World};
-ghost use Rattle.iso_model.specs.declared.core_reply.CoreReply.{CoreReply};
-ghost use Rattle.iso_core.specs.Calls.{BlamesDisk, Refuses};
-ghost use Rattle.iso_core.specs.Core.{AreOf};
-ghost use Rattle.iso_core.specs.Standing.{up, down};
-ghost use Rattle.iso_model.specs.Between.{ShowsLast};
-ghost use Rattle.iso_core.specs.Switching.{HasFormOr, IsForm};
+ghost use Rattle.iso_model.specs.{World.World, declared.core_reply.CoreReply.CoreReply, Between.ShowsLast};
+ghost use Rattle.iso_core.specs.{Calls.{BlamesDisk, Refuses}, Core.AreOf, Standing.{up, down}, Switching.{HasFormOr, IsForm}};
 
 use crate::go_over::go_over;
 use crate::kept::Kept;

@@ -1,17 +1,10 @@
 // The commits of a group are taken in, once their records stand.
-ghost use Rattle.std.specs.Prelude.{◌≡◌, ℕ, ◌+◌, ◌++◌, [], ◌∷◌, List, IfNone, IfOk, IfSome, OnOk, map};
-ghost use Rattle.std.specs.List.Sorted.{IsNonDecreasingBy, IsPermutation};
+ghost use Rattle.std.specs.{Prelude.{◌≡◌, ℕ, ◌+◌, ◌++◌, [], ◌∷◌, List, IfNone, IfOk, IfSome, OnOk, map}, List.Sorted.{IsNonDecreasingBy, IsPermutation}};
 ghost use Rattle.iso_image.specs.Half.{Half};
-ghost use Rattle.iso_model.specs.declared.access.Commit.{Commit};
-ghost use Rattle.iso_model.specs.declared.access.Geometry.{Geometry};
-ghost use Rattle.iso_model.specs.Geometry.{log_place};
-ghost use Rattle.iso_model.specs.Image.{written};
-ghost use Rattle.iso_model.specs.World.{World, Live};
+ghost use Rattle.iso_model.specs.{declared.access.Commit.Commit, declared.access.Geometry.Geometry, Geometry.log_place, Image.written, World.{World, Live}, Group.{ahead, leave_all}};
 ghost use Rattle.mv_index.specs.Placed.{IsIndexOf};
 ghost use Rattle.version_read.specs.Parts.{HasRoom};
-ghost use Rattle.iso_model.specs.Group.{ahead, leave_all};
-ghost use Rattle.iso_core.specs.Kept.{IsOf};
-ghost use Rattle.iso_core.specs.Planned.{AreEach, IsAhead, IsGrownWith, IsReady, IsReserved, MayTakeAll};
+ghost use Rattle.iso_core.specs.{Kept.IsOf, Planned.{AreEach, IsAhead, IsGrownWith, IsReady, IsReserved, MayTakeAll}};
 
 use crate::group_end::GroupEnd;
 use crate::judge::first_member;

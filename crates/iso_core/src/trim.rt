@@ -1,7 +1,6 @@
 // Versions that no transaction can be shown any more.
 ghost use Rattle.std.specs.Prelude.{◌≡◌};
-ghost use Rattle.iso_model.specs.Step.{after_trim};
-ghost use Rattle.iso_model.specs.World.{World, floor};
+ghost use Rattle.iso_model.specs.{Step.after_trim, World.{World, floor}};
 ghost use Rattle.iso_core.specs.Kept.{IsOf};
 
 use crate::kept::Kept;

@@ -1,6 +1,5 @@
 -- What the calls of a disk do to its bytes, what a crash may leave of them, and when a call may fail.
-use Rattle.std.specs.Prelude.{◌≡◌, ◌⊎◌, ℕ, ◌+◌, ◌<◌, ◌≤◌, List, ◌++◌, length, take, drop, slice_index, Option, Some, None, IsSome}
-use Rattle.std.specs.Option.{option_map, ForSome}
+use Rattle.std.specs.{Prelude.{◌≡◌, ◌⊎◌, ℕ, ◌+◌, ◌<◌, ◌≤◌, List, ◌++◌, length, take, drop, slice_index, Option, Some, None, IsSome}, Option.{option_map, ForSome}}
 
 -- the old bytes with these in the place of those from `at` on
 abbrev pub spliced : List ℕ → ℕ → List ℕ → List ℕ

@@ -1,6 +1,5 @@
 -- The state of a disk that tells nothing of its bytes, as a real file.
-use Rattle.std.specs.Prelude.{ℕ, List, Option, None}
-use Rattle.std.specs.Option.{option_map}
+use Rattle.std.specs.{Prelude.{ℕ, List, Option, None}, Option.option_map}
 use Rattle.iso_disk.specs.Disk.{DiskState, IsLawful}
 
 -- no contents, no images and one moment, so that each claim on bytes or crashes holds of it by itself

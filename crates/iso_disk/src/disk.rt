@@ -1,7 +1,5 @@
 // The contract between those who keep bytes and those who use them.
-ghost use Rattle.std.specs.Prelude.{◌≡◌, ◌+◌, ◌^◌, ◌<◌, ◌≤◌, ℕ, List, Option, length, replicate, OnOk, OnErr, IfNone, IfSome, IsSome, Some, None};
-ghost use Rattle.std.specs.List.{slice_range};
-ghost use Rattle.std.specs.Option.{ForSome};
+ghost use Rattle.std.specs.{Prelude.{◌≡◌, ◌+◌, ◌^◌, ◌<◌, ◌≤◌, ℕ, List, Option, length, replicate, OnOk, OnErr, IfNone, IfSome, IsSome, Some, None}, List.slice_range, Option.ForSome};
 ghost use Rattle.iso_disk.specs.Disk.{DiskState, IsLawful, TornFrom, Splices, TellsTorn, IsSettled, Elapses};
 ghost use Rattle.fault_count.specs.Count.{one_more, HasCause};
 

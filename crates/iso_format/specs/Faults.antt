@@ -1,7 +1,6 @@
 -- What a failed test of a record tells: its number, and where in the record its field stands.
 use Rattle.std.specs.Prelude.{ℕ}
-use Rattle.iso_format.specs.declared.format_error.FormatError.{FormatError}
-use Rattle.iso_format.specs.declared.format_error.FormatError.TheVariants.{Short, Kind, NotZero, Count, Order, Range, Length, Number}
+use Rattle.iso_format.specs.{declared.format_error.FormatError.FormatError, declared.format_error.FormatError.TheVariants.{Short, Kind, NotZero, Count, Order, Range, Length, Number}}
 
 abbrev pub test_number : FormatError → ℕ
 test_number (Short at) = 1

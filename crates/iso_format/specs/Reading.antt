@@ -1,15 +1,7 @@
 -- What bytes say: the header of a half, and a superblock with the first test that it fails.
-use Rattle.std.specs.Prelude.{ℕ, zero, suc, ◌+◌, Bool, ◌&&◌, ◌==◌, nat_eq, not, if◌then◌else◌, List, [], ◌∷◌, Option, Some, None, Result, Ok, Err, take, drop, nat_le, slice_index, codes, option_map, position}
-use Rattle.std.specs.List.{list_all, position_from, starts_with}
-use Rattle.std.specs.Int.{Width, w32, w64, byte_len, from_be_bytes}
-use Rattle.iso_model.specs.declared.access.Geometry.{Geometry}
-use Rattle.iso_model.specs.declared.access.Mode.{Mode}
-use Rattle.iso_model.specs.declared.access.Mode.TheVariants.{Serial, Snapshot}
-use Rattle.iso_model.specs.Effect.{or_else}
-use Rattle.iso_model.specs.Geometry.{is_block_size, is_region}
-use Rattle.iso_format.specs.declared.half.HalfHeader.{HalfHeader}
-use Rattle.iso_format.specs.declared.superblock.SuperError.{SuperError}
-use Rattle.iso_format.specs.declared.superblock.SuperError.TheVariants.{NotIsotope, BadGeometry}
+use Rattle.std.specs.{Prelude.{ℕ, zero, suc, ◌+◌, Bool, ◌&&◌, ◌==◌, nat_eq, not, if◌then◌else◌, List, [], ◌∷◌, Option, Some, None, Result, Ok, Err, take, drop, nat_le, slice_index, codes, option_map, position}, List.{list_all, position_from, starts_with}, Int.{Width, w32, w64, byte_len, from_be_bytes}}
+use Rattle.iso_model.specs.{declared.access.Geometry.Geometry, declared.access.Mode.Mode, declared.access.Mode.TheVariants.{Serial, Snapshot}, Effect.or_else, Geometry.{is_block_size, is_region}}
+use Rattle.iso_format.specs.{declared.half.HalfHeader.HalfHeader, declared.superblock.SuperError.SuperError, declared.superblock.SuperError.TheVariants.{NotIsotope, BadGeometry}}
 
 -- the number in the bytes from a place on, the highest byte first
 abbrev pub number_at : Width → (at : ℕ) → List ℕ → ℕ

@@ -1,14 +1,7 @@
 -- What the bytes of a record say, and the first test that they fail.
-use Rattle.std.specs.Prelude.{◌≡◌, ℕ, zero, suc, ◌+◌, ◌*◌, ◌^◌, ◌<◌, ◌≤◌, Bool, true, ◌&&◌, ◌||◌, ◌==◌, not, if◌then◌else◌, List, [], ◌∷◌, ◌++◌, Option, Some, None, IsTrue, length, take, drop, nat_lt, nat_le, slice_index}
-use Rattle.std.specs.Int.{w16, w32, w64}
-use Rattle.iso_model.specs.declared.access.Geometry.{Geometry}
-use Rattle.iso_model.specs.declared.access.Run.{Run}
-use Rattle.iso_model.specs.declared.limits.TheConstants.{LAST}
-use Rattle.iso_model.specs.Effect.{or_else}
-use Rattle.iso_model.specs.Image.{AreRuns, spell}
-use Rattle.iso_format.specs.declared.format_error.FormatError.{FormatError}
-use Rattle.iso_format.specs.declared.format_error.FormatError.TheVariants.{Short, Kind, NotZero, Count, Order, Range, Length, Number}
-use Rattle.iso_format.specs.Reading.{number_at}
+use Rattle.std.specs.{Prelude.{◌≡◌, ℕ, zero, suc, ◌+◌, ◌*◌, ◌^◌, ◌<◌, ◌≤◌, Bool, true, ◌&&◌, ◌||◌, ◌==◌, not, if◌then◌else◌, List, [], ◌∷◌, ◌++◌, Option, Some, None, IsTrue, length, take, drop, nat_lt, nat_le, slice_index}, Int.{w16, w32, w64}}
+use Rattle.iso_model.specs.{declared.access.Geometry.Geometry, declared.access.Run.Run, declared.limits.TheConstants.LAST, Effect.or_else, Image.{AreRuns, spell}}
+use Rattle.iso_format.specs.{declared.format_error.FormatError.FormatError, declared.format_error.FormatError.TheVariants.{Short, Kind, NotZero, Count, Order, Range, Length, Number}, Reading.number_at}
 
 -- a record without where it lies in memory
 pub record Recorded : Type 0 where

@@ -1,8 +1,6 @@
 -- Records that are spelled one behind another, and how a buffer holds them.
-use Rattle.std.specs.Prelude.{◌≡◌, ℕ, ◌+◌, ◌≤◌, List, length, take, drop, flat_map, slice_index}
-use Rattle.std.specs.List.{AllByRecursion}
-use Rattle.iso_model.specs.declared.access.Run.{Run}
-use Rattle.iso_model.specs.Image.{part}
+use Rattle.std.specs.{Prelude.{◌≡◌, ℕ, ◌+◌, ◌≤◌, List, length, take, drop, flat_map, slice_index}, List.AllByRecursion}
+use Rattle.iso_model.specs.{declared.access.Run.Run, Image.part}
 use Rattle.iso_format.specs.Records.{IsSmall, runs_of}
 
 -- the bytes of finished records, and the parts of the one that is begun

@@ -1,10 +1,6 @@
 -- What the calls that write a record ask of its parts, and a record up to its parts.
-use Rattle.std.specs.Prelude.{ℕ, List, [], ◌∷◌, ◌++◌, IsTrue}
-use Rattle.std.specs.Int.{to_be_bytes, w32, w64}
-use Rattle.iso_model.specs.declared.access.Geometry.{Geometry}
-use Rattle.iso_model.specs.declared.access.Run.{Run}
-use Rattle.iso_model.specs.Geometry.{is_valid}
-use Rattle.iso_model.specs.Image.{AreRuns}
+use Rattle.std.specs.{Prelude.{ℕ, List, [], ◌∷◌, ◌++◌, IsTrue}, Int.{to_be_bytes, w32, w64}}
+use Rattle.iso_model.specs.{declared.access.Geometry.Geometry, declared.access.Run.Run, Geometry.is_valid, Image.AreRuns}
 
 -- in the array of some valid geometry the parts are maximal runs, rising
 abbrev pub LieInAnImage : List Run → Type 0

@@ -1,8 +1,7 @@
 // What holds of the bytes of every record: each function does nothing, and its contract is the law.
 ghost use Rattle.std.specs.Prelude.{◌≡◌, ℕ, ◌<◌, ◌≤◌, List, Some, length, take};
 ghost use Rattle.iso_model.specs.declared.access.Geometry.{Geometry};
-ghost use Rattle.iso_format.specs.declared.format_error.FormatError.TheVariants.{Short};
-ghost use Rattle.iso_format.specs.Records.{fault_of, record_window, recorded};
+ghost use Rattle.iso_format.specs.{declared.format_error.FormatError.TheVariants.Short, Records.{fault_of, record_window, recorded}};
 
 /// A record is read from the bytes that its head asks for as from any that go on behind them.
 pub fn records_are_read_from_their_window()

@@ -1,7 +1,6 @@
 // The record of a commit.
 ghost use Rattle.std.specs.Prelude.{◌≡◌, ◌⊎◌, ◌<◌, ◌≤◌, ◌^◌, ◌-◌, min, length, IfOk, vec_len};
-ghost use Rattle.iso_model.specs.Effect.{record_length};
-ghost use Rattle.iso_model.specs.Image.{body_length, spell};
+ghost use Rattle.iso_model.specs.{Effect.record_length, Image.{body_length, spell}};
 ghost use Rattle.iso_format.specs.Writing.{LieInAnImage};
 
 use crate::record_buffer::RecordBuffer;

@@ -1,6 +1,5 @@
 // Fields of a format: numbers, the highest byte first, and bytes that are to be zero.
-ghost use Rattle.std.specs.Prelude.{◌≡◌, ◌+◌, ◌≤◌, length};
-ghost use Rattle.std.specs.Int.{w16, w32, w64};
+ghost use Rattle.std.specs.{Prelude.{◌≡◌, ◌+◌, ◌≤◌, length}, Int.{w16, w32, w64}};
 ghost use Rattle.iso_format.specs.Reading.{are_zero, number_at};
 
 use byteorder::{BigEndian, ByteOrder};

@@ -1,8 +1,6 @@
 // A record that lies in bytes, and its parts.
 ghost use Rattle.std.specs.Prelude.{◌≡◌, ◌≤◌, ℕ, length, None, Some, Ok, IfOk, IfErr, IsTrue};
-ghost use Rattle.iso_model.specs.declared.access.Geometry.{Geometry};
-ghost use Rattle.iso_model.specs.Geometry.{is_valid};
-ghost use Rattle.iso_model.specs.Premises.{AreBytes};
+ghost use Rattle.iso_model.specs.{declared.access.Geometry.Geometry, Geometry.is_valid, Premises.AreBytes};
 ghost use Rattle.iso_format.specs.Records.{BeginsWith, Recorded, fault_of, record_window, recorded};
 
 use crate::faults::{PART_HEAD, body_of, fault_of, part_size};

@@ -1,8 +1,6 @@
 // The superblock, which spells the fixed numbers of an image.
 ghost use Rattle.std.specs.Prelude.{◌≡◌, length, IsTrue, IfOk, Ok};
-ghost use Rattle.iso_model.specs.Geometry.{is_valid, is_block_size, is_region};
-ghost use Rattle.iso_model.specs.Image.{superblock, mode_byte};
-ghost use Rattle.iso_model.specs.declared.access.Geometry.{Geometry};
+ghost use Rattle.iso_model.specs.{Geometry.{is_valid, is_block_size, is_region}, Image.{superblock, mode_byte}, declared.access.Geometry.Geometry};
 ghost use Rattle.iso_format.specs.Reading.{super_of, geometry_of, has_regions, mode_of, wrong_field};
 
 use crate::numbers::{are_zero, u32_at};

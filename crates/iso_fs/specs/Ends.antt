@@ -1,19 +1,10 @@
 -- How a call of the file store ends, and what it leaves.
 use Rattle.std.specs.Prelude.{◌≡◌, ◌≢◌, ◌↔◌, ℕ, ◌+◌, ◌≤◌, Bool, true, false, IsFalse, IsTrue, Some, Result, Ok, Err, IfErr, OnOk}
-use Rattle.iso_model.specs.Array.{Array}
-use Rattle.iso_model.specs.Effect.{own}
-use Rattle.store_model.specs.declared.stores.StoreError.{StoreError}
+use Rattle.iso_model.specs.{Array.Array, Effect.own}
+use Rattle.store_model.specs.{declared.stores.StoreError.StoreError, declared.files.FsError.FsError, declared.files.FsRegion.FsRegion, declared.stores.Area.Area, declared.files.FileAreas.FileAreas, FileCalls.Call, FileRegion.{AreFileRegions, files}, HashRegion.Pairs}
 use Rattle.store_model.specs.declared.stores.StoreError.TheVariants as store
-use Rattle.store_model.specs.declared.files.FsError.{FsError}
 use Rattle.store_model.specs.declared.files.FsError.TheVariants as fs
-use Rattle.store_model.specs.declared.files.FsRegion.{FsRegion}
-use Rattle.store_model.specs.declared.stores.Area.{Area}
-use Rattle.store_model.specs.declared.files.FileAreas.{FileAreas}
-use Rattle.store_model.specs.FileCalls.{Call}
-use Rattle.store_model.specs.FileRegion.{AreFileRegions, files}
-use Rattle.store_model.specs.HashRegion.{Pairs}
-use Rattle.tx_blocks.specs.Tx.{Tx, Device, IsLater}
-use Rattle.tx_blocks.specs.Runs.{area_of, Ran, Stopped, IsCut, IsStoreCause, HasRead, Passed}
+use Rattle.tx_blocks.specs.{Tx.{Tx, Device, IsLater}, Runs.{area_of, Ran, Stopped, IsCut, IsStoreCause, HasRead, Passed}}
 
 -- the areas of the regions in the transaction's blocks
 abbrev pub areas_of : Tx → FsRegion → FileAreas

@@ -1,15 +1,7 @@
 -- The file block of a name: what a look-up is, and what it leaves in the buffer.
 use Rattle.std.specs.Prelude.{ℕ, ◌+◌, ◌-◌, ◌<◌, ◌≤◌, cond, nat_lt, Bool, true, List, Option, Some, None, Result, Ok, Err, IfOk, IfSome, IsTrue, option_map, take}
-use Rattle.store_model.specs.declared.stores.Area.{Area}
-use Rattle.store_model.specs.declared.stores.StoreError.TheVariants.{NoBlocks}
-use Rattle.store_model.specs.declared.files.FsError.{FsError}
+use Rattle.store_model.specs.{declared.stores.Area.Area, declared.stores.StoreError.TheVariants.NoBlocks, declared.files.FsError.FsError, FreeMap.{free_count, map_bytes}, declared.files.FileAreas.FileAreas, Stores.Done, TreeCalls.{del_program, first_write, free_list, get_program}, FileCalls.{Call, at_file, in_tree, refuse, remove_writes}, FileNodes.is_file}
 use Rattle.store_model.specs.declared.files.FsError.TheVariants as fs
-use Rattle.store_model.specs.FreeMap.{free_count, map_bytes}
-use Rattle.store_model.specs.declared.files.FileAreas.{FileAreas}
-use Rattle.store_model.specs.Stores.{Done}
-use Rattle.store_model.specs.TreeCalls.{del_program, first_write, free_list, get_program}
-use Rattle.store_model.specs.FileCalls.{Call, at_file, in_tree, refuse, remove_writes}
-use Rattle.store_model.specs.FileNodes.{is_file}
 
 -- the number of a file block, and its bytes; none where the name has no file
 abbrev pub Found : Type 0

@@ -1,8 +1,6 @@
 // Where a call works, the tests of its arguments, and bytes laid into a block.
-ghost use Rattle.std.specs.Prelude.{◌≡◌, ◌≤◌, IfErr, IfOk, length, []};
-ghost use Rattle.std.specs.Int.{w32, to_be_bytes};
-ghost use Rattle.store_model.specs.FileCalls.{is_many};
-ghost use Rattle.store_model.specs.FileNodes.{file_block};
+ghost use Rattle.std.specs.{Prelude.{◌≡◌, ◌≤◌, IfErr, IfOk, length, []}, Int.{w32, to_be_bytes}};
+ghost use Rattle.store_model.specs.{FileCalls.is_many, FileNodes.file_block};
 ghost use Rattle.iso_fs.specs.Ends.{areas_of};
 
 use iso_alloc::{buffer, clear, lay};

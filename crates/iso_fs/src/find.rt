@@ -1,11 +1,8 @@
 // The file block of a name.
 ghost use Rattle.std.specs.Prelude.{false, ◌≡◌, ◌+◌, ◌<◌, length, true, None};
-ghost use Rattle.store_model.specs.HashCalls.{is_key};
-ghost use Rattle.store_model.specs.FileCalls.{at_file, numbered, with_file};
-ghost use Rattle.store_model.specs.FileRegion.{AreFileAreas};
+ghost use Rattle.store_model.specs.{HashCalls.is_key, FileCalls.{at_file, numbered, with_file}, FileRegion.AreFileAreas};
 ghost use Rattle.tx_blocks.specs.Runs.{HasRead};
-ghost use Rattle.iso_fs.specs.Ends.{HasArea, IsPart};
-ghost use Rattle.iso_fs.specs.Finds.{find_program, found_as, found_file, IsFound};
+ghost use Rattle.iso_fs.specs.{Ends.{HasArea, IsPart}, Finds.{find_program, found_as, found_file, IsFound}};
 
 use crate::file::{is_file, number_of};
 use crate::names::value_of;

@@ -1,16 +1,8 @@
 // The map without the blocks of a file, and the write of the bytes that change.
-ghost use Rattle.std.specs.Prelude.{◌≡◌, ◌+◌, ◌-◌, ◌*◌, ◌<◌, ◌≤◌, IfErr, OnErr, OnOk, [], ◌∷◌, length, map, true};
-ghost use Rattle.std.specs.List.{range_with_len};
-ghost use Rattle.store_model.specs.Cells.{block_with};
-ghost use Rattle.store_model.specs.FreeMap.{map_mark};
-ghost use Rattle.store_model.specs.Stores.{bytes_in, store_access};
-ghost use Rattle.store_model.specs.TreeRegion.{IsTreeArea};
-ghost use Rattle.store_model.specs.FileCalls.{bits_mark, high_place, low_place, without_bits};
-ghost use Rattle.store_model.specs.FileNodes.{data_count, entries_of, entry_at, is_file};
-ghost use Rattle.tx_blocks.specs.Tx.{with_accesses};
-ghost use Rattle.tx_blocks.specs.Runs.{IsCause};
-ghost use Rattle.iso_fs.specs.Ends.{HasArea};
-ghost use Rattle.iso_fs.specs.Finds.{ArePlaces};
+ghost use Rattle.std.specs.{Prelude.{◌≡◌, ◌+◌, ◌-◌, ◌*◌, ◌<◌, ◌≤◌, IfErr, OnErr, OnOk, [], ◌∷◌, length, map, true}, List.range_with_len};
+ghost use Rattle.store_model.specs.{Cells.block_with, FreeMap.map_mark, Stores.{bytes_in, store_access}, TreeRegion.IsTreeArea, FileCalls.{bits_mark, high_place, low_place, without_bits}, FileNodes.{data_count, entries_of, entry_at, is_file}};
+ghost use Rattle.tx_blocks.specs.{Tx.with_accesses, Runs.IsCause};
+ghost use Rattle.iso_fs.specs.{Ends.HasArea, Finds.ArePlaces};
 
 use crate::file::{data_count, entry_at};
 use crate::names::region_of;

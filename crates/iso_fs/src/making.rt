@@ -1,16 +1,8 @@
 // A new file.
-ghost use Rattle.std.specs.Prelude.{false, ◌≡◌, ◌↔◌, ◌+◌, ◌-◌, ◌<◌, ◌≤◌, Err, IsFalse, IsTrue, is_some, true, IfOk, IfErr, OnOk, OnErr, length, [], ◌∷◌, Ok, None};
-ghost use Rattle.std.specs.FinMap.{get};
-ghost use Rattle.store_model.specs.Cells.{block_with};
-ghost use Rattle.store_model.specs.FreeMap.{bit_mark, bit_place};
-ghost use Rattle.store_model.specs.HashCalls.{is_key};
-ghost use Rattle.store_model.specs.Stores.{store_access};
-ghost use Rattle.tx_blocks.specs.Tx.{with_accesses, IsLater};
-ghost use Rattle.tx_blocks.specs.Runs.{IsCause, IsLocalCall};
+ghost use Rattle.std.specs.{Prelude.{false, ◌≡◌, ◌↔◌, ◌+◌, ◌-◌, ◌<◌, ◌≤◌, Err, IsFalse, IsTrue, is_some, true, IfOk, IfErr, OnOk, OnErr, length, [], ◌∷◌, Ok, None}, FinMap.get};
+ghost use Rattle.store_model.specs.{Cells.block_with, FreeMap.{bit_mark, bit_place}, HashCalls.is_key, Stores.store_access, FileCalls.{create_new, create_op, create_program, empty_writes, name_file}, FileNodes.file_block, FileRegion.{files, AreFileAreas, AreFileRegions}};
+ghost use Rattle.tx_blocks.specs.{Tx.{with_accesses, IsLater}, Runs.{IsCause, IsLocalCall}};
 ghost use Rattle.iso_fs.specs.Ends.{areas_of, ExistsWhere, HasArea, HasRun, IsFsCause, IsOfTx, IsPart, IsUnwritten};
-ghost use Rattle.store_model.specs.FileCalls.{create_new, create_op, create_program, empty_writes, name_file};
-ghost use Rattle.store_model.specs.FileNodes.{file_block};
-ghost use Rattle.store_model.specs.FileRegion.{files, AreFileAreas, AreFileRegions};
 
 use crate::buffers::{areas_of, lay_empty, spelled};
 use crate::names::{put_value, region_of, value_of};

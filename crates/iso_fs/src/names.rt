@@ -1,10 +1,7 @@
 // The calls of the tree store, by its area.
 ghost use Rattle.std.specs.Prelude.{◌≡◌, ◌≢◌, IsTrue, IfErr, OnErr, OnOk};
-ghost use Rattle.store_model.specs.HashCalls.{is_key, is_value};
-ghost use Rattle.store_model.specs.TreeCalls.{del_program, get_program, put_program};
-ghost use Rattle.store_model.specs.TreeRegion.{IsTreeArea};
-ghost use Rattle.tx_blocks.specs.Tx.{IsLater};
-ghost use Rattle.tx_blocks.specs.Runs.{HasEnded, HasRead, IsStoreCause, IsUnwritten};
+ghost use Rattle.store_model.specs.{HashCalls.{is_key, is_value}, TreeCalls.{del_program, get_program, put_program}, TreeRegion.IsTreeArea};
+ghost use Rattle.tx_blocks.specs.{Tx.IsLater, Runs.{HasEnded, HasRead, IsStoreCause, IsUnwritten}};
 ghost use Rattle.iso_tree.specs.Walks.{TakesNoBlocks};
 ghost use Rattle.iso_fs.specs.Ends.{HasArea};
 

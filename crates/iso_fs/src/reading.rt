@@ -1,14 +1,8 @@
 // The read of a file.
 ghost use Rattle.std.specs.Prelude.{false, ◌≡◌, ◌↔◌, ◌+◌, ◌-◌, ◌/◌, ◌<◌, ◌≤◌, ℕ, suc, Err, IsFalse, IsTrue, None, Ok, true, IfOk, IfErr, IfSome, OnOk, cond, length, nat_lt, option_map, take, []};
-ghost use Rattle.store_model.specs.HashCalls.{is_key};
-ghost use Rattle.tx_blocks.specs.Tx.{IsLater};
-ghost use Rattle.tx_blocks.specs.Runs.{HasRead, IsLocalCall};
-ghost use Rattle.tx_blocks.proofs.Progress.{IsAt};
-ghost use Rattle.iso_fs.specs.Ends.{areas_of, FsBehaves, HasArea, HasRun, IsFsCause, IsPart};
-ghost use Rattle.iso_fs.specs.Finds.{found_as, got_as, on_found};
-ghost use Rattle.store_model.specs.FileCalls.{is_many, read_from, read_op, read_pieces, read_program};
-ghost use Rattle.store_model.specs.FileNodes.{bytes_of, entry_at, is_file, piece_mark};
-ghost use Rattle.store_model.specs.FileRegion.{files, AreFileAreas, AreFileRegions};
+ghost use Rattle.store_model.specs.{HashCalls.is_key, FileCalls.{is_many, read_from, read_op, read_pieces, read_program}, FileNodes.{bytes_of, entry_at, is_file, piece_mark}, FileRegion.{files, AreFileAreas, AreFileRegions}};
+ghost use Rattle.tx_blocks.{specs.Tx.IsLater, specs.Runs.{HasRead, IsLocalCall}, proofs.Progress.IsAt};
+ghost use Rattle.iso_fs.specs.{Ends.{areas_of, FsBehaves, HasArea, HasRun, IsFsCause, IsPart}, Finds.{found_as, got_as, on_found}};
 
 use crate::buffers::{areas_of, buffers, is_many};
 use crate::file::{bytes_of, entry_at};

@@ -1,15 +1,8 @@
 // The removal of a file.
 ghost use Rattle.std.specs.Prelude.{◌≡◌, ◌↔◌, ◌+◌, ◌<◌, ◌≤◌, Err, IsFalse, IsTrue, true, false, IfOk, IfErr, IfSome, OnOk, Ok, length};
-ghost use Rattle.store_model.specs.HashCalls.{is_key};
-ghost use Rattle.store_model.specs.FreeMap.{map_mark};
-ghost use Rattle.store_model.specs.Stores.{bytes_in};
-ghost use Rattle.tx_blocks.specs.Tx.{IsLater};
-ghost use Rattle.tx_blocks.specs.Runs.{IsLocalCall};
-ghost use Rattle.iso_fs.specs.Ends.{areas_of, HasArea, HasRun, IsFsCause, IsOfTx, IsPart, IsUnwritten};
-ghost use Rattle.iso_fs.specs.Finds.{found_as, on_found, with_dropped};
-ghost use Rattle.store_model.specs.FileCalls.{remove_file, remove_op, remove_program, remove_writes};
-ghost use Rattle.store_model.specs.FileNodes.{is_file};
-ghost use Rattle.store_model.specs.FileRegion.{files, AreFileAreas, AreFileRegions};
+ghost use Rattle.store_model.specs.{HashCalls.is_key, FreeMap.map_mark, Stores.bytes_in, FileCalls.{remove_file, remove_op, remove_program, remove_writes}, FileNodes.is_file, FileRegion.{files, AreFileAreas, AreFileRegions}};
+ghost use Rattle.tx_blocks.specs.{Tx.IsLater, Runs.IsLocalCall};
+ghost use Rattle.iso_fs.specs.{Ends.{areas_of, HasArea, HasRun, IsFsCause, IsOfTx, IsPart, IsUnwritten}, Finds.{found_as, on_found, with_dropped}};
 
 use crate::buffers::{areas_of, buffers};
 use crate::find::find;

@@ -1,15 +1,8 @@
 // Another name for a file.
-ghost use Rattle.std.specs.Prelude.{◌≡◌, ◌↔◌, ◌+◌, ◌≤◌, ◌&&◌, Err, IsFalse, IsTrue, is_some, true, IfOk, IfErr, OnOk, None};
-ghost use Rattle.std.specs.FinMap.{get};
-ghost use Rattle.store_model.specs.HashCalls.{is_key};
-ghost use Rattle.store_model.specs.TreeRegion.{IsTreeArea};
-ghost use Rattle.tx_blocks.specs.Tx.{IsLater};
-ghost use Rattle.tx_blocks.specs.Runs.{IsLocalCall};
-ghost use Rattle.iso_fs.specs.Ends.{areas_of, may_follow, ExistsWhere, HasArea, HasRun, IsFsCause, IsPart, IsUnwritten};
-ghost use Rattle.iso_fs.specs.Finds.{drop_name};
-ghost use Rattle.store_model.specs.FileCalls.{rename_found, rename_free, rename_op, rename_program, in_tree};
-ghost use Rattle.store_model.specs.TreeCalls.{get_program};
-ghost use Rattle.store_model.specs.FileRegion.{files, AreFileAreas, AreFileRegions};
+ghost use Rattle.std.specs.{Prelude.{◌≡◌, ◌↔◌, ◌+◌, ◌≤◌, ◌&&◌, Err, IsFalse, IsTrue, is_some, true, IfOk, IfErr, OnOk, None}, FinMap.get};
+ghost use Rattle.store_model.specs.{HashCalls.is_key, TreeRegion.IsTreeArea, FileCalls.{rename_found, rename_free, rename_op, rename_program, in_tree}, TreeCalls.get_program, FileRegion.{files, AreFileAreas, AreFileRegions}};
+ghost use Rattle.tx_blocks.specs.{Tx.IsLater, Runs.IsLocalCall};
+ghost use Rattle.iso_fs.specs.{Ends.{areas_of, may_follow, ExistsWhere, HasArea, HasRun, IsFsCause, IsPart, IsUnwritten}, Finds.drop_name};
 
 use crate::buffers::areas_of;
 use crate::names::{put_value, remove_name, value_of};

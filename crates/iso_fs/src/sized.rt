@@ -1,6 +1,5 @@
 // The file block of a file that has grown.
-ghost use Rattle.std.specs.Prelude.{◌≡◌, ◌+◌, ◌*◌, ◌≤◌, ◌++◌, ℕ, List, length, map, [], ◌∷◌};
-ghost use Rattle.std.specs.List.{range_with_len};
+ghost use Rattle.std.specs.{Prelude.{◌≡◌, ◌+◌, ◌*◌, ◌≤◌, ◌++◌, ℕ, List, length, map, [], ◌∷◌}, List.range_with_len};
 ghost use Rattle.store_model.specs.FileNodes.{data_count, entries_of, entry_at, file_block};
 
 use crate::buffers::{lay_empty, spelled};

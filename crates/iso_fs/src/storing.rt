@@ -1,12 +1,8 @@
 // The writes of the data blocks of a file.
 ghost use Rattle.std.specs.Prelude.{◌≡◌, ◌+◌, ◌-◌, ◌*◌, ◌<◌, ◌≤◌, ◌++◌, ℕ, suc, Err, IfErr, IfOk, OnErr, OnOk, cond, drop, length, slice_index, [], ◌∷◌, true, false};
-ghost use Rattle.store_model.specs.Stores.{store_access};
-ghost use Rattle.store_model.specs.FileCalls.{write_pieces};
-ghost use Rattle.store_model.specs.FileNodes.{data_count, entries_of, is_file};
+ghost use Rattle.store_model.specs.{Stores.store_access, FileCalls.write_pieces, FileNodes.{data_count, entries_of, is_file}};
 ghost use Rattle.iso_model.specs.Premises.{IsSpan};
-ghost use Rattle.tx_blocks.specs.Tx.{with_accesses};
-ghost use Rattle.tx_blocks.specs.Runs.{IsCause};
-ghost use Rattle.tx_blocks.proofs.Progress.{IsAt};
+ghost use Rattle.tx_blocks.{specs.Tx.with_accesses, specs.Runs.IsCause, proofs.Progress.IsAt};
 ghost use Rattle.iso_tree.specs.Rows.{AreBlocks};
 ghost use Rattle.iso_fs.specs.Ends.{FsBehaves, HasArea, HasRun, IsOfTx, IsPart};
 

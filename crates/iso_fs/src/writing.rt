@@ -1,19 +1,9 @@
 // The write of a file.
 ghost use Rattle.std.specs.Prelude.{◌≡◌, ◌↔◌, ◌+◌, ◌<◌, ◌≤◌, List, ℕ, Err, IsFalse, IsTrue, None, true, false, IfOk, IfErr, IfSome, OnOk, Ok, [], length, nat_le, take};
-ghost use Rattle.store_model.specs.HashCalls.{is_key};
-ghost use Rattle.store_model.specs.FreeMap.{map_bytes, map_mark};
-ghost use Rattle.store_model.specs.Stores.{bytes_in};
-ghost use Rattle.store_model.specs.TreeCalls.{first_write, with_used};
-ghost use Rattle.store_model.specs.TreeRegion.{IsTreeArea};
-ghost use Rattle.tx_blocks.specs.Tx.{IsLater};
-ghost use Rattle.tx_blocks.specs.Runs.{IsLocalCall};
-ghost use Rattle.iso_tree.specs.FirstBlock.{Up};
-ghost use Rattle.iso_tree.specs.Rows.{AreBlocks};
-ghost use Rattle.iso_fs.specs.Ends.{areas_of, HasArea, HasRun, IsFsCause, IsOfTx, IsPart, IsUnwritten};
-ghost use Rattle.iso_fs.specs.Finds.{found_as, on_found, with_taken};
-ghost use Rattle.store_model.specs.FileCalls.{is_many, with_new, write_op, write_program, write_sized, write_to};
-ghost use Rattle.store_model.specs.FileNodes.{blocks_for, bytes_of, data_count, is_file, most_bytes};
-ghost use Rattle.store_model.specs.FileRegion.{files, AreFileAreas, AreFileRegions};
+ghost use Rattle.store_model.specs.{HashCalls.is_key, FreeMap.{map_bytes, map_mark}, Stores.bytes_in, TreeCalls.{first_write, with_used}, TreeRegion.IsTreeArea, FileCalls.{is_many, with_new, write_op, write_program, write_sized, write_to}, FileNodes.{blocks_for, bytes_of, data_count, is_file, most_bytes}, FileRegion.{files, AreFileAreas, AreFileRegions}};
+ghost use Rattle.tx_blocks.specs.{Tx.IsLater, Runs.IsLocalCall};
+ghost use Rattle.iso_tree.specs.{FirstBlock.Up, Rows.AreBlocks};
+ghost use Rattle.iso_fs.specs.{Ends.{areas_of, HasArea, HasRun, IsFsCause, IsOfTx, IsPart, IsUnwritten}, Finds.{found_as, on_found, with_taken}};
 
 use crate::buffers::{areas_of, buffers, is_many};
 use crate::file::{bytes_of, data_count};

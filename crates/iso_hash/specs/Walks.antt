@@ -1,16 +1,10 @@
 -- How a walk ends.
 use Rattle.std.specs.Prelude.{ℕ, ◌<◌, Bool, IfSome, cond, List, [], Result, Ok, Err, take}
-use Rattle.store_model.specs.declared.stores.Area.{Area}
-use Rattle.store_model.specs.declared.stores.Spot.{Spot}
-use Rattle.store_model.specs.declared.stores.StoreError.{StoreError}
+use Rattle.store_model.specs.{declared.stores.Area.Area, declared.stores.Spot.Spot, declared.stores.StoreError.StoreError, Cells.{keys_end, value_mark, cell_count}, Stores.bytes_in}
 use Rattle.store_model.specs.declared.stores.StoreError.TheVariants as store
-use Rattle.store_model.specs.Cells.{keys_end, value_mark, cell_count}
 use Rattle.store_model.specs.HashCalls as hash
-use Rattle.store_model.specs.Stores.{bytes_in}
-use Rattle.tx_blocks.specs.Tx.{Tx}
-use Rattle.tx_blocks.specs.Runs.{Ran, IsCut}
-use Rattle.iso_hash.specs.declared.walk.Walked.{Walked}
-use Rattle.iso_hash.specs.declared.walk.Walked.TheVariants.{AtCell, AtEnd}
+use Rattle.tx_blocks.specs.{Tx.Tx, Runs.{Ran, IsCut}}
+use Rattle.iso_hash.specs.{declared.walk.Walked.Walked, declared.walk.Walked.TheVariants.{AtCell, AtEnd}}
 
 -- The walk made its reads and ended here; at a cell, the buffer has its block.
 abbrev pub HasWalked : Area → List ℕ → Bool → (t u : Tx) → (buffer : List ℕ) → Result Walked StoreError → Type 0

@@ -1,7 +1,6 @@
 // Which blocks a bucket has.
 ghost use Rattle.std.specs.Prelude.{◌≡◌, ◌<◌, length};
-ghost use Rattle.store_model.specs.Cells.{keys_end};
-ghost use Rattle.store_model.specs.HashRegion.{buckets, bucket_of, last_position, is_linked, IsHashArea};
+ghost use Rattle.store_model.specs.{Cells.keys_end, HashRegion.{buckets, bucket_of, last_position, is_linked, IsHashArea}};
 
 use byteorder::{BigEndian, ByteOrder};
 use iso_alloc::{are_key_parts, are_zero, piece, word_at};

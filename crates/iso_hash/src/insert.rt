@@ -1,9 +1,7 @@
 // The put of a key.
 ghost use Rattle.std.specs.Prelude.{◌≡◌, ◌↔◌, ◌+◌, ◌<◌, ◌≤◌, Err, IsFalse, IsTrue, true, IfOk, IfErr, IfSome, OnOk, length};
-ghost use Rattle.store_model.specs.HashCalls.{is_key, is_value, put_at, put_program, AtEnd};
-ghost use Rattle.store_model.specs.HashRegion.{hash_map, put_op, IsHashArea, IsHashRegion};
-ghost use Rattle.tx_blocks.specs.Tx.{IsLater};
-ghost use Rattle.tx_blocks.specs.Runs.{area_of, Behaves, HasEnded, HasRun, IsLocalCall, IsStoreCause, IsUnwritten};
+ghost use Rattle.store_model.specs.{HashCalls.{is_key, is_value, put_at, put_program, AtEnd}, HashRegion.{hash_map, put_op, IsHashArea, IsHashRegion}};
+ghost use Rattle.tx_blocks.specs.{Tx.IsLater, Runs.{area_of, Behaves, HasEnded, HasRun, IsLocalCall, IsStoreCause, IsUnwritten}};
 ghost use Rattle.iso_hash.specs.Walks.{IsSpot};
 
 use crate::links::put_block;

@@ -1,13 +1,7 @@
 // The writes that take a block into a chain, or out of it.
-ghost use Rattle.std.specs.Prelude.{◌≡◌, ◌+◌, ◌-◌, ◌<◌, ◌≤◌, length, Ok, Some, None, OnOk, OnErr, IfErr, true, [], ◌∷◌, replicate, slice_index};
-ghost use Rattle.std.specs.Int.{w32, to_be_bytes};
-ghost use Rattle.store_model.specs.Cells.{block_with, next_mark};
-ghost use Rattle.store_model.specs.FreeMap.{bit_mark, bit_place, clear_bit, lowest_free, map_mark};
-ghost use Rattle.store_model.specs.HashCalls.{new_block, put_new};
-ghost use Rattle.store_model.specs.HashRegion.{bucket_of, buckets, last_position, IsHashArea};
-ghost use Rattle.store_model.specs.Stores.{store_access, Done, Look, Reserve, Store};
-ghost use Rattle.tx_blocks.specs.Tx.{room_of, with_accesses};
-ghost use Rattle.tx_blocks.specs.Runs.{Behaves, HasRun, IsCause};
+ghost use Rattle.std.specs.{Prelude.{◌≡◌, ◌+◌, ◌-◌, ◌<◌, ◌≤◌, length, Ok, Some, None, OnOk, OnErr, IfErr, true, [], ◌∷◌, replicate, slice_index}, Int.{w32, to_be_bytes}};
+ghost use Rattle.store_model.specs.{Cells.{block_with, next_mark}, FreeMap.{bit_mark, bit_place, clear_bit, lowest_free, map_mark}, HashCalls.{new_block, put_new}, HashRegion.{bucket_of, buckets, last_position, IsHashArea}, Stores.{store_access, Done, Look, Reserve, Store}};
+ghost use Rattle.tx_blocks.specs.{Tx.{room_of, with_accesses}, Runs.{Behaves, HasRun, IsCause}};
 
 use crate::bucket::{bucket_of, buckets};
 use crate::writes::lay_cell;

@@ -1,9 +1,7 @@
 // The look-up of a key.
 ghost use Rattle.std.specs.Prelude.{◌≡◌, ◌≢◌, ◌↔◌, ◌+◌, ◌<◌, ◌≤◌, Err, IsFalse, true, IfOk, IfErr, OnOk, length};
-ghost use Rattle.store_model.specs.HashCalls.{get_program, is_key};
-ghost use Rattle.store_model.specs.HashRegion.{get_op, hash_map, IsHashArea, IsHashRegion};
-ghost use Rattle.tx_blocks.specs.Tx.{IsLater};
-ghost use Rattle.tx_blocks.specs.Runs.{area_of, HasEnded, HasRead, IsLocalCall, IsStoreCause};
+ghost use Rattle.store_model.specs.{HashCalls.{get_program, is_key}, HashRegion.{get_op, hash_map, IsHashArea, IsHashRegion}};
+ghost use Rattle.tx_blocks.specs.{Tx.IsLater, Runs.{area_of, HasEnded, HasRead, IsLocalCall, IsStoreCause}};
 
 use crate::walk::{Walked, walk};
 use iso_alloc::{buffer, cell_count, is_key, is_part, piece, spelled};

@@ -1,10 +1,7 @@
 // The removal of a key.
 ghost use Rattle.std.specs.Prelude.{◌≡◌, ◌↔◌, ◌+◌, ◌<◌, ◌≤◌, Err, IsFalse, true, IfOk, IfErr, OnOk, length};
-ghost use Rattle.store_model.specs.Cells.{keys_end};
-ghost use Rattle.store_model.specs.HashCalls.{del_program, is_key, is_spent};
-ghost use Rattle.store_model.specs.HashRegion.{del_op, hash_map, IsHashArea, IsHashRegion};
-ghost use Rattle.tx_blocks.specs.Tx.{IsLater};
-ghost use Rattle.tx_blocks.specs.Runs.{area_of, Behaves, HasEnded, HasRun, IsLocalCall, IsStoreCause, IsUnwritten};
+ghost use Rattle.store_model.specs.{Cells.keys_end, HashCalls.{del_program, is_key, is_spent}, HashRegion.{del_op, hash_map, IsHashArea, IsHashRegion}};
+ghost use Rattle.tx_blocks.specs.{Tx.IsLater, Runs.{area_of, Behaves, HasEnded, HasRun, IsLocalCall, IsStoreCause, IsUnwritten}};
 
 use crate::bucket::buckets;
 use crate::links::del_block;

@@ -1,10 +1,8 @@
 // The walk over the blocks of a chain.
 ghost use Rattle.std.specs.Prelude.{◌≡◌, ◌+◌, ◌<◌, ◌≤◌, ◌^◌, IfOk, IfErr, IfSome, OnOk, length, true};
 ghost use Rattle.iso_model.specs.Effect.{or_else};
-ghost use Rattle.store_model.specs.HashCalls.{spot_in};
-ghost use Rattle.store_model.specs.HashRegion.{IsHashArea};
-ghost use Rattle.tx_blocks.specs.Tx.{IsLater};
-ghost use Rattle.tx_blocks.specs.Runs.{HasRead, IsStoreCause};
+ghost use Rattle.store_model.specs.{HashCalls.spot_in, HashRegion.IsHashArea};
+ghost use Rattle.tx_blocks.specs.{Tx.IsLater, Runs.{HasRead, IsStoreCause}};
 ghost use Rattle.iso_hash.specs.Walks.{HasWalked, IsInside};
 
 use crate::bucket::{bucket_of, is_linked, last_position};

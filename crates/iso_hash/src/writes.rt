@@ -1,9 +1,6 @@
 // The writes that puts and removals are made of.
 ghost use Rattle.std.specs.Prelude.{◌≡◌, ◌+◌, ◌*◌, ◌<◌, ◌≤◌, length, Ok, true, [], ◌∷◌, replicate};
-ghost use Rattle.store_model.specs.Cells.{block_with, cell_count, key_mark, keys_end, value_mark, value_part};
-ghost use Rattle.store_model.specs.HashCalls.{with_cell};
-ghost use Rattle.store_model.specs.HashRegion.{IsHashArea};
-ghost use Rattle.store_model.specs.Stores.{Done, Store};
+ghost use Rattle.store_model.specs.{Cells.{block_with, cell_count, key_mark, keys_end, value_mark, value_part}, HashCalls.with_cell, HashRegion.IsHashArea, Stores.{Done, Store}};
 ghost use Rattle.tx_blocks.specs.Runs.{Behaves, HasRun};
 ghost use Rattle.iso_hash.specs.Walks.{IsSpot};
 

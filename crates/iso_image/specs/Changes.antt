@@ -1,10 +1,6 @@
 -- How the bytes of an image change.
-use Rattle.std.specs.Prelude.{◌≡◌, ◌⊎◌, ℕ, ◌+◌, ◌<◌, ◌≤◌, IsTrue, List, length}
-use Rattle.std.specs.List.{AllByRecursion}
-use Rattle.iso_model.specs.declared.access.Geometry.{Geometry}
-use Rattle.iso_model.specs.declared.limits.TheConstants.{LAST}
-use Rattle.iso_model.specs.Geometry.{half_size, header_place, is_valid, log_place}
-use Rattle.iso_model.specs.Image.{IsRecord}
+use Rattle.std.specs.{Prelude.{◌≡◌, ◌⊎◌, ℕ, ◌+◌, ◌<◌, ◌≤◌, IsTrue, List, length}, List.AllByRecursion}
+use Rattle.iso_model.specs.{declared.access.Geometry.Geometry, declared.limits.TheConstants.LAST, Geometry.{half_size, header_place, is_valid, log_place}, Image.IsRecord}
 use Rattle.iso_disk.specs.Disk.{spliced, Torn}
 use Rattle.commit_gate.specs.Gate.{IsClosed}
 use Rattle.iso_image.specs.Half.{Half, in_form, last_told}

@@ -1,13 +1,6 @@
 -- What a half of an image holds.
-use Rattle.std.specs.Prelude.{◌≡◌, ℕ, ◌+◌, ◌-◌, ◌≤◌, List, ◌++◌, length, replicate, take, drop, map}
-use Rattle.std.specs.List.{AllByRecursion}
-use Rattle.iso_model.specs.declared.access.Geometry.{Geometry}
-use Rattle.iso_model.specs.declared.limits.TheConstants.{LAST}
-use Rattle.iso_model.specs.Array.{Array}
-use Rattle.iso_model.specs.Geometry.{header_place, base_place, image_size, log_place}
-use Rattle.iso_model.specs.History.{History, array_at}
-use Rattle.iso_model.specs.Image.{IsImage, IsLog, IsRecord, Written, blocks_of, commits_of, half_header, records, superblock, written}
-use Rattle.iso_model.specs.World.{World}
+use Rattle.std.specs.{Prelude.{◌≡◌, ℕ, ◌+◌, ◌-◌, ◌≤◌, List, ◌++◌, length, replicate, take, drop, map}, List.AllByRecursion}
+use Rattle.iso_model.specs.{declared.access.Geometry.Geometry, declared.limits.TheConstants.LAST, Array.Array, Geometry.{header_place, base_place, image_size, log_place}, History.{History, array_at}, Image.{IsImage, IsLog, IsRecord, Written, blocks_of, commits_of, half_header, records, superblock, written}, World.World}
 
 -- A half, 0 or 1: its generation, the number and the array of its base, and the records that its log tells.
 pub record Half : Type 0 where

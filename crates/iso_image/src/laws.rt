@@ -1,18 +1,9 @@
 // The laws of images whose bytes change: each function does nothing, and its contract is the law.
-ghost use Rattle.std.specs.Prelude.{◌≡◌, ◌⊎◌, ℕ, ◌+◌, ◌-◌, ◌<◌, ◌≤◌, List, [], ◌∷◌, ◌++◌, IsTrue, Some, length, take, drop};
-ghost use Rattle.std.specs.List.{AllByRecursion};
-ghost use Rattle.iso_model.specs.declared.access.Geometry.{Geometry};
-ghost use Rattle.iso_model.specs.declared.limits.TheConstants.{LAST};
-ghost use Rattle.iso_model.specs.Geometry.{header_place, is_valid, log_place};
-ghost use Rattle.iso_model.specs.History.{History, last};
-ghost use Rattle.iso_model.specs.Premises.{IsHistory};
-ghost use Rattle.iso_model.specs.Step.{after_commit};
-ghost use Rattle.iso_model.specs.World.{World, Live, empty_history, fresh, used};
-ghost use Rattle.iso_model.specs.Image.{IsImage, IsRecord, Shows, Written, current_half, generation_at, kind_of, records, spell, written};
+ghost use Rattle.std.specs.{Prelude.{◌≡◌, ◌⊎◌, ℕ, ◌+◌, ◌-◌, ◌<◌, ◌≤◌, List, [], ◌∷◌, ◌++◌, IsTrue, Some, length, take, drop}, List.AllByRecursion};
+ghost use Rattle.iso_model.specs.{declared.access.Geometry.Geometry, declared.limits.TheConstants.LAST, Geometry.{header_place, is_valid, log_place}, History.{History, last}, Premises.IsHistory, Step.after_commit, World.{World, Live, empty_history, fresh, used}, Image.{IsImage, IsRecord, Shows, Written, current_half, generation_at, kind_of, records, spell, written}};
 ghost use Rattle.iso_disk.specs.Disk.{Torn, spliced};
 ghost use Rattle.commit_gate.specs.Gate.{IsClosed, IsOpen};
-ghost use Rattle.iso_image.specs.Changes.{Appending, InHalf, MaySwitch};
-ghost use Rattle.iso_image.specs.Half.{AreOne, Half, IsFilled, IsHeld, MayFollow, empty_image, half_of, half_of_world, history_of, in_form, last_told, next_gate, told_bytes, with_records};
+ghost use Rattle.iso_image.specs.{Changes.{Appending, InHalf, MaySwitch}, Half.{AreOne, Half, IsFilled, IsHeld, MayFollow, empty_image, half_of, half_of_world, history_of, in_form, last_told, next_gate, told_bytes, with_records}};
 
 /// Where a half that is held stands: its gate is open and its log lies in the image, each record behind those before it,
 /// and behind the last one a closed gate.

@@ -1,7 +1,6 @@
 -- What contracts see of a source and a sink in memory.
 use Rattle.std.specs.Prelude.{ℕ, Bool, List, Some}
-use Rattle.iso_io.specs.Source.{SourceState}
-use Rattle.iso_io.specs.Sink.{SinkState}
+use Rattle.iso_io.specs.{Source.SourceState, Sink.SinkState}
 
 -- a source in memory
 pub record MemSourceState : Type 0 where

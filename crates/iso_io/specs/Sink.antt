@@ -1,6 +1,5 @@
 -- What a sink is at a moment, and what a put does to it.
-use Rattle.std.specs.Prelude.{◌≡◌, ◌≤◌, ◌<◌, ℕ, List, Option, length, take, nat_lt, ◌==◌, ◌&&◌, if◌then◌else◌, Result, Ok, Err}
-use Rattle.std.specs.Io.KnownBytes.{append_known}
+use Rattle.std.specs.{Prelude.{◌≡◌, ◌≤◌, ◌<◌, ℕ, List, Option, length, take, nat_lt, ◌==◌, ◌&&◌, if◌then◌else◌, Result, Ok, Err}, Io.KnownBytes.append_known}
 use Rattle.fault_count.specs.Count.{one_more}
 
 -- a sink at a moment, as its callers see it

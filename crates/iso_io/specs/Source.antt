@@ -1,6 +1,5 @@
 -- What a source is at a moment, and what a take does to it.
-use Rattle.std.specs.Prelude.{◌≡◌, ◌≤◌, ◌↔◌, ℕ, Bool, List, [], Option, length, nat_lt, ◌==◌, if◌then◌else◌, Result, Ok, Err, IfSome, IsTrue}
-use Rattle.std.specs.Io.KnownBytes.{IsAtEnd, prepend_known}
+use Rattle.std.specs.{Prelude.{◌≡◌, ◌≤◌, ◌↔◌, ℕ, Bool, List, [], Option, length, nat_lt, ◌==◌, if◌then◌else◌, Result, Ok, Err, IfSome, IsTrue}, Io.KnownBytes.{IsAtEnd, prepend_known}}
 
 -- a source at a moment, as its callers see it
 pub record SourceState : Type 0 where

@@ -1,8 +1,7 @@
 -- What contracts see of a source over a reader and a sink over a writer. As a source and a sink they tell no bytes,
 -- since a reader and a writer may begin to tell theirs at any call.
 use Rattle.std.specs.Prelude.{ℕ, Bool, None}
-use Rattle.iso_io.specs.Source.{SourceState}
-use Rattle.iso_io.specs.Sink.{SinkState}
+use Rattle.iso_io.specs.{Source.SourceState, Sink.SinkState}
 
 pub record StdSourceState (T : Type 0) : Type 0 where
   pub reader : T

@@ -1,8 +1,7 @@
 // A sink that keeps its bytes in memory.
 ghost use Rattle.std.specs.Prelude.{◌≡◌, ◌≤◌, ◌⊎◌, ◌^◌, ◌-◌, [], min, length, take, IfOk, IsErr, OnErr, OnOk};
 ghost use Rattle.fault_count.specs.Count.{FailsNext, HasCause, faults_after, one_more};
-ghost use Rattle.iso_io.specs.Sink.{Wrote, refusals_after};
-ghost use Rattle.iso_io.specs.Memory.{sink_state};
+ghost use Rattle.iso_io.specs.{Sink.{Wrote, refusals_after}, Memory.sink_state};
 
 use crate::{Sink, SinkFault};
 use fault_count::{count_call, raise};

@@ -1,8 +1,7 @@
 // Where bytes come from.
 ghost use Rattle.std.specs.Prelude.{◌≡◌, ◌<◌, ◌≤◌, ◌==◌, ◌++◌, length, take, vec_len, IfOk, OnErr, OnOk, IsErrOf};
 ghost use Rattle.fault_count.specs.Count.{HasCause, Rose};
-ghost use Rattle.iso_io.specs.Source.{SourceState, GivesUpToEnd, MetEnd, Took, TookAtMost, ended_after};
-ghost use Rattle.iso_io.specs.declared.source.TakeError.TheVariants.{Failed, Memory};
+ghost use Rattle.iso_io.specs.{Source.{SourceState, GivesUpToEnd, MetEnd, Took, TookAtMost, ended_after}, declared.source.TakeError.TheVariants.{Failed, Memory}};
 
 use std::alloc::{AllocError, Global};
 

@@ -1,9 +1,7 @@
 // A sink over a writer of std.
-ghost use Rattle.std.specs.Prelude.{◌≡◌, ◌≤◌, false, true, length, IfOk, IsErr};
-ghost use Rattle.std.specs.Io.KnownBytes.{WriteAppends};
+ghost use Rattle.std.specs.{Prelude.{◌≡◌, ◌≤◌, false, true, length, IfOk, IsErr}, Io.KnownBytes.WriteAppends};
 ghost use Rattle.fault_count.specs.Count.{HasCause, faults_after};
-ghost use Rattle.iso_io.specs.Sink.{refusals_after};
-ghost use Rattle.iso_io.specs.Standard.{sink_state};
+ghost use Rattle.iso_io.specs.{Sink.refusals_after, Standard.sink_state};
 
 use crate::{Sink, SinkFault};
 use fault_count::raise;

@@ -1,9 +1,7 @@
 // A source over a reader of std.
-ghost use Rattle.std.specs.Prelude.{◌≡◌, ◌≤◌, false, length, IfOk};
-ghost use Rattle.std.specs.Io.KnownBytes.{ReadConsumes};
+ghost use Rattle.std.specs.{Prelude.{◌≡◌, ◌≤◌, false, length, IfOk}, Io.KnownBytes.ReadConsumes};
 ghost use Rattle.fault_count.specs.Count.{HasCause, faults_after};
-ghost use Rattle.iso_io.specs.Source.{ended_after};
-ghost use Rattle.iso_io.specs.Standard.{source_state};
+ghost use Rattle.iso_io.specs.{Source.ended_after, Standard.source_state};
 
 use crate::{Source, SourceFault};
 use fault_count::raise;

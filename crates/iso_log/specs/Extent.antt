@@ -1,7 +1,6 @@
 -- Where a log stands in an image, and how far it goes.
 use Rattle.std.specs.Prelude.{ℕ, ◌+◌, length}
-use Rattle.iso_model.specs.declared.access.Geometry.{Geometry}
-use Rattle.iso_model.specs.Geometry.{log_place}
+use Rattle.iso_model.specs.{declared.access.Geometry.Geometry, Geometry.log_place}
 use Rattle.iso_image.specs.Half.{Half, last_told, told_bytes}
 
 -- its place, its bytes, how many of them its records take, and the number of its last record, or of its base

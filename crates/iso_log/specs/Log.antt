@@ -1,12 +1,8 @@
 -- What a log holds in the images of a disk, and what an append makes of them.
-use Rattle.std.specs.Prelude.{◌≡◌, ℕ, ◌+◌, ◌<◌, ◌≤◌, List, [], ◌∷◌, ◌++◌, length}
-use Rattle.std.specs.List.{AllByRecursion}
-use Rattle.iso_model.specs.declared.access.Geometry.{Geometry}
-use Rattle.iso_model.specs.declared.limits.TheConstants.{LAST}
-use Rattle.iso_model.specs.Image.{IsRecord, Written, records}
+use Rattle.std.specs.{Prelude.{◌≡◌, ℕ, ◌+◌, ◌<◌, ◌≤◌, List, [], ◌∷◌, ◌++◌, length}, List.AllByRecursion}
+use Rattle.iso_model.specs.{declared.access.Geometry.Geometry, declared.limits.TheConstants.LAST, Image.{IsRecord, Written, records}}
 use Rattle.iso_disk.specs.Disk.{spliced}
-use Rattle.iso_image.specs.Changes.{Appending}
-use Rattle.iso_image.specs.Half.{HasLog}
+use Rattle.iso_image.specs.{Changes.Appending, Half.HasLog}
 use Rattle.iso_log.specs.Extent.{Extent}
 
 -- The bytes are these records, numbered on from the last one of the log, and a closed gate behind them.

@@ -1,7 +1,5 @@
 // Bytes of a log that are read ahead of its scan.
-ghost use Rattle.std.specs.Prelude.{◌≡◌, ◌+◌, ◌-◌, ◌≤◌, ◌++◌, ℕ, List, length, take, OnOk, IsErrOf};
-ghost use Rattle.std.specs.List.{slice_range};
-ghost use Rattle.std.specs.Option.{ForSome};
+ghost use Rattle.std.specs.{Prelude.{◌≡◌, ◌+◌, ◌-◌, ◌≤◌, ◌++◌, ℕ, List, length, take, OnOk, IsErrOf}, List.slice_range, Option.ForSome};
 ghost use Rattle.iso_disk.specs.Disk.{WritesNothing};
 ghost use Rattle.iso_log.specs.Cause.{BlamesDisk};
 
@@ -28,8 +26,7 @@ pub struct ReadAhead {
 }
 
 impl Model for ReadAhead {
-    ghost use Rattle.std.specs.Prelude.{◌≤◌, ℕ, List, length};
-    ghost use Rattle.std.specs.List.{slice_range};
+    ghost use Rattle.std.specs.{Prelude.{◌≤◌, ℕ, List, length}, List.slice_range};
 
     ghost Value = { List ℕ };
 
@@ -39,14 +36,11 @@ impl Model for ReadAhead {
 }
 
 impl ReadAhead {
-    ghost use Rattle.std.specs.Prelude.{◌≡◌, ◌+◌, ◌-◌, ◌≤◌, [], None, ℕ, length, take, drop, OnOk, IsErrOf};
-    ghost use Rattle.std.specs.Option.{ForSome};
-    ghost use Rattle.iso_model.specs.declared.access.Geometry.{Geometry};
-    ghost use Rattle.iso_model.specs.Premises.{AreBytes};
+    ghost use Rattle.std.specs.{Prelude.{◌≡◌, ◌+◌, ◌-◌, ◌≤◌, [], None, ℕ, length, take, drop, OnOk, IsErrOf}, Option.ForSome};
+    ghost use Rattle.iso_model.specs.{declared.access.Geometry.Geometry, Premises.AreBytes};
     ghost use Rattle.iso_disk.specs.Disk.{WritesNothing};
     ghost use Rattle.iso_format.specs.Records.{fault_of, recorded};
-    ghost use Rattle.iso_log.specs.Cause.{BlamesDisk};
-    ghost use Rattle.iso_log.specs.Scan.{StandAt};
+    ghost use Rattle.iso_log.specs.{Cause.BlamesDisk, Scan.StandAt};
 
     /// Nothing is read yet. Each read of the disk will ask for so many bytes, or for all of a longer record, and the first one
     /// for 69,632 at most.

@@ -1,7 +1,6 @@
 // How many records stand one behind another.
 ghost use Rattle.std.specs.Prelude.{◌≡◌, ◌++◌, ◌^◌, ◌<◌, [], ◌∷◌, ℕ, List, length};
-ghost use Rattle.iso_model.specs.declared.access.Geometry.{Geometry};
-ghost use Rattle.iso_model.specs.Image.{Written, records};
+ghost use Rattle.iso_model.specs.{declared.access.Geometry.Geometry, Image.{Written, records}};
 
 use iso_format::record_window;
 

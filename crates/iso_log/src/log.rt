@@ -30,19 +30,12 @@ impl Model for Log {
 }
 
 impl Log {
-    ghost use Rattle.std.specs.Prelude.{◌≡◌, ◌⊎◌, ◌+◌, ◌-◌, ◌<◌, ◌≤◌, ◌++◌, [], ◌∷◌, ℕ, List, Err, None, length, take, OnOk, OnErr, IfOk, IfErr, IfSome, IsErrOf, IsTrue};
-    ghost use Rattle.std.specs.List.{slice_range};
-    ghost use Rattle.std.specs.Option.{ForSome};
-    ghost use Rattle.iso_model.specs.declared.access.Geometry.{Geometry};
-    ghost use Rattle.iso_model.specs.Geometry.{is_valid};
-    ghost use Rattle.iso_model.specs.Image.{Written};
+    ghost use Rattle.std.specs.{Prelude.{◌≡◌, ◌⊎◌, ◌+◌, ◌-◌, ◌<◌, ◌≤◌, ◌++◌, [], ◌∷◌, ℕ, List, Err, None, length, take, OnOk, OnErr, IfOk, IfErr, IfSome, IsErrOf, IsTrue}, List.slice_range, Option.ForSome};
+    ghost use Rattle.iso_model.specs.{declared.access.Geometry.Geometry, Geometry.is_valid, Image.Written};
     ghost use Rattle.iso_disk.specs.Disk.{IsSettled, LeavesOnly, StaysTold, WritesNothing};
     ghost use Rattle.commit_gate.specs.Gate.{IsClosed};
     ghost use Rattle.iso_image.specs.Half.{Half, HasLog, IsHeld, with_records};
-    ghost use Rattle.iso_log.specs.Cause.{BlamesDisk};
-    ghost use Rattle.iso_log.specs.Extent.{extent_of, next_place};
-    ghost use Rattle.iso_log.specs.Log.{AppendedTo, AppendingFrom, HasTold, IsNext};
-    ghost use Rattle.iso_log.specs.Scan.{IsDamaged, IsFirst, IsFound, IsTaken, IsTestBefore, StandAt};
+    ghost use Rattle.iso_log.specs.{Cause.BlamesDisk, Extent.{extent_of, next_place}, Log.{AppendedTo, AppendingFrom, HasTold, IsNext}, Scan.{IsDamaged, IsFirst, IsFound, IsTaken, IsTestBefore, StandAt}};
 
     /// The log of `room` bytes at a place of the image, before its first record; `base` is the number before that one's.
     pub fn start(place: u64, room: u32, base: u64) -> Log

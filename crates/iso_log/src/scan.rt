@@ -1,13 +1,10 @@
 // The next record of a log, found in the bytes that are read ahead.
-ghost use Rattle.std.specs.Prelude.{◌≡◌, ◌+◌, ◌^◌, ◌≤◌, ◌<◌, None, Some, ℕ, List, drop, length, slice_index, take, IfErr, IfOk, IfSome, IsErrOf, IsTrue, OnOk};
-ghost use Rattle.std.specs.Option.{ForSome};
+ghost use Rattle.std.specs.{Prelude.{◌≡◌, ◌+◌, ◌^◌, ◌≤◌, ◌<◌, None, Some, ℕ, List, drop, length, slice_index, take, IfErr, IfOk, IfSome, IsErrOf, IsTrue, OnOk}, Option.ForSome};
 ghost use Rattle.iso_model.specs.Geometry.{is_valid};
 ghost use Rattle.iso_disk.specs.Disk.{WritesNothing};
 ghost use Rattle.commit_gate.specs.Gate.{IsClosed, IsOpen};
-ghost use Rattle.iso_format.specs.Faults.{offset_of, test_number};
-ghost use Rattle.iso_format.specs.Records.{fault_of, record_window};
-ghost use Rattle.iso_log.specs.Cause.{BlamesDisk};
-ghost use Rattle.iso_log.specs.Scan.{IsDamaged, IsFirst, IsFound, IsTestBefore, StandAt};
+ghost use Rattle.iso_format.specs.{Faults.{offset_of, test_number}, Records.{fault_of, record_window}};
+ghost use Rattle.iso_log.specs.{Cause.BlamesDisk, Scan.{IsDamaged, IsFirst, IsFound, IsTestBefore, StandAt}};
 
 use crate::ahead::ReadAhead;
 use crate::log_error::LogError;

@@ -1,21 +1,14 @@
 -- What an access or a mark of one transaction is answered, and what its work is then.
 use Rattle.std.specs.Prelude.{◌≡◌, ℕ, Result, Some, Ok, Err}
 use Rattle.iso_disk.specs.Disk.{DiskState}
-use Rattle.script_model.specs.declared.script.Op.{Op}
-use Rattle.script_model.specs.declared.script.Op.TheVariants.{Put, Read, Get, Write, Fill, Mark}
-use Rattle.script_model.specs.declared.script.Reply.{Reply}
+use Rattle.script_model.specs.{declared.script.Op.Op, declared.script.Op.TheVariants.{Put, Read, Get, Write, Fill, Mark}, declared.script.Reply.Reply, Step.{fill_step, get_step, mark_step, put_step, read_step, write_step}, declared.stop.Stop.Stop}
 use Rattle.script_model.specs.declared.script.Reply.TheVariants as reply
-use Rattle.iso_model.specs.declared.memory.Memory.{Memory}
-use Rattle.script_model.specs.Step.{fill_step, get_step, mark_step, put_step, read_step, write_step}
-use Rattle.iso_model.specs.Step.{with_accesses}
-use Rattle.iso_model.specs.World.{World, Live, attached, with}
+use Rattle.iso_model.specs.{declared.memory.Memory.Memory, Step.with_accesses, World.{World, Live, attached, with}}
 use Rattle.tx_table.specs.Work.{Doing}
 use Rattle.iso_core.specs.Calls.{IsTx, IsWorkOf}
-use Rattle.script_model.specs.declared.stop.Stop.{Stop}
 use Rattle.script_model.specs.declared.stop.Stop.TheVariants as stop
 use Rattle.script_runner.specs.Told.{IfTold, SameButShown}
-use Rattle.iso_machine.specs.declared.attached.Attached.{Attached}
-use Rattle.iso_machine.specs.Standing.{live_of}
+use Rattle.iso_machine.specs.{declared.attached.Attached.Attached, Standing.live_of}
 
 -- an access or a mark of the transaction
 abbrev pub act_step : World → Live → Op → Reply × World

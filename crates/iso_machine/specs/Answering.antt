@@ -1,17 +1,12 @@
 -- How a machine answers an operation.
 use Rattle.std.specs.Prelude.{◌≡◌, IfErr, IfOk, IsErrOf, IsSome, OnOk, Result, Ok, Err}
 use Rattle.iso_disk.specs.Disk.{DiskState, LeavesOnly}
-use Rattle.iso_model.specs.declared.core_error.CoreError.{CoreError}
+use Rattle.iso_model.specs.{declared.core_error.CoreError.CoreError, World.World, Between.ShowsEither}
 use Rattle.iso_model.specs.declared.core_error.CoreError.TheVariants as error
-use Rattle.script_model.specs.declared.script.Reply.{Reply}
+use Rattle.script_model.specs.{declared.script.Reply.Reply, declared.stop.Stop.Stop}
 use Rattle.script_model.specs.declared.script.Reply.TheVariants as reply
-use Rattle.iso_model.specs.World.{World}
-use Rattle.script_model.specs.declared.stop.Stop.{Stop}
 use Rattle.script_model.specs.declared.stop.Stop.TheVariants as stop
-use Rattle.iso_model.specs.Between.{ShowsEither}
-use Rattle.script_runner.specs.Counts.{BlamesDisk}
-use Rattle.script_runner.specs.Stopped.{StandsStill}
-use Rattle.script_runner.specs.Told.{IfTold, SameButShown, StandsSo}
+use Rattle.script_runner.specs.{Counts.BlamesDisk, Stopped.StandsStill, Told.{IfTold, SameButShown, StandsSo}}
 
 -- why a call may stop such that the machine goes on: for each cause, for want of memory, for none
 abbrev pub Always : Stop → Type 0

@@ -1,14 +1,9 @@
 -- What a machine takes out of its live transactions for a group.
-use Rattle.std.specs.Prelude.{◌≡◌, List, [], ◌∷◌, ◌++◌, Option, Some, None, ℕ, find, map}
-use Rattle.std.specs.List.{AllByRecursion}
+use Rattle.std.specs.{Prelude.{◌≡◌, List, [], ◌∷◌, ◌++◌, Option, Some, None, ℕ, find, map}, List.AllByRecursion}
 use Rattle.iso_core.specs.declared.group_end.GroupEnd.{GroupEnd}
-use Rattle.iso_model.specs.declared.access.Geometry.{Geometry}
-use Rattle.iso_model.specs.declared.access.GroupReply.{GroupReply}
+use Rattle.iso_model.specs.{declared.access.Geometry.Geometry, declared.access.GroupReply.GroupReply, Group.found_ones, World.{Live, is_under_label, without}}
 use Rattle.iso_model.specs.declared.access.GroupReply.TheVariants as member
-use Rattle.iso_model.specs.Group.{found_ones}
-use Rattle.iso_model.specs.World.{Live, is_under_label, without}
-use Rattle.iso_machine.specs.declared.attached.Attached.{Attached}
-use Rattle.iso_machine.specs.Standing.{IsSized, live_of}
+use Rattle.iso_machine.specs.{declared.attached.Attached.Attached, Standing.{IsSized, live_of}}
 
 -- the one of these transactions that is under the label
 abbrev pub under : List ℕ → List Live → Option Live

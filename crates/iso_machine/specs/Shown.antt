@@ -1,13 +1,8 @@
 -- What the images of a machine's core show.
 use Rattle.std.specs.Prelude.{List, ℕ}
 use Rattle.iso_disk.specs.Disk.{DiskState}
-use Rattle.iso_model.specs.History.{last}
-use Rattle.iso_model.specs.Image.{Shows}
-use Rattle.iso_model.specs.World.{World}
-use Rattle.iso_core.specs.declared.core_itself.Core.{Core}
-use Rattle.iso_core.specs.Core.{StandsFor, disk_of}
-use Rattle.iso_core.specs.Standing.{up}
-use Rattle.iso_core.proofs.Moments.{shows_world}
+use Rattle.iso_model.specs.{History.last, Image.Shows, World.World}
+use Rattle.iso_core.{specs.declared.core_itself.Core.Core, specs.Core.{StandsFor, disk_of}, specs.Standing.up, proofs.Moments.shows_world}
 
 -- each image of a core shows the history of its world
 pub shows : {D : Type 0} (state : D → DiskState) (core : Core D) (W : World) → StandsFor state core W up

@@ -1,20 +1,11 @@
 -- What a machine stands for.
-use Rattle.std.specs.Prelude.{◌≡◌, ◌<◌, ℕ, Bool, false, IsTrue, List, Option, None, map, nat_eq, slice_index_or}
-use Rattle.std.specs.List.{AllByRecursion}
+use Rattle.std.specs.{Prelude.{◌≡◌, ◌<◌, ℕ, Bool, false, IsTrue, List, Option, None, map, nat_eq, slice_index_or}, List.AllByRecursion}
 use Rattle.iso_disk.specs.Disk.{DiskState}
-use Rattle.iso_model.specs.declared.access.Geometry.{Geometry}
-use Rattle.iso_model.specs.World.{World, Live, Place, client, is_at_client, is_under_label, label}
+use Rattle.iso_model.specs.{declared.access.Geometry.Geometry, World.{World, Live, Place, client, is_at_client, is_under_label, label}, Labels.{is_label, key_of}, Worlds.AreDistinct}
 use Rattle.indexmap.specs.IndexMap.{get}
-use Rattle.iso_model.specs.Labels.{is_label, key_of}
-use Rattle.iso_model.specs.Worlds.{AreDistinct}
-use Rattle.iso_core.specs.declared.core_itself.Core.{Core}
-use Rattle.iso_core.specs.Core.{StandsFor}
-use Rattle.iso_core.specs.Standing.{up}
-use Rattle.iso_machine.specs.declared.attached.Attached.{Attached}
-use Rattle.iso_machine.specs.declared.attached.Spot.{Spot}
-use Rattle.iso_machine.specs.declared.finder.Finder.{Finder}
+use Rattle.iso_core.specs.{declared.core_itself.Core.Core, Core.StandsFor, Standing.up}
+use Rattle.iso_machine.specs.{declared.attached.Attached.Attached, declared.attached.Spot.Spot, declared.finder.Finder.Finder, declared.machine.Machine.Machine}
 use Rattle.iso_machine.specs.declared.attached.Spot.TheVariants as spot
-use Rattle.iso_machine.specs.declared.machine.Machine.{Machine}
 
 -- the place of the model
 abbrev pub place_of : Spot → Place

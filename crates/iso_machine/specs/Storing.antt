@@ -1,13 +1,9 @@
 -- What an operation on a store makes of a world.
 use Rattle.std.specs.Prelude.{◌≡◌, ◌-◌, if◌then◌else◌, ◌++◌, length}
 use Rattle.iso_disk.specs.Disk.{DiskState}
-use Rattle.iso_model.specs.declared.limits.TheConstants.{MAX_ACCESSES}
-use Rattle.script_model.specs.declared.script.Op.{Op}
-use Rattle.script_model.specs.declared.script.Reply.{Reply}
+use Rattle.iso_model.specs.{declared.limits.TheConstants.MAX_ACCESSES, Step.with_accesses, World.{World, Live}}
+use Rattle.script_model.specs.{declared.script.Op.Op, declared.script.Reply.Reply, Step.{array_of, in_store}}
 use Rattle.script_model.specs.declared.script.Reply.TheVariants as reply
-use Rattle.script_model.specs.Step.{array_of, in_store}
-use Rattle.iso_model.specs.Step.{with_accesses}
-use Rattle.iso_model.specs.World.{World, Live}
 use Rattle.tx_table.specs.Work.{Doing}
 use Rattle.store_calls.specs.Calls.{is_empty_scan, store_areas, store_blocks, store_ended}
 use Rattle.script_runner.specs.Told.{IfTold}

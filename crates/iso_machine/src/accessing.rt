@@ -1,10 +1,7 @@
 // Writes and marks of one transaction.
 ghost use Rattle.std.specs.Prelude.{◌≡◌, None, ◌++◌, ◌+◌, ◌-◌, ◌==◌, ◌<◌, ◌≤◌, IfOk, OnErr, OnOk, length, replicate, IfSome, false};
-ghost use Rattle.iso_model.specs.declared.access.Access.{Access};
-ghost use Rattle.script_model.specs.declared.script.Reply.{Reply};
-ghost use Rattle.iso_model.specs.Marks.{is_outside, mark_fault, marked};
-ghost use Rattle.script_model.specs.Step.{access_step, fill_step, mark_refused, mark_step, put_step, write_step};
-ghost use Rattle.iso_model.specs.World.{World, Live};
+ghost use Rattle.iso_model.specs.{declared.access.Access.Access, Marks.{is_outside, mark_fault, marked}, World.{World, Live}};
+ghost use Rattle.script_model.specs.{declared.script.Reply.Reply, Step.{access_step, fill_step, mark_refused, mark_step, put_step, write_step}};
 ghost use Rattle.iso_core.specs.Calls.{IsWorkOf};
 ghost use Rattle.tx_table.specs.Work.{span_at};
 ghost use Rattle.iso_machine.specs.Accessing.{IsActive, IsGiven};

@@ -1,9 +1,7 @@
 // What each operation of a client is answered.
 ghost use Rattle.std.specs.Prelude.{◌≡◌};
-ghost use Rattle.script_model.specs.declared.script.Op.TheVariants.{Trim};
-ghost use Rattle.script_model.specs.Step.{in_transaction, numbers, step};
+ghost use Rattle.script_model.specs.{declared.script.Op.TheVariants.Trim, Step.{in_transaction, numbers, step}, Operations.IsOp};
 ghost use Rattle.iso_model.specs.World.{World, attached};
-ghost use Rattle.script_model.specs.Operations.{IsOp};
 
 use crate::acting::act;
 use crate::machine::Machine;
@@ -13,12 +11,8 @@ use script_model::{Op, Reply, Stop};
 
 impl<D: Disk> Machine<D> {
     ghost use Rattle.iso_core.specs.Core.{disk_of};
-    ghost use Rattle.iso_machine.specs.Accessing.{act_step};
-    ghost use Rattle.iso_machine.specs.Answering.{Always, Answers, AnswersTold};
-    ghost use Rattle.iso_machine.specs.Standing.{IsMachineOf, core_of};
-    ghost use Rattle.iso_machine.specs.Storing.{store_act};
-    ghost use Rattle.script_runner.specs.Stopped.{GoesOn};
-    ghost use Rattle.script_runner.specs.Told.{IsPlain};
+    ghost use Rattle.iso_machine.specs.{Accessing.act_step, Answering.{Always, Answers, AnswersTold}, Standing.{IsMachineOf, core_of}, Storing.store_act};
+    ghost use Rattle.script_runner.specs.{Stopped.GoesOn, Told.IsPlain};
 
     /// An access or a mark of a client's transaction.
     fn access(&mut self, client: u8, op: &Op) -> Result<Reply, Stop>

@@ -1,8 +1,6 @@
 // A live transaction and where it is.
-ghost use Rattle.std.specs.Prelude.{◌≡◌, ◌==◌, ◌<◌, Some, None, IfOk, MatchOption, find, length, map};
-ghost use Rattle.std.specs.List.{AllByRecursion, HoldsAt};
-ghost use Rattle.iso_model.specs.World.{is_at_client, is_under_label};
-ghost use Rattle.iso_model.specs.Worlds.{AreDistinct};
+ghost use Rattle.std.specs.{Prelude.{◌≡◌, ◌==◌, ◌<◌, Some, None, IfOk, MatchOption, find, length, map}, List.{AllByRecursion, HoldsAt}};
+ghost use Rattle.iso_model.specs.{World.{is_at_client, is_under_label}, Worlds.AreDistinct};
 ghost use Rattle.iso_machine.specs.Standing.{AreKnown, AreListed, IsOff, live_of, number_under, place_of};
 
 use crate::finder::Finder;

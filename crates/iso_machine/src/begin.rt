@@ -1,9 +1,7 @@
 // Transactions that begin.
 ghost use Rattle.std.specs.Prelude.{◌≡◌, IsTrue, IfOk};
-ghost use Rattle.script_model.specs.declared.script.Op.TheVariants.{Begin};
-ghost use Rattle.iso_model.specs.Geometry.{is_block_size};
-ghost use Rattle.script_model.specs.Step.{step};
-ghost use Rattle.iso_model.specs.World.{World};
+ghost use Rattle.script_model.specs.{declared.script.Op.TheVariants.Begin, Step.step};
+ghost use Rattle.iso_model.specs.{Geometry.is_block_size, World.World};
 
 use crate::attached::{Attached, Spot};
 use crate::ending::keep_spare;
@@ -35,8 +33,7 @@ fn take_work(
 
 impl<D: Disk> Machine<D> {
     ghost use Rattle.iso_core.specs.Core.{disk_of};
-    ghost use Rattle.iso_machine.specs.Answering.{Always, Answers};
-    ghost use Rattle.iso_machine.specs.Standing.{IsMachineOf, core_of};
+    ghost use Rattle.iso_machine.specs.{Answering.{Always, Answers}, Standing.{IsMachineOf, core_of}};
 
     /// A client without a transaction begins one, in the mode that is named, or else in the image's.
     pub(crate) fn begin(&mut self, client: u8, mode: Option<Mode>) -> Result<Reply, Stop>

@@ -1,15 +1,9 @@
 // Transactions that end.
 ghost use Rattle.std.specs.Prelude.{◌≡◌, ◌≢◌, ◌⊎◌, ◌<◌, IfErr, IfOk, OnOk};
 ghost use Rattle.iso_disk.specs.Disk.{LeavesOnly, StaysTold};
-ghost use Rattle.script_model.specs.declared.script.Op.TheVariants.{Abort, End};
-ghost use Rattle.script_model.specs.CoreReplies.{as_reply};
-ghost use Rattle.script_model.specs.Step.{step};
-ghost use Rattle.iso_model.specs.Step.{end_step};
-ghost use Rattle.iso_model.specs.World.{World, Live};
-ghost use Rattle.iso_core.specs.Calls.{BlamesDisk, IsTx, IsWorkOf, Refuses, Writes, reply_of};
-ghost use Rattle.iso_core.specs.Core.{StandsFor, disk_of};
-ghost use Rattle.iso_core.specs.Standing.{up};
-ghost use Rattle.iso_model.specs.Between.{ShowsEither};
+ghost use Rattle.script_model.specs.{declared.script.Op.TheVariants.{Abort, End}, CoreReplies.as_reply, Step.step};
+ghost use Rattle.iso_model.specs.{Step.end_step, World.{World, Live}, Between.ShowsEither};
+ghost use Rattle.iso_core.specs.{Calls.{BlamesDisk, IsTx, IsWorkOf, Refuses, Writes, reply_of}, Core.{StandsFor, disk_of}, Standing.up};
 
 use crate::machine::Machine;
 use crate::refusing::refused;
@@ -78,8 +72,7 @@ pub(crate) fn keep_spare(spare: &mut Vec<Box<Work>>, work: Box<Work>) {
 
 impl<D: Disk> Machine<D> {
     ghost use Rattle.iso_core.specs.Core.{disk_of};
-    ghost use Rattle.iso_machine.specs.Answering.{Always, Answers, Wanting};
-    ghost use Rattle.iso_machine.specs.Standing.{IsMachineOf, core_of};
+    ghost use Rattle.iso_machine.specs.{Answering.{Always, Answers, Wanting}, Standing.{IsMachineOf, core_of}};
 
     /// A client's transaction ends: it is gone, and a commit where it has a write and no conflict. Where its commit has no
     /// room or no number it stays.

@@ -1,8 +1,7 @@
 // Who is at a client, and who is under a label.
 ghost use Rattle.std.specs.Prelude.{◌≡◌, ◌≢◌, ℕ, List, Some, IfOk, IsTrue, OnOk};
 ghost use Rattle.iso_model.specs.Labels.{is_label};
-ghost use Rattle.iso_machine.specs.Standing.{AreListed, number_at, number_under};
-ghost use Rattle.iso_machine.specs.declared.attached.Attached.{Attached};
+ghost use Rattle.iso_machine.specs.{Standing.{AreListed, number_at, number_under}, declared.attached.Attached.Attached};
 
 use indexmap::IndexMap;
 use iso_model::{Label, Memory};

@@ -1,13 +1,9 @@
 // Transactions that end as a group.
 ghost use Rattle.std.specs.Prelude.{◌≡◌, ◌+◌, ◌<◌, ◌≤◌, ◌∷◌, ◌++◌, [], IsTrue, OnOk, length, map, take};
-ghost use Rattle.iso_model.specs.Geometry.{is_block_size};
-ghost use Rattle.script_model.specs.declared.script.Op.TheVariants.{Group};
-ghost use Rattle.script_model.specs.Operations.{IsOp};
-ghost use Rattle.script_model.specs.Step.{step};
-ghost use Rattle.iso_model.specs.World.{World};
-ghost use Rattle.iso_machine.specs.Grouping.{HasTaken, filled, member_of};
+ghost use Rattle.iso_model.specs.{Geometry.is_block_size, World.World};
+ghost use Rattle.script_model.specs.{declared.script.Op.TheVariants.Group, Operations.IsOp, Step.step};
+ghost use Rattle.iso_machine.specs.{Grouping.{HasTaken, filled, member_of}, Standing.{AreKnown, AreListed}};
 ghost use Rattle.iso_core.specs.Planned.{reply_in};
-ghost use Rattle.iso_machine.specs.Standing.{AreKnown, AreListed};
 
 use crate::attached::{Attached, Spot, index_under_label};
 use crate::ending::keep_spare;
@@ -193,8 +189,7 @@ fn put_back(
 
 impl<D: Disk> Machine<D> {
     ghost use Rattle.iso_core.specs.Core.{disk_of};
-    ghost use Rattle.iso_machine.specs.Answering.{Answers, Never};
-    ghost use Rattle.iso_machine.specs.Standing.{IsMachineOf, core_of};
+    ghost use Rattle.iso_machine.specs.{Answering.{Answers, Never}, Standing.{IsMachineOf, core_of}};
 
     /// The transactions under the labels end as a group, in the order of the labels. Without memory none of them has ended.
     pub(crate) fn group(&mut self, client: u8, labels: &[Label]) -> Result<Reply, Stop>

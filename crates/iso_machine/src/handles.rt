@@ -1,9 +1,7 @@
 // Transactions that go from client to client.
 ghost use Rattle.std.specs.Prelude.{IsTrue};
-ghost use Rattle.script_model.specs.declared.script.Op.TheVariants.{Release, Takeover};
-ghost use Rattle.script_model.specs.Step.{step};
-ghost use Rattle.iso_model.specs.Labels.{is_label};
-ghost use Rattle.iso_model.specs.World.{World};
+ghost use Rattle.script_model.specs.{declared.script.Op.TheVariants.{Release, Takeover}, Step.step};
+ghost use Rattle.iso_model.specs.{Labels.is_label, World.World};
 
 use crate::attached::{Spot, claim, index_under_label};
 use crate::machine::Machine;
@@ -13,8 +11,7 @@ use script_model::{Reply, Stop};
 
 impl<D: Disk> Machine<D> {
     ghost use Rattle.iso_core.specs.Core.{disk_of};
-    ghost use Rattle.iso_machine.specs.Answering.{Always, Answers};
-    ghost use Rattle.iso_machine.specs.Standing.{IsMachineOf, core_of};
+    ghost use Rattle.iso_machine.specs.{Answering.{Always, Answers}, Standing.{IsMachineOf, core_of}};
 
     /// A client's transaction goes under a label, if no other is there. Without memory it stays where it is.
     pub(crate) fn release(&mut self, client: u8, label: &Label) -> Result<Reply, Stop>

@@ -1,9 +1,7 @@
 // Transactions that leave a core.
 ghost use Rattle.std.specs.Prelude.{◌≡◌, []};
-ghost use Rattle.iso_model.specs.Step.{with_live};
-ghost use Rattle.iso_model.specs.World.{World};
-ghost use Rattle.iso_core.specs.Core.{StandsFor, disk_of};
-ghost use Rattle.iso_core.specs.Standing.{up};
+ghost use Rattle.iso_model.specs.{Step.with_live, World.World};
+ghost use Rattle.iso_core.specs.{Core.{StandsFor, disk_of}, Standing.up};
 ghost use Rattle.iso_machine.specs.Standing.{AreOf};
 
 use crate::attached::Attached;

@@ -1,8 +1,6 @@
 // The machine.
-ghost use Rattle.std.specs.Prelude.{◌≡◌, ◌<◌, [], None, IfSome, MatchOption, length};
-ghost use Rattle.std.specs.List.{HoldsAt};
-ghost use Rattle.iso_model.specs.Step.{with_live};
-ghost use Rattle.iso_model.specs.World.{World, attached};
+ghost use Rattle.std.specs.{Prelude.{◌≡◌, ◌<◌, [], None, IfSome, MatchOption, length}, List.HoldsAt};
+ghost use Rattle.iso_model.specs.{Step.with_live, World.{World, attached}};
 
 use crate::attached::{Attached, index_at_client};
 use crate::finder::Finder;
@@ -30,10 +28,8 @@ pub struct Machine<D: Disk> {
 }
 
 impl<D: Disk> Machine<D> {
-    ghost use Rattle.iso_core.specs.Core.{StandsFor, disk_of};
-    ghost use Rattle.iso_core.specs.Standing.{up};
-    ghost use Rattle.iso_machine.specs.Accessing.{IsHere};
-    ghost use Rattle.iso_machine.specs.Standing.{IsMachineOf, core_of};
+    ghost use Rattle.iso_core.specs.{Core.{StandsFor, disk_of}, Standing.up};
+    ghost use Rattle.iso_machine.specs.{Accessing.IsHere, Standing.{IsMachineOf, core_of}};
 
     /// A machine over a core that is up and has no live transaction. It takes no memory.
     pub fn over(alloc: Global, core: Core<D>) -> Machine<D>
@@ -81,8 +77,7 @@ impl<D: Disk> Machine<D> {
 
 impl<D: Disk> ScriptMachine for Machine<D> {
     ghost use Rattle.iso_core.specs.Core.{disk_of};
-    ghost use Rattle.iso_machine.specs.Standing.{IsMachineOf, core_of};
-    ghost use Rattle.iso_machine.specs.Shown.{shows};
+    ghost use Rattle.iso_machine.specs.{Standing.{IsMachineOf, core_of}, Shown.shows};
 
     ghost stands = { λ m W. IsMachineOf D.state m W };
 

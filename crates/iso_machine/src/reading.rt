@@ -3,13 +3,9 @@ ghost use Rattle.std.specs.Prelude.{◌≡◌, ◌∷◌, ◌++◌, [], ◌+◌,
 ghost use Rattle.fault_count.specs.Count.{HasCause};
 ghost use Rattle.iso_disk.specs.Disk.{WritesNothing};
 ghost use Rattle.script_model.specs.Step.{get_step, read_step};
-ghost use Rattle.iso_model.specs.Step.{read_access, shown_to};
-ghost use Rattle.iso_model.specs.World.{World, Live};
-ghost use Rattle.iso_core.specs.Calls.{IsTx, IsWorkOf};
-ghost use Rattle.iso_core.specs.Core.{StandsFor, disk_of};
-ghost use Rattle.iso_core.specs.Standing.{up};
-ghost use Rattle.script_runner.specs.Counts.{BlamesDisk};
-ghost use Rattle.script_runner.specs.Told.{IfTold};
+ghost use Rattle.iso_model.specs.{Step.{read_access, shown_to}, World.{World, Live}};
+ghost use Rattle.iso_core.specs.{Calls.{IsTx, IsWorkOf}, Core.{StandsFor, disk_of}, Standing.up};
+ghost use Rattle.script_runner.specs.{Counts.BlamesDisk, Told.IfTold};
 ghost use Rattle.iso_machine.specs.Accessing.{IsActive, IsShown};
 
 use crate::accessing::{is_outside, mark_within, refusal};

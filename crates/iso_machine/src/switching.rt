@@ -1,6 +1,5 @@
 // The base of the image, moved to the floor.
-ghost use Rattle.script_model.specs.declared.script.Op.TheVariants.{Compact, Upgrade};
-ghost use Rattle.script_model.specs.Step.{step};
+ghost use Rattle.script_model.specs.{declared.script.Op.TheVariants.{Compact, Upgrade}, Step.step};
 ghost use Rattle.iso_model.specs.World.{World};
 
 use crate::machine::Machine;
@@ -10,8 +9,7 @@ use script_model::{Reply, Stop};
 
 impl<D: Disk> Machine<D> {
     ghost use Rattle.iso_core.specs.Core.{disk_of};
-    ghost use Rattle.iso_machine.specs.Answering.{Answers, Wanting};
-    ghost use Rattle.iso_machine.specs.Standing.{IsMachineOf, core_of};
+    ghost use Rattle.iso_machine.specs.{Answering.{Answers, Wanting}, Standing.{IsMachineOf, core_of}};
 
     /// The base moves to the floor, in the other half.
     pub(crate) fn compact(&mut self) -> Result<Reply, Stop>

@@ -1,15 +1,7 @@
 -- A memory disk keeps the laws of a disk.
-use Rattle.std.specs.Prelude.{◌≡◌, ◌<◌, ◌≤◌, ℕ, List, length, take, slice_index, Some, refl}
-use Rattle.std.proofs.Common.{ap, subst, sym, ◌∙◌}
-use Rattle.std.proofs.Math.Nat.{le_refl, le_trans}
-use Rattle.std.proofs.lemmas.List.{take_all}
-use Rattle.std.proofs.lemmas.Option.{same_Some}
+use Rattle.std.{specs.Prelude.{◌≡◌, ◌<◌, ◌≤◌, ℕ, List, length, take, slice_index, Some, refl}, proofs.Common.{ap, subst, sym, ◌∙◌}, proofs.Math.Nat.{le_refl, le_trans}, proofs.lemmas.List.take_all, proofs.lemmas.Option.same_Some}
 use Rattle.iso_disk.specs.Disk.{IsLawful}
-use Rattle.iso_memdisk.specs.declared.disk.MemDisk.{MemDisk}
-use Rattle.iso_memdisk.specs.declared.record.Call.{Call}
-use Rattle.iso_memdisk.specs.Record.{images_after}
-use Rattle.iso_memdisk.specs.MemDisk.{bytes_of, contents_of, now_of, clock_of, left_of, size_of, state_of}
-use Rattle.iso_memdisk.specs.Replay.{written-image, length-images_after, AllFit-take}
+use Rattle.iso_memdisk.specs.{declared.disk.MemDisk.MemDisk, declared.record.Call.Call, Record.images_after, MemDisk.{bytes_of, contents_of, now_of, clock_of, left_of, size_of, state_of}, Replay.{written-image, length-images_after, AllFit-take}}
 
 -- after all calls
 all_calls : (d : MemDisk) → take (clock_of d) d.history.items ≡ d.history.items

@@ -1,14 +1,8 @@
 -- A memory disk as the trait sees it: its first bytes and the record of its calls are replayed for every question.
-use Rattle.std.specs.Prelude.{◌≡◌, ◌⊎◌, ◌≤◌, ℕ, List, [], ◌∷◌, ◌++◌, length, take, Option, Some, Result, IsErr, OnOk}
-use Rattle.std.specs.Option.{option_map}
-use Rattle.iso_memdisk.specs.declared.disk.MemDisk.{MemDisk}
-use Rattle.iso_memdisk.specs.declared.record.Call.{Call}
-use Rattle.iso_memdisk.specs.declared.failures.CallKind.{CallKind}
-use Rattle.iso_memdisk.specs.declared.failures.Failures.{Failures}
+use Rattle.std.specs.{Prelude.{◌≡◌, ◌⊎◌, ◌≤◌, ℕ, List, [], ◌∷◌, ◌++◌, length, take, Option, Some, Result, IsErr, OnOk}, Option.option_map}
+use Rattle.iso_memdisk.specs.{declared.disk.MemDisk.MemDisk, declared.record.Call.Call, declared.failures.CallKind.CallKind, declared.failures.Failures.Failures, Failures.{IsNamed, counted}, Record.{written, synced, images_after}}
 use Rattle.fault_count.specs.Count.{one_more, faults_after}
 use Rattle.iso_disk.specs.Disk.{DiskState}
-use Rattle.iso_memdisk.specs.Failures.{IsNamed, counted}
-use Rattle.iso_memdisk.specs.Record.{written, synced, images_after}
 
 -- what a read gives
 abbrev pub bytes_of : MemDisk → List ℕ

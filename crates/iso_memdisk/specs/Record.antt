@@ -1,8 +1,6 @@
 -- The calls since a disk was made or bound: what a read gives after them, what a crash may leave, what is stable.
-use Rattle.std.specs.Prelude.{◌≡◌, ◌≤◌, ℕ, ◌+◌, List, [], ◌∷◌, length, Some, Vec, slice_get}
-use Rattle.std.specs.declared.alloc.Global.{Global}
-use Rattle.iso_memdisk.specs.declared.record.Call.{Call}
-use Rattle.iso_memdisk.specs.declared.record.Call.TheVariants.{Write, Sync}
+use Rattle.std.specs.{Prelude.{◌≡◌, ◌≤◌, ℕ, ◌+◌, List, [], ◌∷◌, length, Some, Vec, slice_get}, declared.alloc.Global.Global}
+use Rattle.iso_memdisk.specs.{declared.record.Call.Call, declared.record.Call.TheVariants.{Write, Sync}}
 use Rattle.iso_disk.specs.Disk.{spliced, Torn, TornFrom}
 
 -- the bytes that a read gives after these calls

@@ -1,12 +1,7 @@
 -- What the laws of a disk ask of the record of its calls.
-use Rattle.std.specs.Prelude.{◌≡◌, ◌≤◌, ◌+◌, ℕ, zero, suc, List, [], ◌∷◌, length, take, refl}
-use Rattle.std.proofs.Common.{ap, subst, sym, ◌∙◌}
-use Rattle.std.proofs.lemmas.Option.{none-some}
-use Rattle.iso_disk.specs.Disk.{spliced, TornFrom}
-use Rattle.iso_disk.proofs.Bytes.{length-spliced, spliced_torn}
-use Rattle.iso_memdisk.specs.declared.record.Call.{Call}
-use Rattle.iso_memdisk.specs.declared.record.Call.TheVariants.{Write, Sync}
-use Rattle.iso_memdisk.specs.Record.{written, images_after, AllFit}
+use Rattle.std.{specs.Prelude.{◌≡◌, ◌≤◌, ◌+◌, ℕ, zero, suc, List, [], ◌∷◌, length, take, refl}, proofs.Common.{ap, subst, sym, ◌∙◌}, proofs.lemmas.Option.none-some}
+use Rattle.iso_disk.{specs.Disk.{spliced, TornFrom}, proofs.Bytes.{length-spliced, spliced_torn}}
+use Rattle.iso_memdisk.specs.{declared.record.Call.Call, declared.record.Call.TheVariants.{Write, Sync}, Record.{written, images_after, AllFit}}
 
 -- what is read is one of the images
 pub written-image : (calls : List Call) (bytes : List ℕ) (images : List ℕ → Type 0) → AllFit (length bytes) calls → images bytes → images_after calls bytes images (written calls bytes)

@@ -1,11 +1,8 @@
 // The disk itself.
-ghost use Rattle.std.specs.Prelude.{◌≡◌, ◌+◌, ◌^◌, ◌<◌, ◌≤◌, ◌↔◌, ℕ, List, Some, None, length, replicate, slice_index, OnOk, OnErr, IfOk, IfNone, IfSome, IsErr};
-ghost use Rattle.std.specs.List.{slice_range};
-ghost use Rattle.std.specs.Option.{ForSome};
+ghost use Rattle.std.specs.{Prelude.{◌≡◌, ◌+◌, ◌^◌, ◌<◌, ◌≤◌, ◌↔◌, ℕ, List, Some, None, length, replicate, slice_index, OnOk, OnErr, IfOk, IfNone, IfSome, IsErr}, List.slice_range, Option.ForSome};
 ghost use Rattle.iso_disk.specs.Disk.{TornFrom, Splices, TellsTorn, IsSettled, Elapses};
 ghost use Rattle.fault_count.specs.Count.{one_more, HasCause};
-ghost use Rattle.iso_memdisk.specs.Record.{written, AllFit};
-ghost use Rattle.iso_memdisk.specs.Held.{held};
+ghost use Rattle.iso_memdisk.specs.{Record.{written, AllFit}, Held.held};
 
 use crate::failures::{CallKind, Failures};
 use crate::record::{Call, crash, lay};
@@ -30,11 +27,8 @@ pub struct MemDisk {
 }
 
 impl MemDisk {
-    ghost use Rattle.std.specs.Prelude.{Vec, IsSome};
-    ghost use Rattle.std.specs.declared.alloc.Global.{Global};
-    ghost use Rattle.iso_memdisk.specs.declared.record.Call.TheVariants.{Write, Sync};
-    ghost use Rattle.iso_memdisk.specs.Failures.{no_failures, set_failing};
-    ghost use Rattle.iso_memdisk.specs.MemDisk.{bytes_of, bound_of, failures_of, now_of, size_of, synced_of, IsUntouched, Appends, Starts};
+    ghost use Rattle.std.specs.{Prelude.{Vec, IsSome}, declared.alloc.Global.Global};
+    ghost use Rattle.iso_memdisk.specs.{declared.record.Call.TheVariants.{Write, Sync}, Failures.{no_failures, set_failing}, MemDisk.{bytes_of, bound_of, failures_of, now_of, size_of, synced_of, IsUntouched, Appends, Starts}};
 
     /// A disk of these bytes. It takes no memory.
     pub fn new(alloc: Global, bytes: Vec<u8>) -> MemDisk
@@ -185,9 +179,7 @@ impl MemDisk {
 }
 
 impl Disk for MemDisk {
-    ghost use Rattle.iso_memdisk.specs.Failures.{IsNamed};
-    ghost use Rattle.iso_memdisk.specs.MemDisk.{state_of, failures_of, IsUntouched, FollowsPlan};
-    ghost use Rattle.iso_memdisk.specs.Laws.{lawful};
+    ghost use Rattle.iso_memdisk.specs.{Failures.IsNamed, MemDisk.{state_of, failures_of, IsUntouched, FollowsPlan}, Laws.lawful};
 
     ghost state = { state_of };
 

@@ -1,8 +1,6 @@
 -- The blocks of an image as a plain array, and what a write does to it.
-use Rattle.std.specs.Prelude.{ℕ, ◌+◌, Bool, true, ◌&&◌, cond, List, [], ◌∷◌, replicate, nat_le, nat_lt, slice_index, slice_index_or, slice_set}
-use Rattle.std.specs.List.{list_any}
-use Rattle.iso_model.specs.declared.access.Span.{Span}
-use Rattle.iso_model.specs.declared.access.Access.{Access}
+use Rattle.std.specs.{Prelude.{ℕ, ◌+◌, Bool, true, ◌&&◌, cond, List, [], ◌∷◌, replicate, nat_le, nat_lt, slice_index, slice_index_or, slice_set}, List.list_any}
+use Rattle.iso_model.specs.{declared.access.Span.Span, declared.access.Access.Access}
 
 -- a list of blocks, each a list of bytes
 abbrev pub Array : Type 0

@@ -1,8 +1,6 @@
 -- What an image shows before a step or after it, and in the course of many.
 use Rattle.std.specs.Prelude.{◌⊎◌, ℕ, ◌≤◌, List}
-use Rattle.iso_model.specs.History.{last}
-use Rattle.iso_model.specs.Image.{Shows}
-use Rattle.iso_model.specs.World.{World}
+use Rattle.iso_model.specs.{History.last, Image.Shows, World.World}
 
 -- the image shows the history of the world at its last commit
 abbrev pub ShowsLast : World → List ℕ → Type 0

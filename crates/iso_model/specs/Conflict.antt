@@ -1,16 +1,6 @@
 -- When a transaction conflicts, and what a transaction that did not conflict has seen.
 use Rattle.std.specs.Prelude.{◌≡◌, ℕ, zero, suc, ◌+◌, ◌-◌, ◌<◌, ◌≤◌, Bool, ◌&&◌, ◌⊎◌, cond, List, [], ◌∷◌, Option, Some, None, IsTrue, IfSome, drop, slice_get, slice_index, option_map}
-use Rattle.iso_model.specs.declared.access.Access.{Access}
-use Rattle.iso_model.specs.declared.access.Clash.{Clash}
-use Rattle.iso_model.specs.declared.access.Commit.{Commit}
-use Rattle.iso_model.specs.declared.access.Geometry.{Geometry}
-use Rattle.iso_model.specs.declared.access.Kind.{Kind}
-use Rattle.iso_model.specs.declared.access.Kind.TheVariants.{Read, Write}
-use Rattle.iso_model.specs.declared.access.Mode.{Mode}
-use Rattle.iso_model.specs.declared.access.Mode.TheVariants.{Serial, Snapshot}
-use Rattle.iso_model.specs.Array.{covered}
-use Rattle.iso_model.specs.Effect.{is_write, has_write, touches, or_else, covers}
-use Rattle.iso_model.specs.History.{History, shown}
+use Rattle.iso_model.specs.{declared.access.Access.Access, declared.access.Clash.Clash, declared.access.Commit.Commit, declared.access.Geometry.Geometry, declared.access.Kind.Kind, declared.access.Kind.TheVariants.{Read, Write}, declared.access.Mode.Mode, declared.access.Mode.TheVariants.{Serial, Snapshot}, Array.covered, Effect.{is_write, has_write, touches, or_else, covers}, History.{History, shown}}
 
 -- some byte of one block of this size is covered in both accesses
 abbrev pub Meets : (size : ℕ) → Access → Access → Type 0

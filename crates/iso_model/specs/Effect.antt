@@ -1,12 +1,6 @@
 -- What the accesses of a transaction write, and the runs that a record keeps of it.
-use Rattle.std.specs.Prelude.{ℕ, zero, suc, ◌+◌, Bool, true, false, ◌&&◌, ◌==◌, cond, List, [], ◌∷◌, Option, Some, None, length, sum_by, slice_index, flat_map}
-use Rattle.std.specs.List.{list_any, range_with_len}
-use Rattle.iso_model.specs.declared.access.Access.{Access}
-use Rattle.iso_model.specs.declared.access.Geometry.{Geometry}
-use Rattle.iso_model.specs.declared.access.Kind.{Kind}
-use Rattle.iso_model.specs.declared.access.Kind.TheVariants.{Read, Write}
-use Rattle.iso_model.specs.declared.access.Run.{Run}
-use Rattle.iso_model.specs.Array.{Array, covered, put}
+use Rattle.std.specs.{Prelude.{ℕ, zero, suc, ◌+◌, Bool, true, false, ◌&&◌, ◌==◌, cond, List, [], ◌∷◌, Option, Some, None, length, sum_by, slice_index, flat_map}, List.{list_any, range_with_len}}
+use Rattle.iso_model.specs.{declared.access.Access.Access, declared.access.Geometry.Geometry, declared.access.Kind.Kind, declared.access.Kind.TheVariants.{Read, Write}, declared.access.Run.Run, Array.{Array, covered, put}}
 
 -- whether the two kinds are one
 abbrev pub same_kind : Kind → Kind → Bool

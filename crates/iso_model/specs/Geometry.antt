@@ -1,9 +1,6 @@
 -- The fixed numbers of an image, their limits, and where things stand in it.
-use Rattle.std.specs.Prelude.{ℕ, ◌+◌, ◌-◌, ◌*◌, Bool, true, false, ◌&&◌, ◌||◌, ◌==◌, [], ◌∷◌, nat_le}
-use Rattle.std.specs.List.{list_any}
-use Rattle.iso_model.specs.declared.access.Geometry.{Geometry}
-use Rattle.iso_model.specs.declared.access.Mode.{Mode}
-use Rattle.iso_model.specs.declared.access.Mode.TheVariants.{Serial, Snapshot}
+use Rattle.std.specs.{Prelude.{ℕ, ◌+◌, ◌-◌, ◌*◌, Bool, true, false, ◌&&◌, ◌||◌, ◌==◌, [], ◌∷◌, nat_le}, List.list_any}
+use Rattle.iso_model.specs.{declared.access.Geometry.Geometry, declared.access.Mode.Mode, declared.access.Mode.TheVariants.{Serial, Snapshot}}
 
 abbrev pub is_serial : Mode → Bool
 is_serial Serial = true

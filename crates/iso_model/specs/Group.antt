@@ -1,13 +1,8 @@
 -- Transactions that end as a group: one after the other, with one answer each.
 use Rattle.std.specs.Prelude.{◌≡◌, ℕ, ◌+◌, List, [], ◌∷◌, Option, Some, None}
-use Rattle.iso_model.specs.declared.access.Commit.{Commit}
-use Rattle.iso_model.specs.declared.access.GroupReply.{GroupReply}
+use Rattle.iso_model.specs.{declared.access.Commit.Commit, declared.access.GroupReply.GroupReply, declared.core_reply.CoreReply.CoreReply, History.with_commits, Step.{after_leaving, commit_from, end_step, placed}, World.{World, Live, held, unattached}}
 use Rattle.iso_model.specs.declared.access.GroupReply.TheVariants as member
-use Rattle.iso_model.specs.declared.core_reply.CoreReply.{CoreReply}
 use Rattle.iso_model.specs.declared.core_reply.CoreReply.TheVariants as reply
-use Rattle.iso_model.specs.History.{with_commits}
-use Rattle.iso_model.specs.Step.{after_leaving, commit_from, end_step, placed}
-use Rattle.iso_model.specs.World.{World, Live, held, unattached}
 
 -- what a member is answered whose end is answered so
 abbrev pub member_reply : CoreReply → GroupReply

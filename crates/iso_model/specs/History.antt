@@ -1,9 +1,6 @@
 -- The commits of an image in order, and the array after each of them.
 use Rattle.std.specs.Prelude.{ℕ, ◌+◌, ◌-◌, List, [], ◌∷◌, ◌++◌, length, take, slice_get, slice_index_or, unwrap_or, option_map}
-use Rattle.iso_model.specs.declared.access.Access.{Access}
-use Rattle.iso_model.specs.declared.access.Commit.{Commit}
-use Rattle.iso_model.specs.Array.{Array}
-use Rattle.iso_model.specs.Effect.{own}
+use Rattle.iso_model.specs.{declared.access.Access.Access, declared.access.Commit.Commit, Array.Array, Effect.own}
 
 -- commits in order, the number of the first of them, and the array before it
 pub record History : Type 0 where

@@ -1,19 +1,6 @@
 -- The bytes of an image, and the history that they hold.
-use Rattle.std.specs.Prelude.{◌≡◌, ◌≢◌, ◌⊎◌, ℕ, zero, suc, ◌+◌, ◌-◌, ◌<◌, ◌≤◌, Bool, true, false, ◌==◌, if◌then◌else◌, List, [], ◌∷◌, ◌++◌, Option, Some, None, IsTrue, IfSome, length, nat_lt, take, drop, map, replicate, flat_map, sum_by, slice_get, slice_index, codes}
-use Rattle.std.specs.List.{AllByRecursion}
-use Rattle.std.specs.Int.{to_be_bytes, from_be_bytes, w16, w32, w64}
-use Rattle.iso_model.specs.declared.access.Access.{Access}
-use Rattle.iso_model.specs.declared.access.Commit.{Commit}
-use Rattle.iso_model.specs.declared.access.Geometry.{Geometry}
-use Rattle.iso_model.specs.declared.access.Mode.{Mode}
-use Rattle.iso_model.specs.declared.access.Mode.TheVariants.{Serial, Snapshot}
-use Rattle.iso_model.specs.declared.access.Run.{Run}
-use Rattle.iso_model.specs.declared.limits.TheConstants.{LAST}
-use Rattle.iso_model.specs.Array.{Array}
-use Rattle.iso_model.specs.Effect.{runs, effect_at}
-use Rattle.iso_model.specs.Geometry.{is_valid, same_mode, image_size, header_place, base_place, log_place}
-use Rattle.iso_model.specs.History.{History, last, array_at}
-use Rattle.iso_model.specs.Step.{put_access}
+use Rattle.std.specs.{Prelude.{◌≡◌, ◌≢◌, ◌⊎◌, ℕ, zero, suc, ◌+◌, ◌-◌, ◌<◌, ◌≤◌, Bool, true, false, ◌==◌, if◌then◌else◌, List, [], ◌∷◌, ◌++◌, Option, Some, None, IsTrue, IfSome, length, nat_lt, take, drop, map, replicate, flat_map, sum_by, slice_get, slice_index, codes}, List.AllByRecursion, Int.{to_be_bytes, from_be_bytes, w16, w32, w64}}
+use Rattle.iso_model.specs.{declared.access.Access.Access, declared.access.Commit.Commit, declared.access.Geometry.Geometry, declared.access.Mode.Mode, declared.access.Mode.TheVariants.{Serial, Snapshot}, declared.access.Run.Run, declared.limits.TheConstants.LAST, Array.Array, Effect.{runs, effect_at}, Geometry.{is_valid, same_mode, image_size, header_place, base_place, log_place}, History.{History, last, array_at}, Step.put_access}
 
 -- the writes that a record with these runs stands for
 abbrev pub recorded : Geometry → List Run → List Access

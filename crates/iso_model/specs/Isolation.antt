@@ -1,11 +1,6 @@
 -- Histories in which every commit has seen what it should.
 use Rattle.std.specs.Prelude.{ℕ, ◌+◌, ◌-◌, ◌<◌, ◌≤◌, IfSome, slice_get}
-use Rattle.iso_model.specs.declared.access.Commit.{Commit}
-use Rattle.iso_model.specs.declared.access.Geometry.{Geometry}
-use Rattle.iso_model.specs.declared.access.Mode.{Mode}
-use Rattle.iso_model.specs.declared.access.Mode.TheVariants.{Serial, Snapshot}
-use Rattle.iso_model.specs.Conflict.{IsSerialAt, IsSnapshotAt}
-use Rattle.iso_model.specs.History.{History, last}
+use Rattle.iso_model.specs.{declared.access.Commit.Commit, declared.access.Geometry.Geometry, declared.access.Mode.Mode, declared.access.Mode.TheVariants.{Serial, Snapshot}, Conflict.{IsSerialAt, IsSnapshotAt}, History.{History, last}}
 
 -- what a commit's mode promises of it
 abbrev pub IsIsolatedAt : Geometry → History → Mode → ℕ → Type 0

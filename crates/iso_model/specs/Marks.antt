@@ -1,10 +1,6 @@
 -- The marks of a transaction's accesses.
 use Rattle.std.specs.Prelude.{ℕ, ◌+◌, Bool, ◌||◌, ◌==◌, if◌then◌else◌, List, [], ◌∷◌, ◌++◌, Option, Some, None, length, nat_le, nat_lt}
-use Rattle.iso_model.specs.declared.access.Access.{Access}
-use Rattle.iso_model.specs.declared.access.MarkError.{MarkError}
-use Rattle.iso_model.specs.declared.access.MarkError.TheVariants.{BadRange, NoAccess, TooManyMarks}
-use Rattle.iso_model.specs.declared.access.Span.{Span}
-use Rattle.iso_model.specs.declared.limits.TheConstants.{MAX_SPANS}
+use Rattle.iso_model.specs.{declared.access.Access.Access, declared.access.MarkError.MarkError, declared.access.MarkError.TheVariants.{BadRange, NoAccess, TooManyMarks}, declared.access.Span.Span, declared.limits.TheConstants.MAX_SPANS}
 
 -- whether the bytes from off on, so many of them, are none or pass the end of a block of this size
 abbrev pub is_outside : (size off len : ℕ) → Bool

@@ -1,16 +1,6 @@
 -- The words of the laws: what they suppose of a geometry, an array, an access and a history, and what runs say of a byte.
-use Rattle.std.specs.Prelude.{◌≡◌, ℕ, ◌+◌, ◌-◌, ◌*◌, ◌<◌, ◌≤◌, Bool, ◌&&◌, ◌==◌, cond, List, [], ◌∷◌, ◌++◌, Option, Some, None, IsTrue, IsFalse, length, slice_index, slice_index_or}
-use Rattle.std.specs.List.{AllByRecursion}
-use Rattle.iso_model.specs.declared.access.Access.{Access}
-use Rattle.iso_model.specs.declared.access.Commit.{Commit}
-use Rattle.iso_model.specs.declared.access.Geometry.{Geometry}
-use Rattle.iso_model.specs.declared.access.Run.{Run}
-use Rattle.iso_model.specs.declared.access.Span.{Span}
-use Rattle.iso_model.specs.declared.limits.TheConstants.{MAX_SPANS}
-use Rattle.iso_model.specs.Array.{Array, in_span}
-use Rattle.iso_model.specs.Effect.{is_write, or_else}
-use Rattle.iso_model.specs.Geometry.{image_size, half_size}
-use Rattle.iso_model.specs.History.{History}
+use Rattle.std.specs.{Prelude.{◌≡◌, ℕ, ◌+◌, ◌-◌, ◌*◌, ◌<◌, ◌≤◌, Bool, ◌&&◌, ◌==◌, cond, List, [], ◌∷◌, ◌++◌, Option, Some, None, IsTrue, IsFalse, length, slice_index, slice_index_or}, List.AllByRecursion}
+use Rattle.iso_model.specs.{declared.access.Access.Access, declared.access.Commit.Commit, declared.access.Geometry.Geometry, declared.access.Run.Run, declared.access.Span.Span, declared.limits.TheConstants.MAX_SPANS, Array.{Array, in_span}, Effect.{is_write, or_else}, Geometry.{image_size, half_size}, History.History}
 
 -- the limits that a valid geometry keeps
 pub record Limits (g : Geometry) : Type 0 where

@@ -1,18 +1,7 @@
 -- What a begin, an end and upkeep of an image are answered, and the world after each.
 use Rattle.std.specs.Prelude.{ℕ, ◌+◌, ◌-◌, ◌&&◌, ◌==◌, not, if◌then◌else◌, List, [], ◌∷◌, ◌++◌, Option, Some, None, length, replicate, nat_le, nat_lt, unwrap_or}
-use Rattle.iso_model.specs.declared.access.Access.{Access}
-use Rattle.iso_model.specs.declared.access.Clash.{Clash}
-use Rattle.iso_model.specs.declared.access.Commit.{Commit}
-use Rattle.iso_model.specs.declared.access.Kind.TheVariants.{Read, Write}
-use Rattle.iso_model.specs.declared.access.Mode.{Mode}
-use Rattle.iso_model.specs.declared.core_reply.CoreReply.{CoreReply}
+use Rattle.iso_model.specs.{declared.access.Access.Access, declared.access.Clash.Clash, declared.access.Commit.Commit, declared.access.Kind.TheVariants.{Read, Write}, declared.access.Mode.Mode, declared.core_reply.CoreReply.CoreReply, declared.limits.TheConstants.{LAST, MAX_LIVE}, Conflict.clash, Geometry.same_mode, Effect.{has_write, record_length, runs}, History.{last, shown_block, with_commits}, World.{World, Live, Place, floor, without, with, used}}
 use Rattle.iso_model.specs.declared.core_reply.CoreReply.TheVariants as reply
-use Rattle.iso_model.specs.declared.limits.TheConstants.{LAST, MAX_LIVE}
-use Rattle.iso_model.specs.Conflict.{clash}
-use Rattle.iso_model.specs.Geometry.{same_mode}
-use Rattle.iso_model.specs.Effect.{has_write, record_length, runs}
-use Rattle.iso_model.specs.History.{last, shown_block, with_commits}
-use Rattle.iso_model.specs.World.{World, Live, Place, floor, without, with, used}
 
 -- a write of these bytes at off in a block of zeros, with one mark over them
 abbrev pub put_access : (size block off : ℕ) → List ℕ → Access

@@ -1,12 +1,6 @@
 -- The versions that an image keeps of its blocks.
-use Rattle.std.specs.Prelude.{◌≡◌, ◌⊎◌, ℕ, ◌+◌, ◌-◌, ◌<◌, ◌≤◌, Bool, true, false, ◌&&◌, ◌||◌, not, List, [], ◌∷◌, Some, length, filter, slice_get, nat_le, nat_lt}
-use Rattle.std.specs.List.{list_any, range_with_len}
-use Rattle.iso_model.specs.declared.access.Commit.{Commit}
-use Rattle.iso_model.specs.declared.access.Geometry.{Geometry}
-use Rattle.iso_model.specs.declared.access.Kind.TheVariants.{Write}
-use Rattle.iso_model.specs.declared.access.Run.{Run}
-use Rattle.iso_model.specs.Effect.{runs, touches}
-use Rattle.iso_model.specs.World.{World, logged_commits}
+use Rattle.std.specs.{Prelude.{◌≡◌, ◌⊎◌, ℕ, ◌+◌, ◌-◌, ◌<◌, ◌≤◌, Bool, true, false, ◌&&◌, ◌||◌, not, List, [], ◌∷◌, Some, length, filter, slice_get, nat_le, nat_lt}, List.{list_any, range_with_len}}
+use Rattle.iso_model.specs.{declared.access.Commit.Commit, declared.access.Geometry.Geometry, declared.access.Kind.TheVariants.Write, declared.access.Run.Run, Effect.{runs, touches}, World.{World, logged_commits}}
 
 -- whether one of these commits up to the trim number, the first of which has the number k, writes the byte
 abbrev pub is_written : (trim k : ℕ) → List Commit → (b p : ℕ) → Bool

@@ -1,12 +1,6 @@
 -- An image with its live transactions, as a client of one thread sees it.
 use Rattle.std.specs.Prelude.{◌≡◌, ℕ, ◌+◌, ◌-◌, Bool, false, ◌==◌, not, cond, List, [], ◌∷◌, Option, Some, min, bytes_eq, drop, slice_get, filter, map, find, sum_by}
-use Rattle.iso_model.specs.declared.access.Access.{Access}
-use Rattle.iso_model.specs.declared.access.Commit.{Commit}
-use Rattle.iso_model.specs.declared.access.Geometry.{Geometry}
-use Rattle.iso_model.specs.declared.access.Mode.{Mode}
-use Rattle.iso_model.specs.Array.{zeros}
-use Rattle.iso_model.specs.Effect.{runs, record_length}
-use Rattle.iso_model.specs.History.{History, last}
+use Rattle.iso_model.specs.{declared.access.Access.Access, declared.access.Commit.Commit, declared.access.Geometry.Geometry, declared.access.Mode.Mode, Array.zeros, Effect.{runs, record_length}, History.{History, last}}
 
 -- where a live transaction is: attached to a client, under a label, or neither
 pub data Place : Type 0 where

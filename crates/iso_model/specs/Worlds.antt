@@ -1,17 +1,6 @@
 -- What holds of every world that is reached from a sound one.
-use Rattle.std.specs.Prelude.{◌≡◌, ◌≢◌, ◌+◌, ◌<◌, ◌≤◌, IsTrue, List, [], ◌∷◌, ◌++◌, length, map}
-use Rattle.std.specs.List.{AllByRecursion}
-use Rattle.iso_model.specs.declared.access.Commit.{Commit}
-use Rattle.iso_model.specs.declared.access.Geometry.{Geometry}
-use Rattle.iso_model.specs.declared.access.Mode.{Mode}
-use Rattle.iso_model.specs.declared.limits.TheConstants.{LAST, MAX_ACCESSES, MAX_LIVE}
-use Rattle.iso_model.specs.Geometry.{is_valid}
-use Rattle.iso_model.specs.History.{History, last}
-use Rattle.iso_model.specs.Image.{IsRecord, written}
-use Rattle.iso_model.specs.Isolation.{IsIsolated}
-use Rattle.iso_model.specs.Premises.{AreAccesses, IsHistory}
-use Rattle.iso_model.specs.Labels.{is_label}
-use Rattle.iso_model.specs.World.{World, Live, Place, client, label, unattached, used}
+use Rattle.std.specs.{Prelude.{◌≡◌, ◌≢◌, ◌+◌, ◌<◌, ◌≤◌, IsTrue, List, [], ◌∷◌, ◌++◌, length, map}, List.AllByRecursion}
+use Rattle.iso_model.specs.{declared.access.Commit.Commit, declared.access.Geometry.Geometry, declared.access.Mode.Mode, declared.limits.TheConstants.{LAST, MAX_ACCESSES, MAX_LIVE}, Geometry.is_valid, History.{History, last}, Image.{IsRecord, written}, Isolation.IsIsolated, Premises.{AreAccesses, IsHistory}, Labels.is_label, World.{World, Live, Place, client, label, unattached, used}}
 
 -- a mode that a transaction of the image may have: in form 1 it is the image's
 abbrev pub MayHave : Geometry → Mode → Type 0

@@ -1,11 +1,6 @@
 // The laws of groups: each function does nothing, and its contract is the law.
-ghost use Rattle.std.specs.Prelude.{◌≡◌, ℕ, ◌<◌, List, [], ◌∷◌};
-ghost use Rattle.std.specs.List.{AllByRecursion};
-ghost use Rattle.iso_model.specs.Group.{after_member, decided, group, group_step, leave_all, member_reply, numbers_told, Follow};
-ghost use Rattle.iso_model.specs.History.{last};
-ghost use Rattle.iso_model.specs.Step.{end_step};
-ghost use Rattle.iso_model.specs.World.{World, Live};
-ghost use Rattle.iso_model.specs.Worlds.{IsLive, IsWorld, LeadsTo};
+ghost use Rattle.std.specs.{Prelude.{◌≡◌, ℕ, ◌<◌, List, [], ◌∷◌}, List.AllByRecursion};
+ghost use Rattle.iso_model.specs.{Group.{after_member, decided, group, group_step, leave_all, member_reply, numbers_told, Follow}, History.last, Step.end_step, World.{World, Live}, Worlds.{IsLive, IsWorld, LeadsTo}};
 
 /// A group of live transactions leads from a sound world to a sound one: the history grows and stays isolated.
 pub fn groups_keep_worlds_sound()

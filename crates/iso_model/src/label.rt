@@ -1,6 +1,5 @@
 // Names for transactions that no client has.
-ghost use Rattle.std.specs.Prelude.{◌≡◌, List, ℕ, IsTrue};
-ghost use Rattle.std.specs.List.{list_all};
+ghost use Rattle.std.specs.{Prelude.{◌≡◌, List, ℕ, IsTrue}, List.list_all};
 ghost use Rattle.iso_model.specs.Labels.{is_label, is_label_byte, key_of, label_of};
 
 use std::marker::Model;

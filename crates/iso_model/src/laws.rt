@@ -1,25 +1,6 @@
 // The laws of the definitions: each function does nothing, and its contract is the law.
-ghost use Rattle.std.specs.Prelude.{◌≡◌, ◌≢◌, ◌↔◌, ℕ, ◌<◌, ◌≤◌, ◌+◌, ◌-◌, IsTrue, IsFalse, IsSome, IfSome, List, Some, None, length, map, slice_get, slice_index, unwrap_or};
-ghost use Rattle.std.specs.List.{AllByRecursion};
-ghost use Rattle.iso_model.specs.declared.access.Access.{Access};
-ghost use Rattle.iso_model.specs.declared.access.Clash.{Clash};
-ghost use Rattle.iso_model.specs.declared.access.Commit.{Commit};
-ghost use Rattle.iso_model.specs.declared.access.Geometry.{Geometry};
-ghost use Rattle.iso_model.specs.declared.access.Kind.TheVariants.{Write};
-ghost use Rattle.iso_model.specs.declared.access.Mode.{Mode};
-ghost use Rattle.iso_model.specs.declared.access.Mode.TheVariants.{Serial, Snapshot};
-ghost use Rattle.iso_model.specs.declared.access.Run.{Run};
-ghost use Rattle.iso_model.specs.Array.{Array, byte_at, covered, put};
-ghost use Rattle.iso_model.specs.Conflict.{clash, IsClash, IsSerialAt, IsSnapshotAt, NotAfter};
-ghost use Rattle.iso_model.specs.Effect.{effect_at, has_write, own, runs, touches};
-ghost use Rattle.iso_model.specs.Geometry.{is_valid};
-ghost use Rattle.iso_model.specs.History.{array_at, last, History};
-ghost use Rattle.iso_model.specs.Image.{commits_of, held, written, AreRuns, IsImage, IsRecord, SameEffect, Shows, recorded};
-ghost use Rattle.iso_model.specs.Isolation.{IsIsolated};
-ghost use Rattle.iso_model.specs.Premises.{appended, block_at, value_in, AreAccesses, AreBytes, HasBytes, HasShape, IsAccess, IsHistory, Limits};
-ghost use Rattle.iso_model.specs.Step.{put_access, read_access};
-ghost use Rattle.iso_model.specs.World.{empty_history, fresh};
-ghost use Rattle.iso_model.specs.Worlds.{Extends, IsWorld, MayHave};
+ghost use Rattle.std.specs.{Prelude.{◌≡◌, ◌≢◌, ◌↔◌, ℕ, ◌<◌, ◌≤◌, ◌+◌, ◌-◌, IsTrue, IsFalse, IsSome, IfSome, List, Some, None, length, map, slice_get, slice_index, unwrap_or}, List.AllByRecursion};
+ghost use Rattle.iso_model.specs.{declared.access.Access.Access, declared.access.Clash.Clash, declared.access.Commit.Commit, declared.access.Geometry.Geometry, declared.access.Kind.TheVariants.Write, declared.access.Mode.Mode, declared.access.Mode.TheVariants.{Serial, Snapshot}, declared.access.Run.Run, Array.{Array, byte_at, covered, put}, Conflict.{clash, IsClash, IsSerialAt, IsSnapshotAt, NotAfter}, Effect.{effect_at, has_write, own, runs, touches}, Geometry.is_valid, History.{array_at, last, History}, Image.{commits_of, held, written, AreRuns, IsImage, IsRecord, SameEffect, Shows, recorded}, Isolation.IsIsolated, Premises.{appended, block_at, value_in, AreAccesses, AreBytes, HasBytes, HasShape, IsAccess, IsHistory, Limits}, Step.{put_access, read_access}, World.{empty_history, fresh}, Worlds.{Extends, IsWorld, MayHave}};
 
 /// A valid geometry keeps its limits, and the image is small.
 pub fn valid_geometry_keeps_limits()

@@ -1,8 +1,5 @@
 // A list with room that was made before it is needed.
-ghost use Rattle.std.specs.Prelude.{◌≡◌, ◌+◌, ◌-◌, ◌<◌, ◌≤◌, ◌==◌, ◌↔◌, [], ◌∷◌, ◌++◌, length, take, IsOk, IsSome, OnOk, OnErr, option_copied, slice_get, vec_capacity, vec_len};
-ghost use Rattle.std.specs.Borrow.{sem};
-ghost use Rattle.std.specs.List.{IsItemAtMut, ItemMut};
-ghost use Rattle.std.specs.Option.{option_to_list};
+ghost use Rattle.std.specs.{Prelude.{◌≡◌, ◌+◌, ◌-◌, ◌<◌, ◌≤◌, ◌==◌, ◌↔◌, [], ◌∷◌, ◌++◌, length, take, IsOk, IsSome, OnOk, OnErr, option_copied, slice_get, vec_capacity, vec_len}, Borrow.sem, List.{IsItemAtMut, ItemMut}, Option.option_to_list};
 ghost use Rattle.iso_model.specs.Reserved.{places};
 
 use crate::{Items, Memory};

@@ -1,17 +1,6 @@
 // The laws of single steps: each function does nothing, and its contract is the law.
-ghost use Rattle.std.specs.Prelude.{◌≡◌, ◌↔◌, ℕ, ◌<◌, ◌≤◌, ◌||◌, List, [], ◌∷◌, ◌++◌, IsFalse, true, length, sum_by};
-ghost use Rattle.std.specs.List.{AllByRecursion};
-ghost use Rattle.iso_model.specs.declared.access.Access.{Access};
-ghost use Rattle.iso_model.specs.declared.access.Commit.{Commit};
-ghost use Rattle.iso_model.specs.declared.access.Run.{Run};
-ghost use Rattle.iso_model.specs.declared.access.Span.{Span};
-ghost use Rattle.iso_model.specs.Array.{covered, in_span};
-ghost use Rattle.iso_model.specs.Effect.{effect_at, runs};
-ghost use Rattle.iso_model.specs.History.{last};
-ghost use Rattle.iso_model.specs.Marks.{marked};
-ghost use Rattle.iso_model.specs.Step.{write_access};
-ghost use Rattle.iso_model.specs.Versions.{is_kept, is_written, versions, IsWritten, StillShows};
-ghost use Rattle.iso_model.specs.World.{floor, logged_commits, BeganAt, World};
+ghost use Rattle.std.specs.{Prelude.{◌≡◌, ◌↔◌, ℕ, ◌<◌, ◌≤◌, ◌||◌, List, [], ◌∷◌, ◌++◌, IsFalse, true, length, sum_by}, List.AllByRecursion};
+ghost use Rattle.iso_model.specs.{declared.access.Access.Access, declared.access.Commit.Commit, declared.access.Run.Run, declared.access.Span.Span, Array.{covered, in_span}, Effect.{effect_at, runs}, History.last, Marks.marked, Step.write_access, Versions.{is_kept, is_written, versions, IsWritten, StillShows}, World.{floor, logged_commits, BeganAt, World}};
 
 /// A mark changes the last access alone. The first mark of an access stands in the place of its whole block, so that a write
 /// writes nothing outside it; a further one adds its bytes.

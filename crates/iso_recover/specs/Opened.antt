@@ -1,16 +1,7 @@
 -- What an image was opened to.
-use Rattle.std.specs.Prelude.{◌≡◌, ℕ, ◌+◌, ◌≤◌, List, [], Option, Some, length}
-use Rattle.std.specs.Option.{ForSome}
-use Rattle.iso_model.specs.declared.access.Geometry.{Geometry}
-use Rattle.iso_model.specs.Geometry.{image_size, log_place}
-use Rattle.iso_model.specs.History.{History, array_at, last}
-use Rattle.iso_model.specs.Image.{IsImage}
-use Rattle.iso_model.specs.World.{fresh}
-use Rattle.iso_core.specs.declared.core_itself.Core.{Core}
-use Rattle.iso_core.specs.declared.opening.Opened.{Opened}
-use Rattle.iso_core.specs.Core.{AllHold, StandsFor}
-use Rattle.iso_core.specs.Opening.{IsOpenedTo, opened_world}
-use Rattle.iso_core.specs.Standing.{up}
+use Rattle.std.specs.{Prelude.{◌≡◌, ℕ, ◌+◌, ◌≤◌, List, [], Option, Some, length}, Option.ForSome}
+use Rattle.iso_model.specs.{declared.access.Geometry.Geometry, Geometry.{image_size, log_place}, History.{History, array_at, last}, Image.IsImage, World.fresh}
+use Rattle.iso_core.specs.{declared.core_itself.Core.Core, declared.opening.Opened.Opened, Core.{AllHold, StandsFor}, Opening.{IsOpenedTo, opened_world}, Standing.up}
 use Rattle.iso_disk.specs.Disk.{DiskState}
 use Rattle.iso_format.specs.Spelled.{Spelled}
 use Rattle.iso_log.specs.Extent.{Extent}

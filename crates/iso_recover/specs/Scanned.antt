@@ -1,19 +1,12 @@
 -- What a log was found to tell.
-use Rattle.std.specs.Prelude.{◌≡◌, ℕ, ◌+◌, ◌<◌, ◌≤◌, List, Some, length, take, drop}
-use Rattle.std.specs.List.{AllByRecursion}
-use Rattle.iso_model.specs.declared.access.Geometry.{Geometry}
-use Rattle.iso_model.specs.declared.limits.TheConstants.{LAST}
-use Rattle.iso_model.specs.Image.{IsRecord, Written, records}
-use Rattle.iso_model.specs.Premises.{AreBytes}
+use Rattle.std.specs.{Prelude.{◌≡◌, ℕ, ◌+◌, ◌<◌, ◌≤◌, List, Some, length, take, drop}, List.AllByRecursion}
+use Rattle.iso_model.specs.{declared.access.Geometry.Geometry, declared.limits.TheConstants.LAST, Image.{IsRecord, Written, records}, Premises.AreBytes}
 use Rattle.commit_gate.specs.Gate.{IsOpen}
-use Rattle.iso_format.specs.declared.format_error.FormatError.{FormatError}
-use Rattle.iso_format.specs.Records.{fault_of}
+use Rattle.iso_format.specs.{declared.format_error.FormatError.FormatError, Records.fault_of}
 use Rattle.iso_log.specs.Extent.{Extent}
-use Rattle.iso_refusal.specs.declared.open_error.OpenError.{OpenError}
-use Rattle.iso_refusal.specs.Refusal.{damaged, log_at, log_refusal}
+use Rattle.iso_refusal.specs.{declared.open_error.OpenError.OpenError, Refusal.{damaged, log_at, log_refusal}}
 use Rattle.iso_recover.specs.declared.front.Front.{Front}
-use Rattle.mv_index.specs.Placed.{IsIndexOf}
-use Rattle.mv_index.specs.Versions.{BlockVersions}
+use Rattle.mv_index.specs.{Placed.IsIndexOf, Versions.BlockVersions}
 
 -- The gate is open, and the bytes behind it fail this test as the record with this number.
 pub record IsDamagedBy (g : Geometry) (place rest number : ℕ) (e : OpenError) (image : List ℕ) : Type 0 where

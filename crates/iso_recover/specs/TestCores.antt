@@ -1,13 +1,8 @@
 -- The cores of the tests.
 use Rattle.std.specs.Prelude.{◌≡◌, ℕ, ◌≤◌, [], length}
-use Rattle.iso_core.specs.declared.core_itself.Core.{Core}
-use Rattle.iso_core.specs.Core.{StandsFor}
-use Rattle.iso_core.specs.Standing.{up, down}
+use Rattle.iso_core.specs.{declared.core_itself.Core.Core, Core.StandsFor, Standing.{up, down}}
 use Rattle.iso_disk.specs.Disk.{DiskState}
-use Rattle.iso_model.specs.declared.access.Geometry.{Geometry}
-use Rattle.iso_model.specs.declared.limits.TheConstants.{MAX_ACCESSES}
-use Rattle.iso_model.specs.Premises.{AreAccesses}
-use Rattle.iso_model.specs.World.{World}
+use Rattle.iso_model.specs.{declared.access.Geometry.Geometry, declared.limits.TheConstants.MAX_ACCESSES, Premises.AreAccesses, World.World}
 use Rattle.tx_table.specs.Work.{Doing}
 
 -- the core is up

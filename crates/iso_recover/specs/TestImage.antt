@@ -1,6 +1,5 @@
 -- The image of the tests.
-use Rattle.iso_model.specs.declared.access.Geometry.{Geometry}
-use Rattle.iso_model.specs.declared.access.Mode.TheVariants.{Serial}
+use Rattle.iso_model.specs.{declared.access.Geometry.Geometry, declared.access.Mode.TheVariants.Serial}
 
 -- four blocks of 64 bytes, and a log of 256
 abbrev pub small : Geometry

@@ -1,20 +1,11 @@
 // The core over an image that is made or opened.
-ghost use Rattle.std.specs.Prelude.{◌≡◌, ◌≤◌, ℕ, List, replicate, Some, IfErr, IfOk, IsTrue};
-ghost use Rattle.std.specs.Option.{ForSome};
-ghost use Rattle.iso_model.specs.Geometry.{image_size, is_valid};
-ghost use Rattle.iso_model.specs.declared.access.Geometry.{Geometry};
-ghost use Rattle.iso_model.specs.History.{History};
-ghost use Rattle.iso_model.specs.Image.{Shows};
-ghost use Rattle.iso_model.specs.World.{empty_history, fresh};
+ghost use Rattle.std.specs.{Prelude.{◌≡◌, ◌≤◌, ℕ, List, replicate, Some, IfErr, IfOk, IsTrue}, Option.ForSome};
+ghost use Rattle.iso_model.specs.{Geometry.{image_size, is_valid}, declared.access.Geometry.Geometry, History.History, Image.Shows, World.{empty_history, fresh}};
 ghost use Rattle.iso_disk.specs.Disk.{LeavesOnly, StaysTold, WritesNothing};
 ghost use Rattle.fault_count.specs.Count.{Rose};
-ghost use Rattle.iso_core.specs.Core.{StandsFor, disk_of};
-ghost use Rattle.iso_core.specs.Standing.{up};
+ghost use Rattle.iso_core.specs.{Core.{StandsFor, disk_of}, Standing.up};
 ghost use Rattle.iso_refusal.specs.Refusal.{refusal};
-ghost use Rattle.iso_recover.specs.Cause.{IsBlamed, IsTest};
-ghost use Rattle.iso_recover.specs.Made.{IsUnmadeOrEmpty};
-ghost use Rattle.iso_recover.specs.Opened.{HasOpened, HasReopened};
-ghost use Rattle.iso_recover.specs.Shape.{IsShaped};
+ghost use Rattle.iso_recover.specs.{Cause.{IsBlamed, IsTest}, Made.IsUnmadeOrEmpty, Opened.{HasOpened, HasReopened}, Shape.IsShaped};
 
 use crate::image::read_image;
 use crate::make::{MakeError, make_image};

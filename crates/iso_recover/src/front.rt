@@ -1,11 +1,8 @@
 // The front of an image: its geometry, and what its current half says.
-ghost use Rattle.std.specs.Prelude.{◌≡◌, ◌≢◌, ◌⊎◌, Some, IfErr, IfOk, IsErrOf};
-ghost use Rattle.std.specs.Option.{ForSome};
+ghost use Rattle.std.specs.{Prelude.{◌≡◌, ◌≢◌, ◌⊎◌, Some, IfErr, IfOk, IsErrOf}, Option.ForSome};
 ghost use Rattle.iso_disk.specs.Disk.{IsSettled, WritesNothing};
 ghost use Rattle.iso_refusal.specs.Refusal.{refusal};
-ghost use Rattle.iso_recover.specs.Cause.{BlamesDisk, IsTest};
-ghost use Rattle.iso_recover.specs.Front.{HasFront, IsFront};
-ghost use Rattle.iso_recover.specs.Shape.{IsShaped};
+ghost use Rattle.iso_recover.specs.{Cause.{BlamesDisk, IsTest}, Front.{HasFront, IsFront}, Shape.IsShaped};
 
 use crate::halves::current_front;
 use crate::superblock::{read_bytes, read_geometry};

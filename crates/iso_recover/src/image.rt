@@ -1,12 +1,9 @@
 // An image that is read to be opened.
-ghost use Rattle.std.specs.Prelude.{◌≡◌, ◌⊎◌, Some, IfErr, IfOk, IsErrOf};
-ghost use Rattle.std.specs.Option.{ForSome};
+ghost use Rattle.std.specs.{Prelude.{◌≡◌, ◌⊎◌, Some, IfErr, IfOk, IsErrOf}, Option.ForSome};
 ghost use Rattle.iso_model.specs.History.{History};
 ghost use Rattle.iso_disk.specs.Disk.{IsSettled, WritesNothing};
 ghost use Rattle.iso_refusal.specs.Refusal.{refusal};
-ghost use Rattle.iso_recover.specs.Cause.{BlamesDisk, IsTest};
-ghost use Rattle.iso_recover.specs.Opened.{IsOpened};
-ghost use Rattle.iso_recover.specs.Shape.{IsShaped};
+ghost use Rattle.iso_recover.specs.{Cause.{BlamesDisk, IsTest}, Opened.IsOpened, Shape.IsShaped};
 
 use crate::front::read_front;
 use crate::log::read_log;

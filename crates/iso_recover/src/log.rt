@@ -1,14 +1,10 @@
 // The log of an image that is opened.
-ghost use Rattle.std.specs.Prelude.{◌≡◌, ◌+◌, ◌<◌, List, Some, IfErr, IfOk};
-ghost use Rattle.std.specs.Option.{ForSome};
+ghost use Rattle.std.specs.{Prelude.{◌≡◌, ◌+◌, ◌<◌, List, Some, IfErr, IfOk}, Option.ForSome};
 ghost use Rattle.iso_model.specs.Image.{Written};
 ghost use Rattle.iso_disk.specs.Disk.{WritesNothing};
 ghost use Rattle.iso_image.specs.Half.{HasLog};
 ghost use Rattle.iso_refusal.specs.Refusal.{log_at, log_refusal};
-ghost use Rattle.iso_recover.specs.Cause.{BlamesDisk, IsTest};
-ghost use Rattle.iso_recover.specs.Front.{IsFront};
-ghost use Rattle.iso_recover.specs.Scanned.{HasRead};
-ghost use Rattle.iso_recover.specs.Shape.{IsShaped};
+ghost use Rattle.iso_recover.specs.{Cause.{BlamesDisk, IsTest}, Front.IsFront, Scanned.HasRead, Shape.IsShaped};
 
 use crate::front::Front;
 use crate::scan::find_on;

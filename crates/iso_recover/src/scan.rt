@@ -1,14 +1,10 @@
 // The next record of a log that is opened.
-ghost use Rattle.std.specs.Prelude.{◌≡◌, ◌+◌, ◌-◌, ◌<◌, ◌≤◌, None, length, IfErr, IfOk, IfSome, IsTrue};
-ghost use Rattle.std.specs.Option.{ForSome};
+ghost use Rattle.std.specs.{Prelude.{◌≡◌, ◌+◌, ◌-◌, ◌<◌, ◌≤◌, None, length, IfErr, IfOk, IfSome, IsTrue}, Option.ForSome};
 ghost use Rattle.iso_model.specs.Geometry.{is_valid};
 ghost use Rattle.iso_disk.specs.Disk.{WritesNothing};
 ghost use Rattle.commit_gate.specs.Gate.{IsClosed};
-ghost use Rattle.iso_log.specs.Extent.{next_place};
-ghost use Rattle.iso_log.specs.Scan.{IsFirst, IsFound, StandAt};
-ghost use Rattle.iso_recover.specs.Cause.{BlamesDisk, IsTest, opening};
-ghost use Rattle.iso_recover.specs.Scanned.{IsDamagedBy};
-ghost use Rattle.iso_recover.specs.Shape.{IsShaped};
+ghost use Rattle.iso_log.specs.{Extent.next_place, Scan.{IsFirst, IsFound, StandAt}};
+ghost use Rattle.iso_recover.specs.{Cause.{BlamesDisk, IsTest, opening}, Scanned.IsDamagedBy, Shape.IsShaped};
 
 use iso_disk::Disk;
 use iso_log::{Log, LogError, ReadAhead};

@@ -1,14 +1,10 @@
 // The superblock of an image, read and tested.
-ghost use Rattle.std.specs.Prelude.{◌≡◌, ◌≢◌, ◌+◌, ◌≤◌, Ok, Some, drop, length, take, IfErr, IfOk, IsTrue, OnOk};
-ghost use Rattle.std.specs.Option.{ForSome};
-ghost use Rattle.iso_model.specs.Geometry.{image_size, is_valid};
-ghost use Rattle.iso_model.specs.Image.{superblock};
+ghost use Rattle.std.specs.{Prelude.{◌≡◌, ◌≢◌, ◌+◌, ◌≤◌, Ok, Some, drop, length, take, IfErr, IfOk, IsTrue, OnOk}, Option.ForSome};
+ghost use Rattle.iso_model.specs.{Geometry.{image_size, is_valid}, Image.superblock};
 ghost use Rattle.iso_disk.specs.Disk.{WritesNothing};
 ghost use Rattle.iso_format.specs.Reading.{super_of};
 ghost use Rattle.iso_refusal.specs.Refusal.{refusal};
-ghost use Rattle.iso_recover.specs.Cause.{BlamesDisk, IsTest};
-ghost use Rattle.iso_recover.specs.Front.{super_refusal};
-ghost use Rattle.iso_recover.specs.Shape.{IsShaped};
+ghost use Rattle.iso_recover.specs.{Cause.{BlamesDisk, IsTest}, Front.super_refusal, Shape.IsShaped};
 
 use iso_disk::Disk;
 use iso_format::{SuperError, read_super};

@@ -1,23 +1,9 @@
 -- What an image is refused for, and what it opens to: both computed over its bytes.
 use Rattle.std.specs.Prelude.{ℕ, zero, suc, ◌+◌, ◌-◌, ◌||◌, ◌==◌, if◌then◌else◌, List, [], ◌∷◌, Option, Some, None, Result, Ok, Err, length, take, drop, nat_lt, slice_index, option_map}
-use Rattle.iso_model.specs.declared.access.Geometry.{Geometry}
-use Rattle.iso_model.specs.declared.access.Mode.{Mode}
-use Rattle.iso_model.specs.declared.access.Mode.TheVariants.{Serial, Snapshot}
-use Rattle.iso_model.specs.declared.limits.TheConstants.{LAST}
-use Rattle.iso_model.specs.Array.{Array}
-use Rattle.iso_model.specs.Effect.{or_else}
-use Rattle.iso_model.specs.Geometry.{image_size, header_place, base_place, log_place}
-use Rattle.iso_model.specs.History.{History, last, array_at}
-use Rattle.iso_model.specs.Image.{Written, blocks_of, commits_of, current_half}
-use Rattle.iso_format.specs.declared.format_error.FormatError.{FormatError}
-use Rattle.iso_format.specs.declared.half.HalfHeader.{HalfHeader}
-use Rattle.iso_format.specs.declared.superblock.SuperError.{SuperError}
+use Rattle.iso_model.specs.{declared.access.Geometry.Geometry, declared.access.Mode.Mode, declared.access.Mode.TheVariants.{Serial, Snapshot}, declared.limits.TheConstants.LAST, Array.Array, Effect.or_else, Geometry.{image_size, header_place, base_place, log_place}, History.{History, last, array_at}, Image.{Written, blocks_of, commits_of, current_half}}
+use Rattle.iso_format.specs.{declared.format_error.FormatError.FormatError, declared.half.HalfHeader.HalfHeader, declared.superblock.SuperError.SuperError, Faults.{offset_of, test_number}, Reading.{half_of, super_of, unclean_place}, Records.{fault_of, record_window, recorded}}
 use Rattle.iso_format.specs.declared.superblock.SuperError.TheVariants as super
-use Rattle.iso_format.specs.Faults.{offset_of, test_number}
-use Rattle.iso_format.specs.Reading.{half_of, super_of, unclean_place}
-use Rattle.iso_format.specs.Records.{fault_of, record_window, recorded}
-use Rattle.iso_refusal.specs.declared.open_error.OpenError.{OpenError}
-use Rattle.iso_refusal.specs.declared.open_error.OpenError.TheVariants.{NotIsotope, BadGeometry, WrongSize, NoHalf, Damaged, UnknownForm}
+use Rattle.iso_refusal.specs.{declared.open_error.OpenError.OpenError, declared.open_error.OpenError.TheVariants.{NotIsotope, BadGeometry, WrongSize, NoHalf, Damaged, UnknownForm}}
 
 -- the bytes of the header of half 0 or 1
 abbrev pub header_at : Geometry → (half : ℕ) → List ℕ → List ℕ

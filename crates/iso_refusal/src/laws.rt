@@ -1,11 +1,7 @@
 // The laws of refusals: each function does nothing, and its contract is the law.
 ghost use Rattle.std.specs.Prelude.{◌≡◌, ◌≢◌, ◌↔◌, ℕ, ◌+◌, ◌≤◌, List, [], ◌∷◌, Some, None, length, drop, slice_index};
-ghost use Rattle.iso_model.specs.declared.access.Geometry.{Geometry};
-ghost use Rattle.iso_model.specs.History.{History};
-ghost use Rattle.iso_model.specs.Image.{IsImage};
-ghost use Rattle.iso_model.specs.Premises.{AreBytes};
-ghost use Rattle.iso_format.specs.declared.format_error.FormatError.{FormatError};
-ghost use Rattle.iso_format.specs.Records.{fault_of};
+ghost use Rattle.iso_model.specs.{declared.access.Geometry.Geometry, History.History, Image.IsImage, Premises.AreBytes};
+ghost use Rattle.iso_format.specs.{declared.format_error.FormatError.FormatError, Records.fault_of};
 ghost use Rattle.iso_refusal.specs.Refusal.{damaged, log_refusal, opened, record_bytes, refusal, told_by, told_first};
 
 /// Bytes are refused exactly where they are an image of no history, and else they open to the one that they hold.

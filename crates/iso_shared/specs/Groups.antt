@@ -4,17 +4,8 @@ use mathlib.Core.List.{IsPrefix}
 use Rattle.iso_core.specs.declared.group_end.GroupEnd.{GroupEnd}
 use Rattle.iso_model.specs.declared.access.GroupReply.{GroupReply}
 use Rattle.tx_table.specs.Work.{AreWithin, Doing}
-use Rattle.turn_lock.specs.Lists.{times, total}
-use Rattle.turn_lock.specs.Lock.{lock_id}
-use Rattle.turn_lock.specs.Pass.{HasNoTurn, view}
-use Rattle.iso_shared.specs.declared.entry.Entry.{Entry}
-use Rattle.iso_shared.specs.declared.entry.Member.{Member}
-use Rattle.iso_shared.specs.declared.entry.MemberEnd.{MemberEnd}
-use Rattle.iso_shared.specs.declared.shared.Shared.{Shared}
-use Rattle.iso_shared.specs.declared.tx.Tx.{Tx}
-use Rattle.iso_shared.specs.Ports.{IsAhead, IsOf, IsOwn, IsSameTx, IsTx}
-use Rattle.iso_shared.specs.Standing.{IsOn}
-use Rattle.iso_shared.specs.States.{Start, state_at}
+use Rattle.turn_lock.specs.{Lists.{times, total}, Lock.lock_id, Pass.{HasNoTurn, view}}
+use Rattle.iso_shared.specs.{declared.entry.Entry.Entry, declared.entry.Member.Member, declared.entry.MemberEnd.MemberEnd, declared.shared.Shared.Shared, declared.tx.Tx.Tx, Ports.{IsAhead, IsOf, IsOwn, IsSameTx, IsTx}, Standing.IsOn, States.{Start, state_at}}
 
 -- two lists of the same length, item by item
 abbrev pub ArePaired : {A B : Type 0} → (A → B → Type 0) → List A → List B → Type 0

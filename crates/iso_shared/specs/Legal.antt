@@ -1,31 +1,13 @@
 -- Which lists of entries a shared device may stand for: each entry is the answer that the rules of one thread give at its place.
-use Rattle.std.specs.Prelude.{◌≡◌, ℕ, ◌+◌, ◌<◌, ◌≤◌, true, List, [], ◌∷◌, Option, Some, None, IsSome, bytes_eq, length, is_some, option_map, slice_get}
-use Rattle.std.specs.Map.{lookup}
-use Rattle.std.specs.List.{AllByRecursion}
+use Rattle.std.specs.{Prelude.{◌≡◌, ℕ, ◌+◌, ◌<◌, ◌≤◌, true, List, [], ◌∷◌, Option, Some, None, IsSome, bytes_eq, length, is_some, option_map, slice_get}, Map.lookup, List.AllByRecursion}
 use Rattle.fault_count.specs.Count.{Rose}
-use Rattle.iso_model.specs.declared.access.Access.{Access}
+use Rattle.iso_model.specs.{declared.access.Access.Access, declared.access.EndReply.EndReply, declared.access.EndReply.TheVariants.{Committed, ReadOnly, Conflict}, declared.access.Mode.Mode, declared.limits.TheConstants.MAX_ACCESSES, declared.core_reply.CoreReply.CoreReply, Group.numbers_told, History.{array_at, last}, Premises.{AreAccesses, block_at}, Step.{begin_step, end_step, mode_named, switch_step}, Versions.versions, World.{World, floor, unattached, used}}
 use Rattle.iso_core.specs.declared.group_end.TheConstants.{MAX_GROUP}
-use Rattle.iso_model.specs.declared.access.EndReply.{EndReply}
-use Rattle.iso_model.specs.declared.access.EndReply.TheVariants.{Committed, ReadOnly, Conflict}
-use Rattle.iso_model.specs.declared.access.Mode.{Mode}
-use Rattle.iso_model.specs.declared.limits.TheConstants.{MAX_ACCESSES}
-use Rattle.iso_model.specs.declared.core_reply.CoreReply.{CoreReply}
 use Rattle.iso_model.specs.declared.core_reply.CoreReply.TheVariants as reply
-use Rattle.iso_model.specs.Group.{numbers_told}
-use Rattle.iso_model.specs.History.{array_at, last}
-use Rattle.iso_model.specs.Premises.{AreAccesses, block_at}
-use Rattle.iso_model.specs.Step.{begin_step, end_step, mode_named, switch_step}
-use Rattle.iso_model.specs.Versions.{versions}
-use Rattle.iso_model.specs.World.{World, floor, unattached, used}
-use Rattle.iso_shared.specs.declared.entry.Call.{Call}
+use Rattle.iso_shared.specs.{declared.entry.Call.Call, declared.entry.Cause.Cause, declared.entry.Entry.Entry, declared.entry.Member.Member, declared.entry.Numbers.Numbers, States.{Start, State, opened, after, group_answers, is_loose, live_of, members_of, member_numbers, replies_of, tx_of}}
 use Rattle.iso_shared.specs.declared.entry.Call.TheVariants as call
-use Rattle.iso_shared.specs.declared.entry.Cause.{Cause}
 use Rattle.iso_shared.specs.declared.entry.Cause.TheVariants as cause
-use Rattle.iso_shared.specs.declared.entry.Entry.{Entry}
 use Rattle.iso_shared.specs.declared.entry.Entry.TheVariants as entry
-use Rattle.iso_shared.specs.declared.entry.Member.{Member}
-use Rattle.iso_shared.specs.declared.entry.Numbers.{Numbers}
-use Rattle.iso_shared.specs.States.{Start, State, opened, after, group_answers, is_loose, live_of, members_of, member_numbers, replies_of, tx_of}
 use Rattle.turn_lock.specs.Lists.{AreDistinct}
 
 abbrev pub reply_of : EndReply → CoreReply

@@ -1,14 +1,9 @@
 -- What the laws of legal lists speak of: commits that a list has told of, and transactions that came from under a label.
-use Rattle.std.specs.Prelude.{◌≡◌, ℕ, ◌≤◌, ◌==◌, Bool, false, List, ◌∷◌, ◌++◌, Option, Some, None, option_map}
-use Rattle.std.specs.List.{AllByRecursion}
-use Rattle.iso_model.specs.declared.access.EndReply.{EndReply}
-use Rattle.iso_model.specs.declared.access.EndReply.TheVariants.{Committed, ReadOnly, Conflict}
-use Rattle.iso_model.specs.declared.access.GroupReply.{GroupReply}
+use Rattle.std.specs.{Prelude.{◌≡◌, ℕ, ◌≤◌, ◌==◌, Bool, false, List, ◌∷◌, ◌++◌, Option, Some, None, option_map}, List.AllByRecursion}
+use Rattle.iso_model.specs.{declared.access.EndReply.EndReply, declared.access.EndReply.TheVariants.{Committed, ReadOnly, Conflict}, declared.access.GroupReply.GroupReply}
 use Rattle.iso_model.specs.declared.access.GroupReply.TheVariants as member
-use Rattle.iso_shared.specs.declared.entry.Entry.{Entry}
+use Rattle.iso_shared.specs.{declared.entry.Entry.Entry, declared.entry.Posting.Posting, States.{State, after_all, posting_of, replies_of}}
 use Rattle.iso_shared.specs.declared.entry.Entry.TheVariants as entry
-use Rattle.iso_shared.specs.declared.entry.Posting.{Posting}
-use Rattle.iso_shared.specs.States.{State, after_all, posting_of, replies_of}
 
 -- a commit that is told of has this number at most
 abbrev pub IsReplyUpTo : ℕ → EndReply → Type 0

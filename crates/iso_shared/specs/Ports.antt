@@ -1,29 +1,12 @@
 -- What ports and transactions are between two calls, and what a call does to their views.
-use Rattle.std.specs.Prelude.{◌≡◌, ℕ, ◌+◌, ◌-◌, ◌<◌, ◌≤◌, true, List, [], ◌∷◌, ◌++◌, length}
-use Rattle.std.specs.List.{AllByRecursion}
+use Rattle.std.specs.{Prelude.{◌≡◌, ℕ, ◌+◌, ◌-◌, ◌<◌, ◌≤◌, true, List, [], ◌∷◌, ◌++◌, length}, List.AllByRecursion}
 use mathlib.Core.List.{IsPrefix}
-use Rattle.conflict_rule.specs.declared.decision.Checked.{Checked}
-use Rattle.conflict_rule.specs.Decision.{AreNotesAfter, up_to}
+use Rattle.conflict_rule.specs.{declared.decision.Checked.Checked, Decision.{AreNotesAfter, up_to}}
 use Rattle.iso_core.specs.declared.answers.Recent.{Recent}
-use Rattle.iso_model.specs.declared.access.Geometry.{Geometry}
-use Rattle.iso_model.specs.Conflict.{clash}
-use Rattle.iso_model.specs.History.{last}
-use Rattle.iso_model.specs.Isolation.{IsIsolated}
+use Rattle.iso_model.specs.{declared.access.Geometry.Geometry, Conflict.clash, History.last, Isolation.IsIsolated}
 use Rattle.tx_table.specs.Work.{Doing}
-use Rattle.turn_lock.specs.declared.lock.TurnLock.{TurnLock}
-use Rattle.turn_lock.specs.declared.view.View.{View}
-use Rattle.turn_lock.specs.Lists.{hit, times, total}
-use Rattle.turn_lock.specs.Lock.{lock_id}
-use Rattle.turn_lock.specs.Numbers.{held_after}
-use Rattle.turn_lock.specs.Pass.{PassOf, view, HasNoTurn}
-use Rattle.iso_shared.specs.declared.entry.Entry.{Entry}
-use Rattle.iso_shared.specs.declared.guarded.Guarded.{Guarded}
-use Rattle.iso_shared.specs.declared.shared.Port.{Port}
-use Rattle.iso_shared.specs.declared.shared.Shared.{Shared}
-use Rattle.iso_shared.specs.declared.tx.Tx.{Tx}
-use Rattle.iso_shared.specs.Legal.{IsLegal, handed, returned}
-use Rattle.iso_shared.specs.Standing.{IsOn}
-use Rattle.iso_shared.specs.States.{Start, State, is_live, live_of, state_at}
+use Rattle.turn_lock.specs.{declared.lock.TurnLock.TurnLock, declared.view.View.View, Lists.{hit, times, total}, Lock.lock_id, Numbers.held_after, Pass.{PassOf, view, HasNoTurn}}
+use Rattle.iso_shared.specs.{declared.entry.Entry.Entry, declared.guarded.Guarded.Guarded, declared.shared.Port.Port, declared.shared.Shared.Shared, declared.tx.Tx.Tx, Legal.{IsLegal, handed, returned}, Standing.IsOn, States.{Start, State, is_live, live_of, state_at}}
 
 -- a pass of the lock, at rest, with a unit
 abbrev pub IsOf : {X E : Type 0} → TurnLock X E → PassOf X E → Type 0

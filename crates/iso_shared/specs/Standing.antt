@@ -1,22 +1,10 @@
 -- What lies under the lock stands for a list of entries.
-use Rattle.std.specs.Prelude.{◌≡◌, ℕ, ◌≤◌, true, List, [], Option, Some, None, IsSome, is_some, map}
-use Rattle.std.specs.List.{AllByRecursion}
-use Rattle.iso_core.specs.declared.core_itself.Core.{Core}
-use Rattle.iso_core.specs.Core.{StandsFor, disk_of}
-use Rattle.iso_core.specs.Standing.{Standing, up, down}
-use Rattle.iso_model.specs.History.{with_commits}
+use Rattle.std.specs.{Prelude.{◌≡◌, ℕ, ◌≤◌, true, List, [], Option, Some, None, IsSome, is_some, map}, List.AllByRecursion}
+use Rattle.iso_core.specs.{declared.core_itself.Core.Core, Core.{StandsFor, disk_of}, Standing.{Standing, up, down}}
+use Rattle.iso_model.specs.{History.with_commits, declared.access.Commit.Commit, declared.access.Geometry.Geometry, declared.access.Mode.TheVariants.Serial, World.{World, fresh, empty_history}, Between.ShowsBetween}
 use Rattle.iso_disk.specs.Disk.{DiskState, LeavesOnly, WritesNothing}
-use Rattle.iso_model.specs.declared.access.Commit.{Commit}
-use Rattle.iso_model.specs.declared.access.Geometry.{Geometry}
-use Rattle.iso_model.specs.declared.access.Mode.TheVariants.{Serial}
-use Rattle.iso_model.specs.World.{World, fresh, empty_history}
-use Rattle.iso_model.specs.Between.{ShowsBetween}
 use Rattle.tx_table.specs.Work.{Doing}
-use Rattle.iso_shared.specs.declared.entry.Entry.{Entry}
-use Rattle.iso_shared.specs.declared.entry.Posting.{Posting}
-use Rattle.iso_shared.specs.declared.guarded.Posted.{Posted}
-use Rattle.iso_shared.specs.Legal.{IsLegal}
-use Rattle.iso_shared.specs.States.{Start, State, state_at}
+use Rattle.iso_shared.specs.{declared.entry.Entry.Entry, declared.entry.Posting.Posting, declared.guarded.Posted.Posted, Legal.IsLegal, States.{Start, State, state_at}}
 
 abbrev pub standing_of : Option (List Commit) → Standing
 standing_of None = up

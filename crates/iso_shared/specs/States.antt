@@ -1,25 +1,11 @@
 -- The state of a shared device at a place of its list, and what each entry makes of it.
-use Rattle.std.specs.Prelude.{ℕ, ◌==◌, Bool, true, false, ◌&&◌, cond, List, [], ◌∷◌, ◌++◌, Option, Some, None, bytes_eq, drop, map}
-use Rattle.std.specs.Map.{remove_entry}
-use Rattle.iso_model.specs.declared.access.Access.{Access}
-use Rattle.iso_model.specs.declared.access.Commit.{Commit}
-use Rattle.iso_model.specs.declared.access.EndReply.{EndReply}
-use Rattle.iso_model.specs.declared.access.EndReply.TheVariants.{Committed, ReadOnly, Conflict}
-use Rattle.iso_model.specs.declared.access.Mode.TheVariants.{Serial}
-use Rattle.iso_model.specs.declared.access.GroupReply.{GroupReply}
-use Rattle.iso_model.specs.Group.{group, leave_all, made_by}
-use Rattle.iso_model.specs.Step.{after_begin, after_commit, after_leaving, after_switch, after_trim}
-use Rattle.iso_model.specs.World.{World, Live, unattached}
+use Rattle.std.specs.{Prelude.{ℕ, ◌==◌, Bool, true, false, ◌&&◌, cond, List, [], ◌∷◌, ◌++◌, Option, Some, None, bytes_eq, drop, map}, Map.remove_entry}
+use Rattle.iso_model.specs.{declared.access.Access.Access, declared.access.Commit.Commit, declared.access.EndReply.EndReply, declared.access.EndReply.TheVariants.{Committed, ReadOnly, Conflict}, declared.access.Mode.TheVariants.Serial, declared.access.GroupReply.GroupReply, Group.{group, leave_all, made_by}, Step.{after_begin, after_commit, after_leaving, after_switch, after_trim}, World.{World, Live, unattached}}
 use Rattle.turn_lock.specs.Lists.{times}
-use Rattle.iso_shared.specs.declared.entry.Call.{Call}
+use Rattle.iso_shared.specs.{declared.entry.Call.Call, declared.entry.Cause.Cause, declared.entry.Entry.Entry, declared.entry.Member.Member, declared.entry.MemberEnd.MemberEnd, declared.entry.Posting.Posting}
 use Rattle.iso_shared.specs.declared.entry.Call.TheVariants as call
-use Rattle.iso_shared.specs.declared.entry.Cause.{Cause}
 use Rattle.iso_shared.specs.declared.entry.Cause.TheVariants as cause
-use Rattle.iso_shared.specs.declared.entry.Entry.{Entry}
 use Rattle.iso_shared.specs.declared.entry.Entry.TheVariants as entry
-use Rattle.iso_shared.specs.declared.entry.Member.{Member}
-use Rattle.iso_shared.specs.declared.entry.MemberEnd.{MemberEnd}
-use Rattle.iso_shared.specs.declared.entry.Posting.{Posting}
 
 -- where a list begins: the world, how often the disk has failed, and whether the disk tells its bytes
 pub record Start : Type 0 where

@@ -1,12 +1,9 @@
 -- The image of the tests.
 use Rattle.std.specs.Prelude.{◌≡◌, []}
-use Rattle.iso_core.specs.declared.core_itself.Core.{Core}
+use Rattle.iso_core.specs.{declared.core_itself.Core.Core, Core.disk_of}
 use Rattle.iso_disk.specs.Disk.{DiskState}
-use Rattle.iso_model.specs.declared.access.Geometry.{Geometry}
-use Rattle.iso_model.specs.declared.access.Mode.TheVariants.{Serial}
-use Rattle.iso_core.specs.Core.{disk_of}
-use Rattle.iso_shared.specs.Standing.{Came, Holds}
-use Rattle.iso_shared.specs.States.{Start, opened}
+use Rattle.iso_model.specs.{declared.access.Geometry.Geometry, declared.access.Mode.TheVariants.Serial}
+use Rattle.iso_shared.specs.{Standing.{Came, Holds}, States.{Start, opened}}
 
 abbrev pub small : Geometry
 small = record { block = 64; blocks = 4; log = 4096; mode = Serial; hash = 0; tree = 0; form = 1 }

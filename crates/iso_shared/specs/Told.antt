@@ -1,33 +1,16 @@
 -- Which entry a call leaves.
 use Rattle.std.specs.Prelude.{ℕ, List, Result, Ok, Err, Option, map, option_map, unwrap_or}
-use Rattle.iso_core.specs.declared.answers.Begun.{Begun}
-use Rattle.iso_core.specs.declared.answers.Recent.{Recent}
-use Rattle.iso_core.specs.declared.answers.Stat.{Stat}
-use Rattle.iso_core.specs.declared.group_end.GroupEnd.{GroupEnd}
-use Rattle.iso_model.specs.declared.access.Access.{Access}
-use Rattle.iso_model.specs.declared.access.EndReply.{EndReply}
+use Rattle.iso_core.specs.{declared.answers.Begun.Begun, declared.answers.Recent.Recent, declared.answers.Stat.Stat, declared.group_end.GroupEnd.GroupEnd}
+use Rattle.iso_model.specs.{declared.access.Access.Access, declared.access.EndReply.EndReply, declared.access.Mode.Mode, declared.core_error.CoreError.CoreError}
 use Rattle.iso_model.specs.declared.access.GroupReply.TheVariants as member
-use Rattle.iso_model.specs.declared.access.Mode.{Mode}
-use Rattle.iso_model.specs.declared.core_error.CoreError.{CoreError}
 use Rattle.iso_model.specs.declared.core_error.CoreError.TheVariants as error
-use Rattle.tx_table.specs.declared.rack.PostError.{PostError}
-use Rattle.tx_table.specs.Work.{Doing}
+use Rattle.tx_table.specs.{declared.rack.PostError.PostError, Work.Doing}
 use Rattle.tx_table.specs.declared.rack.PostError.TheVariants as post
-use Rattle.iso_shared.specs.declared.entry.Call.{Call}
+use Rattle.iso_shared.specs.{declared.entry.Call.Call, declared.entry.Cause.Cause, declared.entry.Entry.Entry, declared.entry.Member.Member, declared.entry.MemberEnd.MemberEnd, declared.entry.Numbers.Numbers, declared.entry.Posting.Posting, declared.guarded.Posted.Posted, declared.tx.Tx.Tx, declared.told.Told.Told, Standing.posting_in}
 use Rattle.iso_shared.specs.declared.entry.Call.TheVariants as call
-use Rattle.iso_shared.specs.declared.entry.Cause.{Cause}
 use Rattle.iso_shared.specs.declared.entry.Cause.TheVariants as cause
-use Rattle.iso_shared.specs.declared.entry.Entry.{Entry}
 use Rattle.iso_shared.specs.declared.entry.Entry.TheVariants as entry
-use Rattle.iso_shared.specs.declared.entry.Member.{Member}
-use Rattle.iso_shared.specs.declared.entry.MemberEnd.{MemberEnd}
-use Rattle.iso_shared.specs.declared.entry.Numbers.{Numbers}
-use Rattle.iso_shared.specs.declared.entry.Posting.{Posting}
-use Rattle.iso_shared.specs.declared.guarded.Posted.{Posted}
-use Rattle.iso_shared.specs.declared.tx.Tx.{Tx}
-use Rattle.iso_shared.specs.declared.told.Told.{Told}
 use Rattle.iso_shared.specs.declared.told.Told.TheVariants as told
-use Rattle.iso_shared.specs.Standing.{posting_in}
 
 -- why a core refuses, with the counts of faults before and after the call
 abbrev pub cause_of : (before now : ℕ) → CoreError → Cause

@@ -1,14 +1,9 @@
 // The check ahead of the turn of an end.
 ghost use Rattle.std.specs.Prelude.{◌≡◌, ℕ, ◌<◌, IfOk, true, List};
-ghost use Rattle.iso_model.specs.declared.access.Geometry.{Geometry};
-ghost use Rattle.iso_model.specs.Conflict.{clash};
-ghost use Rattle.iso_model.specs.History.{History};
-ghost use Rattle.byte_marks.specs.declared.extent.Extent.{Extent};
-ghost use Rattle.byte_marks.specs.Touched.{AreTouched};
+ghost use Rattle.iso_model.specs.{declared.access.Geometry.Geometry, Conflict.clash, History.History, declared.access.Kind.TheVariants.{Read, Write}};
+ghost use Rattle.byte_marks.specs.{declared.extent.Extent.Extent, Touched.AreTouched};
 ghost use Rattle.conflict_rule.specs.Decision.{IsAsked};
-ghost use Rattle.iso_model.specs.declared.access.Kind.TheVariants.{Read, Write};
-ghost use Rattle.iso_shared.specs.Ports.{IsRecent, IsSameTx, IsTx, Made, check_of, doing_of, number_of, state_of, tx_view};
-ghost use Rattle.iso_shared.specs.Told.{recent_entry};
+ghost use Rattle.iso_shared.specs.{Ports.{IsRecent, IsSameTx, IsTx, Made, check_of, doing_of, number_of, state_of, tx_view}, Told.recent_entry};
 
 use crate::guarded::Origin;
 use crate::shared::Shared;

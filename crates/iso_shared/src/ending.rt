@@ -2,12 +2,9 @@
 ghost use Rattle.std.specs.Prelude.{◌≡◌, ◌≢◌, ◌+◌, ◌-◌, ◌<◌, ◌≤◌, ℕ, Some, None, Ok, Err, length, IfOk, IfErr, IfSome, IfNone, MatchOption, MatchResult};
 ghost use Rattle.iso_model.specs.declared.core_error.CoreError.TheVariants.{Disk as OfDisk};
 ghost use Rattle.iso_shared.specs.declared.entry.Call.TheVariants as TheCall;
-ghost use Rattle.iso_shared.specs.declared.entry.Entry.TheVariants.{End, Refused};
-ghost use Rattle.iso_shared.specs.Ports.{IsPort, IsSameTx, IsTx, Made, MadeBoth, TookFew, check_of, doing_of, number_of, port_view, tx_view};
-ghost use Rattle.iso_shared.specs.Told.{cause_of, end_entry};
+ghost use Rattle.iso_shared.specs.{declared.entry.Entry.TheVariants.{End, Refused}, Ports.{IsPort, IsSameTx, IsTx, Made, MadeBoth, TookFew, check_of, doing_of, number_of, port_view, tx_view}, Told.{cause_of, end_entry}};
 ghost use Rattle.tx_table.specs.Work.{AreWithin};
-ghost use Rattle.turn_lock.specs.Lock.{lock_id};
-ghost use Rattle.turn_lock.specs.Pass.{HasNoTurn};
+ghost use Rattle.turn_lock.specs.{Lock.lock_id, Pass.HasNoTurn};
 
 use crate::guarded::Origin;
 use crate::shared::{Port, Shared};

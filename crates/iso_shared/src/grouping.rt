@@ -1,21 +1,11 @@
 // The end of a group of transactions, in one turn.
-ghost use Rattle.std.specs.Prelude.{◌≡◌, ◌≢◌, ◌⊎◌, ℕ, ◌+◌, ◌<◌, ◌≤◌, List, [], ◌∷◌, ◌++◌, None, IfErr, IfOk, IfSome, IfNone, MatchResult, OnOk, length, map, true, false, vec_capacity, vec_len};
-ghost use Rattle.std.specs.List.{AllByRecursion};
+ghost use Rattle.std.specs.{Prelude.{◌≡◌, ◌≢◌, ◌⊎◌, ℕ, ◌+◌, ◌<◌, ◌≤◌, List, [], ◌∷◌, ◌++◌, None, IfErr, IfOk, IfSome, IfNone, MatchResult, OnOk, length, map, true, false, vec_capacity, vec_len}, List.AllByRecursion};
 ghost use mathlib.Core.List.{IsPrefix};
-ghost use Rattle.iso_core.specs.declared.group_end.TheConstants.{MAX_GROUP};
-ghost use Rattle.iso_core.specs.Planned.{bare_end};
+ghost use Rattle.iso_core.specs.{declared.group_end.TheConstants.MAX_GROUP, Planned.bare_end};
 ghost use Rattle.iso_model.specs.declared.core_error.CoreError.TheVariants.{Disk as OfDisk, Down as OfDown, Memory as OfMemory};
 ghost use Rattle.iso_shared.specs.declared.entry.Call.TheVariants as TheCall;
-ghost use Rattle.iso_shared.specs.declared.entry.Entry.TheVariants.{EndGroup, Refused};
-ghost use Rattle.iso_shared.specs.Groups.{ArePaired, IsBack, IsEnd, IsJoined, IsNote, IsTaken, answered, end_of, numbers_handed, numbers_in, units_of};
-ghost use Rattle.iso_shared.specs.Ports.{IsGiven, IsPort, IsSameTx, IsTx, Made, MadeAll, port_view, tx_view};
-ghost use Rattle.iso_shared.specs.Told.{cause_of, group_entry, members_at, members_in, wanting_entry};
-ghost use Rattle.iso_shared.specs.Legal.{needed, returned};
-ghost use Rattle.iso_shared.specs.Standing.{StandsAt};
-ghost use Rattle.turn_lock.specs.Lists.{AreDistinct};
-ghost use Rattle.turn_lock.specs.Lock.{lock_id, turn_value};
-ghost use Rattle.turn_lock.specs.Numbers.{AreHeld};
-ghost use Rattle.turn_lock.specs.Pass.{view, HasTurn};
+ghost use Rattle.iso_shared.specs.{declared.entry.Entry.TheVariants.{EndGroup, Refused}, Groups.{ArePaired, IsBack, IsEnd, IsJoined, IsNote, IsTaken, answered, end_of, numbers_handed, numbers_in, units_of}, Ports.{IsGiven, IsPort, IsSameTx, IsTx, Made, MadeAll, port_view, tx_view}, Told.{cause_of, group_entry, members_at, members_in, wanting_entry}, Legal.{needed, returned}, Standing.StandsAt};
+ghost use Rattle.turn_lock.specs.{Lists.AreDistinct, Lock.{lock_id, turn_value}, Numbers.AreHeld, Pass.{view, HasTurn}};
 
 use crate::entry::Entry;
 use crate::guarded::{Guarded, Origin};

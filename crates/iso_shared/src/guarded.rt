@@ -45,8 +45,7 @@ pub struct Guarded<D: Disk, O> {
 }
 
 impl<D: Disk, O: Origin> Stands for Guarded<D, O> {
-    ghost use Rattle.iso_shared.specs.Standing.{StandsAt};
-    ghost use Rattle.iso_shared.specs.Legal.{handed, needed, returned};
+    ghost use Rattle.iso_shared.specs.{Standing.StandsAt, Legal.{handed, needed, returned}};
 
     type Entry = Entry;
 

@@ -1,9 +1,7 @@
 // The calls on labels.
 ghost use Rattle.std.specs.Prelude.{◌≡◌, ◌+◌, ◌<◌, [], Some, None, length, IfErr, IfOk, IfNone, IfSome, MatchOption};
 ghost use Rattle.iso_shared.specs.declared.entry.Call.TheVariants as TheCall;
-ghost use Rattle.iso_shared.specs.declared.entry.Entry.TheVariants.{Look, Post, Refused, Sweep};
-ghost use Rattle.iso_shared.specs.Ports.{IsPort, IsSameTx, IsTx, Made, MadeBoth, check_of, doing_of, number_of, port_view, tx_view};
-ghost use Rattle.iso_shared.specs.Told.{post_cause, posting_of_tx};
+ghost use Rattle.iso_shared.specs.{declared.entry.Entry.TheVariants.{Look, Post, Refused, Sweep}, Ports.{IsPort, IsSameTx, IsTx, Made, MadeBoth, check_of, doing_of, number_of, port_view, tx_view}, Told.{post_cause, posting_of_tx}};
 ghost use Rattle.turn_lock.specs.Lists.{places};
 
 use crate::guarded::{Origin, Posted};

@@ -1,13 +1,7 @@
 // The laws of legal lists: each function does nothing, and its contract is the law.
-ghost use Rattle.std.specs.Prelude.{◌≡◌, ℕ, ◌<◌, List, [], ◌∷◌, ◌++◌, Some};
-ghost use Rattle.std.specs.List.{AllByRecursion};
+ghost use Rattle.std.specs.{Prelude.{◌≡◌, ℕ, ◌<◌, List, [], ◌∷◌, ◌++◌, Some}, List.AllByRecursion};
 ghost use Rattle.iso_model.specs.declared.access.Mode.{Mode};
-ghost use Rattle.iso_shared.specs.declared.entry.Entry.{Entry};
-ghost use Rattle.iso_shared.specs.declared.entry.Entry.TheVariants.{Begin, Look};
-ghost use Rattle.iso_shared.specs.declared.entry.Posting.{Posting};
-ghost use Rattle.iso_shared.specs.Legal.{IsLegal, handed, returned};
-ghost use Rattle.iso_shared.specs.Plain.{CommitsUpTo, WasPosted};
-ghost use Rattle.iso_shared.specs.States.{Start, is_loose, opened, state_at};
+ghost use Rattle.iso_shared.specs.{declared.entry.Entry.Entry, declared.entry.Entry.TheVariants.{Begin, Look}, declared.entry.Posting.Posting, Legal.{IsLegal, handed, returned}, Plain.{CommitsUpTo, WasPosted}, States.{Start, is_loose, opened, state_at}};
 ghost use Rattle.turn_lock.specs.Numbers.{is_out};
 
 /// In a legal list a number is out exactly where its transaction is live and under no label.

@@ -1,12 +1,8 @@
 // The passes of the members of a group: they are joined into a port, and split off again.
-ghost use Rattle.std.specs.Prelude.{◌≡◌, ℕ, ◌+◌, ◌<◌, ◌≤◌, List, [], ◌∷◌, IfNone, IfSome, length, vec_len};
-ghost use Rattle.iso_shared.specs.declared.entry.Entry.{Entry};
-ghost use Rattle.std.specs.List.{AllByRecursion};
+ghost use Rattle.std.specs.{Prelude.{◌≡◌, ℕ, ◌+◌, ◌<◌, ◌≤◌, List, [], ◌∷◌, IfNone, IfSome, length, vec_len}, List.AllByRecursion};
+ghost use Rattle.iso_shared.specs.{declared.entry.Entry.Entry, Groups.{ArePaired, IsNote, IsNoteOf, IsPartOf, held_in, made_in, numbers_in, units_of}, Ports.{IsPort, IsTx, number_of, port_view, tx_view}};
 ghost use mathlib.Core.List.{IsPrefix};
-ghost use Rattle.iso_shared.specs.Groups.{ArePaired, IsNote, IsNoteOf, IsPartOf, held_in, made_in, numbers_in, units_of};
-ghost use Rattle.iso_shared.specs.Ports.{IsPort, IsTx, number_of, port_view, tx_view};
-ghost use Rattle.turn_lock.specs.Lists.{AreDistinct, times};
-ghost use Rattle.turn_lock.specs.Numbers.{AreHeld, without};
+ghost use Rattle.turn_lock.specs.{Lists.{AreDistinct, times}, Numbers.{AreHeld, without}};
 
 use crate::guarded::Origin;
 use crate::shared::{Port, Shared};

@@ -1,16 +1,9 @@
 // The shared device itself, and its ports.
 ghost use Rattle.std.specs.Prelude.{◌≡◌, ◌+◌, ◌<◌, ℕ, [], ◌∷◌, ◌++◌, None, length, IfOk, IfErr};
 ghost use mathlib.Core.List.{IsPrefix};
-ghost use Rattle.turn_lock.specs.Lists.{longer, places, times};
-ghost use Rattle.turn_lock.specs.Lock.{lock_id, turn_value};
-ghost use Rattle.turn_lock.specs.Numbers.{AreHeld};
-ghost use Rattle.turn_lock.specs.Pass.{view, HasTurn, IsAlike};
-ghost use Rattle.turn_lock.specs.Views.{fresh, given_part, kept_part};
+ghost use Rattle.turn_lock.specs.{Lists.{longer, places, times}, Lock.{lock_id, turn_value}, Numbers.AreHeld, Pass.{view, HasTurn, IsAlike}, Views.{fresh, given_part, kept_part}};
 ghost use Rattle.iso_core.specs.Core.{disk_of};
-ghost use Rattle.iso_shared.specs.Legal.{IsLegal, needed, returned};
-ghost use Rattle.iso_shared.specs.Standing.{Came, Holds, StandsAt, faults_of};
-ghost use Rattle.iso_shared.specs.States.{opened, state_at};
-ghost use Rattle.iso_shared.specs.Told.{told_entry};
+ghost use Rattle.iso_shared.specs.{Legal.{IsLegal, needed, returned}, Standing.{Came, Holds, StandsAt, faults_of}, States.{opened, state_at}, Told.told_entry};
 
 use crate::entry::Entry;
 use crate::guarded::{Guarded, Origin};

@@ -2,9 +2,7 @@
 ghost use Rattle.std.specs.Prelude.{◌≡◌, ◌+◌, ◌-◌, ◌<◌, ℕ, [], Some, None, Ok, Err, length, IfOk, IfErr, MatchResult};
 ghost use Rattle.iso_model.specs.Step.{mode_named};
 ghost use Rattle.iso_shared.specs.declared.entry.Call.TheVariants as TheCall;
-ghost use Rattle.iso_shared.specs.declared.entry.Entry.TheVariants.{Abort, Begin, Refused};
-ghost use Rattle.iso_shared.specs.Ports.{IsPort, IsSameTx, IsTx, Made, MadeBoth, check_of, doing_of, number_of, port_view, tx_view};
-ghost use Rattle.iso_shared.specs.Told.{cause_of, fetch_entry};
+ghost use Rattle.iso_shared.specs.{declared.entry.Entry.TheVariants.{Abort, Begin, Refused}, Ports.{IsPort, IsSameTx, IsTx, Made, MadeBoth, check_of, doing_of, number_of, port_view, tx_view}, Told.{cause_of, fetch_entry}};
 
 use crate::guarded::Origin;
 use crate::shared::{Port, Shared};

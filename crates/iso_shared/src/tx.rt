@@ -1,10 +1,6 @@
 // A transaction's pass, with what it does.
 ghost use Rattle.std.specs.Prelude.{◌≡◌, ℕ, ◌+◌, ◌<◌, [], ◌∷◌, ◌++◌, Some, None, Ok, Err, OnErr, OnOk, false, length};
-ghost use Rattle.iso_model.specs.Array.{Array};
-ghost use Rattle.iso_model.specs.Effect.{own};
-ghost use Rattle.iso_model.specs.Marks.{mark_fault, marked};
-ghost use Rattle.iso_model.specs.Premises.{block_at};
-ghost use Rattle.iso_model.specs.Step.{read_access, write_access};
+ghost use Rattle.iso_model.specs.{Array.Array, Effect.own, Marks.{mark_fault, marked}, Premises.block_at, Step.{read_access, write_access}};
 ghost use Rattle.tx_table.specs.Work.{span_at};
 
 use crate::ahead::meeting;

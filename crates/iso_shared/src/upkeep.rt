@@ -1,8 +1,6 @@
 // The calls that need no transaction.
 ghost use Rattle.std.specs.Prelude.{◌≡◌, ℕ, ◌<◌};
-ghost use Rattle.iso_shared.specs.declared.entry.Entry.TheVariants.{Stat as OfStat};
-ghost use Rattle.iso_shared.specs.Ports.{IsPort, Made, port_view};
-ghost use Rattle.iso_shared.specs.Told.{compact_entry, numbers_of, trim_entry, upgrade_entry};
+ghost use Rattle.iso_shared.specs.{declared.entry.Entry.TheVariants.{Stat as OfStat}, Ports.{IsPort, Made, port_view}, Told.{compact_entry, numbers_of, trim_entry, upgrade_entry}};
 
 use crate::guarded::Origin;
 use crate::shared::{Port, Shared};

@@ -1,9 +1,6 @@
 // The works of the members of a group: the core has them for the time of its call.
 ghost use Rattle.std.specs.Prelude.{◌≡◌, ◌+◌, ◌≤◌, ◌++◌, length, map, vec_capacity, vec_len};
-ghost use Rattle.iso_shared.specs.Groups.{ArePaired, IsTaken, end_of};
-ghost use Rattle.iso_shared.specs.Ports.{doing_of};
-ghost use Rattle.iso_shared.specs.Told.{ends_at};
-ghost use Rattle.iso_shared.specs.States.{replies_of};
+ghost use Rattle.iso_shared.specs.{Groups.{ArePaired, IsTaken, end_of}, Ports.doing_of, Told.ends_at, States.replies_of};
 
 use crate::guarded::Origin;
 use crate::tx::Tx;

@@ -1,17 +1,10 @@
 -- A core that a call begins with, or why there is none.
-use Rattle.std.specs.Prelude.{◌≡◌, ◌⊎◌, ℕ, ◌≤◌, List, [], Option, Some, None}
-use Rattle.std.specs.Option.{ForSome}
+use Rattle.std.specs.{Prelude.{◌≡◌, ◌⊎◌, ℕ, ◌≤◌, List, [], Option, Some, None}, Option.ForSome}
 use Rattle.iso_disk.specs.Disk.{DiskState, LeavesOnly}
-use Rattle.iso_model.specs.declared.access.Geometry.{Geometry}
-use Rattle.iso_model.specs.declared.limits.TheConstants.{LAST}
-use Rattle.iso_model.specs.World.{World}
-use Rattle.iso_core.specs.declared.core_itself.Core.{Core}
-use Rattle.iso_core.specs.Core.{StandsFor, disk_of}
-use Rattle.iso_core.specs.Standing.{up}
+use Rattle.iso_model.specs.{declared.access.Geometry.Geometry, declared.limits.TheConstants.LAST, World.World, Between.ShowsBetween}
+use Rattle.iso_core.specs.{declared.core_itself.Core.Core, Core.{StandsFor, disk_of}, Standing.up}
 use Rattle.iso_recover.specs.Cause.{IsBlamed, IsTest}
-use Rattle.iso_refusal.specs.declared.open_error.OpenError.{OpenError}
-use Rattle.iso_refusal.specs.Refusal.{refusal}
-use Rattle.iso_model.specs.Between.{ShowsBetween}
+use Rattle.iso_refusal.specs.{declared.open_error.OpenError.OpenError, Refusal.refusal}
 use Rattle.iso_top.specs.Starts.{GoesOnTelling, IsUnbegun, IsUntouched, MayBeUnmade, StartsFrom, WasBoundOnce}
 
 -- The core is up and stands for the world that the call begins with, which has no live transaction. Its disk was bound to the

@@ -2,28 +2,18 @@
 use Rattle.std.specs.Prelude.{◌≡◌, ◌⊎◌, ℕ, List, [], ◌++◌, Option, Some, None}
 use Rattle.fault_count.specs.Count.{Rose}
 use Rattle.iso_core.specs.Standing.{ShowsWith}
-use Rattle.iso_model.specs.Between.{ShowsLast}
+use Rattle.iso_model.specs.{Between.ShowsLast, declared.access.Commit.Commit, World.World}
 use Rattle.iso_disk.specs.Disk.{DiskState, IsBoundTo, SinceBind}
-use Rattle.iso_io.specs.Sink.{SinkState}
-use Rattle.iso_io.specs.Source.{SourceState}
-use Rattle.iso_model.specs.declared.access.Commit.{Commit}
+use Rattle.iso_io.specs.{Sink.SinkState, Source.SourceState}
 use Rattle.script_model.specs.declared.script.Line.{Line}
-use Rattle.iso_model.specs.World.{World}
-use Rattle.iso_shared.specs.declared.entry.Entry.{Entry}
-use Rattle.iso_shared.specs.Ports.{IsIsolatedAt}
-use Rattle.iso_shared.specs.Standing.{ShowsSince, start_at}
-use Rattle.iso_shared.specs.States.{Start, State, state_at}
+use Rattle.iso_shared.specs.{declared.entry.Entry.Entry, Ports.IsIsolatedAt, Standing.{ShowsSince, start_at}, States.{Start, State, state_at}}
 use Rattle.par_lines.specs.Ends.{status_of}
 use Rattle.par_script.specs.Told.{Told}
-use Rattle.par_text.specs.declared.part.Part.{Part}
-use Rattle.par_text.specs.Output.{IsFront, IsOutput}
+use Rattle.par_text.specs.{declared.part.Part.Part, Output.{IsFront, IsOutput}}
 use Rattle.par_calls.specs.InOrder.{LinesTellCalls}
 use Rattle.store_entries.specs.InOrder.{FilesAnswerAt, StoresAnswerAt}
-use Rattle.whole_script.specs.declared.lines.ScriptError.{ScriptError}
-use Rattle.whole_script.specs.Read.{HasNoLines, HasRead}
-use Rattle.iso_top.specs.Prints.{Printed, WasCut, WroteWhole}
-use Rattle.iso_top.specs.Starts.{GoesOnTelling, IsUntouched, OpensTo, WasBoundOnce}
-use Rattle.iso_top.specs.Texts.{disk_fault_text, memory_text, script_error_text}
+use Rattle.whole_script.specs.{declared.lines.ScriptError.ScriptError, Read.{HasNoLines, HasRead}}
+use Rattle.iso_top.specs.{Prints.{Printed, WasCut, WroteWhole}, Starts.{GoesOnTelling, IsUntouched, OpensTo, WasBoundOnce}, Texts.{disk_fault_text, memory_text, script_error_text}}
 
 -- The image was opened, and no line of the script was run, for this reason: it has a bad line, its source failed, or memory was
 -- wanting. Nothing was written to the image, and the line that tells the reason was put.

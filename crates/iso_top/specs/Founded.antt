@@ -1,12 +1,9 @@
 -- What a core that was opened begins with.
 use Rattle.std.specs.Prelude.{◌≡◌, ℕ, List, [], Some}
-use Rattle.iso_core.specs.Core.{StandsFor, disk_of}
-use Rattle.iso_core.specs.Standing.{up}
+use Rattle.iso_core.specs.{Core.{StandsFor, disk_of}, Standing.up}
 use Rattle.iso_disk.specs.Disk.{DiskState, LeavesOnly}
-use Rattle.iso_model.specs.World.{World}
-use Rattle.iso_model.specs.Between.{ShowsBetween}
-use Rattle.iso_top.specs.declared.opened.Opened.{Opened}
-use Rattle.iso_top.specs.Starts.{OpensTo}
+use Rattle.iso_model.specs.{World.World, Between.ShowsBetween}
+use Rattle.iso_top.specs.{declared.opened.Opened.Opened, Starts.OpensTo}
 
 -- The core is up, and stands for this world, which has no live transaction. The image as given opens to it. A crash at any moment
 -- since the disk was bound left an image that shows its last commit.

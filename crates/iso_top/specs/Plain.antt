@@ -2,17 +2,11 @@
 use Rattle.std.specs.Prelude.{◌≡◌, ℕ, ◌-◌, ◌*◌, ◌≤◌, List, Option, None, Some}
 use Rattle.bench_script.specs.Rounds.{one_places}
 use Rattle.iso_io.specs.Sink.{SinkState, Wrote}
-use Rattle.iso_model.specs.declared.access.Geometry.{Geometry}
-use Rattle.iso_model.specs.History.{History, last}
-use Rattle.iso_model.specs.Image.{IsImage}
-use Rattle.iso_model.specs.World.{World, fresh}
+use Rattle.iso_model.specs.{declared.access.Geometry.Geometry, History.{History, last}, Image.IsImage, World.{World, fresh}}
 use Rattle.iso_refusal.specs.Refusal.{opened, refusal}
-use Rattle.script_model.specs.declared.script.Reply.{Reply}
-use Rattle.script_model.specs.Bench.{answers_to, recover_output}
-use Rattle.script_model.specs.Script.{replies, script}
+use Rattle.script_model.specs.{declared.script.Reply.Reply, Bench.{answers_to, recover_output}, Script.{replies, script}}
 use Rattle.script_runner.specs.Replies.{AreSameButShown, text_of}
-use Rattle.iso_top.specs.Starts.{OpensTo}
-use Rattle.iso_top.specs.Texts.{bench_text_of}
+use Rattle.iso_top.specs.{Starts.OpensTo, Texts.bench_text_of}
 
 -- the script has no bad line, and what was put is the replies of this world to its lines
 abbrev pub PrintsReplies : World → (script_text : List ℕ) → SinkState → SinkState → Type 0

@@ -1,22 +1,13 @@
 -- What a run of clients over a core has come to.
 use Rattle.std.specs.Prelude.{◌≡◌, ◌⊎◌, ℕ, List, ◌++◌}
-use Rattle.iso_core.specs.declared.core_itself.Core.{Core}
-use Rattle.iso_core.specs.Core.{disk_of}
+use Rattle.iso_core.specs.{declared.core_itself.Core.Core, Core.disk_of}
 use Rattle.iso_disk.specs.Disk.{DiskState}
 use Rattle.iso_io.specs.Sink.{SinkState}
 use Rattle.script_model.specs.declared.script.Line.{Line}
 use Rattle.iso_model.specs.World.{World}
-use Rattle.iso_shared.specs.declared.entry.Entry.{Entry}
-use Rattle.iso_shared.specs.Legal.{IsLegal}
-use Rattle.iso_shared.specs.Ports.{IsIsolatedAt}
-use Rattle.iso_shared.specs.Standing.{Came, Holds, start_at}
-use Rattle.iso_shared.specs.States.{Start, state_at}
-use Rattle.par_lines.specs.declared.par.ParEnd.{ParEnd}
-use Rattle.par_lines.specs.Ends.{HasEnded}
-use Rattle.iso_top.specs.declared.opened.Opened.{Opened}
-use Rattle.iso_top.specs.Founded.{BeginsWith}
-use Rattle.iso_top.specs.Prints.{Printed, WasCut, WroteWhole}
-use Rattle.iso_top.specs.Texts.{disk_fault_text, memory_text}
+use Rattle.iso_shared.specs.{declared.entry.Entry.Entry, Legal.IsLegal, Ports.IsIsolatedAt, Standing.{Came, Holds, start_at}, States.{Start, state_at}}
+use Rattle.par_lines.specs.{declared.par.ParEnd.ParEnd, Ends.HasEnded}
+use Rattle.iso_top.specs.{declared.opened.Opened.Opened, Founded.BeginsWith, Prints.{Printed, WasCut, WroteWhole}, Texts.{disk_fault_text, memory_text}}
 
 -- The run has ended so, by this list of entries, which the core stood for at the end.
 pub record HasClosed {D : Type 0} (state : D → DiskState) (A : Start) (first : DiskState) (lines : List (ℕ × Line)) (end : ParEnd) (image : D) : Type 0 where

@@ -1,13 +1,9 @@
 -- What a call begins with.
-use Rattle.std.specs.Prelude.{◌≡◌, ◌⊎◌, ℕ, List, Option, Some, None, IsSome}
-use Rattle.std.specs.Option.{ForSome}
+use Rattle.std.specs.{Prelude.{◌≡◌, ◌⊎◌, ℕ, List, Option, Some, None, IsSome}, Option.ForSome}
 use Rattle.fault_count.specs.Count.{one_more}
 use Rattle.iso_disk.specs.Disk.{DiskState, IsBoundTo, SinceBind}
-use Rattle.iso_model.specs.declared.access.Geometry.{Geometry}
-use Rattle.iso_model.specs.History.{History}
-use Rattle.iso_model.specs.World.{World, empty_history, fresh}
-use Rattle.iso_recover.specs.Made.{IsUnmade, IsUnmadeOrEmpty}
-use Rattle.iso_recover.specs.Opened.{TellsImage}
+use Rattle.iso_model.specs.{declared.access.Geometry.Geometry, History.History, World.{World, empty_history, fresh}}
+use Rattle.iso_recover.specs.{Made.{IsUnmade, IsUnmadeOrEmpty}, Opened.TellsImage}
 use Rattle.iso_refusal.specs.declared.open_error.OpenError.{OpenError}
 use Rattle.iso_refusal.specs.declared.open_error.OpenError.TheVariants as error
 

@@ -1,7 +1,6 @@
 -- The last lines that the program prints.
 use Rattle.std.specs.Prelude.{ℕ, List, [], ◌∷◌, ◌++◌, codes, decimal, flat_map}
-use Rattle.script_model.specs.declared.script.BadLine.{BadLine}
-use Rattle.script_model.specs.Text.{hex_text}
+use Rattle.script_model.specs.{declared.script.BadLine.BadLine, Text.hex_text}
 use Rattle.iso_refusal.specs.declared.open_error.OpenError.{OpenError}
 use Rattle.iso_refusal.specs.declared.open_error.OpenError.TheVariants as error
 use Rattle.script_runner.specs.declared.run_end.RunEnd.{RunEnd}

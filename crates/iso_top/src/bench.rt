@@ -1,19 +1,10 @@
 // A script that is drawn, answered on a new image.
 ghost use Rattle.std.specs.Prelude.{◌≡◌, ◌⊎◌, ◌≤◌, [], ℕ, List, IsSome, Some, length};
-ghost use Rattle.iso_core.specs.Core.{StandsFor, disk_of};
-ghost use Rattle.iso_core.specs.Standing.{up};
-ghost use Rattle.iso_io.specs.Sink.{SinkState};
-ghost use Rattle.iso_io.specs.Source.{SourceState};
-ghost use Rattle.script_model.specs.declared.script.Line.{Line};
-ghost use Rattle.script_model.specs.declared.script.Reply.{Reply};
-ghost use Rattle.script_model.specs.Bench.{bench_text, bench_world};
-ghost use Rattle.script_model.specs.Script.{script};
-ghost use Rattle.script_runner.specs.Replies.{text_of};
-ghost use Rattle.script_runner.specs.Run.{HasRun};
-ghost use Rattle.script_runner.specs.Told.{ArePlain};
-ghost use Rattle.iso_top.specs.Outcome.{PrintedBench, PrintedLine, summary_of};
-ghost use Rattle.iso_top.specs.Prints.{Printed, WasCut, WroteWhole};
-ghost use Rattle.iso_top.specs.Texts.{disk_fault_text, memory_text};
+ghost use Rattle.iso_core.specs.{Core.{StandsFor, disk_of}, Standing.up};
+ghost use Rattle.iso_io.specs.{Sink.SinkState, Source.SourceState};
+ghost use Rattle.script_model.specs.{declared.script.Line.Line, declared.script.Reply.Reply, Bench.{bench_text, bench_world}, Script.script};
+ghost use Rattle.script_runner.specs.{Replies.text_of, Run.HasRun, Told.ArePlain};
+ghost use Rattle.iso_top.specs.{Outcome.{PrintedBench, PrintedLine, summary_of}, Prints.{Printed, WasCut, WroteWhole}, Texts.{disk_fault_text, memory_text}};
 
 use crate::ended::Ended;
 use crate::last_line::put_last;

@@ -2,15 +2,9 @@
 ghost use Rattle.std.specs.Prelude.{◌≡◌, ◌⊎◌, [], ◌++◌, IfErr, IfOk, IsTrue};
 ghost use Rattle.command_line.specs.declared.task.Task.TheVariants.{Par};
 ghost use Rattle.iso_core.specs.Core.{disk_of};
-ghost use Rattle.iso_model.specs.Geometry.{is_valid};
-ghost use Rattle.iso_model.specs.World.{World};
-ghost use Rattle.iso_shared.specs.Standing.{Came, Holds, start_at};
-ghost use Rattle.iso_shared.specs.States.{opened as opened_at};
-ghost use Rattle.iso_top.specs.Founded.{BeginsWith};
-ghost use Rattle.iso_top.specs.Outcome.{HasMet};
-ghost use Rattle.iso_top.specs.Prints.{Printed, WasCut, WroteWhole};
-ghost use Rattle.iso_top.specs.Ran.{HasClosed, HasRunLines};
-ghost use Rattle.iso_top.specs.Texts.{disk_fault_text, memory_text};
+ghost use Rattle.iso_model.specs.{Geometry.is_valid, World.World};
+ghost use Rattle.iso_shared.specs.{Standing.{Came, Holds, start_at}, States.{opened as opened_at}};
+ghost use Rattle.iso_top.specs.{Founded.BeginsWith, Outcome.HasMet, Prints.{Printed, WasCut, WroteWhole}, Ran.{HasClosed, HasRunLines}, Texts.{disk_fault_text, memory_text}};
 
 use crate::beginning::Beginning;
 use crate::ended::{Ended, refused, script_error_status};

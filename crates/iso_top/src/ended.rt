@@ -1,7 +1,6 @@
 // What the top call ends with.
 ghost use Rattle.std.specs.Prelude.{◌≡◌};
-ghost use Rattle.iso_top.specs.Prints.{Printed};
-ghost use Rattle.iso_top.specs.Texts.{end_status, error_status, error_text, script_error_status};
+ghost use Rattle.iso_top.specs.{Prints.Printed, Texts.{end_status, error_status, error_text, script_error_status}};
 
 use crate::last_line::{error_line, put_last};
 use iso_io::Sink;

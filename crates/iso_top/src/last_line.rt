@@ -1,8 +1,7 @@
 // The last line of a status, made in a fixed buffer.
 ghost use Rattle.std.specs.Prelude.{◌≡◌, ◌+◌, ◌≤◌, [], ◌∷◌, ◌++◌, decimal, length};
 ghost use Rattle.arrayvec.specs.ArrayVec.{array_vec_len};
-ghost use Rattle.iso_top.specs.Prints.{Printed};
-ghost use Rattle.iso_top.specs.Texts.{bad_line_text, error_text, script_error_text, usage_text};
+ghost use Rattle.iso_top.specs.{Prints.Printed, Texts.{bad_line_text, error_text, script_error_text, usage_text}};
 
 use arrayvec::ArrayVec;
 use iso_io::{Sink, put_all};

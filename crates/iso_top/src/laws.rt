@@ -2,20 +2,11 @@
 ghost use Rattle.std.specs.Prelude.{◌≡◌, ◌⊎◌, ◌≤◌, ℕ, List, Option, Some};
 ghost use Rattle.command_line.specs.declared.task.Task.TheVariants.{Bench, New, Run, Recover};
 ghost use Rattle.iso_disk.specs.Disk.{SinceBind};
-ghost use Rattle.iso_io.specs.Sink.{SinkState};
-ghost use Rattle.iso_io.specs.Source.{SourceState};
-ghost use Rattle.iso_model.specs.declared.access.Geometry.{Geometry};
-ghost use Rattle.iso_model.specs.History.{last};
-ghost use Rattle.iso_model.specs.World.{empty_history, fresh};
-ghost use Rattle.iso_top.specs.Clients.{HasRunClients};
-ghost use Rattle.iso_top.specs.Outcome.{HasAnswered, HasMet};
-ghost use Rattle.iso_top.specs.Plain.{OpensFrom, PrintsButShown, PrintsButShownOf, PrintsCounts, PrintsDigestOf, PrintsReplies, PrintsRepliesOf};
-ghost use Rattle.iso_top.specs.Starts.{MayBeUnmade, TellsNamed};
-ghost use Rattle.script_runner.specs.declared.run_end.RunEnd.{RunEnd};
+ghost use Rattle.iso_io.specs.{Sink.SinkState, Source.SourceState};
+ghost use Rattle.iso_model.specs.{declared.access.Geometry.Geometry, History.last, World.{empty_history, fresh}};
+ghost use Rattle.iso_top.specs.{Clients.HasRunClients, Outcome.{HasAnswered, HasMet}, Plain.{OpensFrom, PrintsButShown, PrintsButShownOf, PrintsCounts, PrintsDigestOf, PrintsReplies, PrintsRepliesOf}, Starts.{MayBeUnmade, TellsNamed}};
+ghost use Rattle.script_runner.specs.{declared.run_end.RunEnd.RunEnd, Replies.TellsCommit, Run.Acknowledges, Told.ArePlain};
 ghost use Rattle.script_model.specs.Script.{script};
-ghost use Rattle.script_runner.specs.Replies.{TellsCommit};
-ghost use Rattle.script_runner.specs.Run.{Acknowledges};
-ghost use Rattle.script_runner.specs.Told.{ArePlain};
 
 use bench_script::laws::{
     commits_are_twice_the_rounds_less_the_conflicts, drawn_scripts_are_good,

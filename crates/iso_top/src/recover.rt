@@ -1,14 +1,10 @@
 // What an image holds.
 ghost use Rattle.std.specs.Prelude.{◌≡◌, ◌≢◌, ◌⊎◌, ◌+◌, ◌≤◌, [], IfOk, IsErrOf, IsSome};
 ghost use Rattle.fault_count.specs.Count.{Rose};
-ghost use Rattle.iso_core.specs.Core.{StandsFor, disk_of};
-ghost use Rattle.iso_core.specs.Standing.{up};
+ghost use Rattle.iso_core.specs.{Core.{StandsFor, disk_of}, Standing.up};
 ghost use Rattle.iso_disk.specs.Disk.{WritesNothing};
-ghost use Rattle.iso_model.specs.declared.limits.TheConstants.{LAST};
-ghost use Rattle.iso_model.specs.World.{World};
-ghost use Rattle.iso_top.specs.Outcome.{PrintedDigest};
-ghost use Rattle.iso_top.specs.Prints.{Printed, WasCut, WroteWhole};
-ghost use Rattle.iso_top.specs.Texts.{disk_fault_text, memory_text, recover_text};
+ghost use Rattle.iso_model.specs.{declared.limits.TheConstants.LAST, World.World};
+ghost use Rattle.iso_top.specs.{Outcome.PrintedDigest, Prints.{Printed, WasCut, WroteWhole}, Texts.{disk_fault_text, memory_text, recover_text}};
 
 use crate::ended::Ended;
 use crate::last_line::put_last;

@@ -2,8 +2,7 @@
 ghost use Rattle.std.specs.Prelude.{◌≡◌, ◌⊎◌, ◌+◌, ◌≤◌, [], ◌∷◌, ◌++◌, codes, decimal, length};
 ghost use Rattle.arrayvec.specs.ArrayVec.{array_vec_len};
 ghost use Rattle.script_model.specs.Text.{hex_text};
-ghost use Rattle.iso_top.specs.Prints.{WasCut, WroteWhole};
-ghost use Rattle.iso_top.specs.Texts.{bench_text_of, recover_text};
+ghost use Rattle.iso_top.specs.{Prints.{WasCut, WroteWhole}, Texts.{bench_text_of, recover_text}};
 
 use arrayvec::ArrayVec;
 use iso_io::{Sink, put_all};

@@ -1,14 +1,11 @@
 // A script on a core.
 ghost use Rattle.std.specs.Prelude.{◌≡◌, []};
-ghost use Rattle.iso_core.specs.Core.{StandsFor, disk_of};
-ghost use Rattle.iso_core.specs.Standing.{up};
+ghost use Rattle.iso_core.specs.{Core.{StandsFor, disk_of}, Standing.up};
 ghost use Rattle.iso_io.specs.Sink.{SinkState};
 ghost use Rattle.iso_machine.specs.Standing.{IsMachineOf, core_of};
 ghost use Rattle.iso_model.specs.World.{World};
-ghost use Rattle.script_runner.specs.Run.{HasRun, IfUp};
-ghost use Rattle.script_runner.specs.declared.run_end.RunEnd.{RunEnd};
-ghost use Rattle.iso_top.specs.Outcome.{PrintedEnd};
-ghost use Rattle.iso_top.specs.Texts.{end_status};
+ghost use Rattle.script_runner.specs.{Run.{HasRun, IfUp}, declared.run_end.RunEnd.RunEnd};
+ghost use Rattle.iso_top.specs.{Outcome.PrintedEnd, Texts.end_status};
 
 use crate::ended::{Ended, end_status};
 use crate::last_line::{bad_line, put_last};

@@ -1,13 +1,8 @@
 // The top call.
-ghost use Rattle.std.specs.Prelude.{◌≡◌, ◌≢◌, ◌⊎◌, IfSome, IsNone};
-ghost use Rattle.std.specs.Option.{ForSome};
-ghost use Rattle.command_line.specs.declared.task.Task.TheVariants.{Par};
-ghost use Rattle.command_line.specs.Grammar.{texts};
-ghost use Rattle.command_line.specs.Requests.{made_geometry, request_of, KeepsLimits};
+ghost use Rattle.std.specs.{Prelude.{◌≡◌, ◌≢◌, ◌⊎◌, IfSome, IsNone}, Option.ForSome};
+ghost use Rattle.command_line.specs.{declared.task.Task.TheVariants.Par, Grammar.texts, Requests.{made_geometry, request_of, KeepsLimits}};
 ghost use Rattle.fault_count.specs.Count.{Rose};
-ghost use Rattle.iso_top.specs.Outcome.{HasMet, HasNoWords, HasRefusedWords, IsAccepted, IsGoodInput, IsStatus};
-ghost use Rattle.iso_top.specs.Prints.{Printed, SinkFailed};
-ghost use Rattle.iso_top.specs.Texts.{memory_text, usage_text};
+ghost use Rattle.iso_top.specs.{Outcome.{HasMet, HasNoWords, HasRefusedWords, IsAccepted, IsGoodInput, IsStatus}, Prints.{Printed, SinkFailed}, Texts.{memory_text, usage_text}};
 
 use crate::bench::answer_drawn;
 use crate::clients::run_clients;

@@ -1,14 +1,8 @@
 -- The write of a region's first block, where a put takes blocks.
-use Rattle.std.specs.Prelude.{◌≡◌, ℕ, suc, ◌≤◌, List, [], ◌∷◌, ◌++◌, Option, Some, None}
-use Rattle.std.specs.Int.{w32, to_be_bytes}
-use Rattle.iso_model.specs.declared.access.Access.{Access}
-use Rattle.iso_model.specs.declared.access.Span.{Span}
-use Rattle.store_model.specs.declared.stores.Area.{Area}
-use Rattle.store_model.specs.Cells.{laid_at}
-use Rattle.store_model.specs.Stores.{store_access}
+use Rattle.std.specs.{Prelude.{◌≡◌, ℕ, suc, ◌≤◌, List, [], ◌∷◌, ◌++◌, Option, Some, None}, Int.{w32, to_be_bytes}}
+use Rattle.iso_model.specs.{declared.access.Access.Access, declared.access.Span.Span}
+use Rattle.store_model.specs.{declared.stores.Area.Area, Cells.laid_at, Stores.store_access, TreeNodes.head_mark, TreeCalls.{last_of, changed_mark, changed_map}}
 use Rattle.tx_blocks.specs.Tx.{Tx, with_accesses}
-use Rattle.store_model.specs.TreeNodes.{head_mark}
-use Rattle.store_model.specs.TreeCalls.{last_of, changed_mark, changed_map}
 
 -- numbers that rise from one on
 abbrev pub Up : (low : ℕ) → List ℕ → Type 0

@@ -1,15 +1,8 @@
 -- The cells of a node that gets one more.
-use Rattle.std.specs.Prelude.{◌≡◌, ℕ, zero, suc, ◌+◌, ◌-◌, ◌*◌, ◌<◌, ◌≤◌, ◌==◌, true, cond, List, [], ◌∷◌, nat_lt, take, map}
-use Rattle.std.specs.List.{range_with_len, AllByRecursion}
-use Rattle.store_model.specs.declared.stores.Area.{Area}
-use Rattle.std.specs.Option.{ForSome}
-use Rattle.iso_model.specs.Array.{Array}
-use Rattle.iso_model.specs.Effect.{own}
-use Rattle.iso_model.specs.Premises.{block_at}
+use Rattle.std.specs.{Prelude.{◌≡◌, ℕ, zero, suc, ◌+◌, ◌-◌, ◌*◌, ◌<◌, ◌≤◌, ◌==◌, true, cond, List, [], ◌∷◌, nat_lt, take, map}, List.{range_with_len, AllByRecursion}, Option.ForSome}
+use Rattle.store_model.specs.{declared.stores.Area.Area, Cells.{cell_count, keys_end, value_mark, key_at, are_key_parts}, Stores.bytes_in, TreeNodes.{before, Cell, count_of, used_cells}}
+use Rattle.iso_model.specs.{Array.Array, Effect.own, Premises.block_at}
 use Rattle.tx_blocks.specs.Tx.{Tx}
-use Rattle.store_model.specs.Cells.{cell_count, keys_end, value_mark, key_at, are_key_parts}
-use Rattle.store_model.specs.Stores.{bytes_in}
-use Rattle.store_model.specs.TreeNodes.{before, Cell, count_of, used_cells}
 
 -- how many cells in a row from cell i on, at most n of them, have a key that is not above this one
 abbrev pub upto_from : (key keys : List ℕ) → (i n : ℕ) → ℕ

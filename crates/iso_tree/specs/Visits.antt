@@ -1,17 +1,8 @@
 -- The nodes that a scan visits, one after the other.
-use Rattle.std.specs.Prelude.{◌≡◌, ◌⊎◌, ℕ, zero, suc, ◌+◌, ◌-◌, ◌*◌, ◌<◌, ◌&&◌, true, cond, List, [], ◌∷◌, ◌++◌, Result, Ok, Err, length}
-use Rattle.std.specs.List.{list_all, AllByRecursion}
+use Rattle.std.specs.{Prelude.{◌≡◌, ◌⊎◌, ℕ, zero, suc, ◌+◌, ◌-◌, ◌*◌, ◌<◌, ◌&&◌, true, cond, List, [], ◌∷◌, ◌++◌, Result, Ok, Err, length}, List.{list_all, AllByRecursion}}
 use Rattle.iso_model.specs.declared.access.Span.{Span}
-use Rattle.store_model.specs.declared.stores.Area.{Area}
-use Rattle.store_model.specs.declared.stores.StoreError.{StoreError}
-use Rattle.store_model.specs.declared.stores.StoreError.TheVariants.{Broken}
-use Rattle.tx_blocks.specs.Runs.{HasRun, WantsMemory}
-use Rattle.tx_blocks.specs.Tx.{Tx}
-use Rattle.store_model.specs.Cells.{keys_end, keys_mark}
-use Rattle.store_model.specs.Stores.{Program, Done, Look, bytes_in, further_bytes, then_do}
-use Rattle.store_model.specs.TreeNodes.{is_node}
-use Rattle.store_model.specs.TreeCalls.{and_then, first_in, many_in, parts_of, scan_from, scan_further, Scanned}
-use Rattle.store_model.specs.TreeRegion.{is_part_at}
+use Rattle.store_model.specs.{declared.stores.Area.Area, declared.stores.StoreError.StoreError, declared.stores.StoreError.TheVariants.Broken, Cells.{keys_end, keys_mark}, Stores.{Program, Done, Look, bytes_in, further_bytes, then_do}, TreeNodes.is_node, TreeCalls.{and_then, first_in, many_in, parts_of, scan_from, scan_further, Scanned}, TreeRegion.is_part_at}
+use Rattle.tx_blocks.specs.{Runs.{HasRun, WantsMemory}, Tx.Tx}
 use Rattle.iso_tree.specs.declared.visit.Visit.{Visit}
 
 -- the mark over the value parts of so many cells from one on

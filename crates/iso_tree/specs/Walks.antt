@@ -1,15 +1,9 @@
 -- What the parts of a call leave, and how a descent ends.
 use Rattle.std.specs.Prelude.{◌≡◌, ℕ, ◌+◌, ◌<◌, ◌≤◌, Bool, ◌&&◌, cond, true, List, [], Result, Ok, Err, IfErr, OnOk, take}
-use Rattle.store_model.specs.declared.stores.Area.{Area}
-use Rattle.store_model.specs.declared.stores.StoreError.{StoreError}
+use Rattle.store_model.specs.{declared.stores.Area.Area, declared.stores.StoreError.StoreError, Cells.{keys_end, keys_mark}, Stores.{Program, Done, Look, further_bytes}, TreeNodes.{cell_of, count_of, is_node, is_child, child_of}, TreeCalls.{Answer, AtLeaf, AtBroken, descend, inner_further, leaf_further, with_head}}
 use Rattle.store_model.specs.declared.stores.StoreError.TheVariants as store
-use Rattle.store_model.specs.Cells.{keys_end, keys_mark}
-use Rattle.store_model.specs.Stores.{Program, Done, Look, further_bytes}
-use Rattle.tx_blocks.specs.Tx.{Tx, Device, IsLater, room_of}
-use Rattle.tx_blocks.specs.Runs.{Ran, IsCut, HasRead, HasRun, IsStoreCause}
+use Rattle.tx_blocks.specs.{Tx.{Tx, Device, IsLater, room_of}, Runs.{Ran, IsCut, HasRead, HasRun, IsStoreCause}}
 use Rattle.iso_tree.specs.declared.descent.Leaf.{Leaf}
-use Rattle.store_model.specs.TreeNodes.{cell_of, count_of, is_node, is_child, child_of}
-use Rattle.store_model.specs.TreeCalls.{Answer, AtLeaf, AtBroken, descend, inner_further, leaf_further, with_head}
 
 -- a refusal of a walk: a block is not well formed, or the transaction refuses an access
 abbrev pub IsWalkError : StoreError → Type 0

@@ -1,9 +1,6 @@
 // The bytes of a node, made of its cells.
-ghost use Rattle.std.specs.Prelude.{◌≡◌, ◌+◌, ◌*◌, ◌<◌, ◌≤◌, ℕ, List, length, [], ◌∷◌, ◌++◌, take, true, not, cond};
-ghost use Rattle.std.specs.Str.{bytes_eq};
-ghost use Rattle.store_model.specs.Cells.{cell_count, keys_end};
-ghost use Rattle.store_model.specs.TreeNodes.{is_node, node_bytes, used_cells, Cell, FitCells, IsBlock};
-ghost use Rattle.store_model.specs.TreeCalls.{without_key};
+ghost use Rattle.std.specs.{Prelude.{◌≡◌, ◌+◌, ◌*◌, ◌<◌, ◌≤◌, ℕ, List, length, [], ◌∷◌, ◌++◌, take, true, not, cond}, Str.bytes_eq};
+ghost use Rattle.store_model.specs.{Cells.{cell_count, keys_end}, TreeNodes.{is_node, node_bytes, used_cells, Cell, FitCells, IsBlock}, TreeCalls.without_key};
 
 use crate::keys::{count_of, key_of};
 use iso_alloc::{cell_count, clear, lay, piece, spell};

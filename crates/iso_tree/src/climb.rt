@@ -1,15 +1,8 @@
 // The way up of a put: the writes of nodes, from the leaf to the first one that is not full, or to a new root.
 ghost use Rattle.std.specs.Prelude.{◌≡◌, ◌+◌, ◌-◌, ◌*◌, ◌<◌, ◌≤◌, OnOk, IfErr, IfSome, IfNone, Ok, length, take, [], ◌∷◌, true};
-ghost use Rattle.store_model.specs.Cells.{are_key_parts, cell_count, keys_end};
-ghost use Rattle.store_model.specs.Stores.{Done, Program, Store};
-ghost use Rattle.tx_blocks.specs.Tx.{room_of};
-ghost use Rattle.tx_blocks.specs.Runs.{HasRun};
-ghost use Rattle.store_model.specs.TreeNodes.{count_of, node_bytes, used_cells, Cell, IsBlock};
-ghost use Rattle.iso_tree.specs.Rows.{nodes_from, row_from, AreBlocks, AreInside, AreUsable};
-ghost use Rattle.iso_tree.specs.Walks.{HasWritten, IsFollowed};
-ghost use Rattle.store_model.specs.Trees.{emptied};
-ghost use Rattle.store_model.specs.TreeCalls.{Answer, climb, need_of, placed, store_nodes};
-ghost use Rattle.store_model.specs.TreeRegion.{IsTreeArea};
+ghost use Rattle.store_model.specs.{Cells.{are_key_parts, cell_count, keys_end}, Stores.{Done, Program, Store}, TreeNodes.{count_of, node_bytes, used_cells, Cell, IsBlock}, Trees.emptied, TreeCalls.{Answer, climb, need_of, placed, store_nodes}, TreeRegion.IsTreeArea};
+ghost use Rattle.tx_blocks.specs.{Tx.room_of, Runs.HasRun};
+ghost use Rattle.iso_tree.specs.{Rows.{nodes_from, row_from, AreBlocks, AreInside, AreUsable}, Walks.{HasWritten, IsFollowed}};
 
 use crate::fill::{child_part, empty_first, fill_root, fill_row, row_key, upto};
 use iso_alloc::{cell_count, piece};

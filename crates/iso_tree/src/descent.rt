@@ -1,12 +1,8 @@
 // The way from the root to the leaf of a key.
 ghost use Rattle.std.specs.Prelude.{◌≡◌, ◌+◌, ◌*◌, ◌<◌, ◌≤◌, [], IfOk, OnOk, length};
-ghost use Rattle.store_model.specs.Cells.{cell_count, keys_mark, value_mark};
-ghost use Rattle.store_model.specs.Stores.{bytes_in};
+ghost use Rattle.store_model.specs.{Cells.{cell_count, keys_mark, value_mark}, Stores.bytes_in, TreeNodes.is_head, TreeRegion.IsTreeArea};
 ghost use Rattle.tx_blocks.specs.Runs.{AreBytesOf, HasRun};
-ghost use Rattle.store_model.specs.TreeNodes.{is_head};
-ghost use Rattle.iso_tree.specs.Rows.{AreInside};
-ghost use Rattle.store_model.specs.TreeRegion.{IsTreeArea};
-ghost use Rattle.iso_tree.specs.Walks.{child_program, head_program, HasDescended, HasReadLeaf, IsChild, IsHead, IsLeaf, OnlyReads};
+ghost use Rattle.iso_tree.specs.{Rows.AreInside, Walks.{child_program, head_program, HasDescended, HasReadLeaf, IsChild, IsHead, IsLeaf, OnlyReads}};
 
 use crate::node::NodeView;
 use crate::path::Path;

@@ -1,14 +1,8 @@
 // A put that takes new blocks, from the read of the map on.
 ghost use Rattle.std.specs.Prelude.{◌≡◌, ◌+◌, ◌-◌, ◌*◌, ◌<◌, ◌≤◌, ◌==◌, ℕ, List, cond, get_or, length, take, suc, true, Some, None};
-ghost use Rattle.store_model.specs.Cells.{cell_count, value_part};
-ghost use Rattle.store_model.specs.FreeMap.{map_bytes, map_mark};
-ghost use Rattle.store_model.specs.Stores.{bytes_in};
+ghost use Rattle.store_model.specs.{Cells.{cell_count, value_part}, FreeMap.{map_bytes, map_mark}, Stores.bytes_in, TreeNodes.IsBlock, TreeCalls.{climb, full_row, need_of, put_new, put_writes, with_map, with_used}, TreeRegion.IsTreeArea};
 ghost use Rattle.tx_blocks.specs.Runs.{Behaves, HasRun};
-ghost use Rattle.iso_tree.specs.FirstBlock.{Up};
-ghost use Rattle.store_model.specs.TreeNodes.{IsBlock};
-ghost use Rattle.iso_tree.specs.Rows.{nodes_from, AreBlocks, AreInside, AreShownUsable, AreUsable};
-ghost use Rattle.store_model.specs.TreeCalls.{climb, full_row, need_of, put_new, put_writes, with_map, with_used};
-ghost use Rattle.store_model.specs.TreeRegion.{IsTreeArea};
+ghost use Rattle.iso_tree.specs.{FirstBlock.Up, Rows.{nodes_from, AreBlocks, AreInside, AreShownUsable, AreUsable}};
 
 use crate::climb::{climb, first_node};
 use crate::descent::region_of;

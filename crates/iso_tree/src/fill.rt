@@ -1,9 +1,7 @@
 // The bytes of nodes that get a new cell.
 ghost use Rattle.std.specs.Prelude.{◌≡◌, ◌+◌, ◌-◌, ◌*◌, ◌<◌, ◌≤◌, ℕ, List, length, take, [], ◌∷◌, true};
-ghost use Rattle.store_model.specs.Cells.{are_key_parts, cell_count, keys_end};
-ghost use Rattle.store_model.specs.TreeNodes.{child_part, count_of, node_bytes, Cell, IsBlock};
+ghost use Rattle.store_model.specs.{Cells.{are_key_parts, cell_count, keys_end}, TreeNodes.{child_part, count_of, node_bytes, Cell, IsBlock}, TreeCalls.root_cells};
 ghost use Rattle.iso_tree.specs.Rows.{key_in_row, part_in_row, row_from, upto_from};
-ghost use Rattle.store_model.specs.TreeCalls.{root_cells};
 
 use crate::build::{add_cell, empty_node};
 use crate::keys::{count_of, is_before, key_of};

@@ -1,14 +1,8 @@
 // The write of a region's first block, where a put takes blocks.
-ghost use Rattle.std.specs.Prelude.{◌≡◌, ◌+◌, ◌-◌, ◌/◌, ◌<◌, ◌≤◌, ◌++◌, ℕ, List, OnOk, OnErr, IfErr, length, take, drop, [], ◌∷◌, true};
-ghost use Rattle.std.specs.Int.{w32, to_be_bytes};
-ghost use Rattle.store_model.specs.Cells.{block_with, laid_at};
-ghost use Rattle.store_model.specs.FreeMap.{map_bytes};
-ghost use Rattle.tx_blocks.specs.Tx.{room_of, with_accesses};
-ghost use Rattle.tx_blocks.specs.Runs.{IsCause};
-ghost use Rattle.iso_tree.specs.FirstBlock.{ends, first_access, HasOneMore, Up};
-ghost use Rattle.iso_tree.specs.Rows.{AreBlocks};
-ghost use Rattle.store_model.specs.TreeCalls.{with_used};
-ghost use Rattle.store_model.specs.TreeRegion.{IsTreeArea};
+ghost use Rattle.std.specs.{Prelude.{◌≡◌, ◌+◌, ◌-◌, ◌/◌, ◌<◌, ◌≤◌, ◌++◌, ℕ, List, OnOk, OnErr, IfErr, length, take, drop, [], ◌∷◌, true}, Int.{w32, to_be_bytes}};
+ghost use Rattle.store_model.specs.{Cells.{block_with, laid_at}, FreeMap.map_bytes, TreeCalls.with_used, TreeRegion.IsTreeArea};
+ghost use Rattle.tx_blocks.specs.{Tx.{room_of, with_accesses}, Runs.IsCause};
+ghost use Rattle.iso_tree.specs.{FirstBlock.{ends, first_access, HasOneMore, Up}, Rows.AreBlocks};
 
 use iso_alloc::{lay, piece};
 use iso_model::Span;

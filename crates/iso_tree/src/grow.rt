@@ -1,16 +1,8 @@
 // A put that takes new blocks.
-ghost use Rattle.std.specs.Prelude.{◌≡◌, ◌+◌, ◌-◌, ◌*◌, ◌<◌, ◌≤◌, ◌↔◌, IsTrue, not, List, ℕ, OnOk, IfErr, Err, length, map, take, true};
-ghost use Rattle.std.specs.List.{filter, range_with_len};
-ghost use Rattle.store_model.specs.Cells.{are_key_parts, cell_count};
-ghost use Rattle.store_model.specs.FreeMap.{free_count, map_bit, map_bytes};
-ghost use Rattle.store_model.specs.Stores.{Program};
-ghost use Rattle.tx_blocks.specs.Runs.{HasRun};
-ghost use Rattle.tx_blocks.proofs.Progress.{IsAt};
-ghost use Rattle.store_model.specs.TreeNodes.{count_of, Cell, IsBlock};
-ghost use Rattle.iso_tree.specs.Rows.{nodes_from, AreInside, AreShownUsable, AreUsable, IsUsable};
-ghost use Rattle.store_model.specs.TreeCalls.{look_again, with_used, Answer};
-ghost use Rattle.store_model.specs.TreeRegion.{IsTreeArea};
-ghost use Rattle.iso_tree.specs.Walks.{OnlyReads};
+ghost use Rattle.std.specs.{Prelude.{◌≡◌, ◌+◌, ◌-◌, ◌*◌, ◌<◌, ◌≤◌, ◌↔◌, IsTrue, not, List, ℕ, OnOk, IfErr, Err, length, map, take, true}, List.{filter, range_with_len}};
+ghost use Rattle.store_model.specs.{Cells.{are_key_parts, cell_count}, FreeMap.{free_count, map_bit, map_bytes}, Stores.Program, TreeNodes.{count_of, Cell, IsBlock}, TreeCalls.{look_again, with_used, Answer}, TreeRegion.IsTreeArea};
+ghost use Rattle.tx_blocks.{specs.Runs.HasRun, proofs.Progress.IsAt};
+ghost use Rattle.iso_tree.specs.{Rows.{nodes_from, AreInside, AreShownUsable, AreUsable, IsUsable}, Walks.OnlyReads};
 
 use crate::climb::first_node;
 use crate::keys::count_of;

@@ -1,11 +1,7 @@
 // The put of a key.
 ghost use Rattle.std.specs.Prelude.{◌≡◌, ◌↔◌, ◌+◌, ◌<◌, ◌≤◌, Err, IsFalse, IsTrue, true, IfOk, IfErr, OnOk, length};
-ghost use Rattle.store_model.specs.HashCalls.{is_key, is_value};
-ghost use Rattle.store_model.specs.HashRegion.{put_op};
-ghost use Rattle.tx_blocks.specs.Tx.{IsLater};
-ghost use Rattle.tx_blocks.specs.Runs.{area_of, Behaves, HasEnded, HasRun, IsLocalCall, IsStoreCause, IsUnwritten};
-ghost use Rattle.store_model.specs.TreeCalls.{put_below_root, put_program};
-ghost use Rattle.store_model.specs.TreeRegion.{tree_map, IsTreeArea, IsTreeRegion};
+ghost use Rattle.store_model.specs.{HashCalls.{is_key, is_value}, HashRegion.put_op, TreeCalls.{put_below_root, put_program}, TreeRegion.{tree_map, IsTreeArea, IsTreeRegion}};
+ghost use Rattle.tx_blocks.specs.{Tx.IsLater, Runs.{area_of, Behaves, HasEnded, HasRun, IsLocalCall, IsStoreCause, IsUnwritten}};
 
 use crate::descent::{descend, read_head};
 use crate::enlarge::put_new;

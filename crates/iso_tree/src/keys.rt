@@ -1,7 +1,6 @@
 // Head and key parts of a node: tests, and the places of keys.
 ghost use Rattle.std.specs.Prelude.{◌≡◌, ◌+◌, ◌-◌, ◌<◌, ◌≤◌, ◌==◌, ◌||◌, ◌&&◌, if◌then◌else◌, nat_lt, slice_index, true, length, IfSome};
-ghost use Rattle.store_model.specs.Cells.{cell_count, keys_end, are_key_parts, is_part, key_at, text_of};
-ghost use Rattle.store_model.specs.TreeNodes.{are_cells, before, has_head, has_level, below_from, cell_of, count_of, is_node, place_of};
+ghost use Rattle.store_model.specs.{Cells.{cell_count, keys_end, are_key_parts, is_part, key_at, text_of}, TreeNodes.{are_cells, before, has_head, has_level, below_from, cell_of, count_of, is_node, place_of}};
 
 use iso_alloc::{are_zero, cell_count, is_part, key_part, piece, text_of};
 

@@ -1,12 +1,7 @@
 // A put into a leaf that has the key, or room for it.
 ghost use Rattle.std.specs.Prelude.{◌≡◌, ◌+◌, ◌*◌, ◌<◌, ◌≤◌, length, take, true, Ok, [], ◌∷◌};
-ghost use Rattle.store_model.specs.Cells.{block_with, cell_count, keys_end, value_mark, value_part};
-ghost use Rattle.store_model.specs.Stores.{Done, Store};
+ghost use Rattle.store_model.specs.{Cells.{block_with, cell_count, keys_end, value_mark, value_part}, Stores.{Done, Store}, TreeNodes.{count_of, is_node, node_bytes, used_cells, IsBlock}, Trees.put_after, TreeCalls.edit_leaf, TreeRegion.IsTreeArea};
 ghost use Rattle.tx_blocks.specs.Runs.{AreBytesOf, Behaves, HasRun};
-ghost use Rattle.store_model.specs.TreeNodes.{count_of, is_node, node_bytes, used_cells, IsBlock};
-ghost use Rattle.store_model.specs.Trees.{put_after};
-ghost use Rattle.store_model.specs.TreeCalls.{edit_leaf};
-ghost use Rattle.store_model.specs.TreeRegion.{IsTreeArea};
 ghost use Rattle.iso_tree.specs.Walks.{IsLeaf};
 
 use crate::descent::{Leaf, value_mark};

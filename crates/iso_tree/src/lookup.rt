@@ -1,11 +1,7 @@
 // The look-up of a key.
 ghost use Rattle.std.specs.Prelude.{◌≡◌, ◌↔◌, ◌+◌, ◌<◌, ◌≤◌, Err, IsFalse, true, IfOk, IfErr, OnOk, length};
-ghost use Rattle.store_model.specs.HashCalls.{is_key};
-ghost use Rattle.store_model.specs.HashRegion.{get_op};
-ghost use Rattle.tx_blocks.specs.Tx.{IsLater};
-ghost use Rattle.tx_blocks.specs.Runs.{area_of, HasEnded, HasRead, HasRun, IsLocalCall, IsStoreCause};
-ghost use Rattle.store_model.specs.TreeCalls.{get_below, get_program};
-ghost use Rattle.store_model.specs.TreeRegion.{tree_map, IsTreeArea, IsTreeRegion};
+ghost use Rattle.store_model.specs.{HashCalls.is_key, HashRegion.get_op, TreeCalls.{get_below, get_program}, TreeRegion.{tree_map, IsTreeArea, IsTreeRegion}};
+ghost use Rattle.tx_blocks.specs.{Tx.IsLater, Runs.{area_of, HasEnded, HasRead, HasRun, IsLocalCall, IsStoreCause}};
 ghost use Rattle.iso_tree.specs.Walks.{OnlyReads};
 
 use crate::descent::{descend, read_head, value_part};

@@ -1,8 +1,6 @@
 // A node of the tree, as the bytes of its block.
 ghost use Rattle.std.specs.Prelude.{◌≡◌, ◌↔◌, ◌+◌, ◌*◌, ◌<◌, ◌≤◌, IfSome, IsSome, IsTrue, length, true, Some, None};
-ghost use Rattle.store_model.specs.Cells.{are_key_parts, cell_count, keys_end, keys_mark};
-ghost use Rattle.store_model.specs.Stores.{bytes_in};
-ghost use Rattle.store_model.specs.TreeNodes.{cell_of, child_of, count_of, find_in, is_child, is_node, keys_in, place_of, value_in};
+ghost use Rattle.store_model.specs.{Cells.{are_key_parts, cell_count, keys_end, keys_mark}, Stores.bytes_in, TreeNodes.{cell_of, child_of, count_of, find_in, is_child, is_node, keys_in, place_of, value_in}};
 
 use crate::keys::{below, cell_of, count_of, is_node, place_of};
 use iso_alloc::{Cells, Region, are_zero, cell_count, piece, word_at};

@@ -1,16 +1,8 @@
 // The pairs of a range of keys.
-ghost use Rattle.std.specs.Prelude.{◌≡◌, ◌⊎◌, ◌↔◌, ◌&&◌, ◌+◌, ◌-◌, ◌*◌, ◌<◌, ◌≤◌, ◌++◌, [], ◌∷◌, Err, IsFalse, true, IfOk, IfErr, OnOk, length, map, take};
-ghost use Rattle.std.specs.List.{list_all};
-ghost use Rattle.store_model.specs.Cells.{are_key_parts, cell_count, is_part, keys_end};
-ghost use Rattle.store_model.specs.HashCalls.{is_key};
-ghost use Rattle.store_model.specs.TreeCalls.{pairs_with, parts_of, scan_below, scan_program};
-ghost use Rattle.store_model.specs.TreeNodes.{child_of};
-ghost use Rattle.store_model.specs.TreeRegion.{scan_op, tree_map, IsTreeArea, IsTreeRegion};
-ghost use Rattle.tx_blocks.proofs.Progress.{IsAt};
-ghost use Rattle.tx_blocks.specs.Tx.{IsLater};
-ghost use Rattle.tx_blocks.specs.Runs.{area_of, HasEnded, HasRead, IsLocalCall, IsStoreCause, WantsMemory};
-ghost use Rattle.iso_tree.specs.Visits.{scan_nodes, AreIn, HasScanned};
-ghost use Rattle.iso_tree.specs.Walks.{OnlyReads};
+ghost use Rattle.std.specs.{Prelude.{◌≡◌, ◌⊎◌, ◌↔◌, ◌&&◌, ◌+◌, ◌-◌, ◌*◌, ◌<◌, ◌≤◌, ◌++◌, [], ◌∷◌, Err, IsFalse, true, IfOk, IfErr, OnOk, length, map, take}, List.list_all};
+ghost use Rattle.store_model.specs.{Cells.{are_key_parts, cell_count, is_part, keys_end}, HashCalls.is_key, TreeCalls.{pairs_with, parts_of, scan_below, scan_program}, TreeNodes.child_of, TreeRegion.{scan_op, tree_map, IsTreeArea, IsTreeRegion}};
+ghost use Rattle.tx_blocks.{proofs.Progress.IsAt, specs.Tx.IsLater, specs.Runs.{area_of, HasEnded, HasRead, IsLocalCall, IsStoreCause, WantsMemory}};
+ghost use Rattle.iso_tree.specs.{Visits.{scan_nodes, AreIn, HasScanned}, Walks.OnlyReads};
 
 use crate::descent::read_head;
 use crate::keys::key_of;

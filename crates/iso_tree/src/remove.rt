@@ -1,11 +1,7 @@
 // The removal of a key.
 ghost use Rattle.std.specs.Prelude.{◌≡◌, ◌↔◌, ◌+◌, ◌<◌, ◌≤◌, [], Err, Ok, IsFalse, true, IfOk, IfErr, OnErr, OnOk, length};
-ghost use Rattle.store_model.specs.HashCalls.{is_key};
-ghost use Rattle.store_model.specs.HashRegion.{del_op};
-ghost use Rattle.tx_blocks.specs.Tx.{IsLater};
-ghost use Rattle.tx_blocks.specs.Runs.{AreBytesOf, area_of, Behaves, HasEnded, HasRun, HasRead, IsLocalCall, IsStoreCause};
-ghost use Rattle.store_model.specs.TreeCalls.{del_below, del_program, edit_leaf, without_key};
-ghost use Rattle.store_model.specs.TreeRegion.{tree_map, IsTreeArea, IsTreeRegion};
+ghost use Rattle.store_model.specs.{HashCalls.is_key, HashRegion.del_op, TreeCalls.{del_below, del_program, edit_leaf, without_key}, TreeRegion.{tree_map, IsTreeArea, IsTreeRegion}};
+ghost use Rattle.tx_blocks.specs.{Tx.IsLater, Runs.{AreBytesOf, area_of, Behaves, HasEnded, HasRun, HasRead, IsLocalCall, IsStoreCause}};
 ghost use Rattle.iso_tree.specs.Walks.{IsLeaf, IsWalkError, TakesNoBlocks};
 
 use crate::build::copy_without;

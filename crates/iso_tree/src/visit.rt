@@ -1,16 +1,9 @@
 // The read of a node that a scan visits.
-ghost use Rattle.std.specs.Prelude.{◌≡◌, ◌+◌, ◌*◌, ◌<◌, ◌≤◌, IfOk, IfErr, OnOk, Ok, Err, None, length, true};
-ghost use Rattle.std.specs.List.{list_all};
-ghost use Rattle.store_model.specs.Cells.{are_key_parts, cell_count, keys_end};
+ghost use Rattle.std.specs.{Prelude.{◌≡◌, ◌+◌, ◌*◌, ◌<◌, ◌≤◌, IfOk, IfErr, OnOk, Ok, Err, None, length, true}, List.list_all};
+ghost use Rattle.store_model.specs.{Cells.{are_key_parts, cell_count, keys_end}, Stores.bytes_in, TreeCalls.{first_in, many_in, parts_of}, TreeNodes.count_of, TreeRegion.{is_part_at, IsTreeArea}};
 ghost use Rattle.iso_model.specs.Marks.{marked};
-ghost use Rattle.store_model.specs.Stores.{bytes_in};
-ghost use Rattle.store_model.specs.TreeCalls.{first_in, many_in, parts_of};
-ghost use Rattle.store_model.specs.TreeNodes.{count_of};
-ghost use Rattle.store_model.specs.TreeRegion.{is_part_at, IsTreeArea};
-ghost use Rattle.tx_blocks.specs.Runs.{HasRun, Ran};
-ghost use Rattle.tx_blocks.specs.Tx.{mark_refusal};
-ghost use Rattle.iso_tree.specs.Visits.{node_read, values_mark, visit_program, IsVisited};
-ghost use Rattle.iso_tree.specs.Walks.{OnlyReads};
+ghost use Rattle.tx_blocks.specs.{Runs.{HasRun, Ran}, Tx.mark_refusal};
+ghost use Rattle.iso_tree.specs.{Visits.{node_read, values_mark, visit_program, IsVisited}, Walks.OnlyReads};
 
 use crate::descent::keys_mark;
 use crate::keys::{below, count_of, is_node, place_of};

@@ -2,8 +2,7 @@
 // call. Replies are held back until more input is waited for, and come out at the end.
 #![tactic(auto)]
 
-ghost use Rattle.std.specs.Prelude.{◌≡◌, ◌≢◌, false, true};
-ghost use Rattle.std.specs.Process.{exit_status};
+ghost use Rattle.std.specs.{Prelude.{◌≡◌, ◌≢◌, false, true}, Process.exit_status};
 
 #[cfg(test)]
 mod tests;

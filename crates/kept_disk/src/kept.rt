@@ -1,7 +1,5 @@
 // The disk whose pages are kept.
-ghost use Rattle.std.specs.Prelude.{◌≡◌, ◌+◌, ◌≤◌, ℕ, List, Some, None, length, replicate, OnOk, OnErr, IfNone, IfSome, IsSome, IsOk};
-ghost use Rattle.std.specs.List.{slice_range};
-ghost use Rattle.std.specs.Option.{ForSome};
+ghost use Rattle.std.specs.{Prelude.{◌≡◌, ◌+◌, ◌≤◌, ℕ, List, Some, None, length, replicate, OnOk, OnErr, IfNone, IfSome, IsSome, IsOk}, List.slice_range, Option.ForSome};
 ghost use Rattle.iso_disk.specs.Disk.{TornFrom, Splices, TellsTorn, IsSettled, Elapses};
 ghost use Rattle.fault_count.specs.Count.{one_more, HasCause};
 ghost use Rattle.kept_disk.specs.Pages.{HoldsNone, HoldsRange, Stand};

@@ -1,6 +1,5 @@
 // Reads and writes, one page at a time.
-ghost use Rattle.std.specs.Prelude.{◌≡◌, ◌+◌, ◌/◌, ◌%◌, ◌^◌, ◌<◌, ◌≤◌, ℕ, List, length, take, drop, OnOk, IsOk, slice_get, true};
-ghost use Rattle.std.specs.Option.{ForSome};
+ghost use Rattle.std.specs.{Prelude.{◌≡◌, ◌+◌, ◌/◌, ◌%◌, ◌^◌, ◌<◌, ◌≤◌, ℕ, List, length, take, drop, OnOk, IsOk, slice_get, true}, Option.ForSome};
 ghost use Rattle.iso_disk.specs.Disk.{Elapses, spliced};
 ghost use Rattle.fault_count.specs.Count.{HasCause};
 ghost use Rattle.kept_disk.specs.Pages.{HoldsRange, IsHeld, Stand};

@@ -1,9 +1,7 @@
 // Runs over a machine that knows one script, and wants memory at any other operation.
-ghost use Rattle.std.proofs.Common.{subst, sym};
-ghost use Rattle.std.specs.Prelude.{◌≡◌, ◌+◌, ◌<◌, IfSome, None};
+ghost use Rattle.std.{proofs.Common.{subst, sym}, specs.Prelude.{◌≡◌, ◌+◌, ◌<◌, IfSome, None}};
 ghost use Rattle.iso_disk.specs.Untold.{untold, untold_is_lawful};
-ghost use Rattle.script_model.specs.declared.script.Op.TheVariants.{Begin, Put};
-ghost use Rattle.script_model.specs.Step.{step};
+ghost use Rattle.script_model.specs.{declared.script.Op.TheVariants.{Begin, Put}, Step.step};
 ghost use Rattle.iso_model.specs.Worlds.{IsWorld};
 ghost use Rattle.script_runner.specs.Rehearsal.{rehearsed, rehearsed_is_world};
 

@@ -2,8 +2,7 @@
 //! wakes one of all sleepers, or one at the wrong door, stands still here.
 ghost use Rattle.std.specs.Prelude.{◌≡◌, ◌<◌};
 ghost use denote.Param.Send.{IsSync};
-ghost use Rattle.turn_lock.specs.Lock.{lock_id};
-ghost use Rattle.turn_lock.specs.Pass.{view, HasNoTurn};
+ghost use Rattle.turn_lock.specs.{Lock.lock_id, Pass.{view, HasNoTurn}};
 
 use crate::turn_tests::{Caller, Log, counts_up, made};
 use std::process::Abort;

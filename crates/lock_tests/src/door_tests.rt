@@ -2,8 +2,7 @@
 //! counts them too low stands still here.
 ghost use Rattle.std.specs.Prelude.{◌≡◌, ◌<◌};
 ghost use denote.Param.Send.{IsSync};
-ghost use Rattle.turn_lock.specs.Lock.{lock_id};
-ghost use Rattle.turn_lock.specs.Pass.{view, HasNoTurn, IsSamePass};
+ghost use Rattle.turn_lock.specs.{Lock.lock_id, Pass.{view, HasNoTurn, IsSamePass}};
 
 use crate::turn_tests::{Caller, Log, add, counts_up, made};
 use std::alloc::Global;

@@ -1,13 +1,8 @@
 //! Small runs of the lock, over a plain list and over a desk that hands out numbers.
-ghost use Rattle.std.specs.Prelude.{◌≡◌, ℕ, false, ◌+◌, ◌<◌, ◌≤◌, ◌++◌, [], ◌∷◌, Some, None};
-ghost use Rattle.std.specs.List.{AllByRecursion};
-ghost use Rattle.turn_lock.specs.Lists.{times, AreDistinct};
-ghost use Rattle.turn_lock.specs.Numbers.{is_out, AreFree, AreHeld};
+ghost use Rattle.std.specs.{Prelude.{◌≡◌, ℕ, false, ◌+◌, ◌<◌, ◌≤◌, ◌++◌, [], ◌∷◌, Some, None}, List.AllByRecursion};
+ghost use Rattle.turn_lock.specs.{Lists.{times, AreDistinct}, Numbers.{is_out, AreFree, AreHeld}, Lock.{lock_id, turn_value}, Pass.{view, IsSamePass, HasNoTurn, HasTurn}, Props.pass_props};
 ghost use mathlib.Core.List.{IsPrefix};
 ghost use denote.Param.Send.{IsSync};
-ghost use Rattle.turn_lock.specs.Lock.{lock_id, turn_value};
-ghost use Rattle.turn_lock.specs.Pass.{view, IsSamePass, HasNoTurn, HasTurn};
-ghost use Rattle.turn_lock.specs.Props.{pass_props};
 
 use iso_model::Memory;
 use std::alloc::Global;

@@ -1,13 +1,8 @@
 -- The cores and the image of the tests.
 use Rattle.std.specs.Prelude.{◌≡◌, ◌≤◌, []}
-use Rattle.iso_core.specs.declared.core_itself.Core.{Core}
-use Rattle.iso_core.specs.Core.{StandsFor}
-use Rattle.iso_core.specs.Standing.{up}
+use Rattle.iso_core.specs.{declared.core_itself.Core.Core, Core.StandsFor, Standing.up}
 use Rattle.iso_disk.specs.Disk.{DiskState}
-use Rattle.iso_model.specs.declared.access.Geometry.{Geometry}
-use Rattle.iso_model.specs.declared.access.Mode.TheVariants.{Serial}
-use Rattle.iso_model.specs.declared.limits.TheConstants.{LAST}
-use Rattle.iso_model.specs.World.{World}
+use Rattle.iso_model.specs.{declared.access.Geometry.Geometry, declared.access.Mode.TheVariants.Serial, declared.limits.TheConstants.LAST, World.World}
 
 -- one block of 64 bytes, and a log of 256
 abbrev pub small : Geometry

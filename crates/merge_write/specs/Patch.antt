@@ -1,11 +1,6 @@
 -- What contracts see of a `Patch`: for each byte of a block the value that it is set to, if it is set.
-use Rattle.std.specs.Prelude.{ℕ, ◌+◌, ◌*◌, ◌/◌, ◌%◌, ◌==◌, ◌≡◌, cond, List, [], ◌∷◌, Option, Some, None, Bool, IsTrue, length, slice_index, unwrap_or}
-use Rattle.std.specs.Int.{bit_at}
-use Rattle.iso_model.specs.declared.access.Span.{Span}
-use Rattle.iso_model.specs.declared.access.Run.{Run}
-use Rattle.iso_model.specs.Array.{covered}
-use Rattle.iso_model.specs.Effect.{or_else}
-use Rattle.iso_model.specs.Geometry.{is_block_size}
+use Rattle.std.specs.{Prelude.{ℕ, ◌+◌, ◌*◌, ◌/◌, ◌%◌, ◌==◌, ◌≡◌, cond, List, [], ◌∷◌, Option, Some, None, Bool, IsTrue, length, slice_index, unwrap_or}, Int.bit_at}
+use Rattle.iso_model.specs.{declared.access.Span.Span, declared.access.Run.Run, Array.covered, Effect.or_else, Geometry.is_block_size}
 
 -- whether the row of masks has the bit of the byte at p
 abbrev pub is_set : List ℕ → ℕ → Bool

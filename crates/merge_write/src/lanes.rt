@@ -1,6 +1,5 @@
 // The kernel: bytes laid over others 64 at a time, in the lanes of a vector, by a mask of bits.
-ghost use Rattle.std.specs.Prelude.{◌≡◌, ℕ, ◌+◌, ◌%◌, ◌<◌, ◌≤◌, ◌==◌, cond, length, slice_index};
-ghost use Rattle.std.specs.Int.{bit_at};
+ghost use Rattle.std.specs.{Prelude.{◌≡◌, ℕ, ◌+◌, ◌%◌, ◌<◌, ◌≤◌, ◌==◌, cond, length, slice_index}, Int.bit_at};
 ghost use Rattle.merge_write.specs.Patch.{values_from, laid, IsRow};
 
 use std::simd::prelude::*;

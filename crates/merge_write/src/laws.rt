@@ -1,11 +1,6 @@
 // What the contracts of a patch come to together.
-ghost use Rattle.std.specs.Prelude.{◌≡◌, ◌≢◌, ◌++◌, ℕ, IsTrue, List, [], ◌∷◌, None, Option, length, map, replicate};
-ghost use Rattle.std.specs.List.{AllByRecursion};
-ghost use Rattle.iso_model.specs.declared.access.Access.{Access};
-ghost use Rattle.iso_model.specs.declared.access.Span.{Span};
-ghost use Rattle.iso_model.specs.Array.{merged, Array};
-ghost use Rattle.iso_model.specs.Effect.{block_runs, effects_from, is_write, own, runs_from};
-ghost use Rattle.iso_model.specs.Premises.{block_at, HasBytes};
+ghost use Rattle.std.specs.{Prelude.{◌≡◌, ◌≢◌, ◌++◌, ℕ, IsTrue, List, [], ◌∷◌, None, Option, length, map, replicate}, List.AllByRecursion};
+ghost use Rattle.iso_model.specs.{declared.access.Access.Access, declared.access.Span.Span, Array.{merged, Array}, Effect.{block_runs, effects_from, is_write, own, runs_from}, Premises.{block_at, HasBytes}};
 ghost use Rattle.merge_write.specs.Patch.{written, laid, followed, piece, run_of};
 
 /// A write that is set on a blank patch, which is then laid over a block, is the write to that block.

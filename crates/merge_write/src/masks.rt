@@ -1,6 +1,5 @@
 // Rows of masks, one bit for each byte of a block, read and set a word at a time.
-ghost use Rattle.std.specs.Prelude.{◌≡◌, ℕ, ◌+◌, ◌-◌, ◌*◌, ◌%◌, ◌^◌, ◌<◌, ◌≤◌, ◌==◌, ◌&&◌, ◌||◌, cond, length, nat_le, nat_lt, not};
-ghost use Rattle.std.specs.Int.{bit_at};
+ghost use Rattle.std.specs.{Prelude.{◌≡◌, ℕ, ◌+◌, ◌-◌, ◌*◌, ◌%◌, ◌^◌, ◌<◌, ◌≤◌, ◌==◌, ◌&&◌, ◌||◌, cond, length, nat_le, nat_lt, not}, Int.bit_at};
 ghost use Rattle.merge_write.specs.Patch.{is_set};
 
 // A word with the bits from `low` up to `high`.

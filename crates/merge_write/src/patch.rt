@@ -1,8 +1,6 @@
 // Bytes that are laid over a block.
-ghost use Rattle.std.specs.Prelude.{◌≡◌, ℕ, ◌+◌, ◌<◌, ◌≤◌, ◌&&◌, Some, None, IsTrue, IfOk, cond, length, map, nat_le, nat_lt, replicate, slice_index, slice_index_or};
-ghost use Rattle.std.specs.List.{All};
-ghost use Rattle.iso_model.specs.Effect.{runs_from};
-ghost use Rattle.iso_model.specs.Geometry.{is_block_size};
+ghost use Rattle.std.specs.{Prelude.{◌≡◌, ℕ, ◌+◌, ◌<◌, ◌≤◌, ◌&&◌, Some, None, IsTrue, IfOk, cond, length, map, nat_le, nat_lt, replicate, slice_index, slice_index_or}, List.All};
+ghost use Rattle.iso_model.specs.{Effect.runs_from, Geometry.is_block_size};
 ghost use Rattle.merge_write.specs.Patch.{written, laid, followed, piece};
 
 use crate::PatchSpans;

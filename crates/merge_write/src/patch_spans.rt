@@ -1,6 +1,5 @@
 // The runs of a patch, one by one.
-ghost use Rattle.std.specs.Prelude.{◌≡◌, map};
-ghost use Rattle.std.specs.Iterator.{YieldsFirstBy, item_count};
+ghost use Rattle.std.specs.{Prelude.{◌≡◌, map}, Iterator.{YieldsFirstBy, item_count}};
 ghost use Rattle.iso_model.specs.Effect.{runs_from};
 ghost use Rattle.merge_write.specs.Patch.{piece, values_from, IsRow};
 
@@ -19,8 +18,7 @@ pub struct PatchSpans<'a> {
 
 impl<'a> Model for PatchSpans<'a> {
     ghost use Rattle.std.specs.Prelude.{List, ℕ, ◌≤◌, drop, length, map};
-    ghost use Rattle.iso_model.specs.declared.access.Span.{Span};
-    ghost use Rattle.iso_model.specs.Effect.{runs_from};
+    ghost use Rattle.iso_model.specs.{declared.access.Span.Span, Effect.runs_from};
     ghost use Rattle.merge_write.specs.Patch.{piece, values_from, IsRow};
 
     ghost Value = { List (Span × List ℕ) };

@@ -1,12 +1,8 @@
 -- What an adopt makes of the side that it chose, and of the other one.
-use Rattle.std.specs.Prelude.{◌≡◌, ◌≢◌, ◌⊎◌, ℕ, ◌<◌, ◌≤◌, List, Some, None}
-use Rattle.std.specs.Option.{ForSome}
+use Rattle.std.specs.{Prelude.{◌≡◌, ◌≢◌, ◌⊎◌, ℕ, ◌<◌, ◌≤◌, List, Some, None}, Option.ForSome}
 use Rattle.fault_count.specs.Count.{Rose}
 use Rattle.iso_disk.specs.Disk.{DiskState, IsSettled, WritesNothing}
-use Rattle.mirror_disk.specs.declared.slot.Slot.{Slot}
-use Rattle.mirror_disk.specs.Header.{IsHeader, body, chosen, epoch, last_epoch}
-use Rattle.mirror_disk.specs.Pairs.{ChosenOf}
-use Rattle.mirror_disk.specs.Raised.{HasEpoch}
+use Rattle.mirror_disk.specs.{declared.slot.Slot.Slot, Header.{IsHeader, body, chosen, epoch, last_epoch}, Pairs.ChosenOf, Raised.HasEpoch}
 
 -- an image of the side that was chosen: its epoch or a larger one, and the mirrored bytes that it told at the start
 pub record OfChosen (e : ℕ) (start : DiskState) (image : List ℕ) : Type 0 where

@@ -1,11 +1,7 @@
 -- What a call on both sides of a mirror has come to.
 use Rattle.std.specs.Prelude.{◌≡◌, ℕ, ◌+◌, Bool, true, List, ◌∷◌, Some}
 use Rattle.iso_disk.specs.Disk.{DiskState, Elapses, LeavesOnly, TellsTorn, TornFrom}
-use Rattle.mirror_disk.specs.declared.slot.Slot.{Slot}
-use Rattle.mirror_disk.specs.declared.used.Used.{Used}
-use Rattle.mirror_disk.specs.Header.{body}
-use Rattle.mirror_disk.specs.Pairs.{ChosenOf, mirrored}
-use Rattle.mirror_disk.specs.Standing.{ArePair, AreBoth, IsPair, Stands}
+use Rattle.mirror_disk.specs.{declared.slot.Slot.Slot, declared.used.Used.Used, Header.body, Pairs.{ChosenOf, mirrored}, Standing.{ArePair, AreBoth, IsPair, Stands}}
 
 -- Both sides in use were asked, for the bytes in one range: what they were before, and what they are. Where both did it
 -- they tell the same bytes.

@@ -2,10 +2,7 @@
 use Rattle.std.specs.Prelude.{◌≡◌, ◌⊎◌, ℕ, ◌≤◌, Bool, true, false}
 use Rattle.iso_disk.specs.Disk.{DiskState, IsSettled}
 use Rattle.fault_count.specs.Count.{Rose}
-use Rattle.mirror_disk.specs.declared.used.Used.{Used}
-use Rattle.mirror_disk.specs.declared.used.Used.TheVariants.{Plain, Both, OnlyFirst, OnlySecond, Broken, Unbound}
-use Rattle.mirror_disk.specs.Raised.{KeepsBody}
-use Rattle.mirror_disk.specs.Header.{last_epoch}
+use Rattle.mirror_disk.specs.{declared.used.Used.Used, declared.used.Used.TheVariants.{Plain, Both, OnlyFirst, OnlySecond, Broken, Unbound}, Raised.KeepsBody, Header.last_epoch}
 
 -- each side in use has failed; these are the counts of the first side before and after the call, and those of the second one
 abbrev pub AllFailed : Used → (first first' second second' : ℕ) → Type 0

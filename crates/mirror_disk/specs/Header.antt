@@ -1,7 +1,6 @@
 -- The first 64 bytes of a side: what they hold, its epoch, and which of two images counts.
-use Rattle.std.specs.Prelude.{◌≡◌, ℕ, ◌+◌, ◌≤◌, ◌==◌, List, [], ◌∷◌, ◌++◌, length, take, drop, replicate, cond, nat_lt, slice_index}
+use Rattle.std.specs.{Prelude.{◌≡◌, ℕ, ◌+◌, ◌≤◌, ◌==◌, List, [], ◌∷◌, ◌++◌, length, take, drop, replicate, cond, nat_lt, slice_index}, Int.{w64, from_be_bytes, to_be_bytes}}
 use Rattle.commit_gate.specs.Gate.{IsOpen}
-use Rattle.std.specs.Int.{w64, from_be_bytes, to_be_bytes}
 
 -- the number of eight bytes from a place on, the highest byte first
 abbrev pub number_at : (at : ℕ) → List ℕ → ℕ

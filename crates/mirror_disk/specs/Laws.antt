@@ -1,12 +1,7 @@
 -- A mirror keeps the laws of a disk.
-use Rattle.std.specs.Prelude.{◌≡◌, ℕ, ◌+◌, ◌-◌, ◌<◌, ◌≤◌, List, [], ◌∷◌, length, slice_index, Option, Some, None, nat_lt, refl}
-use Rattle.std.proofs.Common.{ap, subst, sym, ◌∙◌, arith, length-drop, inl, inr}
-use Rattle.std.proofs.lemmas.Bool.{cases_lt, cond-true, cond-false, lt-ltb, le-ltb}
-use Rattle.std.proofs.lemmas.List.{get_or-drop}
-use Rattle.std.proofs.lemmas.Option.{same_Some}
+use Rattle.std.{specs.Prelude.{◌≡◌, ℕ, ◌+◌, ◌-◌, ◌<◌, ◌≤◌, List, [], ◌∷◌, length, slice_index, Option, Some, None, nat_lt, refl}, proofs.Common.{ap, subst, sym, ◌∙◌, arith, length-drop, inl, inr}, proofs.lemmas.Bool.{cases_lt, cond-true, cond-false, lt-ltb, le-ltb}, proofs.lemmas.List.get_or-drop, proofs.lemmas.Option.same_Some}
 use Rattle.iso_disk.specs.Disk.{DiskState, IsLawful}
-use Rattle.mirror_disk.specs.Header.{epoch, body, chosen}
-use Rattle.mirror_disk.specs.Pairs.{ChosenOf, IsRising, chosen_told, mirrored, pair_at}
+use Rattle.mirror_disk.specs.{Header.{epoch, body, chosen}, Pairs.{ChosenOf, IsRising, chosen_told, mirrored, pair_at}}
 
 -- at its last moment a mirror's sides are at theirs of now
 pub at_now : (past : List (ℕ × ℕ)) (now : ℕ × ℕ) (t : ℕ) → length past ≤ t → pair_at past now t ≡ now

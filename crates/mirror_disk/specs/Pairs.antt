@@ -1,6 +1,5 @@
 -- The state of a mirror, made of the states of its sides.
-use Rattle.std.specs.Prelude.{◌≡◌, ℕ, ◌-◌, ◌≤◌, ◌==◌, Bool, List, [], ◌∷◌, ◌++◌, length, take, slice_index, Option, Some, None, cond, nat_lt}
-use Rattle.std.specs.Option.{option_map}
+use Rattle.std.specs.{Prelude.{◌≡◌, ℕ, ◌-◌, ◌≤◌, ◌==◌, Bool, List, [], ◌∷◌, ◌++◌, length, take, slice_index, Option, Some, None, cond, nat_lt}, Option.option_map}
 use Rattle.iso_disk.specs.Disk.{DiskState}
 use Rattle.mirror_disk.specs.Header.{chosen}
 

@@ -1,9 +1,7 @@
 -- What a crash may leave of a side while its epoch is raised.
 use Rattle.std.specs.Prelude.{◌≡◌, ◌⊎◌, ℕ, ◌+◌, List, take, drop, replicate, Some, None}
 use Rattle.iso_disk.specs.Disk.{DiskState}
-use Rattle.mirror_disk.specs.declared.slot.Slot.{Slot}
-use Rattle.mirror_disk.specs.Header.{IsHeader, slot_epoch, epoch, body, number_at}
-use Rattle.mirror_disk.specs.Slots.{place}
+use Rattle.mirror_disk.specs.{declared.slot.Slot.Slot, Header.{IsHeader, slot_epoch, epoch, body, number_at}, Slots.place}
 
 -- the image has a header with this epoch, and this slot holds it
 pub record HasEpoch (slot : Slot) (e : ℕ) (image : List ℕ) : Type 0 where

@@ -1,7 +1,6 @@
 -- The slots of a header.
 use Rattle.std.specs.Prelude.{ℕ}
-use Rattle.mirror_disk.specs.declared.slot.Slot.{Slot}
-use Rattle.mirror_disk.specs.declared.slot.Slot.TheVariants.{First, Second}
+use Rattle.mirror_disk.specs.{declared.slot.Slot.Slot, declared.slot.Slot.TheVariants.{First, Second}}
 
 -- where the gate of a slot stands
 abbrev pub place : Slot → ℕ

@@ -1,14 +1,7 @@
 -- What a mirror is, by which sides are in use.
 use Rattle.std.specs.Prelude.{Bool, true, false, ◌≡◌, ◌≢◌, ℕ, ◌<◌, ◌≤◌, List, take, Some, None}
-use Rattle.iso_disk.specs.Disk.{DiskState}
-use Rattle.iso_disk.specs.Untold.{untold}
-use Rattle.mirror_disk.specs.declared.slot.Slot.{Slot}
-use Rattle.mirror_disk.specs.declared.marks.Marks.{Marks}
-use Rattle.mirror_disk.specs.declared.used.Used.{Used}
-use Rattle.mirror_disk.specs.declared.used.Used.TheVariants.{Plain, Both, OnlyFirst, OnlySecond, Broken, Unbound}
-use Rattle.mirror_disk.specs.Header.{IsHeader, body, epoch, slot_epoch}
-use Rattle.mirror_disk.specs.Pairs.{IsRising, mirrored, named_by, pair_at}
-use Rattle.mirror_disk.specs.Slots.{place}
+use Rattle.iso_disk.specs.{Disk.DiskState, Untold.untold}
+use Rattle.mirror_disk.specs.{declared.slot.Slot.Slot, declared.marks.Marks.Marks, declared.used.Used.Used, declared.used.Used.TheVariants.{Plain, Both, OnlyFirst, OnlySecond, Broken, Unbound}, Header.{IsHeader, body, epoch, slot_epoch}, Pairs.{IsRising, mirrored, named_by, pair_at}, Slots.place}
 
 -- The state of a mirror: its first side alone, nothing, or what is chosen of both sides.
 abbrev pub state_in : Used → DiskState → DiskState → (past : List (ℕ × ℕ)) → (faults binds : ℕ) → DiskState

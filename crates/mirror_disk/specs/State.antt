@@ -1,16 +1,7 @@
 -- The state of a mirror by its fields.
-use Rattle.std.specs.Prelude.{ℕ, ◌<◌, ◌^◌, List, Option, None}
-use Rattle.std.proofs.Common.{arith, lit<}
-use Rattle.iso_disk.specs.Disk.{DiskState, IsLawful}
-use Rattle.iso_disk.specs.declared.disk.Disk.{Ghosts}
-use Rattle.iso_disk.specs.Untold.{untold, untold_is_lawful}
-use Rattle.mirror_disk.specs.declared.slot.Slot.{Slot}
-use Rattle.mirror_disk.specs.declared.used.Used.{Used}
-use Rattle.mirror_disk.specs.declared.used.Used.TheVariants.{Plain, Both, OnlyFirst, OnlySecond, Broken, Unbound}
-use Rattle.mirror_disk.specs.Laws.{lawful}
-use Rattle.mirror_disk.specs.declared.mirror.Mirror.{Mirror}
-use Rattle.mirror_disk.specs.Pairs.{named_by}
-use Rattle.mirror_disk.specs.Standing.{Stands, state_in}
+use Rattle.std.{specs.Prelude.{ℕ, ◌<◌, ◌^◌, List, Option, None}, proofs.Common.{arith, lit<}}
+use Rattle.iso_disk.specs.{Disk.{DiskState, IsLawful}, declared.disk.Disk.Ghosts, Untold.{untold, untold_is_lawful}}
+use Rattle.mirror_disk.specs.{declared.slot.Slot.Slot, declared.used.Used.Used, declared.used.Used.TheVariants.{Plain, Both, OnlyFirst, OnlySecond, Broken, Unbound}, Laws.lawful, declared.mirror.Mirror.Mirror, Pairs.named_by, Standing.{Stands, state_in}}
 
 abbrev pub state_of : {A B : Type 0} {g : Ghosts A} {h : Ghosts B} → Mirror A B g h → DiskState
 state_of {g = g} {h = h} m = state_in m.marks.used (g.state m.first) (h.state m.second) m.past m.faults m.binds

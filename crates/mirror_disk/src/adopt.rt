@@ -1,15 +1,8 @@
 // Taking two sides that hold a mirror.
-ghost use Rattle.std.specs.Prelude.{◌≡◌, ◌≢◌, ◌↔◌, ◌⊎◌, ◌+◌, ◌<◌, ◌≤◌, [], ℕ, List, None, Err, Some, IfErr, IfOk, IfSome, OnOk, OnErr};
-ghost use Rattle.std.specs.Option.{ForSome};
+ghost use Rattle.std.specs.{Prelude.{◌≡◌, ◌≢◌, ◌↔◌, ◌⊎◌, ◌+◌, ◌<◌, ◌≤◌, [], ℕ, List, None, Err, Some, IfErr, IfOk, IfSome, OnOk, OnErr}, Option.ForSome};
 ghost use Rattle.iso_disk.specs.Disk.{IsSettled, WritesNothing};
 ghost use Rattle.fault_count.specs.Count.{Rose};
-ghost use Rattle.mirror_disk.specs.Adopting.{AdoptFails, AdoptRefuses, AdoptsFrom};
-ghost use Rattle.mirror_disk.specs.declared.adopt.MirrorError.TheVariants.{Disk, NotMirror, SizesDiffer};
-ghost use Rattle.mirror_disk.specs.Header.{IsHeader, body, chosen, last_epoch};
-ghost use Rattle.mirror_disk.specs.Pairs.{ChosenOf, chosen_told, mirrored};
-ghost use Rattle.mirror_disk.specs.declared.used.Used.TheVariants.{Both};
-ghost use Rattle.mirror_disk.specs.Raised.{HasEpoch};
-ghost use Rattle.mirror_disk.specs.Standing.{IsPair, StandsBy};
+ghost use Rattle.mirror_disk.specs.{Adopting.{AdoptFails, AdoptRefuses, AdoptsFrom}, declared.adopt.MirrorError.TheVariants.{Disk, NotMirror, SizesDiffer}, Header.{IsHeader, body, chosen, last_epoch}, Pairs.{ChosenOf, chosen_told, mirrored}, declared.used.Used.TheVariants.Both, Raised.HasEpoch, Standing.{IsPair, StandsBy}};
 
 use crate::header::read_header;
 use crate::marks::Marks;

@@ -1,11 +1,8 @@
 // Binding a mirror to a name.
-ghost use Rattle.std.specs.Prelude.{◌≡◌, ◌⊎◌, ◌+◌, ◌-◌, ◌^◌, ◌<◌, ◌≤◌, [], ℕ, List, Some, None, true, false, length, replicate, IfOk, OnOk, OnErr, IfNone, IfSome, IsSome};
-ghost use Rattle.std.specs.Option.{ForSome};
+ghost use Rattle.std.specs.{Prelude.{◌≡◌, ◌⊎◌, ◌+◌, ◌-◌, ◌^◌, ◌<◌, ◌≤◌, [], ℕ, List, Some, None, true, false, length, replicate, IfOk, OnOk, OnErr, IfNone, IfSome, IsSome}, Option.ForSome};
 ghost use Rattle.iso_disk.specs.Disk.{IsSettled};
 ghost use Rattle.fault_count.specs.Count.{HasCause, Rose, one_more};
-ghost use Rattle.mirror_disk.specs.Adopting.{AdoptRefuses};
-ghost use Rattle.mirror_disk.specs.Pairs.{chosen_told, first_name, mirrored, names_mirror, second_name};
-ghost use Rattle.mirror_disk.specs.Standing.{IsPair, StandsBy, state_by};
+ghost use Rattle.mirror_disk.specs.{Adopting.AdoptRefuses, Pairs.{chosen_told, first_name, mirrored, names_mirror, second_name}, Standing.{IsPair, StandsBy, state_by}};
 
 use crate::adopt::adopt_sides;
 use crate::header::lay_header;

@@ -16,8 +16,7 @@ pub(crate) struct Marks {
 
 impl Marks {
     ghost use Rattle.std.specs.Prelude.{◌≡◌};
-    ghost use Rattle.mirror_disk.specs.declared.used.Used.TheVariants.{Both, Plain};
-    ghost use Rattle.mirror_disk.specs.declared.slot.Slot.TheVariants.{First};
+    ghost use Rattle.mirror_disk.specs.{declared.used.Used.TheVariants.{Both, Plain}, declared.slot.Slot.TheVariants.First};
 
     /// Of a mirror that is not bound.
     pub(crate) fn plain() -> Marks

@@ -24,9 +24,7 @@ pub struct Mirror<A: Image, B: Image> {
 }
 
 impl<A: Image, B: Image> Mirror<A, B> {
-    ghost use Rattle.mirror_disk.specs.declared.used.Used.TheVariants.{Plain};
-    ghost use Rattle.mirror_disk.specs.Header.{IsHeader};
-    ghost use Rattle.mirror_disk.specs.Standing.{FromA, FromB, IsPair, sides_in};
+    ghost use Rattle.mirror_disk.specs.{declared.used.Used.TheVariants.Plain, Header.IsHeader, Standing.{FromA, FromB, IsPair, sides_in}};
 
     /// A mirror that is not bound yet: until then it is its first side alone. It takes no memory.
     pub fn of(first: A, second: B) -> Mirror<A, B>

@@ -1,6 +1,5 @@
 // The names of a mirror and of its sides.
-ghost use Rattle.std.specs.Prelude.{◌≡◌, ◌+◌, ◌<◌, ◌≤◌, [], ◌∷◌, ◌++◌, ℕ, List, Some, None, length, take, replicate, OnOk, IfNone, IfSome, IsSome};
-ghost use Rattle.std.specs.Option.{ForSome};
+ghost use Rattle.std.specs.{Prelude.{◌≡◌, ◌+◌, ◌<◌, ◌≤◌, [], ◌∷◌, ◌++◌, ℕ, List, Some, None, length, take, replicate, OnOk, IfNone, IfSome, IsSome}, Option.ForSome};
 ghost use Rattle.iso_disk.specs.Disk.{IsSettled};
 ghost use Rattle.fault_count.specs.Count.{HasCause};
 ghost use Rattle.mirror_disk.specs.Pairs.{names_mirror};

@@ -1,11 +1,8 @@
 // The calls of a mirror, over its parts: which sides are asked, and what is known of them afterwards.
-ghost use Rattle.std.specs.Prelude.{◌≡◌, ◌⊎◌, ◌+◌, ◌≤◌, ℕ, length, true, false, OnOk, OnErr};
-ghost use Rattle.std.specs.List.{slice_range};
-ghost use Rattle.std.specs.Option.{ForSome};
+ghost use Rattle.std.specs.{Prelude.{◌≡◌, ◌⊎◌, ◌+◌, ◌≤◌, ℕ, length, true, false, OnOk, OnErr}, List.slice_range, Option.ForSome};
 ghost use Rattle.iso_disk.specs.Disk.{Elapses, IsSettled, Splices, TellsTorn, TornFrom};
 ghost use Rattle.fault_count.specs.Count.{HasCause};
-ghost use Rattle.mirror_disk.specs.Failing.{AllFailed, CannotLeave};
-ghost use Rattle.mirror_disk.specs.Standing.{StandsBy, state_by};
+ghost use Rattle.mirror_disk.specs.{Failing.{AllFailed, CannotLeave}, Standing.{StandsBy, state_by}};
 
 use crate::marks::Marks;
 use crate::past::Past;

@@ -3,9 +3,7 @@ ghost use Rattle.std.specs.Prelude.{◌≡◌, ◌<◌, ◌≤◌, ℕ, List, On
 ghost use Rattle.iso_disk.specs.Disk.{IsSettled, LeavesOnly};
 ghost use Rattle.commit_gate.specs.Gate.{IsClosed};
 ghost use Rattle.fault_count.specs.Count.{HasCause};
-ghost use Rattle.mirror_disk.specs.Slots.{other, place};
-ghost use Rattle.mirror_disk.specs.Header.{last_epoch, slot_body};
-ghost use Rattle.mirror_disk.specs.Raised.{HasEpoch, HoldsEpoch, IsMarked, KeepsBody, Raising, Still};
+ghost use Rattle.mirror_disk.specs.{Slots.{other, place}, Header.{last_epoch, slot_body}, Raised.{HasEpoch, HoldsEpoch, IsMarked, KeepsBody, Raising, Still}};
 
 use crate::slot::Slot;
 use commit_gate::{open_gate, put_body, shut_gate, stands_closed};

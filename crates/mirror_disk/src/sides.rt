@@ -1,19 +1,8 @@
 // Calls on the two sides of a mirror.
-ghost use Rattle.std.specs.Prelude.{◌≡◌, ◌≢◌, ◌⊎◌, ◌∷◌, ◌+◌, ◌≤◌, ℕ, List, length, true, false};
+ghost use Rattle.std.specs.{Prelude.{◌≡◌, ◌≢◌, ◌⊎◌, ◌∷◌, ◌+◌, ◌≤◌, ℕ, List, length, true, false}, List.slice_range, Option.{ForSome, option_map}};
 ghost use Rattle.iso_disk.specs.Disk.{IsSettled, LeavesOnly, Torn, spliced};
-ghost use Rattle.std.specs.List.{slice_range};
-ghost use Rattle.std.specs.Option.{ForSome, option_map};
 ghost use Rattle.fault_count.specs.Count.{Rose};
-ghost use Rattle.mirror_disk.specs.Ended.{BothAsked, HasEnded};
-ghost use Rattle.mirror_disk.specs.Raised.{HasEpoch, IsMarked, KeepsBody, Raising};
-ghost use Rattle.mirror_disk.specs.declared.slot.Slot.{Slot};
-ghost use Rattle.mirror_disk.specs.declared.used.Used.TheVariants.{Both, Broken};
-ghost use Rattle.mirror_disk.specs.Header.{last_epoch};
-ghost use Rattle.mirror_disk.specs.Becoming.{MirrorBecomes};
-ghost use Rattle.mirror_disk.specs.Failing.{AllFailed, CannotLeave, HasLeft};
-ghost use Rattle.mirror_disk.specs.Pairs.{chosen_told, mirrored};
-ghost use Rattle.mirror_disk.specs.Slots.{other};
-ghost use Rattle.mirror_disk.specs.Standing.{ArePair, AreBoth, IsPair, Stands};
+ghost use Rattle.mirror_disk.specs.{Ended.{BothAsked, HasEnded}, Raised.{HasEpoch, IsMarked, KeepsBody, Raising}, declared.slot.Slot.Slot, declared.used.Used.TheVariants.{Both, Broken}, Header.last_epoch, Becoming.MirrorBecomes, Failing.{AllFailed, CannotLeave, HasLeft}, Pairs.{chosen_told, mirrored}, Slots.other, Standing.{ArePair, AreBoth, IsPair, Stands}};
 
 use crate::raise::raise_epoch;
 use crate::slot::Slot;

@@ -2,10 +2,7 @@
 ghost use Rattle.std.specs.Prelude.{◌≡◌, ◌⊎◌, ◌+◌, ◌≤◌, ℕ, List, None, IfOk, IfSome, OnOk, OnErr};
 ghost use Rattle.iso_disk.specs.Disk.{IsSettled, LeavesOnly, WritesNothing};
 ghost use Rattle.fault_count.specs.Count.{HasCause, Rose};
-ghost use Rattle.mirror_disk.specs.Adopting.{AreAlike, OfChosen, OfOther, TellsOn};
-ghost use Rattle.mirror_disk.specs.Header.{last_epoch};
-ghost use Rattle.mirror_disk.specs.Raised.{HasEpoch, KeepsBody};
-ghost use Rattle.mirror_disk.specs.Slots.{other};
+ghost use Rattle.mirror_disk.specs.{Adopting.{AreAlike, OfChosen, OfOther, TellsOn}, Header.last_epoch, Raised.{HasEpoch, KeepsBody}, Slots.other};
 
 use crate::copy::copy_body;
 use crate::raise::raise_epoch;

@@ -1,9 +1,6 @@
 // Calls of the top call over a mirror of two disks in memory, and over any image.
-ghost use Rattle.std.specs.Prelude.{◌≡◌, ◌≢◌, false};
-ghost use Rattle.std.specs.Option.{ForSome};
-ghost use Rattle.command_line.specs.declared.task.Task.TheVariants.{Par};
-ghost use Rattle.command_line.specs.Grammar.{texts};
-ghost use Rattle.command_line.specs.Requests.{request_of};
+ghost use Rattle.std.specs.{Prelude.{◌≡◌, ◌≢◌, false}, Option.ForSome};
+ghost use Rattle.command_line.specs.{declared.task.Task.TheVariants.Par, Grammar.texts, Requests.request_of};
 
 use command_line::{Task, read_words};
 use iso_disk::Image;

@@ -1,8 +1,6 @@
 -- Versions whose bytes stand elsewhere.
-use Rattle.std.specs.Prelude.{ℕ, ◌⊎◌, ◌+◌, ◌-◌, ◌<◌, ◌≤◌, List, length, map, nat_lt, slice_index_or}
-use Rattle.std.specs.List.{filter}
-use Rattle.mv_index.specs.declared.version.Version.{Version}
-use Rattle.mv_index.specs.Versions.{no_version}
+use Rattle.std.specs.{Prelude.{ℕ, ◌⊎◌, ◌+◌, ◌-◌, ◌<◌, ◌≤◌, List, length, map, nat_lt, slice_index_or}, List.filter}
+use Rattle.mv_index.specs.{declared.version.Version.Version, Versions.no_version}
 
 -- the version, where what stood at the first place stands at the second
 abbrev pub moved : (from to : ℕ) → Version → Version

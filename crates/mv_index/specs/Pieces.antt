@@ -1,9 +1,6 @@
 -- The parts of a block's versions that show at the last number.
-use Rattle.std.specs.Prelude.{ℕ, ◌≡◌, ◌⊎◌, ◌+◌, ◌-◌, ◌^◌, ◌<◌, ◌≤◌, List, [], ◌∷◌, ◌++◌, Some, map, min, nat_lt}
-use Rattle.std.specs.List.{AllByRecursion, filter}
-use Rattle.mv_index.specs.declared.version.Version.{Version}
-use Rattle.mv_index.specs.Shown.{AllLie, newest_with, place_in}
-use Rattle.mv_index.specs.Versions.{Rise}
+use Rattle.std.specs.{Prelude.{ℕ, ◌≡◌, ◌⊎◌, ◌+◌, ◌-◌, ◌^◌, ◌<◌, ◌≤◌, List, [], ◌∷◌, ◌++◌, Some, map, min, nat_lt}, List.{AllByRecursion, filter}}
+use Rattle.mv_index.specs.{declared.version.Version.Version, Shown.{AllLie, newest_with, place_in}, Versions.Rise}
 
 -- each piece has bytes, the first one none before the byte at x, and each later one none before the end of the one before it
 abbrev pub Follow : ℕ → List Version → Type 0

@@ -1,11 +1,7 @@
 -- The versions that the records of a log make, each with the place of its bytes.
 use Rattle.std.specs.Prelude.{ℕ, ◌≡◌, ◌+◌, ◌==◌, ◌<◌, cond, List, [], ◌∷◌, ◌++◌, length}
-use Rattle.iso_model.specs.declared.access.Geometry.{Geometry}
-use Rattle.iso_model.specs.declared.access.Run.{Run}
-use Rattle.iso_model.specs.Effect.{record_length}
-use Rattle.iso_model.specs.Image.{Written}
-use Rattle.mv_index.specs.declared.version.Version.{Version}
-use Rattle.mv_index.specs.Versions.{BlockVersions, shown_since, versions_in}
+use Rattle.iso_model.specs.{declared.access.Geometry.Geometry, declared.access.Run.Run, Effect.record_length, Image.Written}
+use Rattle.mv_index.specs.{declared.version.Version.Version, Versions.{BlockVersions, shown_since, versions_in}}
 
 -- the version that a run makes, whose part begins at this place of the image
 abbrev pub version_of : (n at : ℕ) → Run → Version

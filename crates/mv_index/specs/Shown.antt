@@ -1,8 +1,7 @@
 -- What the versions of a block show of their bytes in an image.
 use Rattle.std.specs.Prelude.{ℕ, ◌≡◌, ◌+◌, ◌-◌, ◌<◌, ◌≤◌, cond, List, [], ◌∷◌, Option, Some, None, length, slice_index, slice_index_or}
 use Rattle.iso_model.specs.Effect.{or_else}
-use Rattle.mv_index.specs.declared.version.Version.{Version}
-use Rattle.mv_index.specs.Versions.{has, no_version}
+use Rattle.mv_index.specs.{declared.version.Version.Version, Versions.{has, no_version}}
 
 -- the byte of the image that the version has for the byte at p of its block
 abbrev pub byte_of : List ℕ → Version → ℕ → Option ℕ

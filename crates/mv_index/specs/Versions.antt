@@ -1,6 +1,5 @@
 -- The versions of blocks: those up to a number, those that still show a byte, and how many there are.
-use Rattle.std.specs.Prelude.{◌≡◌, ◌≢◌, ℕ, ◌+◌, ◌<◌, ◌≤◌, Bool, ◌&&◌, ◌||◌, not, cond, List, [], ◌∷◌, ◌++◌, length, nat_le, nat_lt, slice_index_or, sum_by}
-use Rattle.std.specs.List.{filter, list_any, range_with_len}
+use Rattle.std.specs.{Prelude.{◌≡◌, ◌≢◌, ℕ, ◌+◌, ◌<◌, ◌≤◌, Bool, ◌&&◌, ◌||◌, not, cond, List, [], ◌∷◌, ◌++◌, length, nat_le, nat_lt, slice_index_or, sum_by}, List.{filter, list_any, range_with_len}}
 use Rattle.mv_index.specs.declared.version.Version.{Version}
 
 -- the versions of one block, and for how many more there is room

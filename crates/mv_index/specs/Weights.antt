@@ -1,8 +1,6 @@
 -- How many bytes the parts of versions take in their records.
-use Rattle.std.specs.Prelude.{ℕ, ◌+◌, List, nat_lt, sum_by}
-use Rattle.std.specs.List.{filter}
-use Rattle.mv_index.specs.declared.version.Version.{Version}
-use Rattle.mv_index.specs.Versions.{BlockVersions}
+use Rattle.std.specs.{Prelude.{ℕ, ◌+◌, List, nat_lt, sum_by}, List.filter}
+use Rattle.mv_index.specs.{declared.version.Version.Version, Versions.BlockVersions}
 
 -- how many bytes the parts of those with a number above n take: each its bytes, and 8 before them
 abbrev pub part_bytes_above : ℕ → List Version → ℕ

@@ -1,10 +1,6 @@
 // The versions of all blocks.
 ghost use Rattle.std.specs.Prelude.{◌≡◌, ◌≢◌, ◌+◌, ◌-◌, ◌*◌, ◌^◌, ◌<◌, ◌≤◌, [], ℕ, IfOk, IsOk, OnOk, count_by, length, slice_index_or};
-ghost use Rattle.mv_index.specs.Moves.{AreSplit, moved_to};
-ghost use Rattle.mv_index.specs.Pieces.{Follow};
-ghost use Rattle.mv_index.specs.Shown.{AllLie, AllMeet, ShowTheSame, ShowTheSameIn};
-ghost use Rattle.mv_index.specs.Versions.{AreAtMost, IsAdded, Rise, block_of, count_of, has, no_version, room_of, shown_since, upto, versions_in};
-ghost use Rattle.mv_index.specs.Weights.{bytes_above};
+ghost use Rattle.mv_index.specs.{Moves.{AreSplit, moved_to}, Pieces.Follow, Shown.{AllLie, AllMeet, ShowTheSame, ShowTheSameIn}, Versions.{AreAtMost, IsAdded, Rise, block_of, count_of, has, no_version, room_of, shown_since, upto, versions_in}, Weights.bytes_above};
 
 use crate::pieces::meeting;
 use crate::row::Row;

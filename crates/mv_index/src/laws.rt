@@ -1,15 +1,7 @@
 // The laws of the definitions: each function does nothing, and its contract is the law.
-ghost use Rattle.std.specs.Prelude.{◌≡◌, ◌≢◌, ◌↔◌, ℕ, ◌<◌, ◌≤◌, ◌+◌, ◌++◌, true, List, map};
-ghost use Rattle.std.specs.List.{AllByRecursion};
-ghost use Rattle.iso_model.specs.declared.access.Commit.{Commit};
-ghost use Rattle.iso_model.specs.declared.access.Geometry.{Geometry};
-ghost use Rattle.iso_model.specs.Effect.{or_else};
-ghost use Rattle.iso_model.specs.Image.{written};
-ghost use Rattle.iso_model.specs.Versions.{kept_from};
-ghost use Rattle.mv_index.specs.declared.version.Version.{Version};
-ghost use Rattle.mv_index.specs.Shown.{byte_in, ShowTheSame};
-ghost use Rattle.mv_index.specs.Placed.{IsIndexOf};
-ghost use Rattle.mv_index.specs.Versions.{BlockVersions, count_of, IsHidden, shown_since, still_shows, upto};
+ghost use Rattle.std.specs.{Prelude.{◌≡◌, ◌≢◌, ◌↔◌, ℕ, ◌<◌, ◌≤◌, ◌+◌, ◌++◌, true, List, map}, List.AllByRecursion};
+ghost use Rattle.iso_model.specs.{declared.access.Commit.Commit, declared.access.Geometry.Geometry, Effect.or_else, Image.written, Versions.kept_from};
+ghost use Rattle.mv_index.specs.{declared.version.Version.Version, Shown.{byte_in, ShowTheSame}, Placed.IsIndexOf, Versions.{BlockVersions, count_of, IsHidden, shown_since, still_shows, upto}};
 
 /// A version is dropped at a number exactly where it is not above it, and each of its bytes is in a later one up to the number.
 pub fn hidden_versions_are_dropped()

@@ -1,8 +1,6 @@
 // Words with a bit for each byte of a block.
-ghost use Rattle.std.specs.Prelude.{◌≡◌, ◌+◌, ◌*◌, ◌<◌, ◌≤◌, ◌||◌, ℕ, length, not};
-ghost use Rattle.std.specs.List.{list_any, range_with_len};
-ghost use Rattle.mv_index.specs.Masks.{is_seen};
-ghost use Rattle.mv_index.specs.Versions.{in_bytes};
+ghost use Rattle.std.specs.{Prelude.{◌≡◌, ◌+◌, ◌*◌, ◌<◌, ◌≤◌, ◌||◌, ℕ, length, not}, List.{list_any, range_with_len}};
+ghost use Rattle.mv_index.specs.{Masks.is_seen, Versions.in_bytes};
 
 use merge_write::{next_place, set_bits};
 

@@ -1,7 +1,6 @@
 // Versions whose bytes stand elsewhere.
 ghost use Rattle.std.specs.Prelude.{◌≡◌, ◌+◌, ◌-◌, ◌^◌, ◌<◌, ◌≤◌, ℕ, length, slice_index_or, take, vec_capacity, vec_len};
-ghost use Rattle.mv_index.specs.Moves.{moved_to};
-ghost use Rattle.mv_index.specs.Versions.{no_version};
+ghost use Rattle.mv_index.specs.{Moves.moved_to, Versions.no_version};
 
 use crate::Version;
 

@@ -1,10 +1,6 @@
 // The parts of a block's versions that show at the last number, in order.
-ghost use Rattle.std.specs.Prelude.{◌≡◌, ◌+◌, ◌-◌, ◌^◌, ◌<◌, ◌≤◌, ◌++◌, [], ◌∷◌, ℕ, List, length, drop, slice_index_or, take, true, vec_capacity, vec_len};
-ghost use Rattle.std.specs.List.{insert};
-ghost use Rattle.mv_index.specs.declared.version.Version.{Version};
-ghost use Rattle.mv_index.specs.Pieces.{ArePieces, ArePlaced, Follow, back_of, backs, begun, ended, front_of, fronts};
-ghost use Rattle.mv_index.specs.Shown.{AllLie, AllMeet, ShowTheSameIn};
-ghost use Rattle.mv_index.specs.Versions.{no_version};
+ghost use Rattle.std.specs.{Prelude.{◌≡◌, ◌+◌, ◌-◌, ◌^◌, ◌<◌, ◌≤◌, ◌++◌, [], ◌∷◌, ℕ, List, length, drop, slice_index_or, take, true, vec_capacity, vec_len}, List.insert};
+ghost use Rattle.mv_index.specs.{declared.version.Version.Version, Pieces.{ArePieces, ArePlaced, Follow, back_of, backs, begun, ended, front_of, fronts}, Shown.{AllLie, AllMeet, ShowTheSameIn}, Versions.no_version};
 
 use crate::Version;
 

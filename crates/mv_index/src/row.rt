@@ -1,10 +1,6 @@
 // The versions of one block.
 ghost use Rattle.std.specs.Prelude.{◌≡◌, ◌+◌, ◌-◌, ◌*◌, ◌^◌, ◌<◌, ◌≤◌, ◌++◌, [], ◌∷◌, ℕ, IsOk, OnOk, count_by, length, slice_index_or};
-ghost use Rattle.mv_index.specs.Moves.{AreSplit, moved_to};
-ghost use Rattle.mv_index.specs.Pieces.{Follow};
-ghost use Rattle.mv_index.specs.Shown.{AllLie, ShowTheSame};
-ghost use Rattle.mv_index.specs.Versions.{AreAtMost, Rise, has, no_version, shown_since, upto};
-ghost use Rattle.mv_index.specs.Weights.{part_bytes_above};
+ghost use Rattle.mv_index.specs.{Moves.{AreSplit, moved_to}, Pieces.Follow, Shown.{AllLie, ShowTheSame}, Versions.{AreAtMost, Rise, has, no_version, shown_since, upto}, Weights.part_bytes_above};
 
 use crate::moving::move_list;
 use crate::pieces::lay;
@@ -26,8 +22,7 @@ pub struct Row {
 
 impl Model for Row {
     ghost use Rattle.std.specs.Prelude.{◌-◌, ◌/◌, min, vec_len, vec_capacity};
-    ghost use Rattle.mv_index.specs.Pieces.{IsRow};
-    ghost use Rattle.mv_index.specs.Versions.{BlockVersions};
+    ghost use Rattle.mv_index.specs.{Pieces.IsRow, Versions.BlockVersions};
 
     ghost Value = { BlockVersions };
 

@@ -1,8 +1,6 @@
 // The versions that still show a byte.
-ghost use Rattle.std.specs.Prelude.{◌≡◌, ◌+◌, ◌-◌, ◌*◌, ◌<◌, ◌≤◌, ◌&&◌, ◌||◌, ℕ, false, not, length, drop, take, nat_le, nat_lt, vec_capacity, vec_len};
-ghost use Rattle.std.specs.List.{list_any, range_with_len};
-ghost use Rattle.mv_index.specs.Versions.{has, shown_since, AreWithin};
-ghost use Rattle.mv_index.specs.Masks.{is_seen};
+ghost use Rattle.std.specs.{Prelude.{◌≡◌, ◌+◌, ◌-◌, ◌*◌, ◌<◌, ◌≤◌, ◌&&◌, ◌||◌, ℕ, false, not, length, drop, take, nat_le, nat_lt, vec_capacity, vec_len}, List.{list_any, range_with_len}};
+ghost use Rattle.mv_index.specs.{Versions.{has, shown_since, AreWithin}, Masks.is_seen};
 
 use crate::Version;
 use crate::mask::see;

@@ -1,23 +1,15 @@
 -- The store theorem of clients beside each other by what their lines tell, as one word.
 use Rattle.std.specs.Prelude.{◌≡◌, ℕ, ◌-◌, true, IsTrue, List, [], ◌∷◌, ◌++◌}
-use Rattle.iso_model.specs.declared.access.EndReply.TheVariants.{Committed, ReadOnly}
-use Rattle.iso_model.specs.declared.access.Geometry.{Geometry}
-use Rattle.iso_model.specs.declared.access.GroupReply.{GroupReply}
+use Rattle.iso_model.specs.{declared.access.EndReply.TheVariants.{Committed, ReadOnly}, declared.access.Geometry.Geometry, declared.access.GroupReply.GroupReply, History.{History, array_at, last}}
 use Rattle.iso_model.specs.declared.access.GroupReply.TheVariants as member
-use Rattle.iso_model.specs.History.{History, array_at, last}
 use Rattle.script_model.specs.declared.script.Line.{Line}
-use Rattle.iso_shared.specs.declared.entry.Entry.{Entry}
+use Rattle.iso_shared.specs.{declared.entry.Entry.Entry, declared.entry.MemberEnd.MemberEnd, States.Start}
 use Rattle.iso_shared.specs.declared.entry.Entry.TheVariants as entry
-use Rattle.iso_shared.specs.declared.entry.MemberEnd.{MemberEnd}
-use Rattle.iso_shared.specs.States.{Start}
 use Rattle.par_text.specs.declared.part.Part.{Part}
 use Rattle.store_entries.specs.InOrder.{begin_array, world_at}
 use Rattle.store_laws.specs.Both.{BothWellFormed}
-use Rattle.store_scripts.specs.Kept.{ToldByMap, ToldInOrder}
-use Rattle.store_scripts.specs.Stores.{SecondStore, image_hash, second_store, the_files, the_tree}
-use Rattle.store_scripts.specs.Told.{Told}
-use Rattle.par_calls.specs.Notes.{Notes, no_notes, notes_after}
-use Rattle.par_calls.specs.Trace.{Event, IsTrace, Made, entries_in}
+use Rattle.store_scripts.specs.{Kept.{ToldByMap, ToldInOrder}, Stores.{SecondStore, image_hash, second_store, the_files, the_tree}, Told.Told}
+use Rattle.par_calls.specs.{Notes.{Notes, no_notes, notes_after}, Trace.{Event, IsTrace, Made, entries_in}}
 
 -- where a member is told that it is a commit, with its number
 abbrev pub WhereCommitted : (ℕ → Type 0) → GroupReply → Type 0

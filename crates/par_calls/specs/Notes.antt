@@ -1,13 +1,10 @@
 -- What the lines of clients and their replies tell of the calls of each transaction, as a look hands it on.
-use Rattle.std.specs.Prelude.{ℕ, ◌==◌, cond, List, [], ◌∷◌, ◌++◌, Option, Some, None, bytes_eq}
-use Rattle.std.specs.Map.{lookup, remove_entry}
-use Rattle.iso_model.specs.declared.access.Access.{Access}
-use Rattle.iso_model.specs.declared.access.Geometry.{Geometry}
+use Rattle.std.specs.{Prelude.{ℕ, ◌==◌, cond, List, [], ◌∷◌, ◌++◌, Option, Some, None, bytes_eq}, Map.{lookup, remove_entry}}
+use Rattle.iso_model.specs.{declared.access.Access.Access, declared.access.Geometry.Geometry}
 use Rattle.iso_shared.specs.declared.entry.Entry.{Entry}
 use Rattle.iso_shared.specs.declared.entry.Entry.TheVariants as entry
 use Rattle.par_script.specs.Lines.{Own}
-use Rattle.store_scripts.specs.Stores.{SecondStore}
-use Rattle.store_scripts.specs.Told.{Told, nothing_told, told_more}
+use Rattle.store_scripts.specs.{Stores.SecondStore, Told.{Told, nothing_told, told_more}}
 use Rattle.par_calls.specs.Trace.{Event, Made, Done, Step}
 
 -- What is told of the transaction of each client, of those under labels, the one first that was posted first, and of those that

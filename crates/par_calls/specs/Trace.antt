@@ -1,15 +1,11 @@
 -- One order of the lines of all clients and of their entries.
-use Rattle.std.specs.Prelude.{◌≡◌, ℕ, ◌==◌, Bool, cond, List, [], ◌∷◌, ◌++◌, Option, Some, None, Ok, true}
-use Rattle.std.specs.List.{AllByRecursion, list_any}
+use Rattle.std.specs.{Prelude.{◌≡◌, ℕ, ◌==◌, Bool, cond, List, [], ◌∷◌, ◌++◌, Option, Some, None, Ok, true}, List.{AllByRecursion, list_any}}
 use Rattle.iso_model.specs.declared.access.Geometry.{Geometry}
-use Rattle.script_model.specs.declared.script.Line.{Line}
-use Rattle.script_model.specs.declared.script.Reply.{Reply}
-use Rattle.iso_shared.specs.declared.entry.Entry.{Entry}
+use Rattle.script_model.specs.{declared.script.Line.Line, declared.script.Reply.Reply}
+use Rattle.iso_shared.specs.{declared.entry.Entry.Entry, States.{Start, members_of}}
 use Rattle.iso_shared.specs.declared.entry.Entry.TheVariants as entry
-use Rattle.iso_shared.specs.States.{Start, members_of}
 use Rattle.par_text.specs.declared.part.Part.{Part}
-use Rattle.par_script.specs.Lines.{Did, Own, members_for}
-use Rattle.par_script.specs.Told.{FoundSome, lines_run}
+use Rattle.par_script.specs.{Lines.{Did, Own, members_for}, Told.{FoundSome, lines_run}}
 
 -- a line that was answered, with the transaction of its client before it and after it
 pub record Step : Type 0 where

@@ -1,11 +1,8 @@
 // The law of what clients' lines tell: the function does nothing, and its contract is the law.
 ghost use Rattle.std.specs.Prelude.{◌≡◌, ℕ, [], List};
 ghost use Rattle.iso_model.specs.Worlds.{IsWorld};
-ghost use Rattle.script_model.specs.declared.script.Line.{Line};
-ghost use Rattle.script_model.specs.Operations.{AreLines};
-ghost use Rattle.iso_shared.specs.declared.entry.Entry.{Entry};
-ghost use Rattle.iso_shared.specs.Ports.{IsIsolatedAt};
-ghost use Rattle.iso_shared.specs.States.{Start};
+ghost use Rattle.script_model.specs.{declared.script.Line.Line, Operations.AreLines};
+ghost use Rattle.iso_shared.specs.{declared.entry.Entry.Entry, Ports.IsIsolatedAt, States.Start};
 ghost use Rattle.par_text.specs.declared.part.Part.{Part};
 ghost use Rattle.par_script.specs.Told.{Told};
 ghost use Rattle.par_calls.specs.InOrder.{LinesTellCalls};

@@ -1,13 +1,8 @@
 -- What a client's line makes of its session.
 use Rattle.std.specs.Prelude.{◌≡◌, List, Result}
-use Rattle.script_model.specs.declared.script.Op.{Op}
-use Rattle.script_model.specs.declared.script.Reply.{Reply}
-use Rattle.iso_shared.specs.declared.entry.Entry.{Entry}
-use Rattle.iso_shared.specs.States.{Start}
-use Rattle.script_model.specs.declared.stop.Stop.{Stop}
-use Rattle.handle_pass.specs.declared.session.Session.{Session}
-use Rattle.handle_pass.specs.Logs.{Moves}
-use Rattle.handle_pass.specs.Sessions.{device, own}
+use Rattle.script_model.specs.{declared.script.Op.Op, declared.script.Reply.Reply, declared.stop.Stop.Stop}
+use Rattle.iso_shared.specs.{declared.entry.Entry.Entry, States.Start}
+use Rattle.handle_pass.specs.{declared.session.Session.Session, Logs.Moves, Sessions.{device, own}}
 use Rattle.par_script.specs.Lines.{Did}
 
 -- A line was answered, or stopped its client: its entries came to those that the session made, and no others.

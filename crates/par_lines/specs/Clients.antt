@@ -1,16 +1,12 @@
 -- What contracts see of a client, and what a line makes of it.
 use Rattle.std.specs.Prelude.{◌≡◌, ℕ, ◌<◌, ◌≤◌, List, [], ◌∷◌, ◌++◌, Option, Some, Result, Ok, Err, IsTrue}
-use Rattle.script_model.specs.declared.script.Line.{Line}
-use Rattle.script_model.specs.declared.script.Reply.{Reply}
+use Rattle.script_model.specs.{declared.script.Line.Line, declared.script.Reply.Reply, declared.stop.Stop.Stop}
 use Rattle.iso_model.specs.Geometry.{is_valid}
 use Rattle.iso_shared.specs.States.{Start}
-use Rattle.script_model.specs.declared.stop.Stop.{Stop}
-use Rattle.par_runner.specs.declared.job.Flow.{Flow}
-use Rattle.par_runner.specs.declared.job.Flow.TheVariants.{Go, Halt}
+use Rattle.par_runner.specs.{declared.job.Flow.Flow, declared.job.Flow.TheVariants.{Go, Halt}}
 use Rattle.handle_pass.specs.Sessions.{IsSession}
 use Rattle.handle_pass.specs.Sessions as handle
-use Rattle.par_lines.specs.declared.client.ParClient.{ParClient}
-use Rattle.par_lines.specs.Answers.{Answered}
+use Rattle.par_lines.specs.{declared.client.ParClient.ParClient, Answers.Answered}
 
 -- A line that was answered has its reply behind the others; one that was not leaves them, and says why the client stops.
 abbrev pub Tells : Flow → (number : ℕ) → Result Reply Stop → (told : List (ℕ × Reply)) → (was : Option Stop) → (told' : List (ℕ × Reply)) → (now : Option Stop) → Type 0

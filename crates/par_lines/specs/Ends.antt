@@ -1,13 +1,9 @@
 -- How a run of clients beside each other ends.
-use Rattle.std.specs.Prelude.{◌≡◌, ◌⊎◌, ℕ, List, [], Option, Some, None, Bool, true, false, cond}
-use Rattle.std.specs.List.{list_any}
-use Rattle.script_model.specs.declared.script.Line.{Line}
-use Rattle.iso_shared.specs.declared.entry.Entry.{Entry}
-use Rattle.iso_shared.specs.States.{Start}
-use Rattle.script_model.specs.declared.stop.Stop.{Stop}
+use Rattle.std.specs.{Prelude.{◌≡◌, ◌⊎◌, ℕ, List, [], Option, Some, None, Bool, true, false, cond}, List.list_any}
+use Rattle.script_model.specs.{declared.script.Line.Line, declared.stop.Stop.Stop}
+use Rattle.iso_shared.specs.{declared.entry.Entry.Entry, States.Start}
 use Rattle.script_model.specs.declared.stop.Stop.TheVariants as stop
-use Rattle.par_text.specs.declared.part.Part.{Part}
-use Rattle.par_text.specs.Output.{IsFront, IsOutput}
+use Rattle.par_text.specs.{declared.part.Part.Part, Output.{IsFront, IsOutput}}
 use Rattle.par_script.specs.Told.{Told}
 use Rattle.par_lines.specs.declared.par.ParEnd.{ParEnd}
 

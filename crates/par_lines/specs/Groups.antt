@@ -1,14 +1,9 @@
 -- What the looks of a group line make through a port.
-use Rattle.std.specs.Prelude.{◌≡◌, ℕ, List, [], ◌∷◌, Option, length, map}
-use Rattle.std.specs.List.{AllByRecursion}
+use Rattle.std.specs.{Prelude.{◌≡◌, ℕ, List, [], ◌∷◌, Option, length, map}, List.AllByRecursion}
 use Rattle.turn_lock.specs.declared.view.View.{View}
-use Rattle.iso_shared.specs.declared.entry.Entry.{Entry}
+use Rattle.iso_shared.specs.{declared.entry.Entry.Entry, declared.tx.Tx.Tx, Ports.tx_view}
 use Rattle.iso_shared.specs.declared.entry.Entry.TheVariants as entry
-use Rattle.iso_shared.specs.declared.tx.Tx.{Tx}
-use Rattle.iso_shared.specs.Ports.{tx_view}
-use Rattle.handle_pass.specs.declared.session.Session.{Session}
-use Rattle.handle_pass.specs.Logs.{MovesThrough}
-use Rattle.handle_pass.specs.Sessions.{own_of}
+use Rattle.handle_pass.specs.{declared.session.Session.Session, Logs.MovesThrough, Sessions.own_of}
 use Rattle.par_script.specs.Lines.{Own}
 
 -- a look for each label, in order, with what it found

@@ -1,21 +1,14 @@
 -- What the clients of a run were told, as their threads have returned.
-use Rattle.std.specs.Prelude.{◌≡◌, ◌⊎◌, ℕ, ◌+◌, List, [], ◌∷◌, ◌++◌, None, length}
-use Rattle.std.specs.List.{AllByRecursion}
+use Rattle.std.specs.{Prelude.{◌≡◌, ◌⊎◌, ℕ, ◌+◌, List, [], ◌∷◌, ◌++◌, None, length}, List.AllByRecursion}
 use Rattle.script_model.specs.declared.script.Line.{Line}
-use Rattle.iso_shared.specs.declared.entry.Entry.{Entry}
-use Rattle.iso_shared.specs.declared.shared.Shared.{Shared}
-use Rattle.iso_shared.specs.States.{Start}
-use Rattle.turn_lock.specs.declared.view.View.{View}
-use Rattle.turn_lock.specs.Lists.{places}
+use Rattle.iso_shared.specs.{declared.entry.Entry.Entry, declared.shared.Shared.Shared, States.Start}
+use Rattle.turn_lock.specs.{declared.view.View.View, Lists.places}
 use Rattle.par_runner.specs.declared.job.Job.{Job}
 use Rattle.par_text.specs.declared.part.Part.{Part}
-use Rattle.handle_pass.specs.Logs.{Log}
+use Rattle.handle_pass.specs.{Logs.Log, Sessions.{count, device, own, seen}}
 use Rattle.handle_pass.specs.Sessions as handle
-use Rattle.handle_pass.specs.Sessions.{count, device, own, seen}
-use Rattle.par_script.specs.Lines.{ClientLines, Ran}
-use Rattle.par_script.specs.Told.{FoundSome, lines_of, lines_run}
-use Rattle.par_lines.specs.declared.client.ParClient.{ParClient}
-use Rattle.par_lines.specs.Clients.{IsClient}
+use Rattle.par_script.specs.{Lines.{ClientLines, Ran}, Told.{FoundSome, lines_of, lines_run}}
+use Rattle.par_lines.specs.{declared.client.ParClient.ParClient, Clients.IsClient}
 
 module _ {D O : Type 0} where
   -- a job of a client that was told nothing yet

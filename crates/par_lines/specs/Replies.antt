@@ -1,28 +1,18 @@
 -- What the answers of a session's calls are for a client.
 use Rattle.std.specs.Prelude.{ℕ, List, Option, Some, None, Result, Ok, Err, if◌then◌else◌, nat_le}
-use Rattle.handle_pass.specs.declared.errors.BeginError.{BeginError}
+use Rattle.handle_pass.specs.{declared.errors.BeginError.BeginError, declared.errors.EndError.EndError, declared.errors.PostTxError.PostTxError}
 use Rattle.handle_pass.specs.declared.errors.BeginError.TheVariants as begin
-use Rattle.handle_pass.specs.declared.errors.EndError.{EndError}
 use Rattle.handle_pass.specs.declared.errors.EndError.TheVariants as end
-use Rattle.handle_pass.specs.declared.errors.PostTxError.{PostTxError}
 use Rattle.handle_pass.specs.declared.errors.PostTxError.TheVariants as post
 use Rattle.iso_core.specs.declared.answers.Stat.{Stat}
-use Rattle.iso_model.specs.declared.access.EndReply.{EndReply}
-use Rattle.iso_model.specs.declared.access.GroupReply.{GroupReply}
-use Rattle.iso_model.specs.declared.core_error.CoreError.{CoreError}
+use Rattle.iso_model.specs.{declared.access.EndReply.EndReply, declared.access.GroupReply.GroupReply, declared.core_error.CoreError.CoreError, declared.memory.InTx.InTx, declared.memory.NotInTx.NotInTx}
 use Rattle.iso_model.specs.declared.core_error.CoreError.TheVariants as error
-use Rattle.iso_model.specs.declared.memory.InTx.{InTx}
-use Rattle.iso_model.specs.declared.memory.NotInTx.{NotInTx}
 use Rattle.store_model.specs.declared.stores.TxError.{TxError}
 use Rattle.store_model.specs.declared.stores.TxError.TheVariants as tx
-use Rattle.script_model.specs.CoreReplies.{as_reply}
-use Rattle.script_model.specs.declared.script.Reply.{Reply}
+use Rattle.script_model.specs.{CoreReplies.as_reply, declared.script.Reply.Reply, declared.stop.Stop.Stop}
 use Rattle.script_model.specs.declared.script.Reply.TheVariants as reply
-use Rattle.iso_shared.specs.declared.entry.Posting.{Posting}
-use Rattle.iso_shared.specs.Legal.{reply_of}
-use Rattle.iso_shared.specs.Told.{numbers_of}
+use Rattle.iso_shared.specs.{declared.entry.Posting.Posting, Legal.reply_of, Told.numbers_of}
 use Rattle.par_script.specs.Lines.{stat_reply}
-use Rattle.script_model.specs.declared.stop.Stop.{Stop}
 use Rattle.script_model.specs.declared.stop.Stop.TheVariants as stop
 
 abbrev pub refused : CoreError → Result Reply Stop

@@ -1,9 +1,7 @@
 -- How a line that calls a store ends.
 use Rattle.std.specs.Prelude.{ℕ, Bool, cond, nat_lt, Result, Err}
-use Rattle.script_model.specs.declared.script.Op.{Op}
+use Rattle.script_model.specs.{declared.script.Op.Op, declared.script.Reply.Reply, declared.stop.Stop.Stop}
 use Rattle.script_model.specs.declared.script.Op.TheVariants as op
-use Rattle.script_model.specs.declared.script.Reply.{Reply}
-use Rattle.script_model.specs.declared.stop.Stop.{Stop}
 use Rattle.script_model.specs.declared.stop.Stop.TheVariants as stop
 
 -- as the call does, unless the disk failed in it, or the device was down

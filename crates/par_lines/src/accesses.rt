@@ -2,8 +2,7 @@
 ghost use Rattle.std.specs.Prelude.{◌≡◌, ◌+◌, ◌-◌, ◌≤◌, ◌++◌, OnOk, length, replicate};
 ghost use Rattle.script_model.specs.declared.script.Op.TheVariants.{Fill, Mark, Put, Write};
 ghost use Rattle.iso_model.specs.Marks.{is_outside};
-ghost use Rattle.handle_pass.specs.Accesses.{mark_answer, HasMarked};
-ghost use Rattle.handle_pass.specs.Sessions.{own, IsSession};
+ghost use Rattle.handle_pass.specs.{Accesses.{mark_answer, HasMarked}, Sessions.{own, IsSession}};
 ghost use Rattle.tx_blocks.specs.Tx.{IsRefused};
 ghost use Rattle.par_lines.specs.Answers.{Answered};
 ghost use Rattle.par_lines.specs.Replies as spec;

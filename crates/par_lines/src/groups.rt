@@ -4,8 +4,7 @@ ghost use Rattle.script_model.specs.declared.script.Op.TheVariants.{Group};
 ghost use Rattle.iso_shared.specs.Ports.{IsPort, port_view};
 ghost use Rattle.handle_pass.specs.Sessions.{device, units, IsSession};
 ghost use Rattle.group_commit.specs.Groups.{found_in, units_all, AreMembers};
-ghost use Rattle.par_lines.specs.Answers.{Answered};
-ghost use Rattle.par_lines.specs.Groups.{AreNew, HaveLooked};
+ghost use Rattle.par_lines.specs.{Answers.Answered, Groups.{AreNew, HaveLooked}};
 
 use crate::replies::grouped;
 use group_commit::commit_group;

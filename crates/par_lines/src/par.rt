@@ -1,12 +1,10 @@
 // The lines of several clients, beside each other.
-ghost use Rattle.std.specs.Prelude.{◌≡◌, ◌+◌, ◌<◌, ◌≤◌, [], All, IsTrue, length, map, reverse, sum_by, vec_capacity};
-ghost use Rattle.std.specs.List.{list_any};
+ghost use Rattle.std.specs.{Prelude.{◌≡◌, ◌+◌, ◌<◌, ◌≤◌, [], All, IsTrue, length, map, reverse, sum_by, vec_capacity}, List.list_any};
 ghost use Rattle.iso_model.specs.Geometry.{is_valid};
 ghost use Rattle.turn_lock.specs.Views.{fresh};
 ghost use Rattle.iso_shared.specs.Ports.{IsPort, first_geometry, port_view};
 ghost use Rattle.par_script.specs.Told.{clients_in, lines_of};
-ghost use Rattle.par_lines.specs.Ends.{status_of, stopped, wants, Ends, HasEnded};
-ghost use Rattle.par_lines.specs.Jobs.{units_in, IsNew};
+ghost use Rattle.par_lines.specs.{Ends.{status_of, stopped, wants, Ends, HasEnded}, Jobs.{units_in, IsNew}};
 
 use crate::client::ParClient;
 use crate::deal::deal;

@@ -1,8 +1,7 @@
 // The lines that read.
 ghost use Rattle.std.specs.Prelude.{◌≡◌, ◌+◌, ◌≤◌, IfOk, OnOk, drop, length, take, vec_len};
 ghost use Rattle.script_model.specs.declared.script.Op.TheVariants.{Get, Read};
-ghost use Rattle.handle_pass.specs.Accesses.{access_answer, HasRead, IsReadCause};
-ghost use Rattle.handle_pass.specs.Sessions.{IsSession};
+ghost use Rattle.handle_pass.specs.{Accesses.{access_answer, HasRead, IsReadCause}, Sessions.IsSession};
 ghost use Rattle.tx_blocks.specs.Tx.{IsRefused};
 ghost use Rattle.par_lines.specs.Answers.{Answered};
 ghost use Rattle.par_lines.specs.Replies as spec;

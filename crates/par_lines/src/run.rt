@@ -1,11 +1,7 @@
 // Jobs of clients: they are run in threads, and what their clients were told is gathered.
-ghost use Rattle.std.specs.Prelude.{◌≡◌, ◌+◌, ◌≤◌, ◌++◌, ◌∷◌, [], ℕ, List, None, All, length, map, reverse, sum_by};
-ghost use Rattle.std.specs.List.{AllByRecursion};
+ghost use Rattle.std.specs.{Prelude.{◌≡◌, ◌+◌, ◌≤◌, ◌++◌, ◌∷◌, [], ℕ, List, None, All, length, map, reverse, sum_by}, List.AllByRecursion};
 ghost use Rattle.turn_lock.specs.Lists.{places, times};
-ghost use Rattle.iso_shared.specs.declared.entry.Entry.{Entry};
-ghost use Rattle.iso_shared.specs.declared.entry.Entry.TheVariants.{Sweep};
-ghost use Rattle.iso_shared.specs.Legal.{IsLegal};
-ghost use Rattle.iso_shared.specs.Ports.{IsPort, port_view};
+ghost use Rattle.iso_shared.specs.{declared.entry.Entry.Entry, declared.entry.Entry.TheVariants.Sweep, Legal.IsLegal, Ports.{IsPort, port_view}};
 ghost use Rattle.par_script.specs.Told.{clients_in, FoundSome, Told};
 ghost use Rattle.par_lines.specs.Jobs.{units_in, AllTold, Finished, IsNew};
 

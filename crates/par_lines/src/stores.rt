@@ -1,11 +1,9 @@
 // The lines that call a store.
 ghost use Rattle.std.specs.Prelude.{◌≡◌, ◌<◌, IsTrue, Some, false, option_map};
-ghost use Rattle.iso_model.specs.declared.access.Mode.TheVariants.{Serial as IsSerial};
-ghost use Rattle.iso_model.specs.Geometry.{is_valid};
+ghost use Rattle.iso_model.specs.{declared.access.Mode.TheVariants.{Serial as IsSerial}, Geometry.is_valid};
 ghost use Rattle.handle_pass.specs.Sessions.{own, IsSession};
 ghost use Rattle.store_calls.specs.Calls.{is_empty_scan, placed, store_areas};
-ghost use Rattle.par_lines.specs.Answers.{Answered};
-ghost use Rattle.par_lines.specs.Stores.{IsOnStore, settled};
+ghost use Rattle.par_lines.specs.{Answers.Answered, Stores.{IsOnStore, settled}};
 
 use handle_pass::{Left, Session, Visit};
 use iso_disk::Disk;

@@ -1,9 +1,7 @@
 -- What a job's steps made of its client.
 use Rattle.std.specs.Prelude.{◌≡◌, ◌⊎◌, ℕ, ◌+◌, List, [], ◌∷◌, Some, length, take, slice_get}
 use Rattle.script_model.specs.declared.script.Line.{Line}
-use Rattle.par_runner.specs.declared.job.Flow.{Flow}
-use Rattle.par_runner.specs.declared.job.Flow.TheVariants.{Go, Halt}
-use Rattle.par_runner.specs.declared.job.Job.{Job}
+use Rattle.par_runner.specs.{declared.job.Flow.Flow, declared.job.Flow.TheVariants.{Go, Halt}, declared.job.Job.Job}
 
 module _ {C : Type 0} (steps : C → ℕ → Line → Flow → C → Type 0) where
   -- each of these lines was a step, in this order, and went on

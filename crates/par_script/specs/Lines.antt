@@ -1,35 +1,13 @@
 -- What the lines of one client make of its own transaction, with the answers of their entries.
-use Rattle.std.specs.Prelude.{◌≡◌, ◌⊎◌, ℕ, ◌-◌, ◌<◌, ◌==◌, ◌&&◌, Bool, true, false, cond, not, List, [], ◌∷◌, ◌++◌, Option, Some, None, Result, Ok, Err, IfOk, length, map, option_map, replicate, unwrap_or}
-use Rattle.std.specs.List.{AllByRecursion}
-use Rattle.iso_model.specs.declared.access.Access.{Access}
-use Rattle.iso_model.specs.declared.access.Geometry.{Geometry}
-use Rattle.iso_model.specs.declared.access.GroupReply.{GroupReply}
-use Rattle.iso_model.specs.declared.access.Mode.{Mode}
-use Rattle.script_model.specs.CoreReplies.{as_reply}
-use Rattle.script_model.specs.declared.script.Line.{Line}
-use Rattle.script_model.specs.declared.script.Op.{Op}
+use Rattle.std.specs.{Prelude.{◌≡◌, ◌⊎◌, ℕ, ◌-◌, ◌<◌, ◌==◌, ◌&&◌, Bool, true, false, cond, not, List, [], ◌∷◌, ◌++◌, Option, Some, None, Result, Ok, Err, IfOk, length, map, option_map, replicate, unwrap_or}, List.AllByRecursion}
+use Rattle.iso_model.specs.{declared.access.Access.Access, declared.access.Geometry.Geometry, declared.access.GroupReply.GroupReply, declared.access.Mode.Mode, Array.Array, Effect.is_write, Geometry.is_serial, Group.label_replies, Premises.block_at, World.{World, Live, client, fresh}}
+use Rattle.script_model.specs.{CoreReplies.as_reply, declared.script.Line.Line, declared.script.Op.Op, declared.script.Reply.Reply, FilesArea.file_blocks, Step.step, declared.stop.Stop.Stop}
 use Rattle.script_model.specs.declared.script.Op.TheVariants as op
-use Rattle.script_model.specs.declared.script.Reply.{Reply}
 use Rattle.script_model.specs.declared.script.Reply.TheVariants as reply
-use Rattle.iso_model.specs.Array.{Array}
-use Rattle.iso_model.specs.Effect.{is_write}
-use Rattle.iso_model.specs.Geometry.{is_serial}
-use Rattle.iso_model.specs.Group.{label_replies}
-use Rattle.iso_model.specs.Premises.{block_at}
-use Rattle.script_model.specs.FilesArea.{file_blocks}
-use Rattle.script_model.specs.Step.{step}
-use Rattle.iso_model.specs.World.{World, Live, client, fresh}
 use Rattle.iso_shared.specs.declared.entry.Call.TheVariants as call
-use Rattle.iso_shared.specs.declared.entry.Cause.{Cause}
+use Rattle.iso_shared.specs.{declared.entry.Cause.Cause, declared.entry.Entry.Entry, declared.entry.Member.Member, declared.entry.Numbers.Numbers, declared.entry.Posting.Posting, Legal.reply_of, States.{members_of, replies_of}}
 use Rattle.iso_shared.specs.declared.entry.Cause.TheVariants as cause
-use Rattle.iso_shared.specs.declared.entry.Entry.{Entry}
 use Rattle.iso_shared.specs.declared.entry.Entry.TheVariants as entry
-use Rattle.iso_shared.specs.declared.entry.Member.{Member}
-use Rattle.iso_shared.specs.declared.entry.Numbers.{Numbers}
-use Rattle.iso_shared.specs.declared.entry.Posting.{Posting}
-use Rattle.iso_shared.specs.Legal.{reply_of}
-use Rattle.iso_shared.specs.States.{members_of, replies_of}
-use Rattle.script_model.specs.declared.stop.Stop.{Stop}
 use Rattle.script_model.specs.declared.stop.Stop.TheVariants as stop
 use Rattle.par_script.specs.declared.TheConstants.{MAX_LOOKS}
 

@@ -1,11 +1,8 @@
 -- What all clients of a run were told, as one legal list.
-use Rattle.std.specs.Prelude.{◌≡◌, ℕ, ◌+◌, ◌==◌, true, Bool, cond, List, [], ◌∷◌, ◌++◌, Some, None, filter, is_some, length, map, take}
-use Rattle.std.specs.List.{AllByRecursion, list_any, range_with_len}
+use Rattle.std.specs.{Prelude.{◌≡◌, ℕ, ◌+◌, ◌==◌, true, Bool, cond, List, [], ◌∷◌, ◌++◌, Some, None, filter, is_some, length, map, take}, List.{AllByRecursion, list_any, range_with_len}}
 use Rattle.script_model.specs.declared.script.Line.{Line}
-use Rattle.iso_shared.specs.declared.entry.Entry.{Entry}
+use Rattle.iso_shared.specs.{declared.entry.Entry.Entry, Legal.IsLegal, States.Start}
 use Rattle.iso_shared.specs.declared.entry.Entry.TheVariants as entry
-use Rattle.iso_shared.specs.Legal.{IsLegal}
-use Rattle.iso_shared.specs.States.{Start}
 use Rattle.par_text.specs.declared.part.Part.{Part}
 use Rattle.par_script.specs.Lines.{ClientLines}
 

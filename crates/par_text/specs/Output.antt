@@ -1,14 +1,9 @@
 -- The text of a run of clients beside each other.
-use Rattle.std.specs.Prelude.{◌≡◌, ℕ, ◌<◌, ◌≤◌, List, [], ◌∷◌, ◌++◌, Option, Some, None, codes, decimal, flat_map, length, map, take}
-use Rattle.std.specs.List.{concat}
-use Rattle.std.specs.List.Sorted.{IsPermutation, IsNonDecreasingBy}
+use Rattle.std.specs.{Prelude.{◌≡◌, ℕ, ◌<◌, ◌≤◌, List, [], ◌∷◌, ◌++◌, Option, Some, None, codes, decimal, flat_map, length, map, take}, List.concat, List.Sorted.{IsPermutation, IsNonDecreasingBy}}
 use Rattle.iso_model.specs.declared.access.GroupReply.{GroupReply}
 use Rattle.iso_model.specs.declared.access.GroupReply.TheVariants as member
-use Rattle.script_model.specs.declared.script.Reply.{Reply}
-use Rattle.script_model.specs.declared.script.Reply.TheVariants.{Committed, Grouped}
-use Rattle.script_model.specs.Text.{reply_line}
-use Rattle.par_text.specs.declared.commit_line.CommitLine.{CommitLine}
-use Rattle.par_text.specs.declared.part.Part.{Part}
+use Rattle.script_model.specs.{declared.script.Reply.Reply, declared.script.Reply.TheVariants.{Committed, Grouped}, Text.reply_line}
+use Rattle.par_text.specs.{declared.commit_line.CommitLine.CommitLine, declared.part.Part.Part}
 
 -- the commit of a member of a line's group, if it made one
 abbrev pub commit_in : (client line : ℕ) → Option GroupReply → List CommitLine

@@ -1,6 +1,5 @@
 // The whole text.
-ghost use Rattle.std.specs.Prelude.{◌≡◌, [], ◌++◌, IfErr, IfOk, OnErr, OnOk, flat_map, map};
-ghost use Rattle.std.specs.List.{concat};
+ghost use Rattle.std.specs.{Prelude.{◌≡◌, [], ◌++◌, IfErr, IfOk, OnErr, OnOk, flat_map, map}, List.concat};
 ghost use Rattle.script_model.specs.Text.{reply_line};
 ghost use Rattle.par_text.specs.Output.{commit_line, told_lines, AreFirst, IsFront, IsOutput};
 

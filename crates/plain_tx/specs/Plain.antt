@@ -1,10 +1,5 @@
 -- What contracts see of a plain transaction.
-use Rattle.std.specs.Prelude.{◌≡◌, ℕ, ◌+◌, ◌*◌, ◌<◌, ◌≤◌, true, List, [], Some, length, map, take, drop}
-use Rattle.std.specs.List.{range_with_len}
-use Rattle.std.proofs.Common.{arith, ap, ◌∙◌, subst}
-use Rattle.std.proofs.Math.Nat.{mul-le-mul_right}
-use Rattle.std.proofs.lemmas.List.{length-take-le, length-drop}
-use Rattle.std.proofs.lemmas.List.FromFn.{length-map-range_with_len, get_or-map-range_with_len}
+use Rattle.std.{specs.Prelude.{◌≡◌, ℕ, ◌+◌, ◌*◌, ◌<◌, ◌≤◌, true, List, [], Some, length, map, take, drop}, specs.List.range_with_len, proofs.Common.{arith, ap, ◌∙◌, subst}, proofs.Math.Nat.mul-le-mul_right, proofs.lemmas.List.{length-take-le, length-drop}, proofs.lemmas.List.FromFn.{length-map-range_with_len, get_or-map-range_with_len}}
 use Rattle.iso_model.specs.Array.{Array}
 use Rattle.tx_blocks.specs.Tx.{Tx, IsTx, IsArrayOf}
 use Rattle.plain_tx.specs.declared.plain_tx.PlainTx.{PlainTx}

@@ -1,8 +1,6 @@
 -- The image and the record of the tests.
 use Rattle.std.specs.Prelude.{List, ℕ, [], ◌∷◌}
-use Rattle.iso_model.specs.declared.access.Geometry.{Geometry}
-use Rattle.iso_model.specs.declared.access.Mode.TheVariants.{Serial}
-use Rattle.iso_model.specs.declared.access.Run.{Run}
+use Rattle.iso_model.specs.{declared.access.Geometry.Geometry, declared.access.Mode.TheVariants.Serial, declared.access.Run.Run}
 
 -- four blocks of 64 bytes, and a log of 256
 abbrev pub small_in : (form : ℕ) → Geometry

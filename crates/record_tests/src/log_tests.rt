@@ -1,11 +1,9 @@
 // What no clause says: that calls succeed with ample memory, and which calls of the disk they make. The log stands at byte
 // 16 of a disk of zeros; each record puts two bytes at byte 5 of block 2, and has 30 bytes.
 ghost use Rattle.std.specs.Prelude.{◌≡◌, ◌+◌, ◌<◌, ◌≤◌, ◌++◌, [], replicate, OnOk, IfOk, IsTrue};
-ghost use Rattle.iso_model.specs.Geometry.{is_valid};
-ghost use Rattle.iso_model.specs.Image.{spell};
+ghost use Rattle.iso_model.specs.{Geometry.is_valid, Image.spell};
 ghost use Rattle.iso_memdisk.specs.MemDisk.{state_of};
-ghost use Rattle.record_tests.specs.Ready.{IsReady};
-ghost use Rattle.record_tests.specs.Records.{put, small};
+ghost use Rattle.record_tests.specs.{Ready.IsReady, Records.{put, small}};
 
 use crate::form_tests::{same, small};
 use iso_format::RecordBuffer;

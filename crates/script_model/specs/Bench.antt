@@ -1,19 +1,9 @@
 -- What the commands `recover` and `bench` print, and the script that a bench runs.
 use Rattle.std.specs.Prelude.{ℕ, zero, suc, ◌+◌, ◌*◌, ◌/◌, ◌%◌, ◌^◌, ◌-◌, Bool, true, false, List, [], ◌∷◌, ◌++◌, Option, Some, None, length, filter, flat_map, codes, decimal}
 use Rattle.sha2.specs.Sha256.{sha256}
-use Rattle.iso_model.specs.declared.access.Geometry.{Geometry}
-use Rattle.iso_model.specs.declared.access.GroupReply.{GroupReply}
+use Rattle.iso_model.specs.{declared.access.Geometry.Geometry, declared.access.GroupReply.GroupReply, declared.access.Mode.TheVariants.Serial, Array.Array, History.{History, last, array_at}, World.{World, fresh, empty_history}}
 use Rattle.iso_model.specs.declared.access.GroupReply.TheVariants as member
-use Rattle.iso_model.specs.declared.access.Mode.TheVariants.{Serial}
-use Rattle.script_model.specs.declared.script.Line.{Line}
-use Rattle.script_model.specs.declared.script.Reply.{Reply}
-use Rattle.script_model.specs.declared.script.Reply.TheVariants.{Committed, Conflict, Grouped}
-use Rattle.iso_model.specs.Array.{Array}
-use Rattle.iso_model.specs.History.{History, last, array_at}
-use Rattle.script_model.specs.Script.{replies, script}
-use Rattle.script_model.specs.Step.{step}
-use Rattle.script_model.specs.Text.{hex_text}
-use Rattle.iso_model.specs.World.{World, fresh, empty_history}
+use Rattle.script_model.specs.{declared.script.Line.Line, declared.script.Reply.Reply, declared.script.Reply.TheVariants.{Committed, Conflict, Grouped}, Script.{replies, script}, Step.step, Text.hex_text}
 
 -- the generator's state after a draw
 abbrev pub drawn : ℕ → ℕ

@@ -1,9 +1,8 @@
 -- What a script answers where a core answers so.
-use Rattle.iso_model.specs.declared.core_reply.CoreReply.{CoreReply}
+use Rattle.iso_model.specs.{declared.core_reply.CoreReply.CoreReply, World.World}
 use Rattle.iso_model.specs.declared.core_reply.CoreReply.TheVariants as core
 use Rattle.script_model.specs.declared.script.Reply.{Reply}
 use Rattle.script_model.specs.declared.script.Reply.TheVariants as reply
-use Rattle.iso_model.specs.World.{World}
 
 abbrev pub as_reply : CoreReply → Reply
 as_reply core.Done = reply.Done

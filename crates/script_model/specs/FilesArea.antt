@@ -1,9 +1,7 @@
 -- Where the files of an image are.
 use Rattle.std.specs.Prelude.{ℕ, ◌+◌, ◌-◌, ◌*◌, ◌||◌, ◌==◌, cond, nat_lt}
 use Rattle.iso_model.specs.declared.access.Geometry.{Geometry}
-use Rattle.store_model.specs.declared.files.FileAreas.{FileAreas}
-use Rattle.store_model.specs.Areas.{tree_area}
-use Rattle.store_model.specs.FileCalls.{least}
+use Rattle.store_model.specs.{declared.files.FileAreas.FileAreas, Areas.tree_area, FileCalls.least}
 
 -- how many blocks are behind the stores' regions, but no more than the map of one block has bits for
 abbrev pub blocks_behind : Geometry → ℕ

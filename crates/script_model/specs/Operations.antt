@@ -1,16 +1,8 @@
 -- Operations whose bytes are bytes, and those that change nothing that is shown.
-use Rattle.std.specs.Prelude.{◌≡◌, ◌⊎◌, ℕ, ◌≤◌, IsTrue, List, [], ◌∷◌, Option, Some, length}
-use Rattle.std.specs.List.{AllByRecursion}
-use Rattle.iso_model.specs.declared.access.GroupReply.{GroupReply}
+use Rattle.std.specs.{Prelude.{◌≡◌, ◌⊎◌, ℕ, ◌≤◌, IsTrue, List, [], ◌∷◌, Option, Some, length}, List.AllByRecursion}
+use Rattle.iso_model.specs.{declared.access.GroupReply.GroupReply, Premises.AreBytes, Labels.is_label}
 use Rattle.iso_model.specs.declared.access.GroupReply.TheVariants as member
-use Rattle.script_model.specs.declared.script.Line.{Line}
-use Rattle.script_model.specs.declared.script.Op.{Op}
-use Rattle.script_model.specs.declared.script.Op.TheVariants.{Begin, End, Abort, Put, Read, Get, Write, Fill, Mark, Release, Takeover, Await, Group, Trim, Stat, Compact, Upgrade, HashPut, HashGet, HashDelete, TreePut, TreeGet, TreeDelete, TreeScan, FileNew, FileWrite, FileRead, FileMove, FileDelete}
-use Rattle.script_model.specs.declared.script.Reply.{Reply}
-use Rattle.script_model.specs.declared.script.Reply.TheVariants.{Committed, Grouped}
-use Rattle.script_model.specs.declared.script.TheConstants.{MAX_LABELS}
-use Rattle.iso_model.specs.Premises.{AreBytes}
-use Rattle.iso_model.specs.Labels.{is_label}
+use Rattle.script_model.specs.{declared.script.Line.Line, declared.script.Op.Op, declared.script.Op.TheVariants.{Begin, End, Abort, Put, Read, Get, Write, Fill, Mark, Release, Takeover, Await, Group, Trim, Stat, Compact, Upgrade, HashPut, HashGet, HashDelete, TreePut, TreeGet, TreeDelete, TreeScan, FileNew, FileWrite, FileRead, FileMove, FileDelete}, declared.script.Reply.Reply, declared.script.Reply.TheVariants.{Committed, Grouped}, declared.script.TheConstants.MAX_LABELS}
 
 -- an operation whose bytes are bytes, whose label is one, and which has no more labels than a group may have
 abbrev pub IsOp : Op → Type 0

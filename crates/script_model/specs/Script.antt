@@ -1,19 +1,7 @@
 -- The language of scripts: what a line says, what a whole input says, and what it is answered.
-use Rattle.std.specs.Prelude.{ℕ, ◌+◌, Bool, true, ◌&&◌, ◌||◌, ◌==◌, if◌then◌else◌, List, [], ◌∷◌, ◌++◌, Option, Some, None, Result, Ok, Err, length, take, nat_eq, nat_le, nat_lt, ok_or, codes, bytes_eq}
-use Rattle.std.specs.List.{list_all}
-use Rattle.iso_model.specs.declared.limits.TheConstants.{MAX_INPUT, MAX_LINE}
-use Rattle.script_model.specs.declared.script.TheConstants.{MAX_LABELS}
-use Rattle.script_model.specs.declared.script.BadLine.{BadLine}
-use Rattle.script_model.specs.declared.script.Line.{Line}
-use Rattle.script_model.specs.declared.script.Op.{Op}
-use Rattle.script_model.specs.declared.script.Op.TheVariants.{Begin, End, Abort, Put, Read, Get, Write, Fill, Mark, Release, Takeover, Await, Group, Trim, Stat, Compact, Upgrade, HashPut, HashGet, HashDelete, TreePut, TreeGet, TreeDelete, TreeScan, FileNew, FileWrite, FileRead, FileMove, FileDelete}
-use Rattle.script_model.specs.declared.script.Parsed.{Parsed}
-use Rattle.script_model.specs.declared.script.Parsed.TheVariants.{Skip, Line as Says}
-use Rattle.script_model.specs.Step.{step}
-use Rattle.iso_model.specs.declared.access.Mode.{Mode}
-use Rattle.script_model.specs.Text.{pieces, is_empty, words_of, number_of, hex_of, mode_of, reply_line}
-use Rattle.iso_model.specs.Labels.{label_of}
-use Rattle.iso_model.specs.World.{World}
+use Rattle.std.specs.{Prelude.{ℕ, ◌+◌, Bool, true, ◌&&◌, ◌||◌, ◌==◌, if◌then◌else◌, List, [], ◌∷◌, ◌++◌, Option, Some, None, Result, Ok, Err, length, take, nat_eq, nat_le, nat_lt, ok_or, codes, bytes_eq}, List.list_all}
+use Rattle.iso_model.specs.{declared.limits.TheConstants.{MAX_INPUT, MAX_LINE}, declared.access.Mode.Mode, Labels.label_of, World.World}
+use Rattle.script_model.specs.{declared.script.TheConstants.MAX_LABELS, declared.script.BadLine.BadLine, declared.script.Line.Line, declared.script.Op.Op, declared.script.Op.TheVariants.{Begin, End, Abort, Put, Read, Get, Write, Fill, Mark, Release, Takeover, Await, Group, Trim, Stat, Compact, Upgrade, HashPut, HashGet, HashDelete, TreePut, TreeGet, TreeDelete, TreeScan, FileNew, FileWrite, FileRead, FileMove, FileDelete}, declared.script.Parsed.Parsed, declared.script.Parsed.TheVariants.{Skip, Line as Says}, Step.step, Text.{pieces, is_empty, words_of, number_of, hex_of, mode_of, reply_line}}
 
 -- a value, or else the cause; the next test follows only a value
 infixl 10 ◌>>=◌

@@ -1,37 +1,14 @@
 -- What each operation of a client is answered, and the world after it.
 use Rattle.std.specs.Prelude.{ℕ, ◌-◌, Bool, true, false, ◌&&◌, ◌==◌, if◌then◌else◌, List, [], ◌∷◌, ◌++◌, Option, Some, None, Result, Ok, Err, length, take, drop, replicate, nat_le, slice_index, not}
-use Rattle.iso_model.specs.declared.access.Access.{Access}
-use Rattle.iso_model.specs.declared.access.Span.{Span}
+use Rattle.iso_model.specs.{declared.access.Access.Access, declared.access.Span.Span, declared.access.MarkError.MarkError, declared.limits.TheConstants.MAX_ACCESSES, Array.Array, declared.access.GroupReply.GroupReply, Geometry.is_serial, Effect.own, History.{array_at, last}, Marks.{is_outside, mark_fault, marked}, Versions.versions, World.{World, Live, client, label, attached, held, floor, used}, Group.group_step, Step.{put_access, read_access, get_access, write_access, with_accesses, placed, after_leaving, mode_named, shown_to, after_trim, begin_step, end_step, switch_step}}
 use Rattle.iso_model.specs.declared.core_reply.CoreReply.TheVariants as core
-use Rattle.script_model.specs.declared.script.Op.{Op}
-use Rattle.iso_model.specs.declared.access.MarkError.{MarkError}
+use Rattle.script_model.specs.{declared.script.Op.Op, declared.script.Op.TheVariants.{Begin, End, Abort, Put, Read as ReadBlock, Get, Write as WriteBlock, Fill, Mark, Release, Takeover, Await, Group, Trim, Stat, Compact, Upgrade, HashPut, HashGet, HashDelete, TreePut, TreeGet, TreeDelete, TreeScan, FileNew, FileWrite, FileRead, FileMove, FileDelete}, declared.script.Reply.Reply, FilesArea.{file_blocks, files_area}, CoreReplies.as_step}
 use Rattle.iso_model.specs.declared.access.MarkError.TheVariants as mark
-use Rattle.script_model.specs.declared.script.Op.TheVariants.{Begin, End, Abort, Put, Read as ReadBlock, Get, Write as WriteBlock, Fill, Mark, Release, Takeover, Await, Group, Trim, Stat, Compact, Upgrade, HashPut, HashGet, HashDelete, TreePut, TreeGet, TreeDelete, TreeScan, FileNew, FileWrite, FileRead, FileMove, FileDelete}
-use Rattle.script_model.specs.declared.script.Reply.{Reply}
 use Rattle.script_model.specs.declared.script.Reply.TheVariants as reply
-use Rattle.iso_model.specs.declared.limits.TheConstants.{MAX_ACCESSES}
-use Rattle.store_model.specs.declared.stores.StoreError.{StoreError}
+use Rattle.store_model.specs.{declared.stores.StoreError.StoreError, declared.files.FsError.FsError, HashCalls.{del_program, get_program, put_program, is_key}, Stores.{Program, outcome}, TreeCalls.scan_program, FileCalls.{Call, create_program, write_program, read_program, rename_program, remove_program}, Areas.{hash_area, tree_area}}
 use Rattle.store_model.specs.declared.stores.StoreError.TheVariants as store
-use Rattle.store_model.specs.declared.files.FsError.{FsError}
 use Rattle.store_model.specs.declared.files.FsError.TheVariants as fs
-use Rattle.iso_model.specs.Array.{Array}
-use Rattle.iso_model.specs.declared.access.GroupReply.{GroupReply}
-use Rattle.iso_model.specs.Geometry.{is_serial}
-use Rattle.iso_model.specs.Effect.{own}
-use Rattle.store_model.specs.HashCalls.{del_program, get_program, put_program, is_key}
-use Rattle.iso_model.specs.History.{array_at, last}
-use Rattle.iso_model.specs.Marks.{is_outside, mark_fault, marked}
-use Rattle.store_model.specs.Stores.{Program, outcome}
 use Rattle.store_model.specs.TreeCalls as tree
-use Rattle.store_model.specs.TreeCalls.{scan_program}
-use Rattle.store_model.specs.FileCalls.{Call, create_program, write_program, read_program, rename_program, remove_program}
-use Rattle.iso_model.specs.Versions.{versions}
-use Rattle.iso_model.specs.World.{World, Live, client, label, attached, held, floor, used}
-use Rattle.iso_model.specs.Group.{group_step}
-use Rattle.iso_model.specs.Step.{put_access, read_access, get_access, write_access, with_accesses, placed, after_leaving, mode_named, shown_to, after_trim, begin_step, end_step, switch_step}
-use Rattle.store_model.specs.Areas.{hash_area, tree_area}
-use Rattle.script_model.specs.FilesArea.{file_blocks, files_area}
-use Rattle.script_model.specs.CoreReplies.{as_step}
 
 -- the world in which the transaction has one more access
 abbrev pub with_access : World → Live → Access → World

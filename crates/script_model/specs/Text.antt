@@ -1,14 +1,8 @@
 -- The words and numbers of a line, and the texts of the replies.
-use Rattle.std.specs.Prelude.{ℕ, ◌+◌, ◌-◌, ◌*◌, ◌/◌, ◌%◌, ◌^◌, Bool, true, false, ◌&&◌, ◌==◌, not, cond, if◌then◌else◌, List, [], ◌∷◌, ◌++◌, Option, Some, None, bytes_eq, nat_le, nat_lt, decimal, codes, filter, fold, flat_map}
-use Rattle.std.specs.List.{list_all}
-use Rattle.iso_model.specs.declared.access.Clash.{Clash}
-use Rattle.iso_model.specs.declared.access.GroupReply.{GroupReply}
+use Rattle.std.specs.{Prelude.{ℕ, ◌+◌, ◌-◌, ◌*◌, ◌/◌, ◌%◌, ◌^◌, Bool, true, false, ◌&&◌, ◌==◌, not, cond, if◌then◌else◌, List, [], ◌∷◌, ◌++◌, Option, Some, None, bytes_eq, nat_le, nat_lt, decimal, codes, filter, fold, flat_map}, List.list_all}
+use Rattle.iso_model.specs.{declared.access.Clash.Clash, declared.access.GroupReply.GroupReply, declared.access.Mode.Mode, declared.access.Mode.TheVariants.{Serial, Snapshot}, Labels.is_digit}
 use Rattle.iso_model.specs.declared.access.GroupReply.TheVariants as member
-use Rattle.iso_model.specs.declared.access.Mode.{Mode}
-use Rattle.iso_model.specs.declared.access.Mode.TheVariants.{Serial, Snapshot}
-use Rattle.script_model.specs.declared.script.Reply.{Reply}
-use Rattle.script_model.specs.declared.script.Reply.TheVariants.{Done, Began, Shown, Committed, ReadOnly, Conflict, Grouped, Trimmed, Compacted, Upgraded, Numbers, Found, Pairs, Missing, InTx, NotInTx, ModeFixed, NoStore, StoreMode, BadKey, BadValue, BadName, Exists, BadBlock, BadRange, NoAccess, TooManyMarks, TooManyAccesses, Broken, NoBlocks, NoHandle, LabelTaken, TooManyTx, Worn, LogFull}
-use Rattle.iso_model.specs.Labels.{is_digit}
+use Rattle.script_model.specs.{declared.script.Reply.Reply, declared.script.Reply.TheVariants.{Done, Began, Shown, Committed, ReadOnly, Conflict, Grouped, Trimmed, Compacted, Upgraded, Numbers, Found, Pairs, Missing, InTx, NotInTx, ModeFixed, NoStore, StoreMode, BadKey, BadValue, BadName, Exists, BadBlock, BadRange, NoAccess, TooManyMarks, TooManyAccesses, Broken, NoBlocks, NoHandle, LabelTaken, TooManyTx, Worn, LogFull}}
 
 -- the byte before the first piece
 abbrev pub before_piece : ℕ → List (List ℕ) → List (List ℕ)

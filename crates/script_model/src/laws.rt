@@ -1,18 +1,7 @@
 // The laws of the definitions: each function does nothing, and its contract is the law.
 ghost use Rattle.std.specs.Prelude.{◌≡◌, ℕ, ◌≤◌, IsTrue, List};
-ghost use Rattle.iso_model.specs.declared.access.Geometry.{Geometry};
-ghost use Rattle.iso_model.specs.declared.access.Mode.TheVariants.{Serial};
-ghost use Rattle.iso_model.specs.declared.limits.TheConstants.{LAST};
-ghost use Rattle.script_model.specs.declared.script.Line.{Line};
-ghost use Rattle.script_model.specs.declared.script.Op.{Op};
-ghost use Rattle.iso_model.specs.Conflict.{IsSerialAt};
-ghost use Rattle.iso_model.specs.Geometry.{is_valid};
-ghost use Rattle.iso_model.specs.History.{last};
-ghost use Rattle.script_model.specs.Script.{after, script};
-ghost use Rattle.script_model.specs.Step.{step};
-ghost use Rattle.iso_model.specs.World.{empty_history, fresh, World};
-ghost use Rattle.script_model.specs.Operations.{AreLines, IsOp};
-ghost use Rattle.iso_model.specs.Worlds.{IsWorld, LeadsTo};
+ghost use Rattle.iso_model.specs.{declared.access.Geometry.Geometry, declared.access.Mode.TheVariants.Serial, declared.limits.TheConstants.LAST, Conflict.IsSerialAt, Geometry.is_valid, History.last, World.{empty_history, fresh, World}, Worlds.{IsWorld, LeadsTo}};
+ghost use Rattle.script_model.specs.{declared.script.Line.Line, declared.script.Op.Op, Script.{after, script}, Step.step, Operations.{AreLines, IsOp}};
 
 /// Each step of a sound world, and so each script, keeps the geometry but for the form, extends the history and leads to a
 /// sound world, in which every commit is isolated.

@@ -1,12 +1,7 @@
 // The laws of single steps: each function does nothing, and its contract is the law.
 ghost use Rattle.std.specs.Prelude.{◌≡◌, ℕ, ◌≤◌, List, IsSome, length};
-ghost use Rattle.iso_model.specs.declared.limits.TheConstants.{MAX_INPUT};
-ghost use Rattle.script_model.specs.declared.script.Op.{Op};
-ghost use Rattle.script_model.specs.Script.{script};
-ghost use Rattle.iso_model.specs.Step.{shown_to};
-ghost use Rattle.script_model.specs.Step.{step};
-ghost use Rattle.iso_model.specs.World.{Live, World};
-ghost use Rattle.script_model.specs.Operations.{IsUpkeep};
+ghost use Rattle.iso_model.specs.{declared.limits.TheConstants.MAX_INPUT, Step.shown_to, World.{Live, World}};
+ghost use Rattle.script_model.specs.{declared.script.Op.Op, Script.script, Step.step, Operations.IsUpkeep};
 
 /// An input that is cut has a bad line.
 pub fn cut_inputs_are_bad()

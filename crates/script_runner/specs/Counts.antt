@@ -2,11 +2,9 @@
 use Rattle.std.specs.Prelude.{◌≡◌, ◌⊎◌, ℕ, ◌≤◌, Result, IsErrOf, OnOk}
 use Rattle.fault_count.specs.Count.{Rose}
 use Rattle.iso_io.specs.Sink.{SinkState, CountsStand}
-use Rattle.script_model.specs.declared.script.Reply.{Reply}
-use Rattle.script_model.specs.declared.stop.Stop.{Stop}
+use Rattle.script_model.specs.{declared.script.Reply.Reply, declared.stop.Stop.Stop}
 use Rattle.script_model.specs.declared.stop.Stop.TheVariants as stop
-use Rattle.script_runner.specs.declared.run_end.RunEnd.{RunEnd}
-use Rattle.script_runner.specs.declared.run_end.RunEnd.TheVariants.{Disk, Input, Output}
+use Rattle.script_runner.specs.{declared.run_end.RunEnd.RunEnd, declared.run_end.RunEnd.TheVariants.{Disk, Input, Output}}
 
 -- the disk's count of faults did not fall, a step that blames the disk raised it, and after any other answer it stands where it stood
 pub record BlamesDisk (before now : ℕ) (result : Result Reply Stop) : Type 0 where

@@ -1,26 +1,12 @@
 -- How the lines of a run are answered, one after the other.
 use Rattle.std.specs.Prelude.{◌≡◌, ℕ, ◌+◌, ◌≤◌, List, [], ◌∷◌, ◌++◌, Bool, Result, Ok, Err, IsSome, length}
 use Rattle.iso_disk.specs.Disk.{DiskState, LeavesOnly}
-use Rattle.iso_io.specs.Source.{SourceState, Took}
-use Rattle.iso_io.specs.Sink.{SinkState, CountsStand, Wrote}
-use Rattle.script_model.specs.declared.script.Line.{Line}
-use Rattle.script_model.specs.declared.script.LineError.{LineError}
-use Rattle.script_model.specs.declared.script.LineError.TheVariants.{Cause, Memory as NoMemory}
-use Rattle.script_model.specs.declared.script.Parsed.{Parsed}
-use Rattle.script_model.specs.declared.script.Parsed.TheVariants.{Skip, Line as Says}
-use Rattle.script_model.specs.Script.{Script, replies, script_from}
-use Rattle.script_model.specs.Text.{pieces}
-use Rattle.iso_model.specs.World.{World}
-use Rattle.script_model.specs.Operations.{AreLines, IsOp}
-use Rattle.iso_model.specs.Worlds.{IsWorld}
-use Rattle.script_runner.specs.declared.run_end.Halt.{Halt}
+use Rattle.iso_io.specs.{Source.{SourceState, Took}, Sink.{SinkState, CountsStand, Wrote}}
+use Rattle.script_model.specs.{declared.script.Line.Line, declared.script.LineError.LineError, declared.script.LineError.TheVariants.{Cause, Memory as NoMemory}, declared.script.Parsed.Parsed, declared.script.Parsed.TheVariants.{Skip, Line as Says}, Script.{Script, replies, script_from}, Text.pieces, Operations.{AreLines, IsOp}}
+use Rattle.iso_model.specs.{World.World, Worlds.IsWorld, Between.ShowsBetween}
+use Rattle.script_runner.specs.{declared.run_end.Halt.Halt, declared.run_end.RunEnd.RunEnd, Told.IfTold, Replies.PutReplies, Run.{AreLinesOf, Answered, EndsInFeed, HasNoFeed, IsBehind}}
 use Rattle.script_runner.specs.declared.run_end.Halt.TheVariants as halt
-use Rattle.script_runner.specs.declared.run_end.RunEnd.{RunEnd}
 use Rattle.script_runner.specs.declared.run_end.RunEnd.TheVariants as end
-use Rattle.iso_model.specs.Between.{ShowsBetween}
-use Rattle.script_runner.specs.Told.{IfTold}
-use Rattle.script_runner.specs.Replies.{PutReplies}
-use Rattle.script_runner.specs.Run.{AreLinesOf, Answered, EndsInFeed, HasNoFeed, IsBehind}
 
 -- a line that a machine may be asked
 pub record IsLine (line : Line) : Type 0 where

@@ -1,20 +1,7 @@
 -- The worlds of the one script that the tests' machine knows.
-use Rattle.std.specs.Prelude.{ℕ, zero, suc, List, [], ◌∷◌, None, take, refl}
-use Rattle.std.proofs.Common.{arith}
-use Rattle.std.specs.List.{AllByRecursion}
-use Rattle.iso_model.specs.declared.access.Geometry.{Geometry}
-use Rattle.iso_model.specs.declared.access.Mode.TheVariants.{Serial}
-use Rattle.script_model.specs.declared.script.Line.{Line}
-use Rattle.script_model.specs.declared.script.Op.{Op}
-use Rattle.script_model.specs.declared.script.Op.TheVariants.{Begin, End, Put}
-use Rattle.iso_model.specs.Geometry.{is_valid}
-use Rattle.script_model.specs.Script.{after}
-use Rattle.iso_model.specs.World.{World, empty_history, fresh}
-use Rattle.script_model.specs.Operations.{AreLines, IsOp}
-use Rattle.iso_model.specs.Worlds.{IsWorld}
-use Rattle.iso_model.proofs.ByteLists.{bytes_cons, no_bytes}
-use Rattle.iso_model.proofs.FreshWorlds.{empty_world_is}
-use Rattle.script_model.proofs.Steps.{after_leads}
+use Rattle.std.{specs.Prelude.{ℕ, zero, suc, List, [], ◌∷◌, None, take, refl}, proofs.Common.arith, specs.List.AllByRecursion}
+use Rattle.iso_model.{specs.declared.access.Geometry.Geometry, specs.declared.access.Mode.TheVariants.Serial, specs.Geometry.is_valid, specs.World.{World, empty_history, fresh}, specs.Worlds.IsWorld, proofs.ByteLists.{bytes_cons, no_bytes}, proofs.FreshWorlds.empty_world_is}
+use Rattle.script_model.{specs.declared.script.Line.Line, specs.declared.script.Op.Op, specs.declared.script.Op.TheVariants.{Begin, End, Put}, specs.Script.after, specs.Operations.{AreLines, IsOp}, proofs.Steps.after_leads}
 
 -- the small image
 abbrev pub small : Geometry

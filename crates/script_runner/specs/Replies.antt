@@ -1,16 +1,9 @@
 -- What was put of the replies of a run.
 use Rattle.std.specs.Prelude.{◌≡◌, ◌⊎◌, ℕ, ◌<◌, List, [], ◌∷◌, ◌++◌, length, take}
 use Rattle.iso_io.specs.Sink.{SinkState, Wrote}
-use Rattle.iso_model.specs.World.{World}
-use Rattle.iso_model.specs.Worlds.{IsWorld}
-use Rattle.script_model.specs.declared.script.Line.{Line}
-use Rattle.script_model.specs.declared.script.Reply.{Reply}
-use Rattle.script_model.specs.Operations.{SaysCommit}
-use Rattle.script_model.specs.Step.{step}
-use Rattle.script_model.specs.Text.{reply_line}
-use Rattle.script_runner.specs.declared.run_end.RunEnd.{RunEnd}
-use Rattle.script_runner.specs.declared.run_end.RunEnd.TheVariants.{Output}
-use Rattle.script_runner.specs.Told.{IsPlain, SameButShown}
+use Rattle.iso_model.specs.{World.World, Worlds.IsWorld}
+use Rattle.script_model.specs.{declared.script.Line.Line, declared.script.Reply.Reply, Operations.SaysCommit, Step.step, Text.reply_line}
+use Rattle.script_runner.specs.{declared.run_end.RunEnd.RunEnd, declared.run_end.RunEnd.TheVariants.Output, Told.{IsPlain, SameButShown}}
 
 -- the sink took the text, and then a front of the next one that is not all of it
 pub record WroteBehind (old new : SinkState) (text next : List ℕ) : Type 0 where

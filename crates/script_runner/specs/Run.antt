@@ -1,22 +1,10 @@
 -- What a run over the lines of a script has done.
 use Rattle.std.specs.Prelude.{◌≡◌, ◌⊎◌, ℕ, ◌≤◌, List, [], ◌∷◌, ◌++◌, Some, None, Contains, IfSome, length}
 use Rattle.iso_disk.specs.Disk.{DiskState, LeavesOnly}
-use Rattle.iso_io.specs.Source.{SourceState, MetEnd, Took}
-use Rattle.iso_io.specs.Sink.{SinkState}
-use Rattle.iso_model.specs.declared.limits.TheConstants.{MAX_INPUT}
-use Rattle.script_model.specs.declared.script.Line.{Line}
-use Rattle.iso_model.specs.History.{last}
-use Rattle.script_model.specs.Script.{Script, after, replies, script}
-use Rattle.script_model.specs.Step.{step}
-use Rattle.iso_model.specs.World.{World}
-use Rattle.script_model.specs.Operations.{AreLines, SaysCommit}
-use Rattle.iso_model.specs.Worlds.{LeadsTo}
-use Rattle.script_runner.specs.declared.run_end.RunEnd.{RunEnd}
-use Rattle.script_runner.specs.declared.run_end.RunEnd.TheVariants.{Done, BadLine as Bad, Disk, Input, Memory}
-use Rattle.iso_model.specs.Between.{ShowsBetween}
-use Rattle.script_runner.specs.Counts.{DiskCount, SinkCounts, SourceCount}
-use Rattle.script_runner.specs.Replies.{PutRepliesBy, Replied}
-use Rattle.script_runner.specs.Told.{ArePlain, IfKnown, IfTold}
+use Rattle.iso_io.specs.{Source.{SourceState, MetEnd, Took}, Sink.SinkState}
+use Rattle.iso_model.specs.{declared.limits.TheConstants.MAX_INPUT, History.last, World.World, Worlds.LeadsTo, Between.ShowsBetween}
+use Rattle.script_model.specs.{declared.script.Line.Line, Script.{Script, after, replies, script}, Step.step, Operations.{AreLines, SaysCommit}}
+use Rattle.script_runner.specs.{declared.run_end.RunEnd.RunEnd, declared.run_end.RunEnd.TheVariants.{Done, BadLine as Bad, Disk, Input, Memory}, Counts.{DiskCount, SinkCounts, SourceCount}, Replies.{PutRepliesBy, Replied}, Told.{ArePlain, IfKnown, IfTold}}
 
 -- the lines `done` and then `next`, of which there is one at most, are the first of these lines
 pub record AreFirst (lines done next : List (ℕ × Line)) : Type 0 where

@@ -1,10 +1,7 @@
 -- What a machine stands for behind an operation that had no reply.
 use Rattle.std.specs.Prelude.{◌≡◌, [], map}
-use Rattle.iso_model.specs.Step.{with_live}
-use Rattle.iso_model.specs.World.{Live, World}
-use Rattle.script_model.specs.declared.script.Op.{Op}
-use Rattle.script_model.specs.declared.script.Op.TheVariants.{Compact, End, Group, Upgrade}
-use Rattle.script_model.specs.declared.stop.Stop.{Stop}
+use Rattle.iso_model.specs.{Step.with_live, World.{Live, World}}
+use Rattle.script_model.specs.{declared.script.Op.Op, declared.script.Op.TheVariants.{Compact, End, Group, Upgrade}, declared.stop.Stop.Stop}
 use Rattle.script_model.specs.declared.stop.Stop.TheVariants as stop
 
 -- the transaction, whatever its accesses are

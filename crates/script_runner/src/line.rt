@@ -1,8 +1,7 @@
 // One line after the other.
 ghost use Rattle.std.specs.Prelude.{◌≡◌, ℕ, [], ◌∷◌, IfErr, IfOk, OnOk};
 ghost use Rattle.iso_model.specs.World.{World};
-ghost use Rattle.script_runner.specs.Lines.{AnswersParsed, IsByStep, IsLine, Ran, SaysLine, end_of, halt_of};
-ghost use Rattle.script_runner.specs.Run.{Answered};
+ghost use Rattle.script_runner.specs.{Lines.{AnswersParsed, IsByStep, IsLine, Ran, SaysLine, end_of, halt_of}, Run.Answered};
 
 use crate::machine::ScriptMachine;
 use crate::run_end::Halt;

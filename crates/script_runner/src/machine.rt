@@ -1,16 +1,9 @@
 // What answers the lines of a script.
 ghost use Rattle.std.specs.Prelude.{◌≡◌, ◌≤◌, ℕ, List, IfErr, IfOk, IsErrOf, IsSome, OnOk};
 ghost use Rattle.iso_disk.specs.Disk.{DiskState, IsLawful, LeavesOnly};
-ghost use Rattle.iso_model.specs.History.{last};
-ghost use Rattle.iso_model.specs.Image.{Shows};
-ghost use Rattle.script_model.specs.Step.{step};
-ghost use Rattle.iso_model.specs.World.{World};
-ghost use Rattle.script_model.specs.Operations.{IsOp};
-ghost use Rattle.iso_model.specs.Worlds.{IsWorld};
-ghost use Rattle.iso_model.specs.Between.{ShowsEither};
-ghost use Rattle.script_runner.specs.Counts.{BlamesDisk};
-ghost use Rattle.script_runner.specs.Stopped.{GoesOn, StandsStill};
-ghost use Rattle.script_runner.specs.Told.{IfTold, IsPlain, SameButShown, StandsSo};
+ghost use Rattle.iso_model.specs.{History.last, Image.Shows, World.World, Worlds.IsWorld, Between.ShowsEither};
+ghost use Rattle.script_model.specs.{Step.step, Operations.IsOp};
+ghost use Rattle.script_runner.specs.{Counts.BlamesDisk, Stopped.{GoesOn, StandsStill}, Told.{IfTold, IsPlain, SameButShown, StandsSo}};
 
 use script_model::{Op, Reply, Stop};
 

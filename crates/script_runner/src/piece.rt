@@ -4,8 +4,7 @@ ghost use Rattle.iso_io.specs.Sink.{SinkState};
 ghost use Rattle.script_model.specs.Script.{parse_whole};
 ghost use Rattle.iso_model.specs.World.{World};
 ghost use Rattle.script_text.specs.Parsing.{Gives};
-ghost use Rattle.script_runner.specs.Lines.{EndsAt, Reads, end_of};
-ghost use Rattle.script_runner.specs.Run.{HasNoFeed};
+ghost use Rattle.script_runner.specs.{Lines.{EndsAt, Reads, end_of}, Run.HasNoFeed};
 
 use crate::feed::find_feed;
 use crate::line::answer_parsed;

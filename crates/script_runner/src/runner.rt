@@ -1,11 +1,8 @@
 // A whole run.
 ghost use Rattle.std.specs.Prelude.{◌≡◌, ℕ, ◌+◌, ◌-◌, ◌^◌, ◌<◌, ◌≤◌, ◌++◌, [], List, IsTrue, length, take, vec_len, IfErr, IfOk, OnOk};
-ghost use Rattle.iso_io.specs.Sink.{SinkState};
-ghost use Rattle.iso_io.specs.Source.{MetEnd, SourceState};
+ghost use Rattle.iso_io.specs.{Sink.SinkState, Source.{MetEnd, SourceState}};
 ghost use Rattle.iso_model.specs.World.{World};
-ghost use Rattle.script_runner.specs.Counts.{DiskCount, SinkCounts, SourceCount};
-ghost use Rattle.script_runner.specs.Lines.{Gave, Reads, end_of};
-ghost use Rattle.script_runner.specs.Run.{HasRun};
+ghost use Rattle.script_runner.specs.{Counts.{DiskCount, SinkCounts, SourceCount}, Lines.{Gave, Reads, end_of}, Run.HasRun};
 
 use crate::line::answer_parsed;
 use crate::machine::ScriptMachine;

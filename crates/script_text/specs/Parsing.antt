@@ -1,11 +1,6 @@
 -- What a step of the parser answers.
 use Rattle.std.specs.Prelude.{◌≡◌, ℕ, List, ◌++◌, Result, Ok, Err}
-use Rattle.script_model.specs.Script.{◌>>=◌}
-use Rattle.script_model.specs.declared.script.Op.{Op}
-use Rattle.script_model.specs.declared.script.Parsed.{Parsed}
-use Rattle.script_model.specs.declared.script.Parsed.TheVariants.{Line as Says}
-use Rattle.script_model.specs.declared.script.LineError.{LineError}
-use Rattle.script_model.specs.declared.script.LineError.TheVariants.{Cause, Memory}
+use Rattle.script_model.specs.{Script.◌>>=◌, declared.script.Op.Op, declared.script.Parsed.Parsed, declared.script.Parsed.TheVariants.{Line as Says}, declared.script.LineError.LineError, declared.script.LineError.TheVariants.{Cause, Memory}}
 
 -- the definition fails by that cause, or memory ran out
 abbrev pub Fails : {X : Type 0} → LineError → Result X ℕ → Type 0

@@ -1,8 +1,6 @@
 -- What a step of the printer asks for and leaves.
 use Rattle.std.specs.Prelude.{◌≡◌, ◌<◌, ◌≤◌, ℕ, List, ◌++◌, length}
-use Rattle.script_model.specs.declared.script.Reply.{Reply}
-use Rattle.script_model.specs.declared.script.Reply.TheVariants.{Found, Grouped, Pairs, Shown}
-use Rattle.script_model.specs.Text.{reply_text}
+use Rattle.script_model.specs.{declared.script.Reply.Reply, declared.script.Reply.TheVariants.{Found, Grouped, Pairs, Shown}, Text.reply_text}
 use Rattle.script_text.specs.declared.reply.TheConstants.{MOST_SHOWN}
 
 -- the old bytes stand, and others may follow them

@@ -1,15 +1,7 @@
 -- The printed spelling of a line, and the lines that it can say.
-use Rattle.std.specs.Prelude.{ℕ, ◌≤◌, ◌<◌, ◌^◌, IsTrue, List, [], ◌∷◌, ◌++◌, Some, None, codes, decimal, length}
-use Rattle.iso_model.specs.declared.access.Mode.{Mode}
-use Rattle.iso_model.specs.declared.access.Mode.TheVariants.{Serial, Snapshot}
-use Rattle.script_model.specs.declared.script.Line.{Line}
-use Rattle.script_model.specs.declared.script.Op.{Op}
-use Rattle.script_model.specs.declared.script.Op.TheVariants.{Begin, End, Abort, Put, Read, Get, Write, Fill, Mark, Release, Takeover, Await, Group, Trim, Stat, Compact, Upgrade, HashPut, HashGet, HashDelete, TreePut, TreeGet, TreeDelete, TreeScan, FileNew, FileWrite, FileRead, FileMove, FileDelete}
-use Rattle.std.specs.List.{AllByRecursion}
-use Rattle.script_model.specs.declared.script.TheConstants.{MAX_LABELS}
-use Rattle.iso_model.specs.Premises.{AreBytes}
-use Rattle.script_model.specs.Text.{dashed, hex_text}
-use Rattle.iso_model.specs.Labels.{is_label}
+use Rattle.std.specs.{Prelude.{ℕ, ◌≤◌, ◌<◌, ◌^◌, IsTrue, List, [], ◌∷◌, ◌++◌, Some, None, codes, decimal, length}, List.AllByRecursion}
+use Rattle.iso_model.specs.{declared.access.Mode.Mode, declared.access.Mode.TheVariants.{Serial, Snapshot}, Premises.AreBytes, Labels.is_label}
+use Rattle.script_model.specs.{declared.script.Line.Line, declared.script.Op.Op, declared.script.Op.TheVariants.{Begin, End, Abort, Put, Read, Get, Write, Fill, Mark, Release, Takeover, Await, Group, Trim, Stat, Compact, Upgrade, HashPut, HashGet, HashDelete, TreePut, TreeGet, TreeDelete, TreeScan, FileNew, FileWrite, FileRead, FileMove, FileDelete}, declared.script.TheConstants.MAX_LABELS, Text.{dashed, hex_text}}
 
 -- the name of an operation
 abbrev pub name_of : Op → List ℕ

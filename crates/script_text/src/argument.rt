@@ -1,9 +1,7 @@
 // The arguments of an operation, each with the cause that it fails by.
 ghost use Rattle.std.specs.Prelude.{[], ◌∷◌};
-ghost use Rattle.script_model.specs.Script.{client_in_range, hex_argument, label_argument, labels_of, mode_argument, number_argument, store_argument};
-ghost use Rattle.script_model.specs.Text.{number_of};
-ghost use Rattle.script_text.specs.Parsing.{Gives, GivesBehind};
-ghost use Rattle.script_text.specs.Words.{texts};
+ghost use Rattle.script_model.specs.{Script.{client_in_range, hex_argument, label_argument, labels_of, mode_argument, number_argument, store_argument}, Text.number_of};
+ghost use Rattle.script_text.specs.{Parsing.{Gives, GivesBehind}, Words.texts};
 
 use crate::hex_digits::decode;
 use crate::word::number_of;

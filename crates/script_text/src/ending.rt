@@ -19,8 +19,7 @@ pub(crate) struct Ending {
 
 impl Model for Ending {
     ghost use Rattle.std.specs.Prelude.{◌≤◌, drop};
-    ghost use Rattle.script_text.specs.Ending.{WithFront};
-    ghost use Rattle.script_text.specs.declared.ending.TheConstants.{MOST_BYTES};
+    ghost use Rattle.script_text.specs.{Ending.WithFront, declared.ending.TheConstants.MOST_BYTES};
 
     ghost Value = { WithFront };
 

@@ -1,8 +1,7 @@
 // The operations on files.
 ghost use Rattle.script_model.specs.Script.{file_operation, key_and_value, one_key, read_arguments, write_arguments};
 ghost use Rattle.script_model.specs.declared.script.Op.TheVariants as ops;
-ghost use Rattle.script_text.specs.Parsing.{Gives, said_by};
-ghost use Rattle.script_text.specs.Words.{texts};
+ghost use Rattle.script_text.specs.{Parsing.{Gives, said_by}, Words.texts};
 
 use crate::argument::{hex, number, stored};
 use script_model::{Line, LineError, Op, Parsed};

@@ -1,7 +1,6 @@
 // The line of a reply that tells how a group ended.
 ghost use Rattle.std.specs.Prelude.{◌≡◌, ◌++◌, OnErr, OnOk, codes, decimal, flat_map};
-ghost use Rattle.script_model.specs.declared.script.Reply.TheVariants.{Grouped};
-ghost use Rattle.script_model.specs.Text.{clash_text, full_text, label_text, labels_text, reply_line};
+ghost use Rattle.script_model.specs.{declared.script.Reply.TheVariants.Grouped, Text.{clash_text, full_text, label_text, labels_text, reply_line}};
 ghost use Rattle.script_text.specs.Printing.{Extends};
 
 use crate::push::{push_bytes, push_number};

@@ -1,7 +1,6 @@
 // Bytes that are spelled in hexadecimal: each pair of digits is looked at in the same way, with no way out between, so that many
 // pairs are read at once.
-ghost use Rattle.std.specs.Prelude.{◌≡◌, ◌+◌, ◌*◌, ◌<◌, ◌&&◌, IfSome, None, Some, if◌then◌else◌, length};
-ghost use Rattle.std.specs.Option.{is_some};
+ghost use Rattle.std.specs.{Prelude.{◌≡◌, ◌+◌, ◌*◌, ◌<◌, ◌&&◌, IfSome, None, Some, if◌then◌else◌, length}, Option.is_some};
 ghost use Rattle.script_model.specs.Text.{hex_digit, hex_pairs};
 
 /// The value of a digit, in either case. Of another byte it is some number.

@@ -1,11 +1,7 @@
 //! The laws of the language: each function does nothing, and its contract is the law.
 ghost use Rattle.std.specs.Prelude.{◌≡◌, ◌≤◌, Ok, length};
 ghost use Rattle.iso_model.specs.declared.limits.TheConstants.{MAX_LINE};
-ghost use Rattle.script_model.specs.declared.script.Line.{Line};
-ghost use Rattle.script_model.specs.declared.script.Op.{Op};
-ghost use Rattle.script_model.specs.declared.script.Parsed.TheVariants.{Line as Says};
-ghost use Rattle.script_model.specs.Script.{operation_of, parse};
-ghost use Rattle.script_model.specs.Text.{words_of};
+ghost use Rattle.script_model.specs.{declared.script.Line.Line, declared.script.Op.Op, declared.script.Parsed.TheVariants.{Line as Says}, Script.{operation_of, parse}, Text.words_of};
 ghost use Rattle.script_text.specs.Spelling.{arguments_of, line_text, line_words, name_of, IsLine, IsSayable};
 
 /// A printed line has the words of the line, and a printed operation is read as that operation. So a printed line that is

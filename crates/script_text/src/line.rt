@@ -1,8 +1,7 @@
 // What a line of a script says.
 ghost use Rattle.std.specs.Prelude.{◌≡◌};
 ghost use Rattle.script_model.specs.Script.{is_skipped, parse, parse_whole, said, without_return};
-ghost use Rattle.script_text.specs.Parsing.{Gives};
-ghost use Rattle.script_text.specs.Words.{texts};
+ghost use Rattle.script_text.specs.{Parsing.Gives, Words.texts};
 
 use crate::argument::client;
 use crate::operation::operation_of;

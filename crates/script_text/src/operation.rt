@@ -1,8 +1,7 @@
 // The operations, each with its arguments, which are tested from the left.
 ghost use Rattle.script_model.specs.Script.{bare, begin_arguments, group_arguments, key_and_value, number_and_bytes, one_key, one_label, one_number, operation_of, other_operation, put_arguments, scan_arguments, store_operation, three_numbers, tree_operation, two_numbers};
 ghost use Rattle.script_model.specs.declared.script.Op.TheVariants as ops;
-ghost use Rattle.script_text.specs.Parsing.{Gives, said_by};
-ghost use Rattle.script_text.specs.Words.{texts};
+ghost use Rattle.script_text.specs.{Parsing.{Gives, said_by}, Words.texts};
 
 use crate::argument::{hex, label, labels, mode, number, stored};
 use crate::files::file_operation;

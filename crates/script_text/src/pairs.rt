@@ -1,7 +1,6 @@
 // The line of a reply that tells pairs of a store.
 ghost use Rattle.std.specs.Prelude.{◌≡◌, ◌++◌, OnErr, OnOk, flat_map};
-ghost use Rattle.script_model.specs.declared.script.Reply.TheVariants.{Pairs};
-ghost use Rattle.script_model.specs.Text.{pair_text, reply_line};
+ghost use Rattle.script_model.specs.{declared.script.Reply.TheVariants.Pairs, Text.{pair_text, reply_line}};
 ghost use Rattle.script_text.specs.Printing.{Extends};
 
 use crate::push::{push_bytes, push_dashed, push_number};

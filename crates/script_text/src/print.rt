@@ -1,8 +1,7 @@
 // The printed spelling of a line.
 ghost use Rattle.std.specs.Prelude.{◌≡◌, ◌≤◌, ◌∷◌, ◌++◌, IfOk, Ok, OnOk, codes, decimal, flat_map, length};
 ghost use Rattle.iso_model.specs.declared.limits.TheConstants.{MAX_LINE};
-ghost use Rattle.script_model.specs.declared.script.Parsed.TheVariants.{Line as Says};
-ghost use Rattle.script_model.specs.Script.{parse};
+ghost use Rattle.script_model.specs.{declared.script.Parsed.TheVariants.{Line as Says}, Script.parse};
 ghost use Rattle.script_text.specs.Spelling.{arguments_of, line_text, name_of, spaced, IsLine};
 
 use crate::push::{push_bytes, push_dashed, push_hex, push_number};

@@ -1,9 +1,7 @@
 // The line of a reply.
 ghost use Rattle.std.specs.Prelude.{◌≡◌, ◌+◌, ◌*◌, ◌<◌, ◌≤◌, ◌++◌, IfOk, MatchOption, OnOk, OnErr, codes, decimal, length};
-ghost use Rattle.script_model.specs.declared.script.Reply.TheVariants.{Shown};
-ghost use Rattle.script_model.specs.Text.{dashed, reply_line, reply_text};
-ghost use Rattle.script_text.specs.Printing.{Extends, IsLong, IsOther, IsShort};
-ghost use Rattle.script_text.specs.declared.reply.TheConstants.{MOST_SHOWN};
+ghost use Rattle.script_model.specs.{declared.script.Reply.TheVariants.Shown, Text.{dashed, reply_line, reply_text}};
+ghost use Rattle.script_text.specs.{Printing.{Extends, IsLong, IsOther, IsShort}, declared.reply.TheConstants.MOST_SHOWN};
 
 use crate::ending::Ending;
 use crate::grouped::push_grouped;

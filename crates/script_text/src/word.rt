@@ -1,9 +1,6 @@
 // The words of a line, and the numbers that they spell.
-ghost use Rattle.std.specs.Prelude.{◌≡◌, ◌+◌, ◌<◌, ◌≤◌, [], ◌∷◌, IfNone, IfSome, drop, false, length, take, true};
-ghost use Rattle.std.specs.List.{list_all};
-ghost use Rattle.std.specs.Option.{is_some};
-ghost use Rattle.script_model.specs.Script.{is_printable};
-ghost use Rattle.script_model.specs.Text.{number_of, words_of};
+ghost use Rattle.std.specs.{Prelude.{◌≡◌, ◌+◌, ◌<◌, ◌≤◌, [], ◌∷◌, IfNone, IfSome, drop, false, length, take, true}, List.list_all, Option.is_some};
+ghost use Rattle.script_model.specs.{Script.is_printable, Text.{number_of, words_of}};
 ghost use Rattle.script_text.specs.Words.{is_word_byte, may_be_decimal, texts, word_before};
 
 /// How many words a line is cut into: a client, a name, and one argument more than any operation has. So what follows them

@@ -1,8 +1,7 @@
 // What the calls of a device answer through the lock, one after another: the check ahead, labels and upkeep.
 ghost use Rattle.std.specs.Prelude.{◌≡◌, ◌+◌, ◌<◌, IfSome, MatchOption};
 ghost use Rattle.iso_memdisk.specs.MemDisk.{state_of};
-ghost use Rattle.iso_shared.specs.Ports.{IsPort, IsTx, port_view, tx_view};
-ghost use Rattle.iso_shared.specs.TestImage.{small, MayStart};
+ghost use Rattle.iso_shared.specs.{Ports.{IsPort, IsTx, port_view, tx_view}, TestImage.{small, MayStart}};
 
 use crate::tests::{commits, ended, new_core, put, same};
 use iso_core::Core;

@@ -1,9 +1,7 @@
 // The end of a group through the lock: what its members are answered, and what stands after it.
-ghost use Rattle.std.specs.Prelude.{◌≡◌, ◌+◌, ◌<◌, [], ◌∷◌, IfErr, IfNone, IfOk, IfSome, MatchOption, length, vec_len};
-ghost use Rattle.std.specs.List.{AllByRecursion};
+ghost use Rattle.std.specs.{Prelude.{◌≡◌, ◌+◌, ◌<◌, [], ◌∷◌, IfErr, IfNone, IfOk, IfSome, MatchOption, length, vec_len}, List.AllByRecursion};
 ghost use Rattle.iso_memdisk.specs.MemDisk.{state_of};
-ghost use Rattle.iso_shared.specs.Ports.{IsPort, IsTx, port_view};
-ghost use Rattle.iso_shared.specs.TestImage.{small, MayStart};
+ghost use Rattle.iso_shared.specs.{Ports.{IsPort, IsTx, port_view}, TestImage.{small, MayStart}};
 
 use crate::answer_tests::one_at_work;
 use crate::tests::{core_failing, put, same};

@@ -1,8 +1,7 @@
 // What the calls of a device refuse through the lock, why, and what stands after it.
 ghost use Rattle.std.specs.Prelude.{◌≡◌, ◌+◌, ◌<◌};
 ghost use Rattle.iso_memdisk.specs.MemDisk.{state_of};
-ghost use Rattle.iso_shared.specs.Ports.{IsPort, port_view};
-ghost use Rattle.iso_shared.specs.TestImage.{MayStart};
+ghost use Rattle.iso_shared.specs.{Ports.{IsPort, port_view}, TestImage.MayStart};
 
 use crate::answer_tests::{Upkeep, one_at_work, upkeep};
 use crate::tests::{commits, core_failing, ended, new_core, put, same};

@@ -2,13 +2,10 @@
 // logs of 4,096 bytes.
 ghost use Rattle.std.specs.Prelude.{◌≡◌, ◌+◌, ◌<◌, replicate, IfOk, IsTrue};
 ghost use denote.Param.Send.{IsSync};
-ghost use Rattle.iso_core.specs.Core.{StandsFor};
-ghost use Rattle.iso_core.specs.Standing.{up};
-ghost use Rattle.iso_model.specs.World.{empty_history, fresh};
+ghost use Rattle.iso_core.specs.{Core.StandsFor, Standing.up};
+ghost use Rattle.iso_model.specs.{World.{empty_history, fresh}, Geometry.is_valid};
 ghost use Rattle.iso_memdisk.specs.MemDisk.{state_of};
-ghost use Rattle.iso_model.specs.Geometry.{is_valid};
-ghost use Rattle.iso_shared.specs.Ports.{IsPort, IsTx, port_view, tx_view};
-ghost use Rattle.iso_shared.specs.TestImage.{small, MayStart};
+ghost use Rattle.iso_shared.specs.{Ports.{IsPort, IsTx, port_view, tx_view}, TestImage.{small, MayStart}};
 
 use iso_core::{Core, Stat};
 use iso_memdisk::{CallKind, MemDisk};

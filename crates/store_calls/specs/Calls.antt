@@ -1,38 +1,16 @@
 -- What a call of a store on a transaction does, and what it is answered.
-use Rattle.std.specs.Prelude.{◌≡◌, ℕ, ◌&&◌, ◌==◌, Bool, false, IsTrue, List, [], Option, Result, Ok, Err, IfOk, IsErrOf, OnErr, take}
-use Rattle.std.specs.Option.{ForSome}
+use Rattle.std.specs.{Prelude.{◌≡◌, ℕ, ◌&&◌, ◌==◌, Bool, false, IsTrue, List, [], Option, Result, Ok, Err, IfOk, IsErrOf, OnErr, take}, Option.ForSome}
 use Rattle.fault_count.specs.Count.{Rose}
-use Rattle.iso_model.specs.declared.access.Access.{Access}
-use Rattle.iso_model.specs.declared.access.Geometry.{Geometry}
-use Rattle.script_model.specs.declared.script.Op.{Op}
-use Rattle.script_model.specs.declared.script.Op.TheVariants.{HashPut, HashGet, HashDelete, TreePut, TreeGet, TreeDelete, TreeScan, FileNew, FileWrite, FileRead, FileMove, FileDelete}
-use Rattle.script_model.specs.declared.script.Reply.{Reply}
+use Rattle.iso_model.specs.{declared.access.Access.Access, declared.access.Geometry.Geometry, Array.Array, Effect.own}
+use Rattle.script_model.specs.{declared.script.Op.Op, declared.script.Op.TheVariants.{HashPut, HashGet, HashDelete, TreePut, TreeGet, TreeDelete, TreeScan, FileNew, FileWrite, FileRead, FileMove, FileDelete}, declared.script.Reply.Reply, FilesArea.files_area, Step.{file_refusal, found_reply, pairs_reply, removed_reply, store_refusal, store_reply}, declared.stop.Stop.Stop}
 use Rattle.script_model.specs.declared.script.Reply.TheVariants as reply
-use Rattle.store_model.specs.declared.files.FileAreas.{FileAreas}
-use Rattle.store_model.specs.declared.files.FsRegion.{FsRegion}
-use Rattle.store_model.specs.declared.files.FsError.{FsError}
+use Rattle.store_model.specs.{declared.files.FileAreas.FileAreas, declared.files.FsRegion.FsRegion, declared.files.FsError.FsError, declared.stores.Area.Area, declared.stores.StoreError.StoreError, declared.stores.TxError.TxError, FileCalls.{create_program, read_program, remove_program, rename_program, write_program}, FileRegion.AreFileAreas, HashCalls.{del_program, get_program, is_key, put_program}, HashRegion.IsHashArea, Areas.{hash_area, tree_area}, Stores.outcome, TreeRegion.IsTreeArea}
 use Rattle.store_model.specs.declared.files.FsError.TheVariants as fs
-use Rattle.store_model.specs.declared.stores.Area.{Area}
-use Rattle.store_model.specs.declared.stores.StoreError.{StoreError}
 use Rattle.store_model.specs.declared.stores.StoreError.TheVariants as store
-use Rattle.store_model.specs.declared.stores.TxError.{TxError}
 use Rattle.store_model.specs.declared.stores.TxError.TheVariants as error
-use Rattle.iso_model.specs.Array.{Array}
-use Rattle.iso_model.specs.Effect.{own}
-use Rattle.store_model.specs.FileCalls.{create_program, read_program, remove_program, rename_program, write_program}
-use Rattle.store_model.specs.FileRegion.{AreFileAreas}
-use Rattle.store_model.specs.HashCalls.{del_program, get_program, is_key, put_program}
-use Rattle.store_model.specs.HashRegion.{IsHashArea}
-use Rattle.script_model.specs.FilesArea.{files_area}
-use Rattle.script_model.specs.Step.{file_refusal, found_reply, pairs_reply, removed_reply, store_refusal, store_reply}
-use Rattle.store_model.specs.Areas.{hash_area, tree_area}
-use Rattle.store_model.specs.Stores.{outcome}
 use Rattle.store_model.specs.TreeCalls as tree
-use Rattle.store_model.specs.TreeRegion.{IsTreeArea}
 use Rattle.tx_blocks.specs.Tx as tx
-use Rattle.tx_blocks.specs.Tx.{Tx, Device, room_of}
-use Rattle.tx_blocks.specs.Runs.{Passed}
-use Rattle.script_model.specs.declared.stop.Stop.{Stop}
+use Rattle.tx_blocks.specs.{Tx.{Tx, Device, room_of}, Runs.Passed}
 use Rattle.script_model.specs.declared.stop.Stop.TheVariants as stop
 
 -- a store that has one region alone

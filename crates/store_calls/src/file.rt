@@ -1,9 +1,7 @@
 // Calls of the file store on any transaction.
 ghost use Rattle.std.specs.Prelude.{◌≡◌, ◌+◌, ◌≤◌, true};
-ghost use Rattle.store_model.specs.FileCalls.{create_program, read_program, remove_program, rename_program, write_program};
-ghost use Rattle.store_model.specs.FileRegion.{AreFileAreas};
+ghost use Rattle.store_model.specs.{FileCalls.{create_program, read_program, remove_program, rename_program, write_program}, FileRegion.AreFileAreas, Stores.outcome};
 ghost use Rattle.script_model.specs.Step.{found_reply, removed_reply};
-ghost use Rattle.store_model.specs.Stores.{outcome};
 ghost use Rattle.script_model.specs.declared.script.Reply.TheVariants as reply;
 ghost use Rattle.iso_fs.specs.Ends.{areas_of};
 ghost use Rattle.store_calls.specs.Calls.{HasCalled, Stops, filed};

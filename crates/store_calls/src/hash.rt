@@ -1,9 +1,7 @@
 // Calls of the hash store on any transaction.
 ghost use Rattle.std.specs.Prelude.{◌≡◌, ◌+◌, ◌≤◌, true};
-ghost use Rattle.store_model.specs.HashCalls.{del_program, get_program, put_program};
-ghost use Rattle.store_model.specs.HashRegion.{IsHashArea};
+ghost use Rattle.store_model.specs.{HashCalls.{del_program, get_program, put_program}, HashRegion.IsHashArea, Stores.outcome};
 ghost use Rattle.script_model.specs.Step.{found_reply, removed_reply};
-ghost use Rattle.store_model.specs.Stores.{outcome};
 ghost use Rattle.script_model.specs.declared.script.Reply.TheVariants as reply;
 ghost use Rattle.tx_blocks.specs.Runs.{area_of};
 ghost use Rattle.store_calls.specs.Calls.{HasCalled, Stops, stored};

@@ -1,10 +1,7 @@
 // Calls of the tree store on any transaction.
 ghost use Rattle.std.specs.Prelude.{◌≡◌, ◌+◌, ◌≤◌, ◌==◌, ◌&&◌, false, true};
-ghost use Rattle.store_model.specs.HashCalls.{is_key};
-ghost use Rattle.store_model.specs.TreeCalls.{del_program, get_program, put_program, scan_program};
-ghost use Rattle.store_model.specs.TreeRegion.{IsTreeArea};
+ghost use Rattle.store_model.specs.{HashCalls.is_key, TreeCalls.{del_program, get_program, put_program, scan_program}, TreeRegion.IsTreeArea, Stores.outcome};
 ghost use Rattle.script_model.specs.Step.{found_reply, pairs_reply, removed_reply};
-ghost use Rattle.store_model.specs.Stores.{outcome};
 ghost use Rattle.script_model.specs.declared.script.Reply.TheVariants as reply;
 ghost use Rattle.tx_blocks.specs.Runs.{area_of};
 ghost use Rattle.store_calls.specs.Calls.{HasCalled, Stops, stored};

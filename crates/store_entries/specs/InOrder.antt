@@ -1,22 +1,10 @@
 -- The store theorem of the list of a shared device, as one word.
 use Rattle.std.specs.Prelude.{◌≡◌, ℕ, ◌-◌, true, List, ◌∷◌, ◌++◌}
-use Rattle.iso_model.specs.declared.access.Access.{Access}
-use Rattle.iso_model.specs.declared.access.Commit.{Commit}
-use Rattle.iso_model.specs.declared.access.EndReply.TheVariants.{Committed, ReadOnly}
-use Rattle.iso_model.specs.declared.access.Geometry.{Geometry}
+use Rattle.iso_model.specs.{declared.access.Access.Access, declared.access.Commit.Commit, declared.access.EndReply.TheVariants.{Committed, ReadOnly}, declared.access.Geometry.Geometry, Array.Array, Effect.own, History.{History, array_at, last}, Step.commit_from, World.World}
 use Rattle.iso_model.specs.declared.access.GroupReply.TheVariants as member
-use Rattle.iso_model.specs.Array.{Array}
-use Rattle.iso_model.specs.Effect.{own}
-use Rattle.iso_model.specs.History.{History, array_at, last}
-use Rattle.iso_model.specs.Step.{commit_from}
-use Rattle.iso_model.specs.World.{World}
-use Rattle.iso_shared.specs.declared.entry.Entry.{Entry}
+use Rattle.iso_shared.specs.{declared.entry.Entry.Entry, declared.entry.MemberEnd.MemberEnd, States.{Start, is_live, live_of, state_at, tx_of}}
 use Rattle.iso_shared.specs.declared.entry.Entry.TheVariants as entry
-use Rattle.iso_shared.specs.declared.entry.MemberEnd.{MemberEnd}
-use Rattle.iso_shared.specs.States.{Start, is_live, live_of, state_at, tx_of}
-use Rattle.store_laws.specs.Both.{AreMixed, BothByMap, BothInOrder, BothWellFormed, IsByBoth, IsOfBoth, MixedParts, firsts}
-use Rattle.store_laws.specs.Region.{MapStore}
-use Rattle.store_laws.specs.Parts.{accesses_in}
+use Rattle.store_laws.specs.{Both.{AreMixed, BothByMap, BothInOrder, BothWellFormed, IsByBoth, IsOfBoth, MixedParts, firsts}, Region.MapStore, Parts.accesses_in}
 use Rattle.store_scripts.specs.Stores.{image_files, image_hash, image_tree}
 
 abbrev pub world_at : Start → List Entry → World

@@ -1,10 +1,7 @@
 // The law of lists with stores: the function does nothing, and its contract is the law.
 ghost use Rattle.std.specs.Prelude.{◌≡◌, [], List};
 ghost use Rattle.iso_model.specs.Worlds.{IsWorld};
-ghost use Rattle.iso_shared.specs.declared.entry.Entry.{Entry};
-ghost use Rattle.iso_shared.specs.Legal.{IsLegal};
-ghost use Rattle.iso_shared.specs.Ports.{IsIsolatedAt};
-ghost use Rattle.iso_shared.specs.States.{Start};
+ghost use Rattle.iso_shared.specs.{declared.entry.Entry.Entry, Legal.IsLegal, Ports.IsIsolatedAt, States.Start};
 ghost use Rattle.store_entries.specs.InOrder.{FilesAnswerAt, StoresAnswerAt};
 
 /// In a legal list of a shared device, begun without a transaction on a sound world, whose history is isolated: where the stores

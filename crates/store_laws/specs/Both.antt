@@ -1,16 +1,8 @@
 -- Transactions that call two stores.
 use Rattle.std.specs.Prelude.{◌≡◌, ◌⊎◌, ℕ, ◌+◌, ◌-◌, ◌<◌, ◌≤◌, IfSome, List, [], ◌∷◌, map, slice_get}
-use Rattle.iso_model.specs.declared.access.Access.{Access}
-use Rattle.iso_model.specs.declared.access.Commit.{Commit}
-use Rattle.iso_model.specs.declared.access.Geometry.{Geometry}
-use Rattle.iso_model.specs.declared.access.Mode.TheVariants.{Serial}
-use Rattle.iso_model.specs.Array.{Array}
-use Rattle.iso_model.specs.Effect.{own}
-use Rattle.iso_model.specs.History.{History, array_at, last}
-use Rattle.iso_model.specs.Isolation.{IsIsolated}
+use Rattle.iso_model.specs.{declared.access.Access.Access, declared.access.Commit.Commit, declared.access.Geometry.Geometry, declared.access.Mode.TheVariants.Serial, Array.Array, Effect.own, History.{History, array_at, last}, Isolation.IsIsolated}
 use Rattle.store_model.specs.Stores.{IsLocal}
-use Rattle.store_laws.specs.Region.{MapStore, SpareRegion}
-use Rattle.store_laws.specs.Parts.{AnswerInOrder, Called, Other, Part, accesses_in, answers_in, calls_in}
+use Rattle.store_laws.specs.{Region.{MapStore, SpareRegion}, Parts.{AnswerInOrder, Called, Other, Part, accesses_in, answers_in, calls_in}}
 
 -- A part of a transaction: a call of the first store or of the second, with the accesses that it made and its answer, or other accesses.
 pub data Mixed (OneCall OneAnswer TwoCall TwoAnswer : Type 0) : Type 0 where

@@ -3,11 +3,7 @@ use Rattle.std.specs.Prelude.{List}
 use Rattle.store_model.specs.declared.stores.Area.{Area}
 use Rattle.iso_model.specs.Array.{Array}
 use Rattle.tx_blocks.specs.Tx.{Tx}
-use Rattle.store_laws.specs.Both.{Mixed}
-use Rattle.store_laws.specs.Calls.{KeyCall, StoreAnswer}
-use Rattle.store_laws.specs.Growing.{IsMadeOfBoth}
-use Rattle.store_laws.specs.Hash.{hash_store}
-use Rattle.store_laws.specs.Tree.{TreeCall, tree_store}
+use Rattle.store_laws.specs.{Both.Mixed, Calls.{KeyCall, StoreAnswer}, Growing.IsMadeOfBoth, Hash.hash_store, Tree.{TreeCall, tree_store}}
 
 -- a part: `First` is a call of the hash store, `Second` one of the tree store
 abbrev pub StorePart : Type 0

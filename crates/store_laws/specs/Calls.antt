@@ -1,7 +1,6 @@
 -- What the stores share: the calls on one key with their operations on the map, what calls answer, and the blocks of an area.
 use Rattle.std.specs.Prelude.{◌⊎◌, ℕ, ◌+◌, ◌≤◌, Bool, List, Option}
-use Rattle.store_model.specs.declared.stores.Area.{Area}
-use Rattle.store_model.specs.HashRegion.{Pairs, del_op, get_op, put_op}
+use Rattle.store_model.specs.{declared.stores.Area.Area, HashRegion.{Pairs, del_op, get_op, put_op}}
 pub use Rattle.store_model.specs.Areas.{in_area}
 
 -- a call on one key

@@ -1,25 +1,10 @@
 -- The regions of the file store depend on the blocks of its areas alone.
-use Rattle.std.proofs.Common.{◌≡◌, ◌∙◌, sym, ap, ℕ, ◌+◌, ◌<◌, true, List, Option, Some, None, option_map, length, take, arith}
-use Rattle.std.specs.List.{list_all}
-use Rattle.std.specs.FinMap.{get, same_map, slice_cmp-IsAntisymmetric, nat_cmp-IsAntisymmetric}
-use Rattle.std.specs.Cmp.Lexicographic.{nat_list_cmp_total}
-use Rattle.std.proofs.lemmas.Bool.{or_left, or_right}
-use Rattle.iso_model.specs.Array.{Array}
-use Rattle.iso_model.specs.Premises.{block_at}
-use Rattle.store_model.specs.declared.files.FileAreas.{FileAreas}
-use Rattle.store_model.specs.Areas.{in_area}
-use Rattle.store_model.specs.Cells.{is_zero}
-use Rattle.store_model.specs.FreeMap.{map_bit}
-use Rattle.store_model.specs.TreeRegion.{tree_map}
-use Rattle.store_model.specs.FileNodes.{is_file, number_of}
-use Rattle.store_model.specs.FileRegion.{AreFileAreas, AreFileRegions, Uses, content, file_at, files, number_at}
-use Rattle.store_model.proofs.AreaBlocks.{in_its_area, start_in}
+use Rattle.std.{proofs.Common.{◌≡◌, ◌∙◌, sym, ap, ℕ, ◌+◌, ◌<◌, true, List, Option, Some, None, option_map, length, take, arith}, specs.List.list_all, specs.FinMap.{get, same_map, slice_cmp-IsAntisymmetric, nat_cmp-IsAntisymmetric}, specs.Cmp.Lexicographic.nat_list_cmp_total, proofs.lemmas.Bool.{or_left, or_right}}
+use Rattle.iso_model.specs.{Array.Array, Premises.block_at}
+use Rattle.store_model.{specs.declared.files.FileAreas.FileAreas, specs.Areas.in_area, specs.Cells.is_zero, specs.FreeMap.map_bit, specs.TreeRegion.tree_map, specs.FileNodes.{is_file, number_of}, specs.FileRegion.{AreFileAreas, AreFileRegions, Uses, content, file_at, files, number_at}, proofs.AreaBlocks.{in_its_area, start_in}}
 use Rattle.iso_tree.proofs.TreeBlocks.{map_new, region_new}
-use Rattle.iso_fs.proofs.Files.{uses_handed}
-use Rattle.iso_fs.proofs.Kept.{kept_content, kept_uses, still_uses}
-use Rattle.iso_fs.proofs.Lookups.{files_get}
-use Rattle.store_laws.specs.Files.{file_store, in_areas}
-use Rattle.store_laws.specs.Region.{IsOfItsBlocks}
+use Rattle.iso_fs.proofs.{Files.uses_handed, Kept.{kept_content, kept_uses, still_uses}, Lookups.files_get}
+use Rattle.store_laws.specs.{Files.{file_store, in_areas}, Region.IsOfItsBlocks}
 
 module _ (a : FileAreas) (areas : AreFileAreas a) (A B : Array) (same : (b : ℕ) → in_areas a b ≡ true → block_at B b ≡ block_at A b) (regions : AreFileRegions a A) where
   in_tree : (b : ℕ) → in_area a.tree b ≡ true → block_at B b ≡ block_at A b

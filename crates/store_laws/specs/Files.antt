@@ -1,11 +1,7 @@
 -- The file store as a store over the blocks of its regions: those of its tree and those of its files.
 use Rattle.std.specs.Prelude.{ℕ, Bool, ◌||◌, List, Option}
-use Rattle.store_model.specs.declared.files.FileAreas.{FileAreas}
-use Rattle.store_model.specs.HashRegion.{Pairs}
-use Rattle.store_model.specs.FileCalls.{create_op, read_op, remove_op, rename_op, write_op}
-use Rattle.store_model.specs.FileRegion.{AreFileRegions, files}
-use Rattle.store_laws.specs.Calls.{in_area}
-use Rattle.store_laws.specs.Region.{MapStore}
+use Rattle.store_model.specs.{declared.files.FileAreas.FileAreas, HashRegion.Pairs, FileCalls.{create_op, read_op, remove_op, rename_op, write_op}, FileRegion.{AreFileRegions, files}}
+use Rattle.store_laws.specs.{Calls.in_area, Region.MapStore}
 
 -- a call on files
 pub data FileCall : Type 0 where

@@ -2,9 +2,7 @@
 use Rattle.std.specs.Prelude.{◌≡◌, List, Some}
 use Rattle.iso_model.specs.Array.{Array}
 use Rattle.tx_blocks.specs.Tx.{Tx}
-use Rattle.store_laws.specs.Both.{AreMixed, MixedParts, firsts}
-use Rattle.store_laws.specs.Parts.{AreMade, Part, accesses_in}
-use Rattle.store_laws.specs.Region.{MapStore}
+use Rattle.store_laws.specs.{Both.{AreMixed, MixedParts, firsts}, Parts.{AreMade, Part, accesses_in}, Region.MapStore}
 
 -- The transaction began with this array, and its accesses are those of these parts.
 pub record IsMadeOf (s : MapStore) (A : Array) (t : Tx) (parts : List (Part s.Call s.Answer)) : Type 0 where

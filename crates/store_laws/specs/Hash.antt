@@ -1,8 +1,6 @@
 -- The hash store as a store over the blocks of its region.
-use Rattle.store_model.specs.declared.stores.Area.{Area}
-use Rattle.store_model.specs.HashRegion.{IsHashRegion, Pairs, hash_map}
-use Rattle.store_laws.specs.Calls.{KeyCall, StoreAnswer, in_area, key_act}
-use Rattle.store_laws.specs.Region.{MapStore}
+use Rattle.store_model.specs.{declared.stores.Area.Area, HashRegion.{IsHashRegion, Pairs, hash_map}}
+use Rattle.store_laws.specs.{Calls.{KeyCall, StoreAnswer, in_area, key_act}, Region.MapStore}
 
 abbrev pub hash_store : Area → MapStore
 hash_store a = record {

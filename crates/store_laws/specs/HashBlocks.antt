@@ -1,20 +1,9 @@
 -- A hash region depends on the blocks of its area alone.
-use Rattle.std.proofs.Common.{◌≡◌, ◌∙◌, sym, refl, ap, subst, ℕ, zero, suc, ◌+◌, ◌<◌, true, List, [], ◌∷◌, ◌++◌, length, arith, inl, inr}
-use Rattle.std.specs.List.{flat_map, list_all, range_with_len}
-use Rattle.std.specs.FinMap.{from_entries}
-use Rattle.store_model.specs.declared.stores.Area.{Area}
-use Rattle.iso_model.specs.Array.{Array}
-use Rattle.store_model.specs.Cells.{cell_count, is_part, is_unused, is_zero, key_at, keys_mark, value_mark}
-use Rattle.store_model.specs.FreeMap.{map_bit}
-use Rattle.store_model.specs.HashRegion.{AreLinked, HaveValues, IsHashArea, IsHashRegion, IsIn, IsKeyed, IsOverflow, Stands, bucket_of, bucket_pairs, buckets, chain, hash_map, is_linked, last_position, next_of, pairs_from, view_of}
-use Rattle.iso_model.specs.Premises.{block_at}
-use Rattle.store_model.specs.Stores.{bytes_in}
-use Rattle.iso_hash.proofs.Chains.{block_inside, length-chain_from, linked_alike}
-use Rattle.iso_hash.proofs.Linking.{chain_of}
-use Rattle.store_model.proofs.AreaBlocks.{same_block, same_first}
-use Rattle.store_model.specs.Areas.{in_area}
-use Rattle.store_laws.specs.Hash.{hash_store}
-use Rattle.store_laws.specs.Region.{IsOfItsBlocks}
+use Rattle.std.{proofs.Common.{◌≡◌, ◌∙◌, sym, refl, ap, subst, ℕ, zero, suc, ◌+◌, ◌<◌, true, List, [], ◌∷◌, ◌++◌, length, arith, inl, inr}, specs.List.{flat_map, list_all, range_with_len}, specs.FinMap.from_entries}
+use Rattle.store_model.{specs.declared.stores.Area.Area, specs.Cells.{cell_count, is_part, is_unused, is_zero, key_at, keys_mark, value_mark}, specs.FreeMap.map_bit, specs.HashRegion.{AreLinked, HaveValues, IsHashArea, IsHashRegion, IsIn, IsKeyed, IsOverflow, Stands, bucket_of, bucket_pairs, buckets, chain, hash_map, is_linked, last_position, next_of, pairs_from, view_of}, specs.Stores.bytes_in, proofs.AreaBlocks.{same_block, same_first}, specs.Areas.in_area}
+use Rattle.iso_model.specs.{Array.Array, Premises.block_at}
+use Rattle.iso_hash.proofs.{Chains.{block_inside, length-chain_from, linked_alike}, Linking.chain_of}
+use Rattle.store_laws.specs.{Hash.hash_store, Region.IsOfItsBlocks}
 
 -- what is done over a list, or over a range, is the same where each step is
 same_over : {X : Type 0} (f g : ℕ → List X) (xs : List ℕ) → ((k : ℕ) → IsIn k xs → f k ≡ g k) → flat_map f xs ≡ flat_map g xs

@@ -1,10 +1,8 @@
 -- Transactions that call a store, and look into another one whose region is in the first one's.
 use Rattle.std.specs.Prelude.{◌≡◌, [], ◌∷◌}
-use Rattle.iso_model.specs.Array.{Array}
-use Rattle.iso_model.specs.Effect.{own}
+use Rattle.iso_model.specs.{Array.Array, Effect.own}
 use Rattle.store_model.specs.Stores.{AreReads, IsLocal}
-use Rattle.store_laws.specs.Both.{First, MixedParts, Neither, Second}
-use Rattle.store_laws.specs.Region.{MapStore, SpareRegion}
+use Rattle.store_laws.specs.{Both.{First, MixedParts, Neither, Second}, Region.{MapStore, SpareRegion}}
 
 -- The parts of a transaction that is shown this array: each call of the store is local for it; each look into the other one is local for
 -- that one and reads alone; all other accesses write no block of the store.

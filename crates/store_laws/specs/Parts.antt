@@ -1,13 +1,6 @@
 -- A transaction cut into the calls of a store and other accesses, and the same calls on a map by one thread.
 use Rattle.std.specs.Prelude.{◌≡◌, ◌⊎◌, ℕ, ◌+◌, ◌-◌, ◌<◌, ◌≤◌, IfSome, List, [], ◌∷◌, ◌++◌, slice_get}
-use Rattle.iso_model.specs.declared.access.Access.{Access}
-use Rattle.iso_model.specs.declared.access.Commit.{Commit}
-use Rattle.iso_model.specs.declared.access.Geometry.{Geometry}
-use Rattle.iso_model.specs.declared.access.Mode.TheVariants.{Serial}
-use Rattle.iso_model.specs.Array.{Array}
-use Rattle.iso_model.specs.Effect.{own}
-use Rattle.iso_model.specs.History.{History, array_at, last}
-use Rattle.iso_model.specs.Isolation.{IsIsolated}
+use Rattle.iso_model.specs.{declared.access.Access.Access, declared.access.Commit.Commit, declared.access.Geometry.Geometry, declared.access.Mode.TheVariants.Serial, Array.Array, Effect.own, History.{History, array_at, last}, Isolation.IsIsolated}
 use Rattle.store_model.specs.Stores.{IsLocal}
 use Rattle.store_laws.specs.Region.{MapStore, SpareRegion}
 

@@ -1,10 +1,6 @@
 -- A store over the blocks of an array: its region, the map that it holds, and what its calls do to the map.
-use Rattle.std.specs.Prelude.{◌≡◌, ℕ, Bool, IsTrue, IsFalse, List}
-use Rattle.std.specs.List.{AllByRecursion}
-use Rattle.iso_model.specs.declared.access.Access.{Access}
-use Rattle.iso_model.specs.Array.{Array}
-use Rattle.iso_model.specs.Effect.{is_write}
-use Rattle.iso_model.specs.Premises.{block_at}
+use Rattle.std.specs.{Prelude.{◌≡◌, ℕ, Bool, IsTrue, IsFalse, List}, List.AllByRecursion}
+use Rattle.iso_model.specs.{declared.access.Access.Access, Array.Array, Effect.is_write, Premises.block_at}
 
 -- The blocks of its region; when the region of an array is well formed, and which map it then holds; what a call answers on a
 -- map, and the map after it.

@@ -1,10 +1,7 @@
 -- The tree store as a store over the blocks of its region.
 use Rattle.std.specs.Prelude.{ℕ, List}
-use Rattle.store_model.specs.declared.stores.Area.{Area}
-use Rattle.store_model.specs.HashRegion.{Pairs}
-use Rattle.store_model.specs.TreeRegion.{IsTreeRegion, scan_op, tree_map}
-use Rattle.store_laws.specs.Calls.{Found, KeyCall, StoreAnswer, in_area, key_act}
-use Rattle.store_laws.specs.Region.{MapStore}
+use Rattle.store_model.specs.{declared.stores.Area.Area, HashRegion.Pairs, TreeRegion.{IsTreeRegion, scan_op, tree_map}}
+use Rattle.store_laws.specs.{Calls.{Found, KeyCall, StoreAnswer, in_area, key_act}, Region.MapStore}
 
 -- a call on one key, or a scan: the pairs with a key from one on and before another, at most so many
 pub data TreeCall : Type 0 where

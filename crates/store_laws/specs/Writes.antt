@@ -1,8 +1,6 @@
 -- Where accesses write.
-use Rattle.std.specs.Prelude.{ℕ, IsTrue, IsFalse, List}
-use Rattle.std.specs.List.{AllByRecursion}
-use Rattle.iso_model.specs.declared.access.Access.{Access}
-use Rattle.iso_model.specs.Effect.{is_write}
+use Rattle.std.specs.{Prelude.{ℕ, IsTrue, IsFalse, List}, List.AllByRecursion}
+use Rattle.iso_model.specs.{declared.access.Access.Access, Effect.is_write}
 use Rattle.store_laws.specs.Region.{MapStore}
 
 -- accesses whose writes are all in the region

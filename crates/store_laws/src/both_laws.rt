@@ -1,24 +1,14 @@
 // The laws of stores, at a hash store and a tree store that one transaction calls.
 ghost use Rattle.std.specs.Prelude.{◌≢◌, ℕ, Bool, IsTrue, ◌<◌, ◌≤◌, ◌-◌, IfSome, IsFalse, List, [], ◌∷◌, ◌++◌, Ok, Option, slice_get};
-ghost use Rattle.iso_model.specs.declared.access.Geometry.{Geometry};
+ghost use Rattle.iso_model.specs.{declared.access.Geometry.Geometry, Array.{zeros, Array}, Effect.{has_write, own}, Geometry.is_valid};
 ghost use Rattle.store_model.specs.declared.stores.Area.{Area};
-ghost use Rattle.iso_model.specs.Array.{zeros, Array};
-ghost use Rattle.iso_model.specs.Effect.{has_write, own};
-ghost use Rattle.iso_model.specs.Geometry.{is_valid};
 ghost use Rattle.store_model.specs.HashCalls as hash;
-ghost use Rattle.store_model.specs.HashRegion.{del_op, get_op, hash_map, put_op, IsHashArea, IsHashRegion};
+ghost use Rattle.store_model.specs.{HashRegion.{del_op, get_op, hash_map, put_op, IsHashArea, IsHashRegion}, Areas.{hash_area, tree_area}};
 ghost use Rattle.iso_model.specs.History.{array_at, last, History};
-ghost use Rattle.store_model.specs.Areas.{hash_area, tree_area};
 ghost use Rattle.store_model.specs.TreeCalls as tree;
 ghost use Rattle.store_model.specs.TreeRegion.{scan_op, tree_map, IsTreeArea, IsTreeRegion};
-ghost use Rattle.store_laws.specs.Both.{firsts, AreMixed, BothByMap, BothInOrder, BothWellFormed, First, IsByBoth, IsOfBoth, Second};
-ghost use Rattle.store_laws.specs.BothStores.{IsMadeOfStores, StorePart};
-ghost use Rattle.store_laws.specs.Calls.{AreDisjoint, Del, Found, Get, Got, Put, WasPut, WasThere};
-ghost use Rattle.store_laws.specs.Hash.{hash_store};
-ghost use Rattle.store_laws.specs.Parts.{accesses_in};
-ghost use Rattle.store_laws.specs.Tree.{tree_store, OnKey, Scan};
-ghost use Rattle.tx_blocks.specs.Runs.{HasEnded, IsLocalCall};
-ghost use Rattle.tx_blocks.specs.Tx.{added, Tx};
+ghost use Rattle.store_laws.specs.{Both.{firsts, AreMixed, BothByMap, BothInOrder, BothWellFormed, First, IsByBoth, IsOfBoth, Second}, BothStores.{IsMadeOfStores, StorePart}, Calls.{AreDisjoint, Del, Found, Get, Got, Put, WasPut, WasThere}, Hash.hash_store, Parts.accesses_in, Tree.{tree_store, OnKey, Scan}};
+ghost use Rattle.tx_blocks.specs.{Runs.{HasEnded, IsLocalCall}, Tx.{added, Tx}};
 
 /// Where commits write the regions of a hash store and of a tree store by calls that answered Ok alone, and both begin well formed, the
 /// calls of each store in a commit answer as one thread's calls on its finite map: it begins as the map of the array directly before the

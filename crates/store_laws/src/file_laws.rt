@@ -1,32 +1,13 @@
 // The laws of stores, at the file store, and at a hash store and a file store that one transaction calls.
-ghost use Rattle.std.specs.Prelude.{◌≡◌, ℕ, Bool, ◌<◌, ◌≤◌, ◌+◌, ◌-◌, IfSome, IsFalse, List, [], ◌∷◌, ◌++◌, Ok, Option, Some, map, replicate, slice_get};
-ghost use Rattle.std.specs.FinMap.{empty};
-ghost use Rattle.iso_model.specs.declared.access.Geometry.{Geometry};
-ghost use Rattle.iso_model.specs.declared.access.Mode.TheVariants.{Serial};
-ghost use Rattle.iso_model.specs.Array.{zeros, Array};
-ghost use Rattle.iso_model.specs.Effect.{has_write, own};
-ghost use Rattle.iso_model.specs.History.{array_at, last, History};
-ghost use Rattle.iso_model.specs.Premises.{block_at};
-ghost use Rattle.store_model.specs.declared.stores.Area.{Area};
-ghost use Rattle.store_model.specs.declared.files.FileAreas.{FileAreas};
+ghost use Rattle.std.specs.{Prelude.{◌≡◌, ℕ, Bool, ◌<◌, ◌≤◌, ◌+◌, ◌-◌, IfSome, IsFalse, List, [], ◌∷◌, ◌++◌, Ok, Option, Some, map, replicate, slice_get}, FinMap.empty};
+ghost use Rattle.iso_model.specs.{declared.access.Geometry.Geometry, declared.access.Mode.TheVariants.Serial, Array.{zeros, Array}, Effect.{has_write, own}, History.{array_at, last, History}, Premises.block_at};
+ghost use Rattle.store_model.specs.{declared.stores.Area.Area, declared.files.FileAreas.FileAreas};
 ghost use Rattle.store_model.specs.HashCalls as hash;
 ghost use Rattle.store_model.specs.TreeCalls as tree;
-ghost use Rattle.store_model.specs.HashRegion.{del_op, get_op, hash_map, put_op, IsHashArea, IsHashRegion};
-ghost use Rattle.store_model.specs.FileCalls.{create_op, create_program, read_op, read_program, remove_op, remove_program, rename_op, rename_program, write_op, write_program};
-ghost use Rattle.store_model.specs.FileRegion.{files, AreFileAreas, AreFileRegions};
-ghost use Rattle.tx_blocks.specs.Runs.{HasEnded, IsLocalCall};
-ghost use Rattle.tx_blocks.specs.Tx.{added, Tx};
+ghost use Rattle.store_model.specs.{HashRegion.{del_op, get_op, hash_map, put_op, IsHashArea, IsHashRegion}, FileCalls.{create_op, create_program, read_op, read_program, remove_op, remove_program, rename_op, rename_program, write_op, write_program}, FileRegion.{files, AreFileAreas, AreFileRegions}};
+ghost use Rattle.tx_blocks.specs.{Runs.{HasEnded, IsLocalCall}, Tx.{added, Tx}};
 ghost use Rattle.iso_fs.specs.Ends.{HasRun};
-ghost use Rattle.store_laws.specs.Both.{firsts, AreMixed, BothByMap, BothInOrder, BothWellFormed, First, IsByBoth, IsOfBoth, Mixed, Neither, Second};
-ghost use Rattle.store_laws.specs.BothStores.{IsMadeOfStores, StorePart};
-ghost use Rattle.store_laws.specs.Calls.{AreDisjoint, Del, Get, Got, KeyCall, Put, StoreAnswer, WasPut, WasThere};
-ghost use Rattle.store_laws.specs.Files.{file_act, file_store, FileAnswer, FileCall, FileMade, FileRead, FileThere, MakeFile, ReadFile, RemoveFile, RenameFile, WriteFile};
-ghost use Rattle.store_laws.specs.Growing.{IsMadeOf, IsMadeOfBoth};
-ghost use Rattle.store_laws.specs.Hash.{hash_store};
-ghost use Rattle.store_laws.specs.Looks.{AreLooking, LooksAnswer};
-ghost use Rattle.store_laws.specs.Parts.{accesses_in, answers_in, calls_in, AnswerInOrder, AreMade, Called, IsByCalls, IsOfCalls, Part};
-ghost use Rattle.store_laws.specs.Tree.{tree_store, TreeCall};
-ghost use Rattle.store_laws.specs.Writes.{WriteWithin};
+ghost use Rattle.store_laws.specs.{Both.{firsts, AreMixed, BothByMap, BothInOrder, BothWellFormed, First, IsByBoth, IsOfBoth, Mixed, Neither, Second}, BothStores.{IsMadeOfStores, StorePart}, Calls.{AreDisjoint, Del, Get, Got, KeyCall, Put, StoreAnswer, WasPut, WasThere}, Files.{file_act, file_store, FileAnswer, FileCall, FileMade, FileRead, FileThere, MakeFile, ReadFile, RemoveFile, RenameFile, WriteFile}, Growing.{IsMadeOf, IsMadeOfBoth}, Hash.hash_store, Looks.{AreLooking, LooksAnswer}, Parts.{accesses_in, answers_in, calls_in, AnswerInOrder, AreMade, Called, IsByCalls, IsOfCalls, Part}, Tree.{tree_store, TreeCall}, Writes.WriteWithin};
 
 /// Where commits write the regions of a file store by `create`, `write`, `read`, `rename` and `remove` that answered Ok alone, and they
 /// begin well formed, the calls of each commit answer as one thread's calls on a finite map from names to bytes: it begins as the map of

@@ -1,8 +1,7 @@
 // The file store, as the laws take stores.
 ghost use Rattle.std.specs.Prelude.{◌≡◌};
 ghost use Rattle.store_model.specs.FileRegion.{AreFileAreas};
-ghost use Rattle.store_laws.specs.Files.{file_store};
-ghost use Rattle.store_laws.specs.FileBlocks.{files_are_of_their_blocks};
+ghost use Rattle.store_laws.specs.{Files.file_store, FileBlocks.files_are_of_their_blocks};
 
 use crate::RegionStore;
 use store_model::FileAreas;

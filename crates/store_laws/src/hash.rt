@@ -1,8 +1,7 @@
 // The hash store, as the laws take stores.
 ghost use Rattle.std.specs.Prelude.{◌≡◌};
 ghost use Rattle.store_model.specs.HashRegion.{IsHashArea};
-ghost use Rattle.store_laws.specs.Hash.{hash_store};
-ghost use Rattle.store_laws.specs.HashBlocks.{hash_is_of_its_blocks};
+ghost use Rattle.store_laws.specs.{Hash.hash_store, HashBlocks.hash_is_of_its_blocks};
 
 use crate::RegionStore;
 use store_model::Area;

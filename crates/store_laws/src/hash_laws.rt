@@ -1,21 +1,9 @@
 // The laws of stores, at the hash store.
-ghost use Rattle.std.specs.Prelude.{◌≡◌, ℕ, Bool, ◌<◌, ◌≤◌, ◌+◌, ◌-◌, IfSome, IsFalse, List, [], ◌∷◌, ◌++◌, Ok, Option, Some, map, replicate, slice_get};
-ghost use Rattle.iso_model.specs.declared.access.Geometry.{Geometry};
-ghost use Rattle.store_model.specs.declared.stores.Area.{Area};
-ghost use Rattle.std.specs.FinMap.{empty};
-ghost use Rattle.iso_model.specs.Array.{zeros, Array};
-ghost use Rattle.iso_model.specs.Premises.{block_at};
-ghost use Rattle.store_model.specs.HashCalls.{del_program, get_program, put_program};
-ghost use Rattle.store_model.specs.HashRegion.{del_op, get_op, hash_map, put_op, IsHashArea, IsHashRegion};
-ghost use Rattle.iso_model.specs.Effect.{has_write};
-ghost use Rattle.iso_model.specs.History.{array_at, last, History};
-ghost use Rattle.store_laws.specs.Growing.{IsMadeOf};
-ghost use Rattle.store_laws.specs.Calls.{key_act, Del, Get, Got, KeyCall, Put, StoreAnswer, WasPut, WasThere};
-ghost use Rattle.store_laws.specs.Hash.{hash_store};
-ghost use Rattle.store_laws.specs.Parts.{accesses_in, answers_in, calls_in, AnswerInOrder, AreMade, Called, IsByCalls, IsOfCalls, Part};
-ghost use Rattle.store_laws.specs.Writes.{WriteWithin};
-ghost use Rattle.tx_blocks.specs.Runs.{HasEnded, IsLocalCall};
-ghost use Rattle.tx_blocks.specs.Tx.{added, Tx};
+ghost use Rattle.std.specs.{Prelude.{◌≡◌, ℕ, Bool, ◌<◌, ◌≤◌, ◌+◌, ◌-◌, IfSome, IsFalse, List, [], ◌∷◌, ◌++◌, Ok, Option, Some, map, replicate, slice_get}, FinMap.empty};
+ghost use Rattle.iso_model.specs.{declared.access.Geometry.Geometry, Array.{zeros, Array}, Premises.block_at, Effect.has_write, History.{array_at, last, History}};
+ghost use Rattle.store_model.specs.{declared.stores.Area.Area, HashCalls.{del_program, get_program, put_program}, HashRegion.{del_op, get_op, hash_map, put_op, IsHashArea, IsHashRegion}};
+ghost use Rattle.store_laws.specs.{Growing.IsMadeOf, Calls.{key_act, Del, Get, Got, KeyCall, Put, StoreAnswer, WasPut, WasThere}, Hash.hash_store, Parts.{accesses_in, answers_in, calls_in, AnswerInOrder, AreMade, Called, IsByCalls, IsOfCalls, Part}, Writes.WriteWithin};
+ghost use Rattle.tx_blocks.specs.{Runs.{HasEnded, IsLocalCall}, Tx.{added, Tx}};
 
 /// Where commits write the region of a hash store by `get`, `put` and `del` that answered Ok alone, and it begins well formed, the
 /// calls of each commit answer as one thread's `get`, `insert` and `remove` on a finite map: it begins as the map of the array directly

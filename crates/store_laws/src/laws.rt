@@ -1,22 +1,8 @@
 // The laws of stores: each function does nothing, and its contract is the law.
 ghost use Rattle.std.specs.Prelude.{◌≡◌, ◌⊎◌, ℕ, ◌<◌, ◌≤◌, ◌+◌, ◌-◌, IsFalse, IfSome, List, [], ◌∷◌, ◌++◌, Some, map, slice_get};
-ghost use Rattle.iso_model.specs.declared.access.Access.{Access};
-ghost use Rattle.iso_model.specs.declared.access.Commit.{Commit};
-ghost use Rattle.iso_model.specs.declared.access.Geometry.{Geometry};
-ghost use Rattle.iso_model.specs.Array.{Array};
-ghost use Rattle.iso_model.specs.declared.access.Mode.TheVariants.{Serial};
-ghost use Rattle.iso_model.specs.Conflict.{IsSerialAt};
-ghost use Rattle.iso_model.specs.Effect.{has_write, own};
-ghost use Rattle.iso_model.specs.History.{array_at, last, History};
-ghost use Rattle.iso_model.specs.Isolation.{IsIsolated};
-ghost use Rattle.iso_model.specs.Premises.{appended, IsHistory};
-ghost use Rattle.store_laws.specs.Both.{firsts, seconds, AreMixed, BothByMap, BothInOrder, BothWellFormed, First, IsByBoth, IsOfBoth, MixedParts, Neither, Second};
-ghost use Rattle.store_laws.specs.Growing.{IsMadeOf, IsMadeOfBoth};
-ghost use Rattle.store_laws.specs.Parts.{accesses_in, answers_in, calls_in, AnswerInOrder, AreMade, Called, IsByCalls, IsOfCalls, Other, Part};
-ghost use Rattle.store_laws.specs.Region.{SpareRegion};
-ghost use Rattle.store_laws.specs.Writes.{AreApart, WriteWithin};
-ghost use Rattle.tx_blocks.specs.Runs.{HasRead, IsLocalCall};
-ghost use Rattle.tx_blocks.specs.Tx.{added, with_accesses, Tx};
+ghost use Rattle.iso_model.specs.{declared.access.Access.Access, declared.access.Commit.Commit, declared.access.Geometry.Geometry, Array.Array, declared.access.Mode.TheVariants.Serial, Conflict.IsSerialAt, Effect.{has_write, own}, History.{array_at, last, History}, Isolation.IsIsolated, Premises.{appended, IsHistory}};
+ghost use Rattle.store_laws.specs.{Both.{firsts, seconds, AreMixed, BothByMap, BothInOrder, BothWellFormed, First, IsByBoth, IsOfBoth, MixedParts, Neither, Second}, Growing.{IsMadeOf, IsMadeOfBoth}, Parts.{accesses_in, answers_in, calls_in, AnswerInOrder, AreMade, Called, IsByCalls, IsOfCalls, Other, Part}, Region.SpareRegion, Writes.{AreApart, WriteWithin}};
+ghost use Rattle.tx_blocks.specs.{Runs.{HasRead, IsLocalCall}, Tx.{added, with_accesses, Tx}};
 
 use crate::RegionStore;
 

@@ -1,8 +1,7 @@
 // The tree store, as the laws take stores.
 ghost use Rattle.std.specs.Prelude.{◌≡◌};
 ghost use Rattle.store_model.specs.TreeRegion.{IsTreeArea};
-ghost use Rattle.store_laws.specs.Tree.{tree_store};
-ghost use Rattle.store_laws.specs.TreeBlocks.{tree_is_of_its_blocks};
+ghost use Rattle.store_laws.specs.{Tree.tree_store, TreeBlocks.tree_is_of_its_blocks};
 
 use crate::RegionStore;
 use store_model::Area;

@@ -1,22 +1,9 @@
 // The laws of stores, at the tree store.
-ghost use Rattle.std.specs.Prelude.{◌≡◌, ℕ, Bool, ◌<◌, ◌≤◌, ◌+◌, ◌-◌, IfSome, IsFalse, List, [], ◌∷◌, ◌++◌, Ok, Option, Some, map, replicate, slice_get};
-ghost use Rattle.iso_model.specs.declared.access.Geometry.{Geometry};
-ghost use Rattle.store_model.specs.declared.stores.Area.{Area};
-ghost use Rattle.std.specs.FinMap.{empty};
-ghost use Rattle.iso_model.specs.Array.{zeros, Array};
-ghost use Rattle.iso_model.specs.Premises.{block_at};
-ghost use Rattle.store_model.specs.TreeCalls.{del_program, get_program, put_program, scan_program};
-ghost use Rattle.store_model.specs.HashRegion.{del_op, get_op, put_op};
-ghost use Rattle.store_model.specs.TreeRegion.{scan_op, tree_map, IsTreeArea, IsTreeRegion};
-ghost use Rattle.iso_model.specs.Effect.{has_write};
-ghost use Rattle.iso_model.specs.History.{array_at, last, History};
-ghost use Rattle.store_laws.specs.Calls.{Del, Found, Get, Got, Put, StoreAnswer, WasPut, WasThere};
-ghost use Rattle.store_laws.specs.Growing.{IsMadeOf};
-ghost use Rattle.store_laws.specs.Parts.{accesses_in, answers_in, calls_in, AnswerInOrder, AreMade, Called, IsByCalls, IsOfCalls, Part};
-ghost use Rattle.store_laws.specs.Tree.{tree_act, tree_store, OnKey, Scan, TreeCall};
-ghost use Rattle.store_laws.specs.Writes.{WriteWithin};
-ghost use Rattle.tx_blocks.specs.Runs.{HasEnded, IsLocalCall};
-ghost use Rattle.tx_blocks.specs.Tx.{added, Tx};
+ghost use Rattle.std.specs.{Prelude.{◌≡◌, ℕ, Bool, ◌<◌, ◌≤◌, ◌+◌, ◌-◌, IfSome, IsFalse, List, [], ◌∷◌, ◌++◌, Ok, Option, Some, map, replicate, slice_get}, FinMap.empty};
+ghost use Rattle.iso_model.specs.{declared.access.Geometry.Geometry, Array.{zeros, Array}, Premises.block_at, Effect.has_write, History.{array_at, last, History}};
+ghost use Rattle.store_model.specs.{declared.stores.Area.Area, TreeCalls.{del_program, get_program, put_program, scan_program}, HashRegion.{del_op, get_op, put_op}, TreeRegion.{scan_op, tree_map, IsTreeArea, IsTreeRegion}};
+ghost use Rattle.store_laws.specs.{Calls.{Del, Found, Get, Got, Put, StoreAnswer, WasPut, WasThere}, Growing.IsMadeOf, Parts.{accesses_in, answers_in, calls_in, AnswerInOrder, AreMade, Called, IsByCalls, IsOfCalls, Part}, Tree.{tree_act, tree_store, OnKey, Scan, TreeCall}, Writes.WriteWithin};
+ghost use Rattle.tx_blocks.specs.{Runs.{HasEnded, IsLocalCall}, Tx.{added, Tx}};
 
 /// Where commits write the region of a tree store by `get`, `put`, `del` and `scan` that answered Ok alone, and it begins well formed,
 /// the calls of each commit answer as one thread's `get`, `insert`, `remove` and scan on a finite map: it begins as the map of the array

@@ -1,10 +1,6 @@
 -- A block of cells: a head, the key parts of its cells, and their value parts.
-use Rattle.std.specs.Prelude.{ℕ, zero, suc, ◌+◌, ◌-◌, ◌*◌, ◌/◌, Bool, true, ◌&&◌, ◌==◌, List, ◌∷◌, ◌++◌, Option, nat_le, slice_index, take, drop, length, replicate}
-use Rattle.std.specs.List.{list_all}
-use Rattle.std.specs.Int.{w32, from_be_bytes}
-use Rattle.std.specs.Str.{bytes_eq}
-use Rattle.iso_model.specs.declared.access.Span.{Span}
-use Rattle.iso_model.specs.Conflict.{first_from}
+use Rattle.std.specs.{Prelude.{ℕ, zero, suc, ◌+◌, ◌-◌, ◌*◌, ◌/◌, Bool, true, ◌&&◌, ◌==◌, List, ◌∷◌, ◌++◌, Option, nat_le, slice_index, take, drop, length, replicate}, List.list_all, Int.{w32, from_be_bytes}, Str.bytes_eq}
+use Rattle.iso_model.specs.{declared.access.Span.Span, Conflict.first_from}
 use Rattle.store_model.specs.Stores.{bytes_in}
 
 -- how many cells a block of so many bytes has

@@ -1,11 +1,7 @@
 -- The bytes of a file block, which names the data blocks of a file.
-use Rattle.std.specs.Prelude.{ℕ, ◌+◌, ◌-◌, ◌*◌, ◌/◌, ◌%◌, Bool, ◌&&◌, ◌==◌, cond, List, ◌∷◌, ◌++◌, slice_index, nat_le, nat_lt, drop, length, map, replicate}
-use Rattle.std.specs.List.{list_all, flat_map, range_with_len}
-use Rattle.std.specs.Int.{w32, to_be_bytes, from_be_bytes}
+use Rattle.std.specs.{Prelude.{ℕ, ◌+◌, ◌-◌, ◌*◌, ◌/◌, ◌%◌, Bool, ◌&&◌, ◌==◌, cond, List, ◌∷◌, ◌++◌, slice_index, nat_le, nat_lt, drop, length, map, replicate}, List.{list_all, flat_map, range_with_len}, Int.{w32, to_be_bytes, from_be_bytes}}
 use Rattle.iso_model.specs.declared.access.Span.{Span}
-use Rattle.store_model.specs.declared.stores.Area.{Area}
-use Rattle.store_model.specs.Stores.{bytes_in}
-use Rattle.store_model.specs.Cells.{word_at, is_zero, all_from}
+use Rattle.store_model.specs.{declared.stores.Area.Area, Stores.bytes_in, Cells.{word_at, is_zero, all_from}}
 
 -- how many numbers a file block has room for, and how many bytes a file may have
 abbrev pub entry_count : (size : ℕ) → ℕ

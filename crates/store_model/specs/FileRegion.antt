@@ -1,15 +1,7 @@
 -- The regions of the file store: when they are well formed, and the files that they hold.
-use Rattle.std.specs.Prelude.{◌≡◌, ◌↔◌, ℕ, zero, suc, ◌+◌, ◌-◌, ◌*◌, ◌/◌, ◌%◌, ◌<◌, ◌≤◌, IsTrue, List, take, length, map, option_map, Option, Some}
-use Rattle.std.specs.List.{list_all, range_with_len}
-use Rattle.std.specs.FinMap.{from_entries, entries, get}
-use Rattle.iso_model.specs.Array.{Array, byte_at}
-use Rattle.iso_model.specs.Premises.{block_at}
-use Rattle.store_model.specs.Cells.{is_zero}
-use Rattle.store_model.specs.FreeMap.{map_bytes, map_bit}
-use Rattle.store_model.specs.HashRegion.{Pairs}
-use Rattle.store_model.specs.TreeRegion.{IsTreeArea, IsTreeRegion, tree_map}
-use Rattle.store_model.specs.declared.files.FileAreas.{FileAreas}
-use Rattle.store_model.specs.FileNodes.{bytes_of, entry_at, data_count, is_file, is_number, number_of}
+use Rattle.std.specs.{Prelude.{◌≡◌, ◌↔◌, ℕ, zero, suc, ◌+◌, ◌-◌, ◌*◌, ◌/◌, ◌%◌, ◌<◌, ◌≤◌, IsTrue, List, take, length, map, option_map, Option, Some}, List.{list_all, range_with_len}, FinMap.{from_entries, entries, get}}
+use Rattle.iso_model.specs.{Array.{Array, byte_at}, Premises.block_at}
+use Rattle.store_model.specs.{Cells.is_zero, FreeMap.{map_bytes, map_bit}, HashRegion.Pairs, TreeRegion.{IsTreeArea, IsTreeRegion, tree_map}, declared.files.FileAreas.FileAreas, FileNodes.{bytes_of, entry_at, data_count, is_file, is_number, number_of}}
 
 -- where a file store may be: the files follow the tree
 pub record AreFileAreas (a : FileAreas) : Type 0 where

@@ -1,8 +1,6 @@
 -- The free map of a region: a bit for each block, behind the head of the region's first block.
-use Rattle.std.specs.Prelude.{ℕ, zero, suc, ◌+◌, ◌/◌, ◌%◌, ◌^◌, Bool, ◌==◌, not, cond, List, Option, slice_index, slice_set, bit_and, bit_or, bit_xor}
-use Rattle.std.specs.Int.{bit_at}
-use Rattle.iso_model.specs.declared.access.Span.{Span}
-use Rattle.iso_model.specs.Conflict.{first_from}
+use Rattle.std.specs.{Prelude.{ℕ, zero, suc, ◌+◌, ◌/◌, ◌%◌, ◌^◌, Bool, ◌==◌, not, cond, List, Option, slice_index, slice_set, bit_and, bit_or, bit_xor}, Int.bit_at}
+use Rattle.iso_model.specs.{declared.access.Span.Span, Conflict.first_from}
 
 -- how many bytes the bits of so many blocks take
 abbrev pub map_bytes : (blocks : ℕ) → ℕ

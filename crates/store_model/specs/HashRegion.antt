@@ -1,18 +1,8 @@
 -- The region of the hash store: when it is well formed, and the map that it holds.
-use Rattle.std.specs.Prelude.{◌≡◌, ◌↔◌, ◌⊎◌, ℕ, zero, suc, ◌+◌, ◌-◌, ◌*◌, ◌/◌, ◌%◌, ◌<◌, ◌≤◌, Bool, Option, ◌&&◌, ◌||◌, ◌==◌, not, cond, IsTrue, IsFalse, List, [], ◌∷◌, nat_le, nat_lt, take, length, is_some}
-use Rattle.std.specs.List.{list_all, flat_map, range_with_len}
-use Rattle.std.specs.Int.{w64, from_be_bytes}
-use Rattle.std.specs.Ordering.{nat_cmp}
-use Rattle.std.specs.Cmp.Lexicographic.{slice_cmp}
-use Rattle.std.specs.FinMap.{FinMap, from_entries, get, insert, remove}
+use Rattle.std.specs.{Prelude.{◌≡◌, ◌↔◌, ◌⊎◌, ℕ, zero, suc, ◌+◌, ◌-◌, ◌*◌, ◌/◌, ◌%◌, ◌<◌, ◌≤◌, Bool, Option, ◌&&◌, ◌||◌, ◌==◌, not, cond, IsTrue, IsFalse, List, [], ◌∷◌, nat_le, nat_lt, take, length, is_some}, List.{list_all, flat_map, range_with_len}, Int.{w64, from_be_bytes}, Ordering.nat_cmp, Cmp.Lexicographic.slice_cmp, FinMap.{FinMap, from_entries, get, insert, remove}}
 use Rattle.sha2.specs.Sha256.{sha256}
-use Rattle.store_model.specs.declared.stores.Area.{Area}
-use Rattle.iso_model.specs.Array.{Array}
-use Rattle.iso_model.specs.Premises.{block_at}
-use Rattle.iso_model.specs.Geometry.{is_block_size}
-use Rattle.store_model.specs.Stores.{bytes_in}
-use Rattle.store_model.specs.Cells.{cell_count, keys_mark, value_mark, word_at, is_zero, is_part, text_of, is_unused, key_at, are_key_parts}
-use Rattle.store_model.specs.FreeMap.{map_bytes, map_bit}
+use Rattle.store_model.specs.{declared.stores.Area.Area, Stores.bytes_in, Cells.{cell_count, keys_mark, value_mark, word_at, is_zero, is_part, text_of, is_unused, key_at, are_key_parts}, FreeMap.{map_bytes, map_bit}}
+use Rattle.iso_model.specs.{Array.Array, Premises.block_at, Geometry.is_block_size}
 
 -- what a store holds: values under keys
 abbrev pub Pairs : Type 0

@@ -1,12 +1,6 @@
 -- A store's call as a program: reads of marked bytes, each of which decides what comes next, and writes.
-use Rattle.std.specs.Prelude.{◌≡◌, ℕ, zero, suc, ◌+◌, Bool, false, ◌&&◌, ◌||◌, not, cond, IsTrue, List, [], ◌∷◌, ◌++◌, Option, Some, None, length, take, drop, nat_le}
-use Rattle.std.specs.List.{AllByRecursion}
-use Rattle.iso_model.specs.declared.access.Access.{Access}
-use Rattle.iso_model.specs.declared.access.Kind.TheVariants.{Read, Write}
-use Rattle.iso_model.specs.declared.access.Span.{Span}
-use Rattle.iso_model.specs.Array.{Array, put, byte_at}
-use Rattle.iso_model.specs.Effect.{own, covers, is_write}
-use Rattle.iso_model.specs.Premises.{block_at}
+use Rattle.std.specs.{Prelude.{◌≡◌, ℕ, zero, suc, ◌+◌, Bool, false, ◌&&◌, ◌||◌, not, cond, IsTrue, List, [], ◌∷◌, ◌++◌, Option, Some, None, length, take, drop, nat_le}, List.AllByRecursion}
+use Rattle.iso_model.specs.{declared.access.Access.Access, declared.access.Kind.TheVariants.{Read, Write}, declared.access.Span.Span, Array.{Array, put, byte_at}, Effect.{own, covers, is_write}, Premises.block_at}
 
 -- A call that answers an R. `Look` reads a block under a first mark; the bytes under it decide whether there is a further mark,
 -- and the bytes under both decide what comes next. `LookWhole` reads a block without a mark. `Reserve` goes on only where so

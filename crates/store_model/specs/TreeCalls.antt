@@ -1,18 +1,7 @@
 -- The calls of the tree store, each as a program of reads and writes.
-use Rattle.std.specs.Prelude.{ℕ, zero, suc, ◌+◌, ◌*◌, ◌-◌, ◌/◌, Bool, true, false, ◌&&◌, ◌==◌, not, cond, List, [], ◌∷◌, ◌++◌, Option, Some, None, Result, Ok, Err, nat_lt, length, option_map, take, drop, map}
-use Rattle.std.specs.List.{list_all, filter, range_with_len}
-use Rattle.std.specs.Int.{w32, to_be_bytes}
-use Rattle.std.specs.Str.{bytes_eq}
+use Rattle.std.specs.{Prelude.{ℕ, zero, suc, ◌+◌, ◌*◌, ◌-◌, ◌/◌, Bool, true, false, ◌&&◌, ◌==◌, not, cond, List, [], ◌∷◌, ◌++◌, Option, Some, None, Result, Ok, Err, nat_lt, length, option_map, take, drop, map}, List.{list_all, filter, range_with_len}, Int.{w32, to_be_bytes}, Str.bytes_eq}
 use Rattle.iso_model.specs.declared.access.Span.{Span}
-use Rattle.store_model.specs.declared.stores.Area.{Area}
-use Rattle.store_model.specs.declared.stores.StoreError.{StoreError}
-use Rattle.store_model.specs.declared.stores.StoreError.TheVariants.{BadKey, BadValue, Broken, NoBlocks}
-use Rattle.store_model.specs.Stores.{Program, Done, Look, LookWhole, Reserve, Store, bytes_in, then_do}
-use Rattle.store_model.specs.Cells.{cell_count, keys_end, keys_mark, value_mark, word_at, is_part, text_of, value_part, key_at, block_with, laid_at}
-use Rattle.store_model.specs.FreeMap.{map_mark, map_bit, with_bit, free_count, bit_place}
-use Rattle.store_model.specs.HashCalls.{at_cell, is_key, is_value}
-use Rattle.store_model.specs.TreeNodes.{Cell, count_of, is_node, cell_of, place_of, below_from, child_of, is_child, child_part, used_cells, node_bytes, head_mark, is_head}
-use Rattle.store_model.specs.Trees.{put_after, Put, fit}
+use Rattle.store_model.specs.{declared.stores.Area.Area, declared.stores.StoreError.StoreError, declared.stores.StoreError.TheVariants.{BadKey, BadValue, Broken, NoBlocks}, Stores.{Program, Done, Look, LookWhole, Reserve, Store, bytes_in, then_do}, Cells.{cell_count, keys_end, keys_mark, value_mark, word_at, is_part, text_of, value_part, key_at, block_with, laid_at}, FreeMap.{map_mark, map_bit, with_bit, free_count, bit_place}, HashCalls.{at_cell, is_key, is_value}, TreeNodes.{Cell, count_of, is_node, cell_of, place_of, below_from, child_of, is_child, child_part, used_cells, node_bytes, head_mark, is_head}, Trees.{put_after, Put, fit}}
 
 -- what is done with root and level of a head that is well formed
 abbrev pub at_head : {X : Type 0} → Area → (ℕ → ℕ → Program (Result X StoreError)) → (head : List ℕ) → Program (Result X StoreError)

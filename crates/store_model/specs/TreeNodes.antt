@@ -1,15 +1,7 @@
 -- A node of a tree: its head and its cells, as the bytes of a block.
-use Rattle.std.specs.Prelude.{◌≡◌, ◌≤◌, ℕ, zero, suc, ◌+◌, ◌-◌, ◌*◌, ◌/◌, ◌%◌, Bool, ◌&&◌, ◌||◌, ◌==◌, not, cond, List, ◌∷◌, ◌++◌, Option, Some, None, Result, Ok, Err, nat_le, nat_lt, slice_index, drop, length, map, replicate}
-use Rattle.std.specs.List.{list_all, flat_map, range_with_len, AllByRecursion}
-use Rattle.std.specs.Int.{w32, to_be_bytes}
-use Rattle.std.specs.Ordering.{nat_cmp, is_lt}
-use Rattle.std.specs.Cmp.Lexicographic.{slice_cmp}
-use Rattle.std.specs.Str.{bytes_eq}
-use Rattle.iso_model.specs.declared.access.Span.{Span}
-use Rattle.store_model.specs.declared.stores.Area.{Area}
-use Rattle.iso_model.specs.Conflict.{first_from}
-use Rattle.store_model.specs.Stores.{bytes_in}
-use Rattle.store_model.specs.Cells.{cell_count, keys_mark, value_mark, word_at, is_zero, key_part, value_part, is_unused, key_at, all_from, are_key_parts}
+use Rattle.std.specs.{Prelude.{◌≡◌, ◌≤◌, ℕ, zero, suc, ◌+◌, ◌-◌, ◌*◌, ◌/◌, ◌%◌, Bool, ◌&&◌, ◌||◌, ◌==◌, not, cond, List, ◌∷◌, ◌++◌, Option, Some, None, Result, Ok, Err, nat_le, nat_lt, slice_index, drop, length, map, replicate}, List.{list_all, flat_map, range_with_len, AllByRecursion}, Int.{w32, to_be_bytes}, Ordering.{nat_cmp, is_lt}, Cmp.Lexicographic.slice_cmp, Str.bytes_eq}
+use Rattle.iso_model.specs.{declared.access.Span.Span, Conflict.first_from}
+use Rattle.store_model.specs.{declared.stores.Area.Area, Stores.bytes_in, Cells.{cell_count, keys_mark, value_mark, word_at, is_zero, key_part, value_part, is_unused, key_at, all_from, are_key_parts}}
 
 -- whether a key is before another in byte order
 abbrev pub before : List ℕ → List ℕ → Bool

@@ -1,17 +1,7 @@
 -- The region of the tree store: when it is well formed, and the map that it holds.
-use Rattle.std.specs.Prelude.{◌≡◌, ◌⊎◌, ◌↔◌, ℕ, zero, suc, ◌+◌, ◌-◌, ◌*◌, ◌<◌, ◌≤◌, Bool, ◌&&◌, ◌==◌, not, cond, IsTrue, List, [], take, length, None}
-use Rattle.std.specs.List.{list_all, AllByRecursion, filter}
-use Rattle.std.specs.FinMap.{from_entries, entries}
-use Rattle.store_model.specs.declared.stores.Area.{Area}
-use Rattle.iso_model.specs.Array.{Array}
-use Rattle.iso_model.specs.Geometry.{is_block_size}
-use Rattle.iso_model.specs.Premises.{block_at}
-use Rattle.store_model.specs.Stores.{bytes_in}
-use Rattle.store_model.specs.Cells.{cell_count, keys_mark, value_mark, word_at, is_zero, is_part}
-use Rattle.store_model.specs.FreeMap.{map_bytes, map_bit}
-use Rattle.store_model.specs.HashRegion.{Pairs, IsIn}
-use Rattle.store_model.specs.TreeNodes.{before, Cell, count_of, is_node, child_of, is_child, used_cells, head_mark, is_head}
-use Rattle.store_model.specs.Trees.{tree_at, pairs_in, nodes_in, IsApart, IsOrdered}
+use Rattle.std.specs.{Prelude.{◌≡◌, ◌⊎◌, ◌↔◌, ℕ, zero, suc, ◌+◌, ◌-◌, ◌*◌, ◌<◌, ◌≤◌, Bool, ◌&&◌, ◌==◌, not, cond, IsTrue, List, [], take, length, None}, List.{list_all, AllByRecursion, filter}, FinMap.{from_entries, entries}}
+use Rattle.store_model.specs.{declared.stores.Area.Area, Stores.bytes_in, Cells.{cell_count, keys_mark, value_mark, word_at, is_zero, is_part}, FreeMap.{map_bytes, map_bit}, HashRegion.{Pairs, IsIn}, TreeNodes.{before, Cell, count_of, is_node, child_of, is_child, used_cells, head_mark, is_head}, Trees.{tree_at, pairs_in, nodes_in, IsApart, IsOrdered}}
+use Rattle.iso_model.specs.{Array.Array, Geometry.is_block_size, Premises.block_at}
 
 -- where a tree store may be
 pub record IsTreeArea (a : Area) : Type 0 where

@@ -1,9 +1,6 @@
 -- The tree that a region holds, and what a put makes of it.
-use Rattle.std.specs.Prelude.{◌≡◌, ℕ, zero, suc, ◌+◌, ◌/◌, Bool, true, false, ◌&&◌, not, cond, IsTrue, List, [], ◌∷◌, Option, Some, None, nat_le, take, drop, length, map}
-use Rattle.std.specs.List.{flat_map}
-use Rattle.store_model.specs.Cells.{text_of}
-use Rattle.store_model.specs.HashRegion.{IsIn}
-use Rattle.store_model.specs.TreeNodes.{before, Cell, child_of}
+use Rattle.std.specs.{Prelude.{◌≡◌, ℕ, zero, suc, ◌+◌, ◌/◌, Bool, true, false, ◌&&◌, not, cond, IsTrue, List, [], ◌∷◌, Option, Some, None, nat_le, take, drop, length, map}, List.flat_map}
+use Rattle.store_model.specs.{Cells.text_of, HashRegion.IsIn, TreeNodes.{before, Cell, child_of}}
 
 -- A tree of a level: the block of a leaf and its cells, or the block of an inner node and under their keys the trees below.
 abbrev pub Tree : (level : ℕ) → Type 0

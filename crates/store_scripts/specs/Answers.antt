@@ -1,12 +1,8 @@
 -- The call that an operation makes of a store, and the answer that its reply tells.
 use Rattle.std.specs.Prelude.{true, false, [], Option, Some, None, option_map}
-use Rattle.script_model.specs.declared.script.Op.{Op}
-use Rattle.script_model.specs.declared.script.Op.TheVariants.{HashPut, HashGet, HashDelete, TreePut, TreeGet, TreeDelete, TreeScan, FileNew, FileWrite, FileRead, FileMove, FileDelete}
-use Rattle.script_model.specs.declared.script.Reply.{Reply}
+use Rattle.script_model.specs.{declared.script.Op.Op, declared.script.Op.TheVariants.{HashPut, HashGet, HashDelete, TreePut, TreeGet, TreeDelete, TreeScan, FileNew, FileWrite, FileRead, FileMove, FileDelete}, declared.script.Reply.Reply}
 use Rattle.script_model.specs.declared.script.Reply.TheVariants as reply
-use Rattle.store_laws.specs.Calls.{Del, Found, Get, Got, KeyCall, Put, StoreAnswer, WasPut, WasThere}
-use Rattle.store_laws.specs.Files.{FileAnswer, FileCall, FileMade, FileRead as WasRead, FileThere, MakeFile, ReadFile, RemoveFile, RenameFile, WriteFile}
-use Rattle.store_laws.specs.Tree.{OnKey, Scan, TreeCall}
+use Rattle.store_laws.specs.{Calls.{Del, Found, Get, Got, KeyCall, Put, StoreAnswer, WasPut, WasThere}, Files.{FileAnswer, FileCall, FileMade, FileRead as WasRead, FileThere, MakeFile, ReadFile, RemoveFile, RenameFile, WriteFile}, Tree.{OnKey, Scan, TreeCall}}
 
 -- a call that was answered Ok, with its answer: of the hash store, or of a second one that stands beside it
 pub data Answered (Call Answer : Type 0) : Type 0 where

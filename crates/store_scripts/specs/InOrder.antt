@@ -1,17 +1,9 @@
 -- The store theorem of the lines of a script, as one word.
 use Rattle.std.specs.Prelude.{◌≡◌, ℕ, ◌-◌, IsFalse, IsTrue, List, ◌∷◌, ◌++◌, Some}
-use Rattle.script_model.specs.declared.script.Line.{Line}
-use Rattle.script_model.specs.declared.script.Op.TheVariants.{End}
-use Rattle.script_model.specs.declared.script.Reply.TheVariants.{Committed}
-use Rattle.iso_model.specs.Effect.{has_write}
-use Rattle.iso_model.specs.History.{array_at, last}
-use Rattle.script_model.specs.Script.{after}
-use Rattle.script_model.specs.Step.{array_of, step}
-use Rattle.iso_model.specs.World.{Live, World, attached}
+use Rattle.script_model.specs.{declared.script.Line.Line, declared.script.Op.TheVariants.End, declared.script.Reply.TheVariants.Committed, Script.after, Step.{array_of, step}}
+use Rattle.iso_model.specs.{Effect.has_write, History.{array_at, last}, World.{Live, World, attached}}
 use Rattle.store_laws.specs.Both.{IsByBoth}
-use Rattle.store_scripts.specs.Kept.{BeginsWell, ToldByMap, ToldInOrder}
-use Rattle.store_scripts.specs.Stores.{SecondStore, image_hash, second_store, the_files, the_tree}
-use Rattle.store_scripts.specs.Told.{CommitsKeep, IsEndedAs, no_notes, told_after}
+use Rattle.store_scripts.specs.{Kept.{BeginsWell, ToldByMap, ToldInOrder}, Stores.{SecondStore, image_hash, second_store, the_files, the_tree}, Told.{CommitsKeep, IsEndedAs, no_notes, told_after}}
 
 -- From the world W on, the store calls of each commit of these lines, as their replies tell them, answer as one thread's calls on
 -- the maps directly before it and end in those directly after it, whether an end made the commit or a group; those of a transaction

@@ -1,18 +1,8 @@
 -- Transactions of a script that keep to the stores of its image.
 use Rattle.std.specs.Prelude.{◌≡◌, ◌⊎◌, List, [], ◌++◌, length, map}
-use Rattle.iso_model.specs.declared.access.Access.{Access}
-use Rattle.iso_model.specs.declared.access.Geometry.{Geometry}
-use Rattle.iso_model.specs.declared.access.Mode.{Mode}
-use Rattle.iso_model.specs.declared.access.Mode.TheVariants.{Serial}
-use Rattle.iso_model.specs.Array.{Array}
-use Rattle.iso_model.specs.History.{array_at, last}
-use Rattle.iso_model.specs.World.{World}
-use Rattle.iso_model.specs.Worlds.{IsWorld}
-use Rattle.store_laws.specs.Both.{AreMixed, BothWellFormed, MixedParts, firsts, seconds}
-use Rattle.store_laws.specs.Parts.{accesses_in, answers_in, calls_in, run}
-use Rattle.store_laws.specs.Region.{SpareRegion}
-use Rattle.store_scripts.specs.Stores.{SecondStore, image_hash, second_store}
-use Rattle.store_scripts.specs.Told.{Told}
+use Rattle.iso_model.specs.{declared.access.Access.Access, declared.access.Geometry.Geometry, declared.access.Mode.Mode, declared.access.Mode.TheVariants.Serial, Array.Array, History.{array_at, last}, World.World, Worlds.IsWorld}
+use Rattle.store_laws.specs.{Both.{AreMixed, BothWellFormed, MixedParts, firsts, seconds}, Parts.{accesses_in, answers_in, calls_in, run}, Region.SpareRegion}
+use Rattle.store_scripts.specs.{Stores.{SecondStore, image_hash, second_store}, Told.Told}
 
 -- The accesses of a transaction that began with this array are those of parts, whose calls are those that are told, and of the rest
 -- since the last of them, which writes neither region.

@@ -1,19 +1,9 @@
 -- The stores of an image, as stores over the blocks of their regions. One that has no blocks is always well formed and empty.
-use Rattle.std.specs.Prelude.{ℕ, zero, suc, Bool, false, cond, ◌==◌, Option}
-use Rattle.std.specs.FinMap.{empty}
-use Rattle.iso_model.specs.declared.access.Geometry.{Geometry}
-use Rattle.iso_model.specs.Array.{Array}
-use Rattle.script_model.specs.declared.script.Op.{Op}
-use Rattle.script_model.specs.declared.script.Reply.{Reply}
-use Rattle.script_model.specs.FilesArea.{file_blocks, files_area}
-use Rattle.store_model.specs.HashRegion.{IsHashRegion, Pairs, hash_map}
-use Rattle.store_model.specs.Areas.{hash_area, tree_area}
-use Rattle.store_model.specs.TreeRegion.{IsTreeRegion, tree_map}
-use Rattle.store_model.specs.FileRegion.{AreFileRegions, files}
-use Rattle.store_laws.specs.Calls.{KeyCall, StoreAnswer, in_area, key_act}
-use Rattle.store_laws.specs.Files.{FileAnswer, FileCall, file_act, in_areas}
-use Rattle.store_laws.specs.Region.{MapStore}
-use Rattle.store_laws.specs.Tree.{TreeCall, tree_act}
+use Rattle.std.specs.{Prelude.{ℕ, zero, suc, Bool, false, cond, ◌==◌, Option}, FinMap.empty}
+use Rattle.iso_model.specs.{declared.access.Geometry.Geometry, Array.Array}
+use Rattle.script_model.specs.{declared.script.Op.Op, declared.script.Reply.Reply, FilesArea.{file_blocks, files_area}}
+use Rattle.store_model.specs.{HashRegion.{IsHashRegion, Pairs, hash_map}, Areas.{hash_area, tree_area}, TreeRegion.{IsTreeRegion, tree_map}, FileRegion.{AreFileRegions, files}}
+use Rattle.store_laws.specs.{Calls.{KeyCall, StoreAnswer, in_area, key_act}, Files.{FileAnswer, FileCall, file_act, in_areas}, Region.MapStore, Tree.{TreeCall, tree_act}}
 use Rattle.store_scripts.specs.Answers.{Answered, answered, file_answered}
 
 -- what holds of a store of so many blocks, if it has any

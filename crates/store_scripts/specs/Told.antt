@@ -1,24 +1,13 @@
 -- What the lines of a script and their replies tell of the calls of the stores that each transaction made: of the hash store, and of a
 -- second one beside it.
-use Rattle.std.specs.Prelude.{◌≡◌, ◌⊎◌, ℕ, ◌==◌, Bool, true, false, ◌&&◌, ◌||◌, not, cond, IsTrue, List, [], ◌∷◌, ◌++◌, Option, Some, None, length, drop, nat_lt}
-use Rattle.std.specs.List.{list_all}
-use Rattle.iso_model.specs.declared.access.Access.{Access}
-use Rattle.iso_model.specs.declared.access.Geometry.{Geometry}
-use Rattle.iso_model.specs.declared.access.GroupReply.{GroupReply}
+use Rattle.std.specs.{Prelude.{◌≡◌, ◌⊎◌, ℕ, ◌==◌, Bool, true, false, ◌&&◌, ◌||◌, not, cond, IsTrue, List, [], ◌∷◌, ◌++◌, Option, Some, None, length, drop, nat_lt}, List.list_all}
+use Rattle.iso_model.specs.{declared.access.Access.Access, declared.access.Geometry.Geometry, declared.access.GroupReply.GroupReply, Effect.is_write, Group.{group_step, looks}, World.{Live, World, attached}}
 use Rattle.iso_model.specs.declared.access.GroupReply.TheVariants as member
-use Rattle.script_model.specs.declared.script.Line.{Line}
-use Rattle.script_model.specs.declared.script.Op.{Op}
-use Rattle.script_model.specs.declared.script.Op.TheVariants.{Group, Mark}
-use Rattle.script_model.specs.declared.script.Reply.{Reply}
+use Rattle.script_model.specs.{declared.script.Line.Line, declared.script.Op.Op, declared.script.Op.TheVariants.{Group, Mark}, declared.script.Reply.Reply, Step.step}
 use Rattle.script_model.specs.declared.script.Reply.TheVariants as reply
-use Rattle.iso_model.specs.Effect.{is_write}
-use Rattle.iso_model.specs.Group.{group_step, looks}
 use Rattle.store_model.specs.Areas.{hash_area}
-use Rattle.script_model.specs.Step.{step}
-use Rattle.iso_model.specs.World.{Live, World, attached}
 use Rattle.store_laws.specs.Calls.{KeyCall, StoreAnswer, in_area}
-use Rattle.store_scripts.specs.Answers.{Answered, OfHash, OfSecond}
-use Rattle.store_scripts.specs.Stores.{SecondStore, second_store}
+use Rattle.store_scripts.specs.{Answers.{Answered, OfHash, OfSecond}, Stores.{SecondStore, second_store}}
 
 -- calls of a store, in order, and what each was answered
 pub record Asked (Call Answer : Type 0) : Type 0 where

@@ -1,32 +1,10 @@
 // The laws of scripts with stores: each function does nothing, and its contract is the law.
-ghost use Rattle.std.specs.Prelude.{◌≡◌, ◌≢◌, ◌↔◌, ℕ, ◌-◌, ◌≤◌, IsTrue, IsFalse, List, [], ◌∷◌, ◌++◌, None, Some};
-ghost use Rattle.std.specs.FinMap.{empty};
-ghost use Rattle.iso_model.specs.declared.access.Geometry.{Geometry};
-ghost use Rattle.iso_model.specs.declared.limits.TheConstants.{LAST};
-ghost use Rattle.script_model.specs.declared.script.Line.{Line};
-ghost use Rattle.script_model.specs.declared.script.Op.{Op};
-ghost use Rattle.script_model.specs.declared.script.Op.TheVariants.{End, FileRead};
-ghost use Rattle.script_model.specs.declared.script.Reply.TheVariants.{Committed};
-ghost use Rattle.iso_model.specs.Array.{Array};
-ghost use Rattle.iso_model.specs.Effect.{has_write};
-ghost use Rattle.iso_model.specs.Geometry.{is_valid};
-ghost use Rattle.store_model.specs.HashRegion.{hash_map, IsHashRegion};
-ghost use Rattle.iso_model.specs.History.{array_at, last};
-ghost use Rattle.script_model.specs.Script.{after};
-ghost use Rattle.script_model.specs.Step.{array_of, step};
-ghost use Rattle.store_model.specs.Areas.{hash_area, tree_area};
-ghost use Rattle.store_model.specs.TreeRegion.{tree_map, IsTreeRegion};
-ghost use Rattle.store_model.specs.FileRegion.{files, AreFileRegions};
-ghost use Rattle.script_model.specs.FilesArea.{file_blocks, files_area};
-ghost use Rattle.iso_model.specs.World.{attached, empty_history, fresh, Live, World};
-ghost use Rattle.script_model.specs.Operations.{AreLines};
-ghost use Rattle.iso_model.specs.Worlds.{IsWorld};
+ghost use Rattle.std.specs.{Prelude.{◌≡◌, ◌≢◌, ◌↔◌, ℕ, ◌-◌, ◌≤◌, IsTrue, IsFalse, List, [], ◌∷◌, ◌++◌, None, Some}, FinMap.empty};
+ghost use Rattle.iso_model.specs.{declared.access.Geometry.Geometry, declared.limits.TheConstants.LAST, Array.Array, Effect.has_write, Geometry.is_valid, History.{array_at, last}, World.{attached, empty_history, fresh, Live, World}, Worlds.IsWorld};
+ghost use Rattle.script_model.specs.{declared.script.Line.Line, declared.script.Op.Op, declared.script.Op.TheVariants.{End, FileRead}, declared.script.Reply.TheVariants.Committed, Script.after, Step.{array_of, step}, FilesArea.{file_blocks, files_area}, Operations.AreLines};
+ghost use Rattle.store_model.specs.{HashRegion.{hash_map, IsHashRegion}, Areas.{hash_area, tree_area}, TreeRegion.{tree_map, IsTreeRegion}, FileRegion.{files, AreFileRegions}};
 ghost use Rattle.store_laws.specs.Both.{IsByBoth};
-ghost use Rattle.store_scripts.specs.Answers.{answered, file_answered, CallsStore};
-ghost use Rattle.store_scripts.specs.InOrder.{FilesAnswer, StoresAnswer};
-ghost use Rattle.store_scripts.specs.Kept.{BeginsWell, IsToldOf, ToldByMap, ToldInOrder};
-ghost use Rattle.store_scripts.specs.Stores.{image_files, image_hash, image_tree, the_files, the_tree};
-ghost use Rattle.store_scripts.specs.Told.{no_notes, noted, told_after, CommitsKeep, IsEndedAs, Notes};
+ghost use Rattle.store_scripts.specs.{Answers.{answered, file_answered, CallsStore}, InOrder.{FilesAnswer, StoresAnswer}, Kept.{BeginsWell, IsToldOf, ToldByMap, ToldInOrder}, Stores.{image_files, image_hash, image_tree, the_files, the_tree}, Told.{no_notes, noted, told_after, CommitsKeep, IsEndedAs, Notes}};
 
 /// Where the transactions that commit in a script keep to the stores, the history after it is one by calls of the stores (`by_calls`).
 /// The calls of a transaction that commits, as its lines and their replies tell them, answer as one thread's calls on the map directly

@@ -1,8 +1,6 @@
-ghost use Rattle.std.specs.Prelude.{◌≡◌, ◌+◌, ◌<◌, ◌≤◌, [], IfOk, Some};
-ghost use Rattle.std.specs.FinMap.{insert};
+ghost use Rattle.std.specs.{Prelude.{◌≡◌, ◌+◌, ◌<◌, ◌≤◌, [], IfOk, Some}, FinMap.insert};
 ghost use Rattle.iso_model.specs.Array.{Array};
-ghost use Rattle.store_model.specs.HashRegion.{IsHashArea, IsHashRegion};
-ghost use Rattle.store_model.specs.TreeRegion.{scan_op, tree_map, IsTreeArea, IsTreeRegion};
+ghost use Rattle.store_model.specs.{HashRegion.{IsHashArea, IsHashRegion}, TreeRegion.{scan_op, tree_map, IsTreeArea, IsTreeRegion}};
 ghost use Rattle.store_laws.specs.Calls.{AreDisjoint};
 ghost use Rattle.tx_blocks.specs.Runs.{area_of};
 

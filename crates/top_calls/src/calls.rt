@@ -1,9 +1,6 @@
 // Calls of the top call over a disk, a source and a sink in memory.
-ghost use Rattle.std.specs.Prelude.{◌≡◌, ◌≢◌, false};
-ghost use Rattle.std.specs.Option.{ForSome};
-ghost use Rattle.command_line.specs.declared.task.Task.TheVariants.{Par};
-ghost use Rattle.command_line.specs.Grammar.{texts};
-ghost use Rattle.command_line.specs.Requests.{request_of};
+ghost use Rattle.std.specs.{Prelude.{◌≡◌, ◌≢◌, false}, Option.ForSome};
+ghost use Rattle.command_line.specs.{declared.task.Task.TheVariants.Par, Grammar.texts, Requests.request_of};
 
 use crate::texts::text;
 use command_line::{Task, read_words};

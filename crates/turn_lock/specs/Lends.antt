@@ -1,8 +1,7 @@
 -- How a turn lends its value.
 use Rattle.std.specs.Borrow.{Lends, MutBor, Fml}
 use denote.RattleType.{RattleType}
-use Rattle.turn_lock.specs.declared.turn.Turn.{Turn}
-use Rattle.turn_lock.specs.contracts.turn.Turn.{the_row}
+use Rattle.turn_lock.specs.{declared.turn.Turn.Turn, contracts.turn.Turn.the_row}
 
 -- the turn with another value
 abbrev pub with_value : {V E : Type 0} → Turn V E → V → Turn V E

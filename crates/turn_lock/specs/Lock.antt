@@ -1,8 +1,7 @@
 -- What clauses say of a lock and of a turn.
 use Rattle.std.specs.Prelude.{ℕ}
 use Rattle.atomic_table.specs.Seated.{TableId}
-use Rattle.turn_lock.specs.declared.lock.TurnLock.{TurnLock}
-use Rattle.turn_lock.specs.declared.turn.Turn.{Turn}
+use Rattle.turn_lock.specs.{declared.lock.TurnLock.TurnLock, declared.turn.Turn.Turn}
 
 module _ {V E : Type 0} where
   -- which lock it is

@@ -1,6 +1,5 @@
 -- Which numbers are out in a list of entries, and which of them a pass holds.
-use Rattle.std.specs.Prelude.{◌≡◌, ℕ, ◌<◌, ◌==◌, Bool, true, false, not, cond, List, [], ◌∷◌, ◌++◌, Option, filter, option_to_list}
-use Rattle.std.specs.List.{AllByRecursion, list_any}
+use Rattle.std.specs.{Prelude.{◌≡◌, ℕ, ◌<◌, ◌==◌, Bool, true, false, not, cond, List, [], ◌∷◌, ◌++◌, Option, filter, option_to_list}, List.{AllByRecursion, list_any}}
 use Rattle.turn_lock.specs.Lists.{times}
 
 -- whether n is one of these numbers

@@ -1,10 +1,7 @@
 -- What clauses say of a pass.
 use Rattle.std.specs.Prelude.{◌≡◌, Option}
 use Rattle.atomic_table.specs.declared.shared.Seat.{Seat}
-use Rattle.turn_lock.specs.declared.turn.Turn.{Turn}
-use Rattle.turn_lock.specs.declared.view.View.{View}
-use Rattle.turn_lock.specs.Lock.{turn_lock_id, turn_number}
-use Rattle.turn_lock.specs.Steps.{IsAtRest, IsAtTurn}
+use Rattle.turn_lock.specs.{declared.turn.Turn.Turn, declared.view.View.View, Lock.{turn_lock_id, turn_number}, Steps.{IsAtRest, IsAtTurn}}
 
 -- a pass of a lock over a value of type X, whose entries are of type E
 abbrev pub PassOf : (X E : Type 0) → Type 0

@@ -1,9 +1,7 @@
 -- The recursive words of a pass have one proof at most, so a ghost field may cite them.
-use Rattle.std.specs.Prelude.{◌≡◌, ℕ, List, [], ◌∷◌}
-use Rattle.std.proofs.Props.{props}
+use Rattle.std.{specs.Prelude.{◌≡◌, ℕ, List, [], ◌∷◌}, proofs.Props.props, specs.Coded.{×_prop, Unit-prop, le_prop}}
 use base.Stored.{Coded-set}
 use Rattle.atomic_table.specs.Seated.{TableId, table_id_coded}
-use Rattle.std.specs.Coded.{×_prop, Unit-prop, le_prop}
 use Rattle.turn_lock.specs.Lists.{RisesFrom, AllBelow}
 
 pub RisesFrom-prop : (n : ℕ) (xs : List ℕ) → IsProp (RisesFrom n xs)

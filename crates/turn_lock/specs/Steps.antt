@@ -2,13 +2,7 @@
 use Rattle.std.specs.Prelude.{◌≡◌, ◌≢◌, ℕ, ◌<◌, ◌≤◌, List, [], ◌∷◌, length, Option, Some, None}
 use mathlib.Core.List.{IsPrefix}
 use Rattle.atomic_table.specs.Table.{Me, Step, rest}
-use Rattle.turn_lock.specs.declared.view.TheConstants.{LAST}
-use Rattle.turn_lock.specs.declared.view.View.{View}
-use Rattle.turn_lock.specs.declared.view.Stage.{Stage}
-use Rattle.turn_lock.specs.declared.view.Stage.TheVariants.{Idle, Waits, Turns}
-use Rattle.turn_lock.specs.Lists.{times, RisesFrom, AllBelow, places}
-use Rattle.turn_lock.specs.Numbers.{IsOut, AreFree}
-use Rattle.turn_lock.specs.Views.{waits, turns, gave}
+use Rattle.turn_lock.specs.{declared.view.TheConstants.LAST, declared.view.View.View, declared.view.Stage.Stage, declared.view.Stage.TheVariants.{Idle, Waits, Turns}, Lists.{times, RisesFrom, AllBelow, places}, Numbers.{IsOut, AreFree}, Views.{waits, turns, gave}}
 
 -- the ticket of a pass, and 0 where it has none
 abbrev pub ticket_of : Stage → ℕ

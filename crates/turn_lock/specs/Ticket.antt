@@ -1,16 +1,10 @@
 -- The rule of the table: word 0 is the next ticket, word 1 the ticket that is served, and slot 0 has the value while no pass has the turn.
 use Rattle.std.specs.Prelude.{◌≡◌, ◌⊎◌, ℕ, ◌+◌, ◌<◌, ◌≤◌, List, [], ◌∷◌, length, Option, Some}
-use mathlib.Core.List.{IsPrefix}
-use mathlib.Core.Option.{none, some}
+use mathlib.Core.{List.IsPrefix, Option.{none, some}}
 use mathlib.Core.Option as maybe
 use lib.ListN.{get_elem?}
 use Rattle.atomic_table.specs.Table.{State}
-use Rattle.turn_lock.specs.declared.view.TheConstants.{LAST}
-use Rattle.turn_lock.specs.declared.view.View.{View}
-use Rattle.turn_lock.specs.declared.view.Stage.{Stage}
-use Rattle.turn_lock.specs.declared.view.Stage.TheVariants.{Idle, Waits, Turns}
-use Rattle.turn_lock.specs.Lists.{total, hit, times, RisesFrom, AllBelow}
-use Rattle.turn_lock.specs.Numbers.{IsOut}
+use Rattle.turn_lock.specs.{declared.view.TheConstants.LAST, declared.view.View.View, declared.view.Stage.Stage, declared.view.Stage.TheVariants.{Idle, Waits, Turns}, Lists.{total, hit, times, RisesFrom, AllBelow}, Numbers.IsOut}
 
 -- 1 where the pass has the ticket n
 abbrev pub ticket_at : ℕ → Stage → ℕ

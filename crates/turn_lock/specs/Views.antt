@@ -1,10 +1,6 @@
 -- The views that steps make of a view.
 use Rattle.std.specs.Prelude.{ℕ, ◌+◌, ◌-◌, List, [], ◌∷◌, ◌++◌, length, Option, option_to_list}
-use Rattle.turn_lock.specs.declared.view.TheConstants.{LAST}
-use Rattle.turn_lock.specs.declared.view.View.{View}
-use Rattle.turn_lock.specs.declared.view.Stage.TheVariants.{Idle, Waits, Turns}
-use Rattle.turn_lock.specs.Lists.{merge, longer}
-use Rattle.turn_lock.specs.Numbers.{without, held_after}
+use Rattle.turn_lock.specs.{declared.view.TheConstants.LAST, declared.view.View.View, declared.view.Stage.TheVariants.{Idle, Waits, Turns}, Lists.{merge, longer}, Numbers.{without, held_after}}
 
 module _ {E : Type 0} where
   -- nothing was seen

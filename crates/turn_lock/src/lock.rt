@@ -1,10 +1,7 @@
 //! The lock and its passes.
 ghost use Rattle.std.specs.Prelude.{◌≡◌, ℕ, ◌+◌, ◌%◌, ◌^◌, ◌<◌, ◌≤◌, [], ◌∷◌, ◌++◌, length, IfOk, IfErr, IsSome, option_to_list};
 ghost use mathlib.Core.List.{IsPrefix};
-ghost use Rattle.turn_lock.specs.Lists.{times, AreDistinct, places};
-ghost use Rattle.turn_lock.specs.Numbers.{IsOut, AreOut, AreFree, AreHeld, held_after};
-ghost use Rattle.turn_lock.specs.Views.{fresh, waits, kept_part, given_part, both};
-ghost use Rattle.turn_lock.specs.Steps.{IsPlaced};
+ghost use Rattle.turn_lock.specs.{Lists.{times, AreDistinct, places}, Numbers.{IsOut, AreOut, AreFree, AreHeld, held_after}, Views.{fresh, waits, kept_part, given_part, both}, Steps.IsPlaced};
 
 use crate::plays::{Advance, Cut, Draw, Glue, Look, Portion, Ring, Settle};
 use crate::turn::Turn;
@@ -70,8 +67,7 @@ pub struct TurnLock<V: Stands + Drop> {
 }
 
 impl<V: Stands + Drop> TurnLock<V> {
-    ghost use Rattle.turn_lock.specs.Lock.{lock_id, turn_value, turn_number};
-    ghost use Rattle.turn_lock.specs.Pass.{view, IsSamePass, HasNoTurn, HasTurn, KeepsTurn, IsAlike};
+    ghost use Rattle.turn_lock.specs.{Lock.{lock_id, turn_value, turn_number}, Pass.{view, IsSamePass, HasNoTurn, HasTurn, KeepsTurn, IsAlike}};
 
     /// A lock round a value that stands for the empty list, and the first pass, which has all units.
     pub fn new(alloc: Global, value: V) -> Result<(TurnLock<V>, Pass<V>), (Memory, V)>

@@ -1,7 +1,6 @@
 //! What each step on the table tells, and how passes are cut and joined.
 ghost use Rattle.std.specs.Prelude.{ℕ, Option, None};
-ghost use Rattle.turn_lock.specs.Steps.{drew, looked, settled, advanced, stayed};
-ghost use Rattle.turn_lock.specs.Views.{kept_part, given_part, both, spent};
+ghost use Rattle.turn_lock.specs.{Steps.{drew, looked, settled, advanced, stayed}, Views.{kept_part, given_part, both, spent}};
 
 use crate::view::{Names, Stands, View};
 use atomic_table::{Join, Play, Split};

@@ -1,6 +1,5 @@
 //! The turn: the right to the value until it is given back.
-ghost use Rattle.std.specs.Prelude.{◌≡◌};
-ghost use Rattle.std.specs.Borrow.{sem};
+ghost use Rattle.std.specs.{Prelude.◌≡◌, Borrow.sem};
 
 use crate::lock::Pass;
 use crate::view::Stands;
@@ -15,8 +14,7 @@ pub struct Turn<V: Stands> {
 }
 
 impl<V: Stands> Turn<V> {
-    ghost use Rattle.turn_lock.specs.Lends.{LendsValue};
-    ghost use Rattle.turn_lock.specs.Lock.{turn_value};
+    ghost use Rattle.turn_lock.specs.{Lends.LendsValue, Lock.turn_value};
 
     /// Lends the value.
     pub fn value(&mut self) -> &mut V

@@ -1,18 +1,10 @@
 -- How a store's call that follows a program ends.
-use Rattle.std.specs.Prelude.{◌≡◌, ◌≢◌, ◌⊎◌, ℕ, ◌+◌, ◌<◌, ◌≤◌, false, IsTrue, List, Option, Some, None, Result, Ok, Err, IfErr, OnOk, length, take}
-use Rattle.std.specs.Option.{ForSome}
+use Rattle.std.specs.{Prelude.{◌≡◌, ◌≢◌, ◌⊎◌, ℕ, ◌+◌, ◌<◌, ◌≤◌, false, IsTrue, List, Option, Some, None, Result, Ok, Err, IfErr, OnOk, length, take}, Option.ForSome}
 use Rattle.fault_count.specs.Count.{Rose}
-use Rattle.iso_model.specs.declared.access.Access.{Access}
-use Rattle.store_model.specs.declared.stores.Area.{Area}
-use Rattle.store_model.specs.declared.stores.Region.{Region}
-use Rattle.store_model.specs.declared.stores.StoreError.{StoreError}
+use Rattle.iso_model.specs.{declared.access.Access.Access, Array.Array, Effect.own, Premises.block_at}
+use Rattle.store_model.specs.{declared.stores.Area.Area, declared.stores.Region.Region, declared.stores.StoreError.StoreError, declared.stores.TxError.TxError, Stores.{Program, accesses_of, outcome, AreReads, IsLocal}}
 use Rattle.store_model.specs.declared.stores.StoreError.TheVariants as store
-use Rattle.store_model.specs.declared.stores.TxError.{TxError}
 use Rattle.store_model.specs.declared.stores.TxError.TheVariants as error
-use Rattle.iso_model.specs.Array.{Array}
-use Rattle.iso_model.specs.Effect.{own}
-use Rattle.iso_model.specs.Premises.{block_at}
-use Rattle.store_model.specs.Stores.{Program, accesses_of, outcome, AreReads, IsLocal}
 use Rattle.tx_blocks.specs.Tx.{Tx, Device, IsLater, with_accesses, added, room_of}
 
 -- the area of a region of the transaction's blocks

@@ -1,15 +1,10 @@
 -- What contracts see of a transaction over blocks, and when its calls are refused.
-use Rattle.std.specs.Prelude.{◌≡◌, ℕ, ◌-◌, ◌<◌, ◌≤◌, Bool, not, if◌then◌else◌, IsTrue, List, ◌++◌, Option, Some, None, Result, Err, IfErr, nat_le, length, drop, option_map}
-use Rattle.std.specs.Option.{ForSome}
+use Rattle.std.specs.{Prelude.{◌≡◌, ℕ, ◌-◌, ◌<◌, ◌≤◌, Bool, not, if◌then◌else◌, IsTrue, List, ◌++◌, Option, Some, None, Result, Err, IfErr, nat_le, length, drop, option_map}, Option.ForSome}
 use Rattle.fault_count.specs.Count.{Rose}
-use Rattle.iso_model.specs.declared.access.Access.{Access}
-use Rattle.iso_model.specs.declared.access.MarkError.{MarkError}
+use Rattle.iso_model.specs.{declared.access.Access.Access, declared.access.MarkError.MarkError, Array.Array, Marks.mark_fault, Premises.block_at}
 use Rattle.iso_model.specs.declared.access.MarkError.TheVariants as mark
 use Rattle.store_model.specs.declared.stores.TxError.{TxError}
 use Rattle.store_model.specs.declared.stores.TxError.TheVariants as error
-use Rattle.iso_model.specs.Array.{Array}
-use Rattle.iso_model.specs.Marks.{mark_fault}
-use Rattle.iso_model.specs.Premises.{block_at}
 
 -- A transaction: the bytes of a block, how many blocks there are, the array at its begin where that is told, its accesses in
 -- order, and whether there is one.

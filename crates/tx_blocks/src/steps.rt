@@ -1,13 +1,8 @@
 // The steps that calls over a transaction are made of: a read or a write with its marks, and a test of the room.
-ghost use Rattle.std.specs.Prelude.{◌≡◌, ◌<◌, ◌≤◌, OnOk, OnErr, IfErr, Ok, length, [], ◌∷◌, true, None};
-ghost use Rattle.std.specs.List.{AllByRecursion};
-ghost use Rattle.std.specs.Option.{ForSome};
-ghost use Rattle.iso_model.specs.Effect.{own};
-ghost use Rattle.iso_model.specs.Marks.{marked};
-ghost use Rattle.iso_model.specs.Premises.{block_at, IsSpan};
+ghost use Rattle.std.specs.{Prelude.{◌≡◌, ◌<◌, ◌≤◌, OnOk, OnErr, IfErr, Ok, length, [], ◌∷◌, true, None}, List.AllByRecursion, Option.ForSome};
+ghost use Rattle.iso_model.specs.{Effect.own, Marks.marked, Premises.{block_at, IsSpan}};
 ghost use Rattle.store_model.specs.Stores.{Done, Store, look_access, store_access};
-ghost use Rattle.tx_blocks.specs.Tx.{mark_refusal, room_of, with_accesses, IsLater, Tx};
-ghost use Rattle.tx_blocks.specs.Runs.{AreBytesOf, Behaves, HasRun, IsCause};
+ghost use Rattle.tx_blocks.specs.{Tx.{mark_refusal, room_of, with_accesses, IsLater, Tx}, Runs.{AreBytesOf, Behaves, HasRun, IsCause}};
 
 use crate::TxBlocks;
 use iso_model::Span;

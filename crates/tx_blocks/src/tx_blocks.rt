@@ -1,9 +1,6 @@
 // The trait of a transaction over blocks.
-ghost use Rattle.std.specs.Prelude.{◌≡◌, ◌≢◌, ◌-◌, Err, OnOk, OnErr, cond, length, [], ◌∷◌};
-ghost use Rattle.std.specs.Option.{ForSome};
-ghost use Rattle.iso_model.specs.Effect.{own};
-ghost use Rattle.iso_model.specs.Marks.{marked};
-ghost use Rattle.iso_model.specs.Premises.{block_at};
+ghost use Rattle.std.specs.{Prelude.{◌≡◌, ◌≢◌, ◌-◌, Err, OnOk, OnErr, cond, length, [], ◌∷◌}, Option.ForSome};
+ghost use Rattle.iso_model.specs.{Effect.own, Marks.marked, Premises.block_at};
 ghost use Rattle.store_model.specs.Stores.{look_access, store_access};
 ghost use Rattle.tx_blocks.specs.Tx.{access_refusal, mark_refusal, room_of, with_accesses, Device, IsFree, IsLater, IsRefused, IsTx, Tx};
 

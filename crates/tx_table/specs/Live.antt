@@ -1,7 +1,5 @@
 -- What contracts see of `Live`: the numbers of the live transactions in the order of their begins, each with what it began with.
-use Rattle.std.specs.Prelude.{◌≡◌, ℕ, ◌+◌, ◌<◌, ◌≤◌, nat_eq, List, [], ◌∷◌, ◌++◌, Option, drop, length, option_map, slice_get, take}
-use Rattle.std.specs.List.{AllByRecursion}
-use Rattle.std.specs.Map.{lookup, remove_entry}
+use Rattle.std.specs.{Prelude.{◌≡◌, ℕ, ◌+◌, ◌<◌, ◌≤◌, nat_eq, List, [], ◌∷◌, ◌++◌, Option, drop, length, option_map, slice_get, take}, List.AllByRecursion, Map.{lookup, remove_entry}}
 use Rattle.iso_model.specs.declared.access.Mode.{Mode}
 use Rattle.iso_model.specs.World as model
 use Rattle.tx_table.specs.declared.live.Begun.{Begun}

@@ -1,8 +1,6 @@
 -- What contracts see of `Patches`: for each written block, rising, the values of its patch.
-use Rattle.std.specs.Prelude.{◌≡◌, ℕ, ◌+◌, ◌<◌, ◌≤◌, ◌==◌, ◌||◌, Bool, false, cond, List, [], ◌∷◌, Option, None, length, replicate, slice_index_or, IsTrue}
-use Rattle.std.specs.List.{AllByRecursion}
-use Rattle.iso_model.specs.declared.access.Access.{Access}
-use Rattle.iso_model.specs.Effect.{effects_from, is_write}
+use Rattle.std.specs.{Prelude.{◌≡◌, ℕ, ◌+◌, ◌<◌, ◌≤◌, ◌==◌, ◌||◌, Bool, false, cond, List, [], ◌∷◌, Option, None, length, replicate, slice_index_or, IsTrue}, List.AllByRecursion}
+use Rattle.iso_model.specs.{declared.access.Access.Access, Effect.{effects_from, is_write}}
 
 pub record Held : Type 0 where
   pub size : ℕ

@@ -1,6 +1,5 @@
 -- Items that stay in their slots, under an order of keys.
-use Rattle.std.specs.Prelude.{◌≢◌, ℕ, ◌<◌, List, [], ◌∷◌, map, slice_index_or}
-use Rattle.std.specs.List.{AllByRecursion}
+use Rattle.std.specs.{Prelude.{◌≢◌, ℕ, ◌<◌, List, [], ◌∷◌, map, slice_index_or}, List.AllByRecursion}
 
 -- for each key of the order the item in its slot
 abbrev pub entries_of : {A : Type 0} → A → List A → List (ℕ × ℕ) → List (ℕ × A)

@@ -1,12 +1,6 @@
 -- What contracts see of a `Work`: a transaction with its accesses, and how far the work is prepared.
-use Rattle.std.specs.Prelude.{◌≡◌, ℕ, ◌≤◌, Bool, List, [], Option, IsFalse, length, take}
-use Rattle.std.specs.List.{AllByRecursion}
-use Rattle.iso_model.specs.declared.access.Access.{Access}
-use Rattle.iso_model.specs.declared.access.Geometry.{Geometry}
-use Rattle.iso_model.specs.declared.access.Mode.{Mode}
-use Rattle.iso_model.specs.declared.access.Span.{Span}
-use Rattle.iso_model.specs.Effect.{is_write}
-use Rattle.iso_model.specs.Premises.{AreBytes, AreAccesses, HasBytes, IsSpan}
+use Rattle.std.specs.{Prelude.{◌≡◌, ℕ, ◌≤◌, Bool, List, [], Option, IsFalse, length, take}, List.AllByRecursion}
+use Rattle.iso_model.specs.{declared.access.Access.Access, declared.access.Geometry.Geometry, declared.access.Mode.Mode, declared.access.Span.Span, Effect.is_write, Premises.{AreBytes, AreAccesses, HasBytes, IsSpan}}
 use Rattle.tx_table.specs.declared.rows.Row.{Row}
 
 -- a transaction at work on an image of blocks of this size, of which there are so many

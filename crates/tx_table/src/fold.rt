@@ -1,16 +1,8 @@
 // What the accesses of a transaction touch.
-ghost use Rattle.std.specs.Prelude.{◌≡◌, ℕ, ◌<◌, ◌≤◌, ◌&&◌, ◌||◌, Bool, IsTrue, IfOk, List, OnOk, OnErr, drop, length, map, nat_lt, slice_index_or, take};
-ghost use Rattle.std.specs.List.{All, AllByRecursion, list_any};
-ghost use Rattle.byte_marks.specs.Marks.{has};
-ghost use Rattle.byte_marks.specs.Touched.{touches, AreTouched};
-ghost use Rattle.iso_model.specs.declared.access.Access.{Access};
-ghost use Rattle.iso_model.specs.declared.access.Kind.{Kind};
-ghost use Rattle.iso_model.specs.declared.access.Kind.TheVariants.{Read, Write};
-ghost use Rattle.iso_model.specs.Array.{covered};
-ghost use Rattle.iso_model.specs.Effect.{covers};
-ghost use Rattle.iso_model.specs.Geometry.{is_block_size};
-ghost use Rattle.tx_table.specs.declared.rows.Row.{Row};
-ghost use Rattle.tx_table.specs.Work.{access_of, IsRow};
+ghost use Rattle.std.specs.{Prelude.{◌≡◌, ℕ, ◌<◌, ◌≤◌, ◌&&◌, ◌||◌, Bool, IsTrue, IfOk, List, OnOk, OnErr, drop, length, map, nat_lt, slice_index_or, take}, List.{All, AllByRecursion, list_any}};
+ghost use Rattle.byte_marks.specs.{Marks.has, Touched.{touches, AreTouched}};
+ghost use Rattle.iso_model.specs.{declared.access.Access.Access, declared.access.Kind.Kind, declared.access.Kind.TheVariants.{Read, Write}, Array.covered, Effect.covers, Geometry.is_block_size};
+ghost use Rattle.tx_table.specs.{declared.rows.Row.Row, Work.{access_of, IsRow}};
 
 use crate::rows::Row;
 use byte_marks::{Marks, Touched};

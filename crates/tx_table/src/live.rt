@@ -1,11 +1,7 @@
 // The transactions that are live.
-ghost use Rattle.std.specs.Prelude.{◌≡◌, ℕ, ◌+◌, ◌<◌, ◌≤◌, [], ◌∷◌, ◌++◌, Some, None, Err, IfNone, IfSome, IsSome, OnOk, OnErr, length, nat_eq, map, slice_index_or};
-ghost use Rattle.std.specs.Bool.{OnTrue};
-ghost use Rattle.std.specs.Map.{lookup, remove_entry};
-ghost use Rattle.iso_model.specs.declared.limits.TheConstants.{MAX_LIVE};
-ghost use Rattle.iso_model.specs.World.{floor_of};
-ghost use Rattle.tx_table.specs.Live.{AreBefore, IsPlace, at_work, begin_of, mode_of};
-ghost use Rattle.tx_table.specs.Patches.{RisesFrom};
+ghost use Rattle.std.specs.{Prelude.{◌≡◌, ℕ, ◌+◌, ◌<◌, ◌≤◌, [], ◌∷◌, ◌++◌, Some, None, Err, IfNone, IfSome, IsSome, OnOk, OnErr, length, nat_eq, map, slice_index_or}, Bool.OnTrue, Map.{lookup, remove_entry}};
+ghost use Rattle.iso_model.specs.{declared.limits.TheConstants.MAX_LIVE, World.floor_of};
+ghost use Rattle.tx_table.specs.{Live.{AreBefore, IsPlace, at_work, begin_of, mode_of}, Patches.RisesFrom};
 
 use iso_model::{MAX_LIVE, Mode};
 use std::alloc::Global;
@@ -34,9 +30,7 @@ pub struct Live {
 impl Model for Live {
     ghost use Rattle.std.specs.Prelude.{List, ℕ, ◌≤◌, length};
     ghost use Rattle.iso_model.specs.declared.limits.TheConstants.{MAX_LIVE};
-    ghost use Rattle.tx_table.specs.declared.live.Begun.{Begun};
-    ghost use Rattle.tx_table.specs.Live.{BeginFrom};
-    ghost use Rattle.tx_table.specs.Patches.{RisesFrom};
+    ghost use Rattle.tx_table.specs.{declared.live.Begun.Begun, Live.BeginFrom, Patches.RisesFrom};
 
     ghost Value = { List (ℕ × Begun) };
 

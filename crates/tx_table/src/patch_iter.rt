@@ -1,7 +1,5 @@
 // The patches of a transaction, one by one.
-ghost use Rattle.std.specs.Prelude.{◌≡◌, ◌<◌, [], length};
-ghost use Rattle.std.specs.Iterator.{YieldsFirstBy, item_count};
-ghost use Rattle.std.specs.List.{AllByRecursion};
+ghost use Rattle.std.specs.{Prelude.{◌≡◌, ◌<◌, [], length}, Iterator.{YieldsFirstBy, item_count}, List.AllByRecursion};
 ghost use Rattle.tx_table.specs.Slots.{entries_of};
 
 use merge_write::Patch;
@@ -15,8 +13,7 @@ pub struct PatchIter<'a> {
 }
 
 impl<'a> Model for PatchIter<'a> {
-    ghost use Rattle.std.specs.Prelude.{List, Option, ℕ, ◌<◌, [], length};
-    ghost use Rattle.std.specs.List.{AllByRecursion};
+    ghost use Rattle.std.specs.{Prelude.{List, Option, ℕ, ◌<◌, [], length}, List.AllByRecursion};
     ghost use Rattle.tx_table.specs.Slots.{entries_of};
 
     ghost Value = { List (ℕ × List (Option ℕ)) };

@@ -1,6 +1,5 @@
 // The patches of the blocks that a transaction wrote.
-ghost use Rattle.std.specs.Prelude.{◌≡◌, ◌≢◌, ℕ, ◌+◌, ◌<◌, ◌≤◌, ◌==◌, [], true, false, None, ◌⊎◌, IfNone, IfSome, IsOk, IsTrue, OnOk, OnErr, cond, length, replicate, slice_index_or, vec_capacity};
-ghost use Rattle.std.specs.List.{All, insert};
+ghost use Rattle.std.specs.{Prelude.{◌≡◌, ◌≢◌, ℕ, ◌+◌, ◌<◌, ◌≤◌, ◌==◌, [], true, false, None, ◌⊎◌, IfNone, IfSome, IsOk, IsTrue, OnOk, OnErr, cond, length, replicate, slice_index_or, vec_capacity}, List.{All, insert}};
 ghost use Rattle.iso_model.specs.Geometry.{is_block_size};
 ghost use Rattle.merge_write.specs.Patch.{laid, written};
 ghost use Rattle.tx_table.specs.Patches.{has_patch, patch_at, RisesFrom};
@@ -26,11 +25,9 @@ pub struct Patches {
 }
 
 impl Model for Patches {
-    ghost use Rattle.std.specs.Prelude.{◌≡◌, ◌<◌, ◌≤◌, ◌^◌, ◌&&◌, [], IsTrue, length, nat_lt, vec_capacity};
-    ghost use Rattle.std.specs.List.{AllByRecursion};
+    ghost use Rattle.std.specs.{Prelude.{◌≡◌, ◌<◌, ◌≤◌, ◌^◌, ◌&&◌, [], IsTrue, length, nat_lt, vec_capacity}, List.AllByRecursion};
     ghost use Rattle.iso_model.specs.Geometry.{is_block_size};
-    ghost use Rattle.tx_table.specs.Patches.{AreBlankFrom, Held, RisesFrom};
-    ghost use Rattle.tx_table.specs.Slots.{entries_of, AreSlots};
+    ghost use Rattle.tx_table.specs.{Patches.{AreBlankFrom, Held, RisesFrom}, Slots.{entries_of, AreSlots}};
 
     ghost Value = { Held };
 

@@ -1,6 +1,5 @@
 // Items under labels.
-ghost use Rattle.std.specs.Prelude.{◌≡◌, bytes_eq, [], ◌∷◌, ◌++◌, None, IsErr, IsSome, IfErr, OnOk, drop, is_some, slice_get, option_map};
-ghost use Rattle.std.specs.Map.{lookup, remove_entry};
+ghost use Rattle.std.specs.{Prelude.{◌≡◌, bytes_eq, [], ◌∷◌, ◌++◌, None, IsErr, IsSome, IfErr, OnOk, drop, is_some, slice_get, option_map}, Map.{lookup, remove_entry}};
 
 use indexmap::IndexMap;
 use iso_model::Label;
@@ -22,8 +21,7 @@ pub struct Rack<T> {
 }
 
 impl<T> Model for Rack<T> {
-    ghost use Rattle.std.specs.Prelude.{List, ℕ, map};
-    ghost use Rattle.std.specs.List.{AllByRecursion};
+    ghost use Rattle.std.specs.{Prelude.{List, ℕ, map}, List.AllByRecursion};
     ghost use Rattle.tx_table.specs.Rack.{IsKeyed};
 
     ghost Value = { List (List ℕ × T) };

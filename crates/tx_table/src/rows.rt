@@ -1,9 +1,7 @@
 // The accesses of a transaction as they are kept.
-ghost use Rattle.std.specs.Prelude.{◌≡◌, ℕ, ◌+◌, ◌<◌, ◌≤◌, [], ◌∷◌, ◌++◌, List, length, map, take};
-ghost use Rattle.std.specs.List.{AllByRecursion};
+ghost use Rattle.std.specs.{Prelude.{◌≡◌, ℕ, ◌+◌, ◌<◌, ◌≤◌, [], ◌∷◌, ◌++◌, List, length, map, take}, List.AllByRecursion};
 ghost use Rattle.iso_model.specs.declared.access.Access.{Access};
-ghost use Rattle.tx_table.specs.Patches.{has_patch, AreEffects, HavePatches};
-ghost use Rattle.tx_table.specs.Work.{access_of, IsRow};
+ghost use Rattle.tx_table.specs.{Patches.{has_patch, AreEffects, HavePatches}, Work.{access_of, IsRow}};
 
 use crate::patches::Patches;
 use iso_model::{Kind, Span};

@@ -1,17 +1,10 @@
 // What a transaction does.
 ghost use Rattle.std.specs.Prelude.{◌≡◌, ◌+◌, ◌<◌, ◌≤◌, [], ◌∷◌, ◌++◌, true, false, Some, None, Ok, Err, IsTrue, IsOk, OnOk, OnErr, length, flat_map};
 ghost use Rattle.byte_marks.specs.Touched.{AreTouched};
-ghost use Rattle.iso_model.specs.declared.access.Geometry.{Geometry};
-ghost use Rattle.iso_model.specs.declared.access.Kind.TheVariants.{Read, Write};
-ghost use Rattle.iso_model.specs.Array.{Array};
+ghost use Rattle.iso_model.specs.{declared.access.Geometry.Geometry, declared.access.Kind.TheVariants.{Read, Write}, Array.Array};
 ghost use Rattle.iso_model.specs.Effect as model;
-ghost use Rattle.iso_model.specs.Effect.{own, runs, runs_from};
-ghost use Rattle.iso_model.specs.Geometry.{is_block_size};
-ghost use Rattle.iso_model.specs.Marks.{mark_fault, marked};
-ghost use Rattle.iso_model.specs.Premises.{block_at};
-ghost use Rattle.iso_model.specs.Step.{read_access, write_access};
-ghost use Rattle.tx_table.specs.Patches.{has_patch, AreEffects, HavePatches, RisesFrom};
-ghost use Rattle.tx_table.specs.Work.{span_at, AreWithin, Doing};
+ghost use Rattle.iso_model.specs.{Effect.{own, runs, runs_from}, Geometry.is_block_size, Marks.{mark_fault, marked}, Premises.block_at, Step.{read_access, write_access}};
+ghost use Rattle.tx_table.specs.{Patches.{has_patch, AreEffects, HavePatches, RisesFrom}, Work.{span_at, AreWithin, Doing}};
 
 use crate::PatchIter;
 use crate::fold::{fold, reopen_touched};
@@ -42,13 +35,10 @@ pub struct Work {
 }
 
 impl Model for Work {
-    ghost use Rattle.std.specs.Prelude.{true, [], ◌≡◌, ◌≤◌, ◌<◌, ◌+◌, ◌==◌, ◌&&◌, ◌⊎◌, IsTrue, IfSome, length, map, take, vec_capacity};
-    ghost use Rattle.std.specs.List.{AllByRecursion};
+    ghost use Rattle.std.specs.{Prelude.{true, [], ◌≡◌, ◌≤◌, ◌<◌, ◌+◌, ◌==◌, ◌&&◌, ◌⊎◌, IsTrue, IfSome, length, map, take, vec_capacity}, List.AllByRecursion};
     ghost use Rattle.byte_marks.specs.Touched.{AreTouched};
-    ghost use Rattle.iso_model.specs.declared.access.Kind.TheVariants.{Read, Write};
-    ghost use Rattle.iso_model.specs.Geometry.{is_block_size};
-    ghost use Rattle.tx_table.specs.Patches.{has_patch, AreEffects, HavePatches};
-    ghost use Rattle.tx_table.specs.Work.{access_of, Doing, IsRow};
+    ghost use Rattle.iso_model.specs.{declared.access.Kind.TheVariants.{Read, Write}, Geometry.is_block_size};
+    ghost use Rattle.tx_table.specs.{Patches.{has_patch, AreEffects, HavePatches}, Work.{access_of, Doing, IsRow}};
 
     ghost Value = { Doing };
 

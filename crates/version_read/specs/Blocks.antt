@@ -1,7 +1,6 @@
 -- A block that is read by its versions.
 use Rattle.std.specs.Prelude.{ℕ, ◌≡◌, ◌+◌, ◌<◌, ◌≤◌, List, length, slice_index, unwrap_or}
-use Rattle.mv_index.specs.declared.version.Version.{Version}
-use Rattle.mv_index.specs.Shown.{byte_in}
+use Rattle.mv_index.specs.{declared.version.Version.Version, Shown.byte_in}
 
 -- The block has the bytes that the versions show, and where they show none those of the image from this place on.
 abbrev pub IsOver : (image : List ℕ) → (base : ℕ) → List Version → List ℕ → Type 0

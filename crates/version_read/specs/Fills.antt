@@ -1,7 +1,6 @@
 -- Bytes of a block that are read where they are still wanted.
 use Rattle.std.specs.Prelude.{ℕ, ◌≡◌, ◌+◌, ◌-◌, ◌<◌, ◌&&◌, not, cond, List, length, slice_index}
-use Rattle.mv_index.specs.Masks.{is_seen}
-use Rattle.mv_index.specs.Versions.{in_bytes}
+use Rattle.mv_index.specs.{Masks.is_seen, Versions.in_bytes}
 
 -- of so many bytes from off on, those that were not seen are the image's, and all others as before
 abbrev pub IsFilled : (image : List ℕ) → (place off len : ℕ) → (seen old new : List ℕ) → Type 0

@@ -1,9 +1,7 @@
 -- The parts of a record, as an index takes them in.
-use Rattle.std.specs.Prelude.{ℕ, ◌≡◌, ◌+◌, ◌^◌, ◌<◌, ◌≤◌, ◌==◌, cond, List, [], ◌∷◌, ◌++◌, length, count_by, slice_index_or, sum_by}
-use Rattle.std.specs.List.{AllByRecursion}
+use Rattle.std.specs.{Prelude.{ℕ, ◌≡◌, ◌+◌, ◌^◌, ◌<◌, ◌≤◌, ◌==◌, cond, List, [], ◌∷◌, ◌++◌, length, count_by, slice_index_or, sum_by}, List.AllByRecursion}
 use Rattle.iso_model.specs.declared.access.Run.{Run}
-use Rattle.mv_index.specs.declared.version.Version.{Version}
-use Rattle.mv_index.specs.Versions.{AreAtMost, BlockVersions, count_of, room_of, versions_in}
+use Rattle.mv_index.specs.{declared.version.Version.Version, Versions.{AreAtMost, BlockVersions, count_of, room_of, versions_in}}
 use Rattle.version_read.specs.declared.part_span.PartSpan.{PartSpan}
 
 -- a run without its bytes

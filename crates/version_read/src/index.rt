@@ -1,6 +1,5 @@
 // The parts of a record, put into an index.
-ghost use Rattle.std.specs.Prelude.{◌≡◌, ◌^◌, ◌≤◌, ◌<◌, ℕ, IsOk, OnOk, length, map, slice_index_or};
-ghost use Rattle.std.specs.List.{AllByRecursion};
+ghost use Rattle.std.specs.{Prelude.{◌≡◌, ◌^◌, ◌≤◌, ◌<◌, ℕ, IsOk, OnOk, length, map, slice_index_or}, List.AllByRecursion};
 ghost use Rattle.mv_index.specs.Versions.{count_of, room_of, versions_in};
 ghost use Rattle.version_read.specs.Parts.{BlocksRise, HasRoom, HasTaken, MayTake, no_part, part_of};
 

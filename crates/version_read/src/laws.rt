@@ -1,21 +1,9 @@
 // The laws of indexes and of the blocks that are read by them: each function does nothing, and its contract is the law.
-ghost use Rattle.std.specs.Prelude.{◌≡◌, ℕ, ◌+◌, ◌-◌, ◌*◌, ◌^◌, ◌<◌, ◌≤◌, List, [], ◌∷◌, ◌++◌, IsTrue, length, map, drop, take};
-ghost use Rattle.std.specs.List.{AllByRecursion};
-ghost use Rattle.iso_model.specs.declared.access.Geometry.{Geometry};
-ghost use Rattle.iso_model.specs.declared.access.Run.{Run};
-ghost use Rattle.iso_model.specs.Geometry.{base_place, image_size, is_valid, log_place};
-ghost use Rattle.iso_model.specs.History.{History, array_at, last};
-ghost use Rattle.iso_model.specs.Image.{AreRuns, IsRecord, Written, records};
-ghost use Rattle.iso_model.specs.Premises.{IsHistory, block_at};
+ghost use Rattle.std.specs.{Prelude.{◌≡◌, ℕ, ◌+◌, ◌-◌, ◌*◌, ◌^◌, ◌<◌, ◌≤◌, List, [], ◌∷◌, ◌++◌, IsTrue, length, map, drop, take}, List.AllByRecursion};
+ghost use Rattle.iso_model.specs.{declared.access.Geometry.Geometry, declared.access.Run.Run, Geometry.{base_place, image_size, is_valid, log_place}, History.{History, array_at, last}, Image.{AreRuns, IsRecord, Written, records}, Premises.{IsHistory, block_at}};
 ghost use Rattle.iso_image.specs.Half.{Half, IsHeld, MayFollow, half_of, history_of, last_told, next_gate};
-ghost use Rattle.mv_index.specs.declared.version.Version.{Version};
-ghost use Rattle.mv_index.specs.Moves.{AreSplit, moved_to};
-ghost use Rattle.mv_index.specs.Placed.{IsIndexOf};
-ghost use Rattle.mv_index.specs.Shown.{AllLie, ShowTheSame};
-ghost use Rattle.mv_index.specs.Versions.{BlockVersions, shown_since, upto, versions_in};
-ghost use Rattle.mv_index.specs.Weights.{bytes_above};
-ghost use Rattle.version_read.specs.Blocks.{IsOver};
-ghost use Rattle.version_read.specs.Parts.{BlocksRise, HasTaken, MayTake, part_of};
+ghost use Rattle.mv_index.specs.{declared.version.Version.Version, Moves.{AreSplit, moved_to}, Placed.IsIndexOf, Shown.{AllLie, ShowTheSame}, Versions.{BlockVersions, shown_since, upto, versions_in}, Weights.bytes_above};
+ghost use Rattle.version_read.specs.{Blocks.IsOver, Parts.{BlocksRise, HasTaken, MayTake, part_of}};
 
 /// A block that is read by the index of a half is the block of the half's history: with the versions up to a number, from the
 /// trim number on, at that number, and with pieces that show what all versions show, at the last number and later.

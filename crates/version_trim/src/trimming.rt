@@ -1,7 +1,6 @@
 // A trim of the index of versions.
 ghost use Rattle.std.specs.Prelude.{◌≡◌, ◌+◌, ◌≤◌, ℕ, length};
-ghost use Rattle.mv_index.specs.Shown.{ShowTheSame};
-ghost use Rattle.mv_index.specs.Versions.{count_of, room_of, shown_since, upto, versions_in};
+ghost use Rattle.mv_index.specs.{Shown.ShowTheSame, Versions.{count_of, room_of, shown_since, upto, versions_in}};
 
 use mv_index::MvIndex;
 

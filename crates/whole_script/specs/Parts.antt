@@ -1,10 +1,7 @@
 -- How the lines of a script are gathered.
 use Rattle.std.specs.Prelude.{◌≡◌, ℕ, List, ◌++◌, Some, Result, Ok, Err}
-use Rattle.script_model.specs.declared.script.Line.{Line}
-use Rattle.script_model.specs.declared.script.LineError.{LineError}
+use Rattle.script_model.specs.{declared.script.Line.Line, declared.script.LineError.LineError, declared.script.Parsed.Parsed, Script.Script}
 use Rattle.script_model.specs.declared.script.LineError.TheVariants as line
-use Rattle.script_model.specs.declared.script.Parsed.{Parsed}
-use Rattle.script_model.specs.Script.{Script}
 use Rattle.script_runner.specs.Lines.{lines_of}
 use Rattle.whole_script.specs.declared.lines.ScriptError.{ScriptError}
 use Rattle.whole_script.specs.declared.lines.ScriptError.TheVariants as error

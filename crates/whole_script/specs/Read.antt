@@ -2,9 +2,7 @@
 use Rattle.std.specs.Prelude.{◌≡◌, ℕ, List, Some, None, IfSome}
 use Rattle.fault_count.specs.Count.{Rose}
 use Rattle.iso_io.specs.Source.{MetEnd, SourceState, Took}
-use Rattle.script_model.specs.declared.script.BadLine.{BadLine}
-use Rattle.script_model.specs.declared.script.Line.{Line}
-use Rattle.script_model.specs.Script.{script}
+use Rattle.script_model.specs.{declared.script.BadLine.BadLine, declared.script.Line.Line, Script.script}
 use Rattle.whole_script.specs.declared.lines.ScriptError.{ScriptError}
 use Rattle.whole_script.specs.declared.lines.ScriptError.TheVariants as error
 

@@ -1,7 +1,6 @@
 // The lines of a whole script.
 ghost use Rattle.std.specs.Prelude.{◌≡◌, ◌<◌, ◌≤◌, ◌∷◌, ◌++◌, if◌then◌else◌, false, nat_le, List, ℕ, None, length, IfErr, IfNone, IfOk, IfSome, OnOk};
-ghost use Rattle.script_model.specs.declared.script.Line.{Line};
-ghost use Rattle.script_model.specs.Script.{last_piece, script};
+ghost use Rattle.script_model.specs.{declared.script.Line.Line, Script.{last_piece, script}};
 ghost use Rattle.script_runner.specs.Run.{HasNoFeed};
 ghost use Rattle.whole_script.specs.Parts.{Adds, IsWhyOf, Stops};
 
