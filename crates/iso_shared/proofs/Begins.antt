@@ -1,5 +1,5 @@
 -- A transaction that has just begun.
-use Rattle.iso_shared.proofs.{Words.{◌≡◌, ℕ, suc, zero, ◌+◌, ◌-◌, ◌<◌, ◌≤◌, ◌==◌, Bool, true, false, ◌&&◌, not, cond, List, [], ◌∷◌, ◌++◌, Option, Some, None, Result, Ok, Err, IfOk, IsTrue, nat_le, nat_lt, length, take, eq-eqb, refl, sym, ap, ◌∙◌, subst, arith, and_parts, Checked, up_to, Begun, Core, StandsFor, up, down, DiskState, Access, Commit, Geometry, Mode, Serial, CoreError, LAST, MAX_LIVE, CoreReply, clash, clash_from, first_after, has_write, is_block_size, is_valid, same_mode, History, last, after_begin, begin_step, mode_named, World, Live, unattached, IsWorld, Doing, Entry, IsLegal, IsAhead, IsOwn, Holds, IsOn, standing_of, Start, State, after, is_live, live_of, opened, state_at, IfErr, IsErrOf, take-length, AreNotesAfter, Recent, IsRecent, recent_entry}, Trace.{after_snoc, legal_last, opened_sound, sound_all}, Cores.{Did, by_lost, refused_down}}
+use Rattle.iso_shared.proofs.{Words.{◌≡◌, ℕ, suc, zero, ◌+◌, ◌-◌, ◌<◌, ◌≤◌, ◌==◌, Bool, true, false, ◌&&◌, not, cond, List, [], ◌∷◌, ◌++◌, Option, Some, None, Result, Ok, Err, IfOk, IsTrue, nat_le, nat_lt, length, take, eq-eqb, refl, sym, ap, ◌∙◌, subst, arith, and_parts, Checked, up_to, Begun, Core, StandsFor, up, down, DiskState, Access, Commit, Geometry, Mode, Serial, CoreError, LAST, MAX_LIVE, CoreReply, clash, clash_from, first_after, has_write, is_block_size, is_valid, same_mode, History, last, after_begin, begin_step, mode_named, World, Live, unattached, IsWorld, Doing, Entry, IsLegal, IsAhead, IsOwn, Holds, IsOn, IsTxOf, Tx, standing_of, Start, State, after, is_live, live_of, opened, state_at, IfErr, IsErrOf, take-length, AreNotesAfter, Recent, IsRecent, recent_entry}, Trace.{after_snoc, legal_last, opened_sound, sound_all}, Cores.{Did, by_lost, refused_down}}
 use Rattle.std.proofs.Common.{drop}
 use Rattle.iso_model.specs.declared.core_error.CoreError.TheVariants as error
 use Rattle.iso_model.specs.declared.core_reply.CoreReply.TheVariants as reply
@@ -179,3 +179,18 @@ ahead_gone_on S old new checked begin is =
     let from : old.begin ≤ checked.upto = is.from in
     let to : checked.upto ≤ last S.world.history = is.to in
     ahead_first S new (record { upto = new.begin; clash = None }) is.first (omega (arith, begin)) refl
+
+-- a transaction that did more, of which nothing is checked any more
+pub gone_on : {D O : Type 0} {A : Start} (t : Tx D O) {accesses : List Access} {ready : Option ℕ} {settled : Bool} (new : Doing) → new ≡ record t.work { accesses = accesses; ready = ready; settled = settled } → IsTxOf A t
+    → IsTxOf A (record t { work = new; checked = record { upto = new.begin; clash = None } })
+gone_on {A = A} t new is tx =
+    let S : State = state_at A t.pass.me.0.seen in
+    let begin : new.begin ≡ t.work.begin = ap (λ (w : Doing). w.begin) is in
+    let size : new.size ≡ t.work.size = ap (λ (w : Doing). w.size) is in
+    let blocks : new.blocks ≡ t.work.blocks = ap (λ (w : Doing). w.blocks) is in
+    record {
+      held = tx.held;
+      on = record { size = size ∙ tx.on.size; blocks = blocks ∙ tx.on.blocks };
+      own = own_gone_on S t.number t.work new begin (ap (λ (w : Doing). w.mode) is) size blocks tx.own;
+      ahead = ahead_gone_on S t.work new t.checked begin tx.ahead;
+    }

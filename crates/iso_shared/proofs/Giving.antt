@@ -1,5 +1,5 @@
 -- What stands under the lock after a call of the core that leaves the labels.
-use Rattle.iso_shared.{proofs.Words.{◌≡◌, ◌≤◌, inr, true, Checked, Doing, IsAhead, IsOwn, IsPrefix, IsTxOf, Tx, live_of, tx_view, times, faults_of, is_live, ℕ, ◌<◌, List, [], ◌∷◌, ◌++◌, Option, None, Result, Ok, Err, refl, sym, ap, ◌∙◌, subst, Recent, Core, disk_of, DiskState, IsLawful, LeavesOnly, WritesNothing, at_end, weakened, Commit, World, ShowsBetween, ShowsLast, CoreError, AreHeld, held_after, Call, Entry, Posted, Answers, IsLegal, ended, handed, returned, tx_in, Came, StandsAt, whole, with_lost, Start, State, after, after_fault, opened, state_at, cause_of, entry_of, fetch_entry, recent_entry}, proofs.Cores.Did, proofs.Ends.{ahead_same, own_same}, proofs.Growing.since_last, proofs.Mades.{ahead_on, held_same, own_on}, proofs.Trace.after_snoc, proofs.Standings.{HoldsOut, MayLeave, Moved, held_live, stands_next}, specs.declared.guarded.Guarded.Guarded}
+use Rattle.iso_shared.{proofs.Words.{◌≡◌, ◌≤◌, inr, true, Access, IsTx, Live, Standing, StandsFor, standing_of, tx_of, Checked, Doing, IsAhead, IsOwn, IsPrefix, IsTxOf, Tx, live_of, tx_view, times, faults_of, is_live, ℕ, ◌<◌, List, [], ◌∷◌, ◌++◌, Option, None, Result, Ok, Err, refl, sym, ap, ◌∙◌, subst, Recent, Core, disk_of, DiskState, IsLawful, LeavesOnly, WritesNothing, at_end, weakened, Commit, World, ShowsBetween, ShowsLast, CoreError, AreHeld, held_after, Call, Entry, Posted, Answers, IsLegal, ended, handed, returned, tx_in, Came, StandsAt, whole, with_lost, Start, State, after, after_fault, opened, state_at, cause_of, entry_of, fetch_entry, recent_entry}, proofs.Cores.{Did, is_tx}, proofs.Ends.{ahead_same, own_same}, proofs.Growing.since_last, proofs.Mades.{ahead_on, held_same, own_on}, proofs.Trace.after_snoc, proofs.Standings.{HoldsOut, MayLeave, Moved, held_live, stands_next}, specs.declared.guarded.Guarded.Guarded}
 use Rattle.iso_model.specs.declared.core_error.CoreError.TheVariants as error
 use Rattle.turn_lock.specs.Numbers.{without}
 use Rattle.iso_shared.specs.declared.entry.Call.TheVariants as call
@@ -66,8 +66,8 @@ pub record Lends {D : Type 0} (disk : D → DiskState) (A : Start) (first : Disk
   pub at : StandsAt disk A first lent items es
   pub out : HoldsOut holds es
 
-pub lends : {D O : Type 0} (disk : D → DiskState) {first : DiskState} (A : Start) (old lent : Guarded D O) (es : List Entry) (holds : List ℕ) → StandsAt disk A first old.core old.rack es → lent ≡ old → HoldsOut holds es → Lends disk A first lent.core lent.rack es holds
-lends {D} {O} disk {first} A old lent es holds s same out = record { at = subst (λ (v : Guarded D O). StandsAt disk A first v.core v.rack es) (sym same) s; out = out }
+pub lends : {D O : Type 0} {disk : D → DiskState} {A : Start} {first : DiskState} {old lent : Guarded D O} {es : List Entry} {holds : List ℕ} → lent ≡ old → StandsAt disk A first old.core old.rack es → HoldsOut holds es → Lends disk A first lent.core lent.rack es holds
+lends {D} {O} {disk} {A} {first} {old} {lent} {es} {holds} same s out = record { at = subst (λ (v : Guarded D O). StandsAt disk A first v.core v.rack es) (sym same) s; out = out }
 
 -- what is known at its turn of the transaction whose pass it is
 pub record AtTurn (A : Start) (es : List Entry) (n : ℕ) (work : Doing) (checked : Checked) : Type 0 where
@@ -82,6 +82,10 @@ settled_turn {A} {es} {n} {old} {checked} t new is = record { live = t.live; own
 module _ {D : Type 0} {disk : D → DiskState} {A : Start} {first : DiskState} {lent : Core D} {items : List (List ℕ × Posted)} {es : List Entry} {holds : List ℕ} (l : Lends disk A first lent items es holds) where
   pub live_lent : (n : ℕ) → 0 < times n holds → is_live n (state_at A es).world.live ≡ true
   live_lent n held = held_live disk A lent items es holds l.at l.out n held
+
+  -- the transaction of this number, as the core asks for it
+  abbrev pub asked : (n : ℕ) (accesses : List Access) → is_live n (state_at A es).world.live ≡ true → (W : World) × (standing : Standing) × (t : Live) × StandsFor disk lent W standing × IsTx W n t
+  asked n accesses live = let S = state_at A es in (S.world, standing_of S.lost, tx_of S.world n accesses, l.at.core.world, is_tx S.world n accesses live)
 
   pub at_turn : {O : Type 0} (t : Tx D O) → IsTxOf A t → IsPrefix (tx_view t).seen es → holds ≡ (tx_view t).holds → AtTurn A es t.number t.work t.checked
   at_turn t is begins same =

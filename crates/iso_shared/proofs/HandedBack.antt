@@ -213,6 +213,12 @@ module _ {D O : Type 0} (s : Shared D O) (A : Start) where
       let rest = noted_members seen ts us pairs.1 in
       λ i. (let m : Member = record { number = pairs.0.number i; accesses = (pairs.0.work i).accesses } in m) ∷ rest i
 
+  -- the entry of a group in whose members' places notes stand, told of the members
+  pub made_joined : (v m w x : View Entry) (ts us : List (Tx D O)) (e : List Member → Entry) → IsPrefix v.seen m.seen → ArePaired (IsNoteOf s A m.seen) ts us → ((p : ℕ) → times p m.mine ≡ times p v.mine + made_in p ts)
+      → Made A m m (e (members_in us)) w → x.seen ≡ w.seen → ((p : ℕ) → times p x.mine ≡ times p w.mine) → MadeAll A v (map tx_view ts) (e (members_in ts)) x
+  made_joined v m w x ts us e told noted mine made seen stays =
+      made_all A v m w x ts (e (members_in ts)) told (told_all m.seen ts us noted) mine (subst (λ (ms : List Member). Made A m m (e ms) w) (noted_members m.seen ts us noted) made) seen stays
+
   pub noted_numbers : (seen : List Entry) (ts us : List (Tx D O)) → ArePaired (IsNoteOf s A seen) ts us → numbers_in us ≡ numbers_in ts
   noted_numbers seen [] [] pairs = refl
   noted_numbers seen [] (u ∷ us) pairs = absurd pairs

@@ -9,6 +9,7 @@ pub mod TestStarts
 pub mod Mades
 pub mod Cores
 pub mod Giving
+pub mod Upkeeps
 pub mod Groupings
 pub mod Begins
 pub mod Ends

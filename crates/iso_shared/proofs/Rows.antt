@@ -1,5 +1,5 @@
 -- What the definitions of legal lists compute on small lists, and what no legal list holds.
-use Rattle.iso_shared.proofs.Words.{◌≡◌, true, false, List, [], ◌∷◌, ◌++◌, Some, None, ap, length, replicate, refl, arith, is_some, option_map, Access, Committed, Geometry, Serial, Snapshot, clash, put, runs, begin_step, commit_step, end_step, put_access, read_access, empty_history, fresh, is_out, Entry, Posting, Fits, MayRefuse, answer_to, end_answer, handed, numbers_at, returned, Start, is_loose, opened, state_at, ◌≤◌, ◌∙◌, length-map, length-replicate, GroupReply, MAX_GROUP, write_access, Member, MemberEnd, group_answers, last, lost_commits, member_of, members_of}
+use Rattle.iso_shared.proofs.Words.{◌≡◌, true, false, List, [], ◌∷◌, ◌++◌, Some, None, ap, length, replicate, refl, arith, is_some, option_map, Access, Committed, Geometry, Serial, Snapshot, clash, put, runs, begin_step, commit_step, end_step, put_access, read_access, empty_history, fresh, is_out, Entry, Posting, Fits, IsGroup, MayRefuse, answer_to, end_answer, handed, numbers_at, returned, Start, is_loose, opened, state_at, ◌≤◌, ◌∙◌, length-map, length-replicate, GroupReply, MAX_GROUP, write_access, Member, MemberEnd, group_answers, last, lost_commits, member_of, members_of}
 use Rattle.iso_model.specs.declared.core_reply.CoreReply.TheVariants as reply
 use Rattle.iso_shared.specs.declared.entry.Call.TheVariants as call
 use Rattle.iso_shared.specs.declared.entry.Cause.TheVariants as cause
@@ -229,6 +229,14 @@ one_is_full = refl
 abbrev no_writes : List Member
 no_writes = one [] ∷ two [] ∷ []
 
+are_a_group : IsGroup (state_at start two_begun).world no_writes
+are_a_group = record {
+  some = omega arith;
+  most = omega arith;
+  distinct = (refl, (refl, tt));
+  each = (record { each = tt; count = omega arith }, (record { each = tt; count = omega arith }, tt));
+}
+
 bare_ones : Fits (state_at start two_begun) (entry.EndGroup (ended_as (one []) member.ReadOnly ∷ ended_as (two []) member.ReadOnly ∷ []))
 unfolding end_step
 bare_ones = record {
@@ -236,12 +244,7 @@ bare_ones = record {
   takes = (refl, (refl, tt));
   answers = (
     refl,
-    record {
-      some = omega arith;
-      most = omega arith;
-      distinct = (refl, (refl, tt));
-      each = (record { each = tt; count = omega arith }, (record { each = tt; count = omega arith }, tt));
-    },
+    are_a_group,
     refl,
   );
 }
@@ -292,12 +295,7 @@ refused_for_memory = record {
   needs = (refl, (refl, tt));
   takes = tt;
   answers = (
-    record {
-      some = omega arith;
-      most = omega arith;
-      distinct = (refl, (refl, tt));
-      each = (record { each = tt; count = omega arith }, (record { each = tt; count = omega arith }, tt));
-    },
+    are_a_group,
     refl,
   );
 }

@@ -5,15 +5,11 @@ use Rattle.iso_shared.proofs.shared.Shared.begin.Goals as goal
 
 pub give-requires-clause-value : goal.give-requires-clause-value
 give-requires-clause-value g c =
-    let d = g.D.Disk.state in
-    let A = g.O.Origin.start in
-    let S = state_at A c.take-turn.new.pass.me.0.seen in
-    let l = lends d A _ c.value-guarded.result.now _ _ c.take-turn.ensures.value c.value-guarded.ensures.value c.take-turn.ensures.out in
-    let lent = c.value-guarded.result.now.core in
-    let new = c.begin-result.new.self in
+    let l = lends c.value-guarded.ensures.value c.take-turn.ensures.value c.take-turn.ensures.out in
     let r = c.begin-result.result in
-    stands_answer l c.of-before.result.value new (call.Begin c.args.named) (λ t. entry.Begin t.tx t.at t.mode) r c.of-before.ensures (λ x. (tt, tt)) tt (λ x T. refl) (inl c.begin-result.ensures.disk)
-    (did_begin d S lent new (faults_of d lent) (faults_of d new) c.args.named r l.at.core c.begin-result.ensures.begun c.begin-result.ensures.refused c.begin-result.ensures.down c.begin-result.ensures.kept c.begin-result.ensures.disk)
+    let said = c.begin-result.ensures in
+    stands_answer l _ _ (call.Begin c.args.named) (λ t. entry.Begin t.tx t.at t.mode) r c.of-before.ensures (λ x. (tt, tt)) tt (λ x T. refl) (inl said.disk)
+    (did_begin g.D.Disk.state _ _ _ _ _ c.args.named r l.at.core said.begun said.refused said.down said.kept said.disk)
 
 pub give-requires-clause-held : goal.give-requires-clause-held
 give-requires-clause-held g c = entry_may _ _ (call.Begin c.args.named) (λ t. entry.Begin t.tx t.at t.mode) _ (λ x. (tt, tt)) tt c.begin-result.result
@@ -26,10 +22,9 @@ split-pass-requires-clause-number g c =
 
 pub begin-requires : goal.begin-requires
 begin-requires g c =
-    let d = g.D.Disk.state in
     let A = g.O.Origin.start in
     let S = state_at A c.take-turn.new.pass.me.0.seen in
-    let h = (lends d A _ c.value-guarded.result.now _ _ c.take-turn.ensures.value c.value-guarded.ensures.value c.take-turn.ensures.out).at.core in
+    let h = (lends c.value-guarded.ensures.value c.take-turn.ensures.value c.take-turn.ensures.out).at.core in
     let geometry = c.geometry-geometry.ensures S.world (standing_of S.lost) h.world in
     subst (λ (k : ℕ). IsTrue (is_block_size k)) (sym (ap (λ v. v.block) geometry)) (block_size S.world h.world.kept_of.world)
 
@@ -42,7 +37,7 @@ returns-in-Ok-clause-tx g c =
     let work = c.begin.result in
     let S = state_at A es in
     let none = c.take-turn.ensures.value.start in
-    let h = (lends d A _ c.value-guarded.result.now _ _ c.take-turn.ensures.value c.value-guarded.ensures.value c.take-turn.ensures.out).at.core in
+    let h = (lends c.value-guarded.ensures.value c.take-turn.ensures.value c.take-turn.ensures.out).at.core in
     let geometry = c.geometry-geometry.ensures S.world (standing_of S.lost) h.world in
     let given = c.split-pass.ensures.given in
     let last : c.give.new.pass.me.0.seen ≡ es ++ entry.Begin b.tx b.at b.mode ∷ [] = c.give.ensures.seen ∙ ap (λ r. es ++ begin_entry (faults_of d c.of-before.result.value) (faults_of d c.begin-result.new.self) c.args.named r ∷ []) c.in-Ok.is in

@@ -1,32 +1,12 @@
-use Rattle.iso_shared.proofs.{Words.{inl, ap, refl, Done, disk_of, faults_of, state_at, compact_entry}, Cores.{by_lost, did_compact}, Giving.{lends, moved_last, stands_answer}}
+use Rattle.iso_shared.proofs.{Words.{refl, Done, state_at}, Cores.did_compact, Giving.lends, Upkeeps.{switched_stands, switches}}
 use Rattle.iso_shared.specs.declared.entry.Call.TheVariants as call
 use Rattle.iso_shared.specs.declared.entry.Entry.TheVariants as entry
 use Rattle.iso_shared.proofs.shared.Shared.compact.Goals as goal
 
 pub give-requires-clause-value : goal.give-requires-clause-value
 give-requires-clause-value g c =
-    let d = g.D.Disk.state in
-    let A = g.O.Origin.start in
-    let es = c.take-turn.new.pass.me.0.seen in
-    let S = state_at A es in
-    let l = lends d A _ c.value-guarded.result.now _ _ c.take-turn.ensures.value c.value-guarded.ensures.value c.take-turn.ensures.out in
-    let lent = c.value-guarded.result.now.core in
-    let new = c.compact-result.new.self in
-    let r = c.compact-result.result in
+    let W = (state_at g.O.Origin.start c.take-turn.new.pass.me.0.seen).world in
     let said = c.compact-result.ensures in
-    let did = did_compact d S lent new r l.at.core (record {
-      switched = said.switched S.world;
-      refused = said.refused S.world Done;
-      same = said.same S.world;
-      fallen = said.down S.world;
-      lost = said.lost S.world;
-      unworn = said.unworn S.world Done;
-      told = said.told;
-      still = said.still_told;
-      cause = said.cause;
-    }) in
-    stands_answer l c.of-before.result.value new call.Compact (λ n. entry.Compact n) r c.of-before.ensures (λ n. (tt, tt)) tt (λ n T. refl)
-    (by_lost d S lent _ l.at.core
-    (λ is stands. moved_last d A es (compact_entry (faults_of d lent) (faults_of d new) r) lent new l.at.legal l.at.core.world.kept_of.world.history.first did.0 is (said.moments S.world stands))
-    (λ lost is stands. inl (ap disk_of (said.down S.world lost stands).1)))
-    did
+    let l = lends c.value-guarded.ensures.value c.take-turn.ensures.value c.take-turn.ensures.out in
+    switched_stands l c.of-before.ensures W.geometry.form call.Compact (λ n. entry.Compact n) (λ n. (tt, tt)) tt (λ n T. refl) c.compact-result.result (did_compact g.D.Disk.state _ _ _ _)
+    (switches (said.switched W) (said.refused W Done) (said.same W) (said.down W) (said.lost W) (said.unworn W Done) said.told said.still_told said.cause) (said.moments W)

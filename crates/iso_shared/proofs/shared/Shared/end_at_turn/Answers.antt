@@ -1,60 +1,68 @@
-use Rattle.iso_shared.proofs.{Words.{ap, refl, sym, ◌∙◌, subst, CoreError, List, Result, ℕ, AreHeld, numbers_handed, faults_of, group_entry, handed, held_after, returned, standing_of, state_at, txs_of, members_at, ends_at}, Ends.if_err_by, Giving.{entry_may, lends, refused_holds, stands_answer}, Groupings.{Groups, did_group, each_lent, group_args, group_only, held_again, moved_group}, Mades.made_by}
+use Rattle.iso_shared.proofs.{Words.{ap, refl, sym, ◌∙◌, subst, CoreError, List, Result, ℕ, AreHeld, numbers_handed, faults_of, group_entry, handed, held_after, returned, standing_of, State, state_at, txs_of, members_at, ends_at}, Ends.if_err_by, Giving.{Lends, entry_may, lends, refused_holds, stands_answer}, Groupings.{Groups, did_group, each_lent, group_args, group_only, held_again, moved_group}, Mades.made_by, shared.Shared.end_at_turn.Goals.After-end_group-result}
 use Rattle.iso_shared.specs.declared.entry.Call.TheVariants as call
 use Rattle.iso_shared.specs.declared.entry.Entry.TheVariants as entry
+use Rattle.iso_shared.proofs.shared.Shared.end_at_turn.Given as given
 use Rattle.iso_shared.proofs.shared.Shared.end_at_turn.Goals as goal
 
 pub end_group-result-requires-clause-ready : goal.end_group-result-requires-clause-ready
 end_group-result-requires-clause-ready g c =
-    let d = g.D.Disk.state in
-    let A = g.O.Origin.start in
-    let S = state_at A c.take-turn.new.pass.me.0.seen in
-    let ends = c.args.ends.now in
-    let l = lends d A _ c.value-guarded.result.now _ _ c.take-turn.ensures.value c.value-guarded.ensures.value c.take-turn.ensures.out in
-    (S.world, standing_of S.lost, txs_of S.world (members_at ends), l.at.core.world, each_lent l c.args.port.now.pass.me.0 ends c.take-turn.ensures.seen c.take-turn.ensures.same.1 c.requires.ends c.requires.held)
+    let S = state_at g.O.Origin.start c.take-turn.new.pass.me.0.seen in
+    let l = lends c.value-guarded.ensures.value c.take-turn.ensures.value c.take-turn.ensures.out in
+    (S.world, standing_of S.lost, txs_of S.world (members_at c.args.ends.now), l.at.core.world, each_lent l c.args.port.now.pass.me.0 _ c.take-turn.ensures.seen c.take-turn.ensures.same.1 c.requires.ends c.requires.held)
+
+-- what the core's call says of what the turn lent
+module _ (g : given.Over) (c : After-end_group-result g) where
+  abbrev S : State
+  S = state_at g.O.Origin.start c.take-turn.new.pass.me.0.seen
+
+  l : Lends g.D.Disk.state g.O.Origin.start g.O.Origin.disk c.value-guarded.result.now.core c.value-guarded.result.now.rack c.take-turn.new.pass.me.0.seen c.take-turn.new.pass.me.0.holds
+  l = lends c.value-guarded.ensures.value c.take-turn.ensures.value c.take-turn.ensures.out
+
+  held : AreHeld (numbers_handed c.args.ends.now) c.take-turn.new.pass.me.0.holds
+  held = subst (λ (hs : List ℕ). AreHeld (numbers_handed c.args.ends.now) hs) (sym c.take-turn.ensures.same.1) c.requires.held.0
+
+  so : Groups g.D.Disk.state S c.value-guarded.result.now.core c.end_group-result.new.self c.args.ends.now c.end_group-result.new.ends c.end_group-result.result
+  so =
+      let each = each_lent l c.args.port.now.pass.me.0 c.args.ends.now c.take-turn.ensures.seen c.take-turn.ensures.same.1 c.requires.ends c.requires.held in
+      let txs = txs_of S.world (members_at c.args.ends.now) in
+      let said = c.end_group-result.ensures in
+      record {
+        members = said.members;
+        ended = λ stands. said.ended S.world txs stands each;
+        stays = λ stands. said.same S.world stands;
+        fallen = λ commits stands. let down = said.down S.world commits stands in (down.0, down.1);
+        only = λ stands. said.only S.world stands;
+        lost = λ stands is. said.lost S.world txs stands each is;
+        commits = λ stands is. said.commits S.world txs stands each is;
+        untouched = said.untouched;
+        told = said.told;
+        cause = said.cause;
+        moments = λ stands. said.moments S.world txs stands each;
+      }
 
 pub give-requires-clause-value : goal.give-requires-clause-value
 give-requires-clause-value g c =
     let d = g.D.Disk.state in
-    let A = g.O.Origin.start in
     let es = c.take-turn.new.pass.me.0.seen in
-    let holds = c.take-turn.new.pass.me.0.holds in
-    let S = state_at A es in
+    let s = (goal.at.give-requires-clause-value g c).After-end_group-result in
+    let at = (l g s).at in
     let ends = c.args.ends.now in
-    let l = lends d A _ c.value-guarded.result.now _ _ c.take-turn.ensures.value c.value-guarded.ensures.value c.take-turn.ensures.out in
-    let each = each_lent l c.args.port.now.pass.me.0 ends c.take-turn.ensures.seen c.take-turn.ensures.same.1 c.requires.ends c.requires.held in
-    let held = subst (λ (hs : List ℕ). AreHeld (numbers_handed ends) hs) (sym c.take-turn.ensures.same.1) c.requires.held.0 in
     let lent = c.value-guarded.result.now.core in
     let new = c.end_group-result.new.self in
     let last = c.end_group-result.new.ends in
     let r = c.end_group-result.result in
-    let said = c.end_group-result.ensures in
-    let txs = txs_of S.world (members_at ends) in
-    let so : Groups d S lent new ends last r = record {
-      members = said.members;
-      ended = λ stands. said.ended S.world txs stands each;
-      stays = λ stands. said.same S.world stands;
-      fallen = λ commits stands. let down = said.down S.world commits stands in (down.0, down.1);
-      only = λ stands. said.only S.world stands;
-      lost = λ stands is. said.lost S.world txs stands each is;
-      commits = λ stands is. said.commits S.world txs stands each is;
-      untouched = said.untouched;
-      told = said.told;
-      cause = said.cause;
-      moments = λ stands. said.moments S.world txs stands each;
-    } in
-    let args = group_args A es c.args.port.now.pass.me.0.seen ends c.take-turn.ensures.seen c.requires.ends c.requires.some c.requires.most c.requires.held.1 in
-    let did = did_group d S lent new ends last r l.at.core args so in
-    let again = held_again last ends holds said.members held in
-    stands_answer l c.of-before.result.value new (call.EndGroup (members_at last)) (λ done. entry.EndGroup (ends_at last)) r c.of-before.ensures (λ x. (tt, again.1)) again.0 (λ x T. refl)
-    (moved_group d A es lent new ends last r (faults_of d lent) (faults_of d new) l.at.legal l.at.core.world.kept_of.world.history.first l.at.core did.0 so)
+    let args = group_args g.O.Origin.start es c.args.port.now.pass.me.0.seen ends c.take-turn.ensures.seen c.requires.ends c.requires.some c.requires.most c.requires.held.1 in
+    let did = did_group d (S g s) lent new ends last r at.core args (so g s) in
+    let again = held_again last ends c.take-turn.new.pass.me.0.holds c.end_group-result.ensures.members (held g s) in
+    stands_answer (l g s) c.of-before.result.value new (call.EndGroup (members_at last)) (λ done. entry.EndGroup (ends_at last)) r c.of-before.ensures (λ x. (tt, again.1)) again.0 (λ x T. refl)
+    (moved_group d g.O.Origin.start es lent new ends last r (faults_of d lent) (faults_of d new) at.legal at.core.world.kept_of.world.history.first at.core did.0 (so g s))
     did
 
 pub give-requires-clause-held : goal.give-requires-clause-held
 give-requires-clause-held g c =
     let holds = c.take-turn.new.pass.me.0.holds in
     let last = c.end_group-result.new.ends in
-    let held = subst (λ (hs : List ℕ). AreHeld (numbers_handed c.args.ends.now) hs) (sym c.take-turn.ensures.same.1) c.requires.held.0 in
-    let again = held_again last c.args.ends.now holds c.end_group-result.ensures.members held in
+    let again = held_again last c.args.ends.now holds c.end_group-result.ensures.members (held g (goal.at.give-requires-clause-held g c).After-end_group-result) in
     entry_may _ _ (call.EndGroup (members_at last)) (λ done. entry.EndGroup (ends_at last)) holds (λ x. (tt, again.1)) again.0 c.end_group-result.result
 
 pub returns-clause-holds : goal.returns-clause-holds
@@ -70,29 +78,8 @@ returns-clause-holds g c =
 
 pub returns-clause-only : goal.returns-clause-only
 returns-clause-only g c =
-    let d = g.D.Disk.state in
-    let A = g.O.Origin.start in
-    let S = state_at A c.take-turn.new.pass.me.0.seen in
-    let ends = c.args.ends.now in
-    let l = lends d A _ c.value-guarded.result.now _ _ c.take-turn.ensures.value c.value-guarded.ensures.value c.take-turn.ensures.out in
-    let each = each_lent l c.args.port.now.pass.me.0 ends c.take-turn.ensures.seen c.take-turn.ensures.same.1 c.requires.ends c.requires.held in
-    let said = c.end_group-result.ensures in
-    let txs = txs_of S.world (members_at ends) in
-    group_only d S c.value-guarded.result.now.core c.end_group-result.new.self ends c.end_group-result.new.ends c.end_group-result.result
-    l.at.core
-    (record {
-      members = said.members;
-      ended = λ stands. said.ended S.world txs stands each;
-      stays = λ stands. said.same S.world stands;
-      fallen = λ commits stands. let down = said.down S.world commits stands in (down.0, down.1);
-      only = λ stands. said.only S.world stands;
-      lost = λ stands is. said.lost S.world txs stands each is;
-      commits = λ stands is. said.commits S.world txs stands each is;
-      untouched = said.untouched;
-      told = said.told;
-      cause = said.cause;
-      moments = λ stands. said.moments S.world txs stands each;
-    })
+    let s = (goal.at.returns-clause-only g c).After-end_group-result in
+    group_only g.D.Disk.state (S g s) _ _ c.args.ends.now c.end_group-result.new.ends c.end_group-result.result (l g s).at.core (so g s)
 
 pub returns-clause-made : goal.returns-clause-made
 returns-clause-made g c =

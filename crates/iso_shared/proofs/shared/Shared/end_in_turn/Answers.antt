@@ -5,12 +5,11 @@ use Rattle.iso_shared.proofs.shared.Shared.end_in_turn.Goals as goal
 
 pub end-result-requires : goal.end-result-requires
 end-result-requires g c =
-    let d = g.D.Disk.state in
     let A = g.O.Origin.start in
     let n = c.args.tx.now.number in
     let S = state_at A c.take-turn.new.pass.me.0.seen in
     let work = c.settle.new.work in
-    let l = lends d A _ c.value-guarded.result.now _ _ c.take-turn.ensures.value c.value-guarded.ensures.value c.take-turn.ensures.out in
+    let l = lends c.value-guarded.ensures.value c.take-turn.ensures.value c.take-turn.ensures.out in
     let t = settled_turn (at_turn l c.args.tx.now c.requires.tx.1 c.take-turn.ensures.seen c.take-turn.ensures.same.1) work c.settle.ensures.work in (
       S.world,
       standing_of S.lost,
@@ -29,7 +28,7 @@ give-requires-clause-value g c =
     let es = c.take-turn.new.pass.me.0.seen in
     let S = state_at A es in
     let work = c.settle.new.work in
-    let l = lends d A _ c.value-guarded.result.now _ _ c.take-turn.ensures.value c.value-guarded.ensures.value c.take-turn.ensures.out in
+    let l = lends c.value-guarded.ensures.value c.take-turn.ensures.value c.take-turn.ensures.out in
     let held = held_same n _ _ c.take-turn.ensures.same.1 c.requires.tx.1.held in
     let turn = settled_turn (at_turn l c.args.tx.now c.requires.tx.1 c.take-turn.ensures.seen c.take-turn.ensures.same.1) work c.settle.ensures.work in
     let t = tx_of S.world n work.accesses in
@@ -117,7 +116,7 @@ returns-clause-steps g c list e seen =
     let S = state_at A es in
     let upto = c.args.tx.now.checked.upto in
     let work = c.settle.new.work in
-    let l = lends d A _ c.value-guarded.result.now _ _ c.take-turn.ensures.value c.value-guarded.ensures.value c.take-turn.ensures.out in
+    let l = lends c.value-guarded.ensures.value c.take-turn.ensures.value c.take-turn.ensures.out in
     let t = settled_turn (at_turn l c.args.tx.now c.requires.tx.1 c.take-turn.ensures.seen c.take-turn.ensures.same.1) work c.settle.ensures.work in
     let same : es ≡ list = init_same es list _ e (sym c.give.ensures.seen ∙ seen) in
     subst (λ l. c.end-result.new.steps ≤ c.args.steps.now + most_steps A l upto) same

@@ -31,13 +31,11 @@ returns-in-Err-clause-seen g c = let (before, now, made) = c.in-Err.ensures.made
 
 pub returns-in-Err-clause-err : goal.returns-in-Err-clause-err
 returns-in-Err-clause-err g c =
-    let ends = c.args.ends.now in
-    let last = c.end_at_turn.new.ends in
     let v = c.args.port.now.pass.me.0 in
     let (before, now, made) = c.in-Err.ensures.made in (
       before,
       now,
-      subst (λ (ms : List Member). Made g.O.Origin.start v v (entry.Refused (call.EndGroup ms) (cause_of before now c.in-Err.error)) c.end_at_turn.new.port.pass.me.0) (same_members last ends c.end_at_turn.ensures.members) made,
+      subst (λ (ms : List Member). Made g.O.Origin.start v v (entry.Refused (call.EndGroup ms) (cause_of before now c.in-Err.error)) c.end_at_turn.new.port.pass.me.0) (same_members c.end_at_turn.new.ends c.args.ends.now c.end_at_turn.ensures.members) made,
     )
 
 pub returns-in-Err-clause-taken : goal.returns-in-Err-clause-taken

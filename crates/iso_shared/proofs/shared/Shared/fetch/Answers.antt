@@ -1,26 +1,14 @@
-use Rattle.iso_shared.proofs.{Words.{[], refl, sym, ◌∙◌, rules, ◌<◌, subst, ℕ, faults_of, standing_of, opened, state_at, tx_of}, Cores.{did_fetch, is_tx}, Follows.follows_all, Giving.{entry_may, fetch_holds, lends, live_lent, moved_fetch, stands_answer}, Mades.{ahead_on, held_same, made_by, one_more, own_on}}
+use Rattle.iso_shared.proofs.{Words.{[], refl, sym, ◌∙◌, rules, ◌<◌, subst, ℕ, faults_of, opened, state_at}, Cores.did_fetch, Follows.follows_all, Giving.{asked, entry_may, fetch_holds, lends, live_lent, moved_fetch, stands_answer}, Mades.{held_same, made_by, one_more, tx_on}}
 use Rattle.iso_shared.specs.declared.entry.Call.TheVariants as call
 use Rattle.iso_shared.specs.declared.entry.Entry.TheVariants as entry
 use Rattle.iso_shared.proofs.shared.Shared.fetch.Goals as goal
 
 pub fetch-result-requires : goal.fetch-result-requires
 fetch-result-requires g c =
-    let d = g.D.Disk.state in
-    let A = g.O.Origin.start in
-    let n = c.args.tx.now.number in
-    let held = held_same n _ _ c.take-turn.ensures.same.1 c.requires.tx.1.held in
-    let l = lends d A _ c.value-guarded.result.now _ _ c.take-turn.ensures.value c.value-guarded.ensures.value c.take-turn.ensures.out in
-    let es = c.take-turn.new.pass.me.0.seen in
-    let S = state_at A es in
-    let f = follows_all (opened A) es in (
-      S.world,
-      standing_of S.lost,
-      tx_of S.world n [],
-      l.at.core.world,
-      is_tx S.world n [] (live_lent l n held),
-      subst (λ (k : ℕ). c.args.block < k) (sym f.blocks) c.requires.block,
-      c.requires.size ∙ sym f.block,
-    )
+    let l = lends c.value-guarded.ensures.value c.take-turn.ensures.value c.take-turn.ensures.out in
+    let (W, standing, t, stands, is) = asked l _ [] (live_lent l _ (held_same c.args.tx.now.number _ _ c.take-turn.ensures.same.1 c.requires.tx.1.held)) in
+    let f = follows_all (opened g.O.Origin.start) c.take-turn.new.pass.me.0.seen in
+    (W, standing, t, stands, is, subst (λ (k : ℕ). c.args.block < k) (sym f.blocks) c.requires.block, c.requires.size ∙ sym f.block)
 
 pub give-requires-clause-value : goal.give-requires-clause-value
 give-requires-clause-value g c =
@@ -28,7 +16,7 @@ give-requires-clause-value g c =
     let A = g.O.Origin.start in
     let n = c.args.tx.now.number in
     let held = held_same n _ _ c.take-turn.ensures.same.1 c.requires.tx.1.held in
-    let l = lends d A _ c.value-guarded.result.now _ _ c.take-turn.ensures.value c.value-guarded.ensures.value c.take-turn.ensures.out in
+    let l = lends c.value-guarded.ensures.value c.take-turn.ensures.value c.take-turn.ensures.out in
     let es = c.take-turn.new.pass.me.0.seen in
     let S = state_at A es in
     let f = follows_all (opened A) es in
@@ -49,16 +37,8 @@ give-requires-clause-held g c =
 
 pub returns-clause-tx : goal.returns-clause-tx
 returns-clause-tx g c =
-    let A = g.O.Origin.start in
-    let begins = one_more c.args.tx.now.pass.me.0 c.take-turn.new.pass.me.0 c.give.new.pass.me.0 _ c.take-turn.ensures.seen c.give.ensures.seen in (
-      search rules,
-      record {
-        held = held_same _ _ _ (c.give.ensures.holds ∙ fetch_holds _ _ _ _ _ c.fetch-result.result _ ∙ c.take-turn.ensures.same.1) c.requires.tx.1.held;
-        on = c.requires.tx.1.on;
-        own = own_on A _ _ _ _ begins c.requires.tx.1.own;
-        ahead = ahead_on A _ _ _ _ begins c.requires.tx.1.ahead;
-      },
-    )
+    let begins = one_more c.args.tx.now.pass.me.0 c.take-turn.new.pass.me.0 c.give.new.pass.me.0 _ c.take-turn.ensures.seen c.give.ensures.seen in
+    (search rules, tx_on c.args.tx.now c.give.new.pass begins (c.give.ensures.holds ∙ fetch_holds _ _ _ _ _ c.fetch-result.result _ ∙ c.take-turn.ensures.same.1) c.requires.tx.1)
 
 pub returns-clause-made : goal.returns-clause-made
 returns-clause-made g c = (

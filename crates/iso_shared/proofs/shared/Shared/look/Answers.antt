@@ -4,9 +4,7 @@ use Rattle.iso_shared.proofs.shared.Shared.look.Goals as goal
 
 pub give-requires-clause-value : goal.give-requires-clause-value
 give-requires-clause-value g c =
-    let d = g.D.Disk.state in
-    let A = g.O.Origin.start in
-    stands_look (lends d A _ c.value-guarded.result.now _ _ c.take-turn.ensures.value c.value-guarded.ensures.value c.take-turn.ensures.out) _ c.args.label.now c.look-found.result c.look-found.ensures.item c.look-found.ensures.rest
+    stands_look (lends c.value-guarded.ensures.value c.take-turn.ensures.value c.take-turn.ensures.out) _ c.args.label.now c.look-found.result c.look-found.ensures.item c.look-found.ensures.rest
 
 pub returns-in-Some-clause-tx : goal.returns-in-Some-clause-tx
 returns-in-Some-clause-tx g c =

@@ -14,7 +14,7 @@ give-requires-clause-value g c =
     let entry_is : post_entry c.of-name.result.value c.of-item.result.value (Ok tt) ≡ post_entry c.args.label p (Ok tt) = λ i. post_entry (c.of-name.ensures i) (c.of-item.ensures i) (Ok tt) in
     let kept = c.value-guarded.result.now.rack in
     subst (λ (e : Entry). StandsAt d A g.O.Origin.disk c.value-guarded.result.now.core c.post.new.self (es ++ e ∷ [])) (sym entry_is)
-    (stands_post (lends d A _ c.value-guarded.result.now _ _ c.take-turn.ensures.value c.value-guarded.ensures.value c.take-turn.ensures.out) _ c.args.label p
+    (stands_post (lends c.value-guarded.ensures.value c.take-turn.ensures.value c.take-turn.ensures.out) _ c.args.label p
     (held_same tx.number _ _ c.take-turn.ensures.same.1 c.tell_tx.ensures.tx.1.held)
     (own_on A _ es tx.number tx.work c.take-turn.ensures.seen c.tell_tx.ensures.tx.1.own)
     (none_by (lookup (bytes_eq c.args.label) kept) (λ is. (let no_error = subst (λ r. IsErr r) c.in-Ok.is (c.post.ensures.held is) in absurd (cc no_error))))
@@ -31,7 +31,7 @@ give-requires-in-Err-clause-value g c =
     let entry_is : post_entry c.of-name.result.value c.of-item.result.value (Err e) ≡ post_entry c.args.label p (Err e) = λ i. post_entry (c.of-name.ensures i) (c.of-item.ensures i) (Err e) in
     let kept = c.value-guarded.result.now.rack in
     subst (λ (x : Entry). StandsAt d A g.O.Origin.disk c.value-guarded.result.now.core c.post.new.self (es ++ x ∷ [])) (sym entry_is)
-    (stands_unposted (lends d A _ c.value-guarded.result.now _ _ c.take-turn.ensures.value c.value-guarded.ensures.value c.take-turn.ensures.out) _ c.args.label p e
+    (stands_unposted (lends c.value-guarded.ensures.value c.take-turn.ensures.value c.take-turn.ensures.out) _ c.args.label p e
     (held_same tx.number _ _ c.take-turn.ensures.same.1 c.tell_tx.ensures.tx.1.held)
     c.in-Err.ensures.err.0
     (taken_by (lookup (bytes_eq c.args.label) kept) e c.in-Err.ensures.free)

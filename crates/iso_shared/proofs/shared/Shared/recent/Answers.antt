@@ -1,37 +1,42 @@
-use Rattle.iso_shared.proofs.{Words.{inl, [], ◌∷◌, ◌++◌, ◌≡◌, ap, refl, rules, subst, sym, ◌∙◌, IsRecent, faults_of, standing_of, state_at, tx_of, recent_entry}, Begins.{did_recent, if_ok_by, is_recent, recent_state}, Cores.is_tx, Giving.{at_turn, entry_may, lends, recent_holds, stands_answer}, Mades.{ahead_on, held_same, made_by, one_more, own_on}}
+use Rattle.iso_shared.proofs.{Words.{inl, [], ◌∷◌, ◌++◌, ◌≡◌, ap, refl, rules, subst, sym, ◌∙◌, IsRecent, State, faults_of, state_at, tx_of, recent_entry}, Begins.{Recounts, did_recent, if_ok_by, is_recent, recent_state}, Cores.is_tx, Giving.{AtTurn, Lends, asked, at_turn, entry_may, lends, recent_holds, stands_answer}, Mades.{held_same, made_by, one_more, tx_on}, shared.Shared.recent.Goals.After-recent-result}
 use Rattle.iso_shared.specs.declared.entry.Call.TheVariants as call
 use Rattle.iso_shared.specs.declared.entry.Entry.TheVariants as entry
+use Rattle.iso_shared.proofs.shared.Shared.recent.Given as given
 use Rattle.iso_shared.proofs.shared.Shared.recent.Goals as goal
 
 pub recent-result-requires : goal.recent-result-requires
 recent-result-requires g c =
-    let d = g.D.Disk.state in
-    let A = g.O.Origin.start in
-    let n = c.args.tx.now.number in
-    let S = state_at A c.take-turn.new.pass.me.0.seen in
-    let l = lends d A _ c.value-guarded.result.now _ _ c.take-turn.ensures.value c.value-guarded.ensures.value c.take-turn.ensures.out in
+    let l = lends c.value-guarded.ensures.value c.take-turn.ensures.value c.take-turn.ensures.out in
     let t = at_turn l c.args.tx.now c.requires.tx.1 c.take-turn.ensures.seen c.take-turn.ensures.same.1 in
-    (S.world, standing_of S.lost, tx_of S.world n [], l.at.core.world, is_tx S.world n [] t.live, t.from, t.ahead.to)
+    let (W, standing, u, stands, is) = asked l _ [] t.live in
+    (W, standing, u, stands, is, t.from, t.ahead.to)
+
+-- what the core's call says of what the turn lent
+module _ (g : given.Over) (c : After-recent-result g) where
+  abbrev S : State
+  S = state_at g.O.Origin.start c.take-turn.new.pass.me.0.seen
+
+  l : Lends g.D.Disk.state g.O.Origin.start g.O.Origin.disk c.value-guarded.result.now.core c.value-guarded.result.now.rack c.take-turn.new.pass.me.0.seen c.take-turn.new.pass.me.0.holds
+  l = lends c.value-guarded.ensures.value c.take-turn.ensures.value c.take-turn.ensures.out
+
+  t : AtTurn g.O.Origin.start c.take-turn.new.pass.me.0.seen c.args.tx.now.number c.args.tx.now.work c.args.tx.now.checked
+  t = at_turn l c.args.tx.now c.requires.tx.1 c.take-turn.ensures.seen c.take-turn.ensures.same.1
+
+  so : Recounts g.D.Disk.state S c.value-guarded.result.now.core c.args.tx.now.number c.args.tx.now.checked.upto c.recent-result.result
+  so = record {
+    notes = λ stands. c.recent-result.ensures.notes S.world (tx_of S.world c.args.tx.now.number []) stands (is_tx S.world c.args.tx.now.number [] t.live) t.from;
+    memory = c.recent-result.ensures.memory S.world;
+    fallen = c.recent-result.ensures.down S.world;
+  }
 
 pub give-requires-clause-value : goal.give-requires-clause-value
 give-requires-clause-value g c =
-    let d = g.D.Disk.state in
-    let A = g.O.Origin.start in
+    let s = (goal.at.give-requires-clause-value g c).After-recent-result in
     let n = c.args.tx.now.number in
-    let S = state_at A c.take-turn.new.pass.me.0.seen in
-    let l = lends d A _ c.value-guarded.result.now _ _ c.take-turn.ensures.value c.value-guarded.ensures.value c.take-turn.ensures.out in
-    let t = at_turn l c.args.tx.now c.requires.tx.1 c.take-turn.ensures.seen c.take-turn.ensures.same.1 in
     let held = held_same n _ _ c.take-turn.ensures.same.1 c.requires.tx.1.held in
-    let said = c.recent-result.ensures in
-    let lent = c.value-guarded.result.now.core in
     let r = c.recent-result.result in
-    stands_answer l c.of-before.result.value lent (call.Recent n) (λ y. entry.Recent n y.upto) r c.of-before.ensures (λ y. ((held, tt), tt)) (held, tt) (λ y T. refl) (inl refl)
-    (did_recent d S lent n c.args.tx.now.checked.upto (faults_of d lent) (faults_of d lent) r l.at.core
-    (record {
-      notes = λ stands. said.notes S.world (tx_of S.world n []) stands (is_tx S.world n [] t.live) t.from;
-      memory = said.memory S.world;
-      fallen = said.down S.world;
-    }))
+    stands_answer (l g s) c.of-before.result.value _ (call.Recent n) (λ y. entry.Recent n y.upto) r c.of-before.ensures (λ y. ((held, tt), tt)) (held, tt) (λ y T. refl) (inl refl)
+    (did_recent g.D.Disk.state (S g s) _ n c.args.tx.now.checked.upto _ _ r (l g s).at.core (so g s))
 
 pub give-requires-clause-held : goal.give-requires-clause-held
 give-requires-clause-held g c =
@@ -41,16 +46,8 @@ give-requires-clause-held g c =
 
 pub returns-clause-tx : goal.returns-clause-tx
 returns-clause-tx g c =
-    let A = g.O.Origin.start in
-    let begins = one_more c.args.tx.now.pass.me.0 c.take-turn.new.pass.me.0 c.give.new.pass.me.0 _ c.take-turn.ensures.seen c.give.ensures.seen in (
-      search rules,
-      record {
-        held = held_same _ _ _ (c.give.ensures.holds ∙ recent_holds _ _ _ c.recent-result.result _ ∙ c.take-turn.ensures.same.1) c.requires.tx.1.held;
-        on = c.requires.tx.1.on;
-        own = own_on A _ _ _ _ begins c.requires.tx.1.own;
-        ahead = ahead_on A _ _ _ _ begins c.requires.tx.1.ahead;
-      },
-    )
+    let begins = one_more c.args.tx.now.pass.me.0 c.take-turn.new.pass.me.0 c.give.new.pass.me.0 _ c.take-turn.ensures.seen c.give.ensures.seen in
+    (search rules, tx_on c.args.tx.now c.give.new.pass begins (c.give.ensures.holds ∙ recent_holds _ _ _ c.recent-result.result _ ∙ c.take-turn.ensures.same.1) c.requires.tx.1)
 
 pub returns-clause-made : goal.returns-clause-made
 returns-clause-made g c = (
@@ -61,22 +58,14 @@ returns-clause-made g c = (
 
 pub returns-clause-recent : goal.returns-clause-recent
 returns-clause-recent g c =
+    let s = (goal.at.returns-clause-recent g c).After-recent-result in
     let d = g.D.Disk.state in
     let A = g.O.Origin.start in
     let n = c.args.tx.now.number in
     let es = c.take-turn.new.pass.me.0.seen in
-    let S = state_at A es in
-    let l = lends d A _ c.value-guarded.result.now _ _ c.take-turn.ensures.value c.value-guarded.ensures.value c.take-turn.ensures.out in
-    let t = at_turn l c.args.tx.now c.requires.tx.1 c.take-turn.ensures.seen c.take-turn.ensures.same.1 in
-    let said = c.recent-result.ensures in
     let lent = c.value-guarded.result.now.core in
     let checked = c.args.tx.now.checked in
     if_ok_by _ c.recent-result.result (λ x is.
     let seen : c.give.new.pass.me.0.seen ≡ es ++ entry.Recent n x.upto ∷ [] = c.give.ensures.seen ∙ ap (λ r. es ++ recent_entry (faults_of d c.of-before.result.value) (faults_of d lent) n r ∷ []) is in
     subst (λ T. IsRecent T checked x) (sym (ap (state_at A) seen ∙ recent_state A es n x.upto))
-    (is_recent d S lent n checked.upto c.recent-result.result x checked l.at.core
-    (record {
-      notes = λ stands. said.notes S.world (tx_of S.world n []) stands (is_tx S.world n [] t.live) t.from;
-      memory = said.memory S.world;
-      fallen = said.down S.world;
-    }) is refl t.ahead.to t.ahead.first))
+    (is_recent d (S g s) lent n checked.upto c.recent-result.result x checked (l g s).at.core (so g s) is refl (t g s).ahead.to (t g s).ahead.first))

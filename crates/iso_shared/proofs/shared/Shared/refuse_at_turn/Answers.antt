@@ -15,7 +15,7 @@ give_wanting-requires-clause-value g c =
     let error = c.wanting-error.result in
     let e = wanting_entry group error in
     let lent = c.value-guarded.result.now.core in
-    let l = lends d A _ c.value-guarded.result.now _ _ c.take-turn.ensures.value c.value-guarded.ensures.value c.take-turn.ensures.out in
+    let l = lends c.value-guarded.ensures.value c.take-turn.ensures.value c.take-turn.ensures.out in
     let args = joined_args c.args.self.now A es c.args.port.now.pass.me.0.seen group c.take-turn.ensures.seen c.requires.group c.requires.some c.requires.most c.requires.held.1 in
     let held = subst (λ (ns : List ℕ). AreHeld ns holds) (sym (numbers_member group)) (subst (λ (hs : List ℕ). AreHeld (numbers_in group) hs) (sym c.take-turn.ensures.same.1) c.requires.held.0) in
     stands_call l lent e e
