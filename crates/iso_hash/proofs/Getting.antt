@@ -1,5 +1,5 @@
 -- What a get answers where its walk ends.
-use Rattle.iso_hash.proofs.{Words.{◌≡◌, ◌≢◌, ◌∙◌, refl, ap, subst, ℕ, ◌+◌, ◌*◌, Bool, true, false, cond, List, [], take, drop, Option, Some, None, Result, Ok, Err, Access, Area, Spot, StoreError, own, value_mark, keys_end, is_part, text_of, get_program, got, walk, is_key, IsHashArea, IsHashRegion, hash_map, get_op, Done, then_do, bytes_in, IsLocal, Tx, Ran, HasEnded, IsLocalCall, ran_at, at_start, at_then, whole_run, cut_then, HasWalked, HasRun, Program, IsAt, ended_from, sym}, Gets.get_local}
+use Rattle.iso_hash.proofs.{Words.{◌≡◌, ◌≢◌, ◌∙◌, refl, ap, subst, ℕ, ◌+◌, ◌*◌, ◌≤◌, Bool, true, false, cond, List, [], take, drop, Option, Some, None, Result, Ok, Err, Area, Spot, StoreError, own, value_mark, keys_end, is_part, text_of, get_program, got, walk, is_key, IsHashArea, IsHashRegion, hash_map, get_op, Done, then_do, bytes_in, Tx, Device, IsLater, HasRead, IsStoreCause, Behaves, refused_so, store_cause, Ran, HasEnded, IsLocalCall, ran_at, at_start, at_then, run_local, cut_then, HasWalked, HasRun, Program, IsAt, ended_from, sym}, Gets.get_local}
 use Rattle.store_model.specs.declared.stores.StoreError.TheVariants as store
 use Rattle.store_model.specs.HashCalls as hash
 use Rattle.iso_hash.specs.declared.walk.Walked as code
@@ -58,10 +58,15 @@ walk_known a key with_value t u buffer (store.Broken block) walked = (λ x. cc, 
 walk_known a key with_value t u buffer (store.Tx e) walked = (λ x. cc, λ x. cc)
 walk_known a key with_value t u buffer store.Memory walked = absurd walked
 
+-- and refuses the call with it
+pub walk_refuses : {R : Type 0} {t u : Tx} {writes : ℕ} {before now : Device} (a : Area) (key buffer : List ℕ) (e : StoreError) → HasWalked a key false t u buffer (Err e) → HasRead t u
+    → IsStoreCause u 1 before now e → IsLater before now → 1 ≤ writes → Behaves {R = R} t u writes before now (Err e)
+walk_refuses {t = t} {u = u} {writes = writes} {before = before} {now = now} a key buffer e walked read cause later le =
+    refused_so t u writes before now e read (store_cause u 1 writes before now e le cause) (walk_known a key false t u buffer e walked) later
+
 pub call_local : (a : Area) (key : List ℕ) (t u : Tx) (r : Option (List ℕ)) → IsHashArea a → is_key key ≡ true → Ran (get_program a key) t u (Ok r) → IsLocalCall (IsHashRegion a) (hash_map a) (get_op key) t u r
-call_local a key t u r area is ran = λ A told.
-    let whole = whole_run (get_program a key) t u (Ok r) ran A told in
-    subst (λ (accesses : List Access). IsLocal (IsHashRegion a) (hash_map a) (get_op key) (own A t.accesses) accesses r) whole.accesses_are (get_local a key (own A t.accesses) r area is whole.answer_is)
+call_local a key t u r area is ran =
+    run_local (IsHashRegion a) (hash_map a) (get_op key) (get_program a key) t u (Ok r) (λ A x told answer. get_local a key (own A t.accesses) x area is answer) ran
 
 -- the value part that the code tests
 pub part_is : (a : Area) (buffer part : List ℕ) (n i : ℕ) → n ≡ Rattle.store_model.specs.Cells.cell_count a.size → part ≡ take 33 (drop (64 + 31 * n + 33 * i) buffer) → part ≡ bytes_in (value_mark a.size i) buffer

@@ -1,5 +1,5 @@
 -- What puts and removals do where their walk ends.
-use Rattle.iso_hash.proofs.{Words.{◌≡◌, ◌∙◌, sym, refl, ap, subst, ℕ, suc, ◌+◌, ◌-◌, ◌<◌, ◌≤◌, Bool, true, false, cond, List, [], ◌∷◌, length, get_or, Option, Some, None, Result, Ok, Err, IfOk, arith, get_or-take, get_or-set_same, ForSome, Access, Area, Region, Spot, StoreError, TxError, own, block_at, Program, Done, Look, Reserve, Store, then_do, bytes_in, look_access, store_access, IsLocal, w32, to_be_bytes, replicate, next_mark, block_with, map_bytes, map_mark, bit_mark, bit_place, set_bit, clear_bit, with_bit, without_bit, lowest_free, walk, new_block, is_spent, put_new, put_at, put_program, del_at, del_program, is_key, is_value, bucket_of, buckets, last_position, IsHashArea, IsHashRegion, hash_map, put_op, del_op, Tx, Device, IsTx, with_accesses, room_of, area_of, Ran, HasRun, HasEnded, Behaves, IsLocalCall, IsAt, at_start, at_then, at_look, at_store, at_reserve, ran_at, full_at_reserve, whole_run, later_same, read_none, run_from, ended_from, refused_so, HasWalked, blocks_of, lowest_alike}, Changes.{put_is, del_is, put_local, del_local, give_back_block, make_zero}, Getting.walk_error}
+use Rattle.iso_hash.proofs.{Words.{◌≡◌, ◌∙◌, sym, refl, ap, subst, ℕ, suc, ◌+◌, ◌-◌, ◌<◌, ◌≤◌, Bool, true, false, cond, List, [], ◌∷◌, length, get_or, Option, Some, None, Result, Ok, Err, IfOk, arith, get_or-take, get_or-set_same, ForSome, Access, Area, Spot, StoreError, TxError, own, block_at, Program, Done, Look, Reserve, Store, then_do, bytes_in, look_access, store_access, w32, to_be_bytes, replicate, next_mark, block_with, map_bytes, map_mark, bit_mark, bit_place, set_bit, clear_bit, with_bit, without_bit, lowest_free, walk, new_block, is_spent, put_new, put_at, put_program, del_at, del_program, is_key, is_value, bucket_of, buckets, last_position, IsHashArea, IsHashRegion, hash_map, put_op, del_op, Tx, Device, IsTx, with_accesses, room_of, Ran, HasRun, Behaves, IsLocalCall, IsAt, at_start, at_then, at_look, at_store, at_reserve, ran_at, full_at_reserve, run_local, later_same, read_none, run_from, refused_so, HasWalked, blocks_of, lowest_alike}, Changes.{put_is, del_is, put_local, del_local, give_back_block, make_zero}, Getting.walk_error}
 use Rattle.store_model.specs.declared.stores.StoreError.TheVariants as store
 use Rattle.store_model.specs.declared.stores.TxError.TheVariants as error
 use Rattle.store_model.specs.HashCalls as hash
@@ -29,19 +29,13 @@ del_error a key t u buffer e is walked =
 
 pub put_call : (a : Area) (key value : List ℕ) (t u : Tx) (result : Result (Unit {0}) StoreError) → IsHashArea a → is_key key ≡ true → is_value value ≡ true → IsTx t → t.size ≡ a.size → a.start + a.blocks ≤ t.blocks
     → HasRun (put_program a key value) t u result → IfOk result (IsLocalCall (IsHashRegion a) (hash_map a) (put_op key value) t u)
-put_call a key value t u (Err e) area is short tx size fits run = tt
-put_call a key value t u (Ok x) area is short tx size fits run = λ A told.
-    let whole = whole_run (put_program a key value) t u (Ok x) run A told in
-    subst (λ (accesses : List Access). IsLocal (IsHashRegion a) (hash_map a) (put_op key value) (own A t.accesses) accesses x) whole.accesses_are
-    (put_local a key value (own A t.accesses) x area is short (blocks_of a t A tx size fits told) whole.answer_is)
+put_call a key value t u result area is short tx size fits run =
+    run_local (IsHashRegion a) (hash_map a) (put_op key value) (put_program a key value) t u result (λ A x told answer. put_local a key value (own A t.accesses) x area is short (blocks_of a t A tx size fits told) answer) run
 
 pub del_call : (a : Area) (key : List ℕ) (t u : Tx) (result : Result Bool StoreError) → IsHashArea a → is_key key ≡ true → IsTx t → t.size ≡ a.size → a.start + a.blocks ≤ t.blocks
     → HasRun (del_program a key) t u result → IfOk result (IsLocalCall (IsHashRegion a) (hash_map a) (del_op key) t u)
-del_call a key t u (Err e) area is tx size fits run = tt
-del_call a key t u (Ok x) area is tx size fits run = λ A told.
-    let whole = whole_run (del_program a key) t u (Ok x) run A told in
-    subst (λ (accesses : List Access). IsLocal (IsHashRegion a) (hash_map a) (del_op key) (own A t.accesses) accesses x) whole.accesses_are
-    (del_local a key (own A t.accesses) x area is (blocks_of a t A tx size fits told) whole.answer_is)
+del_call a key t u result area is tx size fits run =
+    run_local (IsHashRegion a) (hash_map a) (del_op key) (del_program a key) t u result (λ A x told answer. del_local a key (own A t.accesses) x area is (blocks_of a t A tx size fits told) answer) run
 
 -- a reservation that does not fit
 pub reserve_refused : {X : Type 0} (count : ℕ) (rest : Program (Result X StoreError)) (t : Tx) (d : Device) (e : TxError) → count ≤ 3 → (e ≡ error.TooManyAccesses) × (room_of t < count)
@@ -104,11 +98,9 @@ module _ (a : Area) (block before byte : ℕ) (t : Tx) (room : 2 ≤ room_of t) 
   shrink_at_second u tx is = at_store (shrinking a block before byte) a.start (bit_mark block ∷ []) (block_with a.size (bit_place block) (byte ∷ [])) (unlinked a before) t t u shrink_at_first tx.count is
 
 -- a removal whose cell stands in a block that is given back, or in one that stays
-pub del_spent : (a : Area) (s : Spot) (before : ℕ) (ks v : List ℕ) (u w : Tx) (result : Result Bool StoreError) → is_spent a s ks ≡ true → HasRun (give_back_block a s before) u w result → HasRun (del_at a (hash.AtCell s before ks v)) u w result
-del_spent a s before ks v u w result is run = subst (λ (t : Bool). HasRun (cond t (give_back_block a s before) (make_zero a s)) u w result) (sym is) run
-
-pub del_kept : (a : Area) (s : Spot) (before : ℕ) (ks v : List ℕ) (u w : Tx) (result : Result Bool StoreError) → is_spent a s ks ≡ false → HasRun (make_zero a s) u w result → HasRun (del_at a (hash.AtCell s before ks v)) u w result
-del_kept a s before ks v u w result is run = subst (λ (t : Bool). HasRun (cond t (give_back_block a s before) (make_zero a s)) u w result) (sym is) run
+pub del_there : (a : Area) (s : Spot) (before : ℕ) (ks v : List ℕ) (spent : Bool) (u w : Tx) (result : Result Bool StoreError) → is_spent a s ks ≡ spent
+    → HasRun (cond spent (give_back_block a s before) (make_zero a s)) u w result → HasRun (del_at a (hash.AtCell s before ks v)) u w result
+del_there a s before ks v spent u w result is run = subst (λ (t : Bool). HasRun (cond t (give_back_block a s before) (make_zero a s)) u w result) (sym is) run
 
 -- the calls that read the map
 abbrev pub with_new : Area → (key value : List ℕ) → (last position : ℕ) → (map : List ℕ) → Program (Result (Unit {0}) StoreError)
@@ -175,30 +167,3 @@ put_bad_value a key value t is not_value = rw (is, not_value) (ran_at (Done (Err
 pub del_bad_key : (a : Area) (key : List ℕ) (t : Tx) → is_key key ≡ false → Ran (del_program a key) t t (Err store.BadKey)
 unfolding del_program
 del_bad_key a key t not_key = rw not_key (ran_at (Done (Err store.BadKey)) t t (Err store.BadKey) (at_start (Done (Err store.BadKey)) t))
-
--- the area that the code has is that of the transaction's region
-module _ (t u : Tx) (region : Region) (size : ℕ) (key value : List ℕ) (result : Result (Unit {0}) StoreError) (same : size ≡ t.size)
-    (run : HasRun (put_program (record { size = size; start = region.start; blocks = region.size }) key value) t u result) where
-  put_run : HasRun (put_program (area_of t region) key value) t u result
-  put_run = subst (λ (n : ℕ). HasRun (put_program (record { size = n; start = region.start; blocks = region.size }) key value) t u result) same run
-
-pub put_in_area : (t u : Tx) (region : Region) (size : ℕ) (key value : List ℕ) (result : Result (Unit {0}) StoreError) → size ≡ t.size
-    → HasRun (put_program (record { size = size; start = region.start; blocks = region.size }) key value) t u result → HasEnded (put_program (area_of t region) key value) t u result
-put_in_area t u region size key value result same run = ended_from (put_program (area_of t region) key value) t u result (put_run t u region size key value result same run)
-
-pub put_call_in : (t u : Tx) (region : Region) (size : ℕ) (key value : List ℕ) (result : Result (Unit {0}) StoreError) → size ≡ t.size → IsHashArea (area_of t region) → is_key key ≡ true → is_value value ≡ true → IsTx t → region.start + region.size ≤ t.blocks
-    → HasRun (put_program (record { size = size; start = region.start; blocks = region.size }) key value) t u result → IfOk result (IsLocalCall (IsHashRegion (area_of t region)) (hash_map (area_of t region)) (put_op key value) t u)
-put_call_in t u region size key value result same area is short tx fits run = put_call (area_of t region) key value t u result area is short tx refl fits (put_run t u region size key value result same run)
-
-module _ (t u : Tx) (region : Region) (size : ℕ) (key : List ℕ) (result : Result Bool StoreError) (same : size ≡ t.size)
-    (run : HasRun (del_program (record { size = size; start = region.start; blocks = region.size }) key) t u result) where
-  del_run : HasRun (del_program (area_of t region) key) t u result
-  del_run = subst (λ (n : ℕ). HasRun (del_program (record { size = n; start = region.start; blocks = region.size }) key) t u result) same run
-
-pub del_in_area : (t u : Tx) (region : Region) (size : ℕ) (key : List ℕ) (result : Result Bool StoreError) → size ≡ t.size
-    → HasRun (del_program (record { size = size; start = region.start; blocks = region.size }) key) t u result → HasEnded (del_program (area_of t region) key) t u result
-del_in_area t u region size key result same run = ended_from (del_program (area_of t region) key) t u result (del_run t u region size key result same run)
-
-pub del_call_in : (t u : Tx) (region : Region) (size : ℕ) (key : List ℕ) (result : Result Bool StoreError) → size ≡ t.size → IsHashArea (area_of t region) → is_key key ≡ true → IsTx t → region.start + region.size ≤ t.blocks
-    → HasRun (del_program (record { size = size; start = region.start; blocks = region.size }) key) t u result → IfOk result (IsLocalCall (IsHashRegion (area_of t region)) (hash_map (area_of t region)) (del_op key) t u)
-del_call_in t u region size key result same area is tx fits run = del_call (area_of t region) key t u result area is tx refl fits (del_run t u region size key result same run)

@@ -1,7 +1,7 @@
 // The put of a key.
 ghost use Rattle.std.specs.Prelude.{◌≡◌, ◌↔◌, ◌+◌, ◌<◌, ◌≤◌, Err, IsFalse, IsTrue, true, IfOk, IfErr, IfSome, OnOk, length};
 ghost use Rattle.store_model.specs.{HashCalls.{is_key, is_value, put_at, put_program, AtEnd}, HashRegion.{hash_map, put_op, IsHashArea, IsHashRegion}};
-ghost use Rattle.tx_blocks.specs.{Tx.IsLater, Runs.{area_of, Behaves, HasEnded, HasRun, IsLocalCall, IsStoreCause, IsUnwritten}};
+ghost use Rattle.tx_blocks.specs.{Tx.IsLater, Runs.{area_of, Behaves, HasArea, HasEnded, HasRun, IsLocalCall, IsStoreCause, IsUnwritten}};
 ghost use Rattle.iso_hash.specs.Walks.{IsSpot};
 
 use crate::links::put_block;
@@ -10,7 +10,7 @@ use crate::writes::{put_cell, put_value};
 use iso_alloc::{buffer, is_key, is_value};
 use std::alloc::Global;
 use store_model::{Area, Region, Spot, StoreError};
-use tx_blocks::TxBlocks;
+use tx_blocks::{TxBlocks, area_of};
 
 // Puts a key that the walk did not find.
 fn put_missing<T: TxBlocks>(
@@ -23,9 +23,7 @@ fn put_missing<T: TxBlocks>(
     position: u32,
     block: &mut [u8],
 ) -> Result<(), StoreError>
-    requires area { IsHashArea area }
-    requires size { (T.state tx.old).size ≡ area.size }
-    requires fits { area.start + area.blocks ≤ (T.state tx.old).blocks }
+    requires within { HasArea IsHashArea (T.state tx.old) area }
     requires key { length key.now ≤ 28 }
     requires value { length value.now ≤ 32 }
     requires spare { IfSome spare (IsSpot area) }
@@ -49,9 +47,7 @@ fn put_with<T: TxBlocks>(
     value: &[u8],
     block: &mut [u8],
 ) -> Result<(), StoreError>
-    requires area { IsHashArea area }
-    requires size { (T.state tx.old).size ≡ area.size }
-    requires fits { area.start + area.blocks ≤ (T.state tx.old).blocks }
+    requires within { HasArea IsHashArea (T.state tx.old) area }
     requires key { is_key key.now ≡ true }
     requires value { is_value value.now ≡ true }
     requires block { length block.old ≡ area.size }
@@ -98,11 +94,7 @@ pub fn put<T: TxBlocks>(
     if !is_value(value) {
         return Err(StoreError::BadValue);
     }
-    let area = Area {
-        size: tx.block_size(),
-        start: region.start,
-        blocks: region.size,
-    };
-    let mut block = buffer(alloc, area.size as usize)?;
+    let mut block = buffer(alloc, tx.block_size() as usize)?;
+    let area = area_of(tx, region);
     put_with(tx, area, key, value, &mut block)
 }

@@ -1,7 +1,7 @@
 // The writes that take a block into a chain, or out of it.
 ghost use Rattle.std.specs.{Prelude.{◌≡◌, ◌+◌, ◌-◌, ◌<◌, ◌≤◌, length, Ok, Some, None, OnOk, OnErr, IfErr, true, [], ◌∷◌, replicate, slice_index}, Int.{w32, to_be_bytes}};
 ghost use Rattle.store_model.specs.{Cells.{block_with, next_mark}, FreeMap.{bit_mark, bit_place, clear_bit, lowest_free, map_mark}, HashCalls.{new_block, put_new}, HashRegion.{bucket_of, buckets, last_position, IsHashArea}, Stores.{store_access, Done, Look, Reserve, Store}};
-ghost use Rattle.tx_blocks.specs.{Tx.{room_of, with_accesses}, Runs.{Behaves, HasRun, IsCause}};
+ghost use Rattle.tx_blocks.specs.Runs.{Behaves, HasArea, HasBlock, HasRun, HasStored};
 
 use crate::bucket::{bucket_of, buckets};
 use crate::writes::lay_cell;
@@ -26,16 +26,8 @@ fn store_bit<T: TxBlocks>(
     byte: u8,
     buffer: &mut [u8],
 ) -> Result<(), TxError>
-    requires area { IsHashArea area }
-    requires size { (T.state tx.old).size ≡ area.size }
-    requires fits { area.start + area.blocks ≤ (T.state tx.old).blocks }
-    requires buffer { length buffer.old ≡ area.size }
-    requires block { block < area.blocks }
-    ensures stored { OnOk result (T.state tx.new ≡ with_accesses (T.state tx.old) (store_access area.start (bit_mark block ∷ []) (block_with area.size (bit_place block) (byte ∷ [])) ∷ [])) }
-    ensures kept { OnErr result (T.state tx.new ≡ T.state tx.old) }
-    ensures cause { IfErr result (IsCause (T.state tx.new) 1 (T.device tx.old) (T.device tx.new)) }
-    ensures room { 0 < room_of (T.state tx.old) → (T.state tx.old).is_open ≡ true → IfErr result (λ e. e ≡ TxError.Memory) }
-    ensures device { T.device tx.new ≡ T.device tx.old }
+    requires block { HasBlock IsHashArea (T.state tx.old) area block buffer.old }
+    ensures { HasStored (store_access area.start (bit_mark block ∷ []) (block_with area.size (bit_place block) (byte ∷ []))) (T.state tx.old) (T.state tx.new) (T.device tx.old) (T.device tx.new) result }
 {
     let at = 64 + (block / 8) as usize;
     lay_alone(buffer, at, &[byte]);
@@ -56,18 +48,10 @@ fn store_new<T: TxBlocks>(
     value: &[u8],
     buffer: &mut [u8],
 ) -> Result<(), TxError>
-    requires area { IsHashArea area }
-    requires size { (T.state tx.old).size ≡ area.size }
-    requires fits { area.start + area.blocks ≤ (T.state tx.old).blocks }
-    requires buffer { length buffer.old ≡ area.size }
-    requires block { block < area.blocks }
+    requires block { HasBlock IsHashArea (T.state tx.old) area block buffer.old }
     requires key { length key.now ≤ 28 }
     requires value { length value.now ≤ 32 }
-    ensures stored { OnOk result (T.state tx.new ≡ with_accesses (T.state tx.old) (store_access (area.start + block) [] (new_block area.size (bucket_of area key.now) position key.now value.now) ∷ [])) }
-    ensures kept { OnErr result (T.state tx.new ≡ T.state tx.old) }
-    ensures cause { IfErr result (IsCause (T.state tx.new) 1 (T.device tx.old) (T.device tx.new)) }
-    ensures room { 0 < room_of (T.state tx.old) → (T.state tx.old).is_open ≡ true → IfErr result (λ e. e ≡ TxError.Memory) }
-    ensures device { T.device tx.new ≡ T.device tx.old }
+    ensures { HasStored (store_access (area.start + block) [] (new_block area.size (bucket_of area key.now) position key.now value.now)) (T.state tx.old) (T.state tx.new) (T.device tx.old) (T.device tx.new) result }
 {
     buffer.fill(0);
     lay(buffer, 4, &spelled(bucket_of(area, key)));
@@ -84,16 +68,8 @@ fn store_next<T: TxBlocks>(
     next: u32,
     buffer: &mut [u8],
 ) -> Result<(), TxError>
-    requires area { IsHashArea area }
-    requires size { (T.state tx.old).size ≡ area.size }
-    requires fits { area.start + area.blocks ≤ (T.state tx.old).blocks }
-    requires buffer { length buffer.old ≡ area.size }
-    requires block { block < area.blocks }
-    ensures stored { OnOk result (T.state tx.new ≡ with_accesses (T.state tx.old) (store_access (area.start + block) (next_mark ∷ []) (block_with area.size 0 (to_be_bytes w32 next)) ∷ [])) }
-    ensures kept { OnErr result (T.state tx.new ≡ T.state tx.old) }
-    ensures cause { IfErr result (IsCause (T.state tx.new) 1 (T.device tx.old) (T.device tx.new)) }
-    ensures room { 0 < room_of (T.state tx.old) → (T.state tx.old).is_open ≡ true → IfErr result (λ e. e ≡ TxError.Memory) }
-    ensures device { T.device tx.new ≡ T.device tx.old }
+    requires block { HasBlock IsHashArea (T.state tx.old) area block buffer.old }
+    ensures { HasStored (store_access (area.start + block) (next_mark ∷ []) (block_with area.size 0 (to_be_bytes w32 next))) (T.state tx.old) (T.state tx.new) (T.device tx.old) (T.device tx.new) result }
 {
     lay_alone(buffer, 0, &spelled(next));
     let span = Span { off: 0, len: 4 };
@@ -112,9 +88,7 @@ fn grow<T: TxBlocks>(
     byte: u8,
     buffer: &mut [u8],
 ) -> Result<(), StoreError>
-    requires area { IsHashArea area }
-    requires size { (T.state tx.old).size ≡ area.size }
-    requires fits { area.start + area.blocks ≤ (T.state tx.old).blocks }
+    requires within { HasArea IsHashArea (T.state tx.old) area }
     requires is_open { (T.state tx.old).is_open ≡ true }
     requires buffer { length buffer.old ≡ area.size }
     requires block { block < area.blocks }
@@ -162,9 +136,7 @@ pub fn put_block<T: TxBlocks>(
     value: &[u8],
     buffer: &mut [u8],
 ) -> Result<(), StoreError>
-    requires area { IsHashArea area }
-    requires size { (T.state tx.old).size ≡ area.size }
-    requires fits { area.start + area.blocks ≤ (T.state tx.old).blocks }
+    requires within { HasArea IsHashArea (T.state tx.old) area }
     requires buffer { length buffer.old ≡ area.size }
     requires last { last < area.blocks }
     requires position { position < area.blocks }
@@ -209,9 +181,7 @@ fn shrink<T: TxBlocks>(
     byte: u8,
     buffer: &mut [u8],
 ) -> Result<bool, StoreError>
-    requires area { IsHashArea area }
-    requires size { (T.state tx.old).size ≡ area.size }
-    requires fits { area.start + area.blocks ≤ (T.state tx.old).blocks }
+    requires within { HasArea IsHashArea (T.state tx.old) area }
     requires is_open { (T.state tx.old).is_open ≡ true }
     requires buffer { length buffer.old ≡ area.size }
     requires block { block < area.blocks }
@@ -242,9 +212,7 @@ pub fn del_block<T: TxBlocks>(
     before: u32,
     buffer: &mut [u8],
 ) -> Result<bool, StoreError>
-    requires area { IsHashArea area }
-    requires size { (T.state tx.old).size ≡ area.size }
-    requires fits { area.start + area.blocks ≤ (T.state tx.old).blocks }
+    requires within { HasArea IsHashArea (T.state tx.old) area }
     requires buffer { length buffer.old ≡ area.size }
     requires block { block < area.blocks }
     requires before { before < area.blocks }

@@ -1,14 +1,14 @@
 // The look-up of a key.
 ghost use Rattle.std.specs.Prelude.{◌≡◌, ◌≢◌, ◌↔◌, ◌+◌, ◌<◌, ◌≤◌, Err, IsFalse, true, IfOk, IfErr, OnOk, length};
 ghost use Rattle.store_model.specs.{HashCalls.{get_program, is_key}, HashRegion.{get_op, hash_map, IsHashArea, IsHashRegion}};
-ghost use Rattle.tx_blocks.specs.{Tx.IsLater, Runs.{area_of, HasEnded, HasRead, IsLocalCall, IsStoreCause}};
+ghost use Rattle.tx_blocks.specs.{Tx.IsLater, Runs.{area_of, HasArea, HasEnded, HasRead, IsLocalCall, IsStoreCause}};
 
 use crate::walk::{Walked, walk};
 use iso_alloc::{buffer, cell_count, is_key, is_part, piece, spelled};
 use iso_model::{Bytes, Items};
 use std::alloc::Global;
 use store_model::{Area, Region, StoreError};
-use tx_blocks::TxBlocks;
+use tx_blocks::{TxBlocks, area_of};
 
 // The value of a key, with buffers for a block and for the value.
 fn get_with<T: TxBlocks>(
@@ -18,9 +18,7 @@ fn get_with<T: TxBlocks>(
     block: &mut [u8],
     room: Vec<u8>,
 ) -> Result<Option<Bytes>, StoreError>
-    requires area { IsHashArea area }
-    requires size { (T.state tx.old).size ≡ area.size }
-    requires fits { area.start + area.blocks ≤ (T.state tx.old).blocks }
+    requires within { HasArea IsHashArea (T.state tx.old) area }
     requires key { is_key key.now ≡ true }
     requires block { length block.old ≡ area.size }
     requires room { length room.items ≡ 32 }
@@ -69,12 +67,8 @@ pub fn get<T: TxBlocks>(
     if !is_key(key) {
         return Err(StoreError::BadKey);
     }
-    let area = Area {
-        size: tx.block_size(),
-        start: region.start,
-        blocks: region.size,
-    };
-    let mut block = buffer(alloc, area.size as usize)?;
+    let mut block = buffer(alloc, tx.block_size() as usize)?;
     let room = buffer(alloc, 32)?;
+    let area = area_of(tx, region);
     get_with(tx, area, key, &mut block, room)
 }

@@ -1,7 +1,7 @@
 // The removal of a key.
 ghost use Rattle.std.specs.Prelude.{◌≡◌, ◌↔◌, ◌+◌, ◌<◌, ◌≤◌, Err, IsFalse, true, IfOk, IfErr, OnOk, length};
 ghost use Rattle.store_model.specs.{Cells.keys_end, HashCalls.{del_program, is_key, is_spent}, HashRegion.{del_op, hash_map, IsHashArea, IsHashRegion}};
-ghost use Rattle.tx_blocks.specs.{Tx.IsLater, Runs.{area_of, Behaves, HasEnded, HasRun, IsLocalCall, IsStoreCause, IsUnwritten}};
+ghost use Rattle.tx_blocks.specs.{Tx.IsLater, Runs.{area_of, Behaves, HasArea, HasEnded, HasRun, IsLocalCall, IsStoreCause, IsUnwritten}};
 
 use crate::bucket::buckets;
 use crate::links::del_block;
@@ -10,7 +10,7 @@ use crate::writes::clear_cell;
 use iso_alloc::{buffer, cell_count, is_alone, is_key, word_at};
 use std::alloc::Global;
 use store_model::{Area, Region, Spot, StoreError};
-use tx_blocks::TxBlocks;
+use tx_blocks::{TxBlocks, area_of};
 
 // Whether the block is an overflow block, the last of its chain, and has no other used cell.
 fn is_spent(area: Area, spot: Spot, keys: &[u8]) -> bool
@@ -30,9 +30,7 @@ fn del_with<T: TxBlocks>(
     key: &[u8],
     block: &mut [u8],
 ) -> Result<bool, StoreError>
-    requires area { IsHashArea area }
-    requires size { (T.state tx.old).size ≡ area.size }
-    requires fits { area.start + area.blocks ≤ (T.state tx.old).blocks }
+    requires within { HasArea IsHashArea (T.state tx.old) area }
     requires key { is_key key.now ≡ true }
     requires block { length block.old ≡ area.size }
     ensures run { HasRun (del_program area key.now) (T.state tx.old) (T.state tx.new) result }
@@ -73,11 +71,7 @@ pub fn del<T: TxBlocks>(
     if !is_key(key) {
         return Err(StoreError::BadKey);
     }
-    let area = Area {
-        size: tx.block_size(),
-        start: region.start,
-        blocks: region.size,
-    };
-    let mut block = buffer(alloc, area.size as usize)?;
+    let mut block = buffer(alloc, tx.block_size() as usize)?;
+    let area = area_of(tx, region);
     del_with(tx, area, key, &mut block)
 }

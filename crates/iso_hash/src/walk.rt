@@ -2,7 +2,7 @@
 ghost use Rattle.std.specs.Prelude.{◌≡◌, ◌+◌, ◌<◌, ◌≤◌, ◌^◌, IfOk, IfErr, IfSome, OnOk, length, true};
 ghost use Rattle.iso_model.specs.Effect.{or_else};
 ghost use Rattle.store_model.specs.{HashCalls.spot_in, HashRegion.IsHashArea};
-ghost use Rattle.tx_blocks.specs.{Tx.IsLater, Runs.{HasRead, IsStoreCause}};
+ghost use Rattle.tx_blocks.specs.{Tx.IsLater, Runs.{HasArea, HasRead, IsStoreCause}};
 ghost use Rattle.iso_hash.specs.Walks.{HasWalked, IsInside};
 
 use crate::bucket::{bucket_of, is_linked, last_position};
@@ -51,9 +51,7 @@ pub fn walk<T: TxBlocks>(
     with_value: bool,
     buffer: &mut [u8],
 ) -> Result<Walked, StoreError>
-    requires area { IsHashArea area }
-    requires size { (T.state tx.old).size ≡ area.size }
-    requires fits { area.start + area.blocks ≤ (T.state tx.old).blocks }
+    requires within { HasArea IsHashArea (T.state tx.old) area }
     requires buffer { length buffer.old ≡ area.size }
     ensures walked { HasWalked area key.now with_value (T.state tx.old) (T.state tx.new) buffer.new result }
     ensures inside { IfOk result (IsInside area) }

@@ -1,8 +1,7 @@
 // The writes that puts and removals are made of.
 ghost use Rattle.std.specs.Prelude.{◌≡◌, ◌+◌, ◌*◌, ◌<◌, ◌≤◌, length, Ok, true, [], ◌∷◌, replicate};
 ghost use Rattle.store_model.specs.{Cells.{block_with, cell_count, key_mark, keys_end, value_mark, value_part}, HashCalls.with_cell, HashRegion.IsHashArea, Stores.{Done, Store}};
-ghost use Rattle.tx_blocks.specs.Runs.{Behaves, HasRun};
-ghost use Rattle.iso_hash.specs.Walks.{IsSpot};
+ghost use Rattle.tx_blocks.specs.Runs.{Behaves, HasBlock, HasRun};
 
 use iso_alloc::{cell_count, lay, lay_alone, spell, value_part};
 use iso_model::Span;
@@ -33,11 +32,8 @@ pub fn put_value<T: TxBlocks>(
     value: &[u8],
     buffer: &mut [u8],
 ) -> Result<(), StoreError>
-    requires area { IsHashArea area }
-    requires size { (T.state tx.old).size ≡ area.size }
-    requires fits { area.start + area.blocks ≤ (T.state tx.old).blocks }
-    requires buffer { length buffer.old ≡ area.size }
-    requires spot { IsSpot area spot }
+    requires block { HasBlock IsHashArea (T.state tx.old) area spot.block buffer.old }
+    requires cell { spot.cell < cell_count area.size }
     requires value { length value.now ≤ 32 }
     ensures run { HasRun (Store (area.start + spot.block) (value_mark area.size spot.cell ∷ []) (block_with area.size (keys_end area.size + 33 * spot.cell) (value_part value.now)) (Done (Ok tt)))
         (T.state tx.old) (T.state tx.new) result }
@@ -49,7 +45,7 @@ pub fn put_value<T: TxBlocks>(
         off: at as u16,
         len: 33,
     };
-    last_store(tx, area.start + spot.block, &[span], buffer)
+    last_store(tx, area.start + spot.block, &[span], buffer, ())
 }
 
 // The marks of a cell.
@@ -80,11 +76,8 @@ pub fn put_cell<T: TxBlocks>(
     value: &[u8],
     buffer: &mut [u8],
 ) -> Result<(), StoreError>
-    requires area { IsHashArea area }
-    requires size { (T.state tx.old).size ≡ area.size }
-    requires fits { area.start + area.blocks ≤ (T.state tx.old).blocks }
-    requires buffer { length buffer.old ≡ area.size }
-    requires spot { IsSpot area spot }
+    requires block { HasBlock IsHashArea (T.state tx.old) area spot.block buffer.old }
+    requires cell { spot.cell < cell_count area.size }
     requires key { length key.now ≤ 28 }
     requires value { length value.now ≤ 32 }
     ensures run { HasRun (Store (area.start + spot.block) (key_mark spot.cell ∷ value_mark area.size spot.cell ∷ []) (with_cell area.size spot.cell key.now value.now (replicate area.size 0)) (Done (Ok tt)))
@@ -94,7 +87,7 @@ pub fn put_cell<T: TxBlocks>(
     buffer.fill(0);
     lay_cell(buffer, spot.cell as usize, key, value);
     let spans = cell_marks(area.size as usize, spot.cell);
-    last_store(tx, area.start + spot.block, &spans, buffer)
+    last_store(tx, area.start + spot.block, &spans, buffer, ())
 }
 
 /// Makes a cell zero.
@@ -104,19 +97,13 @@ pub fn clear_cell<T: TxBlocks>(
     spot: Spot,
     buffer: &mut [u8],
 ) -> Result<bool, StoreError>
-    requires area { IsHashArea area }
-    requires size { (T.state tx.old).size ≡ area.size }
-    requires fits { area.start + area.blocks ≤ (T.state tx.old).blocks }
-    requires buffer { length buffer.old ≡ area.size }
-    requires spot { IsSpot area spot }
+    requires block { HasBlock IsHashArea (T.state tx.old) area spot.block buffer.old }
+    requires cell { spot.cell < cell_count area.size }
     ensures run { HasRun (Store (area.start + spot.block) (key_mark spot.cell ∷ value_mark area.size spot.cell ∷ []) (replicate area.size 0) (Done (Ok true)))
         (T.state tx.old) (T.state tx.new) result }
     ensures behaves { Behaves (T.state tx.old) (T.state tx.new) 1 (T.device tx.old) (T.device tx.new) result }
 {
     buffer.fill(0);
     let spans = cell_marks(area.size as usize, spot.cell);
-    match store(tx, area.start + spot.block, &spans, buffer) {
-        Ok(()) => Ok(true),
-        Err(e) => Err(StoreError::Tx(e)),
-    }
+    last_store(tx, area.start + spot.block, &spans, buffer, true)
 }

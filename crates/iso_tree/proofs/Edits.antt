@@ -100,6 +100,14 @@ leaf_in cells key (suc level) block low high is =
     inr (child_reached cells level key (leaf_of cells key (suc level) block) low high (cells block) is
     (leaf_in cells key level (child_of (child_for key (cells block))) range.0 range.1 range.2))
 
+-- an inner node on the way is not the leaf
+pub not_leaf : (cells : ℕ → List Cell) (key : List ℕ) (level block : ℕ) (low : List ℕ) (high : Option (List ℕ)) → IsOrdered (suc level) low high (tree_at cells (suc level) block)
+    → IsApart (nodes_in (suc level) (tree_at cells (suc level) block)) → block ≢ leaf_of cells key (suc level) block
+not_leaf cells key level block low high order apart = λ e.
+    let range = child_ordered cells level key low high (cells block) order in
+    let inside = leaf_in cells key level (child_of (child_for key (cells block))) range.0 range.1 range.2 in
+    apart.0 (subst (λ (j : ℕ). IsIn j (flat_map (λ c. nodes_in level c.1) (kids cells level (cells block)))) (sym e) (child_reached cells level key (leaf_of cells key (suc level) block) low high (cells block) order inside))
+
 -- What an edit of the leaf of a key makes of the tree.
 pub edit_is : (cells cells' : ℕ → List Cell) (key : List ℕ) (level block : ℕ) (low : List ℕ) (high : Option (List ℕ)) → IsOrdered level low high (tree_at cells level block)
     → IsApart (nodes_in level (tree_at cells level block)) → ((k : ℕ) → k ≢ leaf_of cells key level block → cells' k ≡ cells k)
@@ -110,6 +118,5 @@ edit_is cells cells' key (suc level) block low high order apart kept =
     let child = child_of (child_for key (cells block)) in
     let range = child_ordered cells level key low high (cells block) order in
     let inside = leaf_in cells key level child range.0 range.1 range.2 in
-    let other : block ≢ leaf = λ e. apart.0 (subst (λ (j : ℕ). IsIn j (flat_map (λ c. nodes_in level c.1) (kids cells level (cells block)))) (sym e) (child_reached cells level key leaf low high (cells block) order inside)) in
-    edit_inner level cells cells' block key leaf (cells block) low high (kept block other) order apart.1 kept inside
+    edit_inner level cells cells' block key leaf (cells block) low high (kept block (not_leaf cells key level block low high order apart)) order apart.1 kept inside
     (edit_is cells cells' key level child range.0 range.1 range.2 (child_once cells level key low high (cells block) order apart.1) kept)

@@ -1,5 +1,5 @@
 -- A get, part by part.
-use Rattle.iso_tree.proofs.{Words.{◌≡◌, ◌≢◌, ◌∙◌, sym, refl, ap, subst, ℕ, ◌+◌, Bool, true, false, cond, List, [], take, Option, Some, None, Result, Ok, Err, IfOk, option_map, ne_eqb, eq-eqb, Area, StoreError, own, Program, Done, Look, bytes_in, further_bytes, then_do, IsLocal, keys_end, value_mark, word_at, is_part, text_of, at_cell, is_key, get_op, Tx, Ran, HasRun, IsLocalCall, IsAt, at_start, at_then, ran_at, whole_run, run_from, Leaf, is_head, head_mark, Descent, AtLeaf, descend, got, get_below, get_program, with_head, tree_map, IsTreeRegion, head_program, HasDescended, IsLeaf, leaf_value, at_as, refused_then}, Descending.descent_refused, Facts.missing, Gets.get_local}
+use Rattle.iso_tree.proofs.{Words.{◌≡◌, ◌≢◌, ◌∙◌, sym, refl, ap, subst, ℕ, ◌+◌, Bool, true, false, cond, List, [], take, Option, Some, None, Result, Ok, Err, IfOk, option_map, ne_eqb, eq-eqb, Area, StoreError, own, Program, Done, Look, bytes_in, further_bytes, then_do, IsLocal, keys_end, value_mark, word_at, is_part, text_of, at_cell, is_key, get_op, Tx, Ran, HasRun, IsLocalCall, IsAt, at_start, at_then, ran_at, run_local, run_from, Leaf, is_head, head_mark, Descent, AtLeaf, descend, got, get_below, get_program, with_head, tree_map, IsTreeRegion, head_program, HasDescended, IsLeaf, leaf_value, at_as, refused_then}, Descending.descent_refused, Facts.missing, Gets.get_local}
 use Rattle.store_model.specs.declared.stores.StoreError.TheVariants as store
 
 -- a call that reads root and level first
@@ -87,12 +87,6 @@ pub bad_key : (a : Area) (key : List ℕ) (t : Tx) → is_key key ≡ false → 
 unfolding get_program
 bad_key a key t not = rw not (ran_at (Done (Err store.BadKey)) t t (Err store.BadKey) (at_start (Done (Err store.BadKey)) t))
 
-pub call_local : (a : Area) (key : List ℕ) (t u : Tx) (r : Option (List ℕ)) → is_key key ≡ true → Ran (get_program a key) t u (Ok r) → IsLocalCall (IsTreeRegion a) (tree_map a) (get_op key) t u r
-call_local a key t u r is ran = λ A told.
-    let whole = whole_run (get_program a key) t u (Ok r) ran A told in
-    subst (λ (accesses : List Rattle.iso_model.specs.declared.access.Access.Access). IsLocal (IsTreeRegion a) (tree_map a) (get_op key) (own A t.accesses) accesses r) whole.accesses_are (get_local a key (own A t.accesses) r is whole.answer_is)
-
 pub local_any : (a : Area) (key : List ℕ) (t u : Tx) (result : Result (Option (List ℕ)) StoreError) → is_key key ≡ true → HasRun (get_program a key) t u result
     → IfOk result (IsLocalCall (IsTreeRegion a) (tree_map a) (get_op key) t u)
-local_any a key t u (Ok r) is ran = call_local a key t u r is ran
-local_any a key t u (Err e) is ran = tt
+local_any a key t u result is run = run_local (IsTreeRegion a) (tree_map a) (get_op key) (get_program a key) t u result (λ A x told answer. get_local a key (own A t.accesses) x is answer) run

@@ -1,5 +1,5 @@
 -- The leaf of a key: what it has of the tree, and where a descent ends.
-use Rattle.iso_tree.proofs.{Words.{◌≡◌, ◌≢◌, ◌∙◌, sym, refl, ap, subst, ℕ, zero, suc, ◌+◌, ◌<◌, ◌≤◌, ◌&&◌, Bool, true, false, cond, List, [], ◌∷◌, ◌++◌, length, Option, Some, None, arith, flat_map, and_parts, append_assoc, map-append, Area, Array, IsIn, block_at, Program, Done, bytes_in, further_bytes, answer_of, keys_mark, value_mark, Cell, child_of, count_of, is_node, is_child, place_of, cells_by, Tree, tree_at, pairs_in, nodes_in, IsApart, Rise, AreChildren, IsOrdered, Descent, AtLeaf, AtBroken, descend, inner_further, leaf_further, cells_in, IsNode, AreNodes, found_in}, Shapes.{kids, child_for}, Facts.child_below, Blocks.chosen_kid, Climbs.child_ordered, Edits.{leaf_of, leaf_pairs, leaf_in, child_once, child_reached}, Fits.length-cells, Ways.{path_below, counts}, Gets.{found_chosen, ordered_in, parts_all, IsChosen, chosen_is}}
+use Rattle.iso_tree.proofs.{Words.{◌≡◌, ◌≢◌, ◌∙◌, sym, refl, ap, subst, ℕ, zero, suc, ◌+◌, ◌<◌, ◌≤◌, ◌&&◌, Bool, true, false, cond, List, [], ◌∷◌, ◌++◌, length, Option, Some, None, arith, flat_map, and_parts, append_assoc, map-append, Area, Array, IsIn, block_at, Program, Done, bytes_in, further_bytes, answer_of, keys_mark, value_mark, Cell, child_of, count_of, is_node, is_child, place_of, cells_by, Tree, tree_at, pairs_in, nodes_in, IsApart, Rise, AreChildren, IsOrdered, Descent, AtLeaf, AtBroken, descend, inner_further, leaf_further, cells_in, IsNode, AreNodes, found_in}, Shapes.{kids, child_for}, Facts.child_below, Blocks.chosen_kid, Climbs.child_ordered, Edits.{not_leaf, leaf_of, leaf_pairs, leaf_in, child_once, child_reached}, Fits.length-cells, Ways.{path_below, counts}, Gets.{found_chosen, ordered_in, parts_all, IsChosen, chosen_is}}
 
 -- a key below an inner node stands below the child that is chosen
 child_found : (cells : ℕ → List Cell) (key : List ℕ) (level : ℕ) (low : List ℕ) (high : Option (List ℕ)) (cs : List Cell) → AreChildren (IsOrdered level) low high (kids cells level cs)
@@ -23,13 +23,9 @@ pub leaf_stays : (cells cells' : ℕ → List Cell) (key : List ℕ) (level bloc
     → leaf_of cells' key level block ≡ leaf_of cells key level block
 leaf_stays cells cells' key zero block low high is apart kept = refl
 leaf_stays cells cells' key (suc level) block low high is apart kept =
-    let leaf = leaf_of cells key (suc level) block in
-    let child = child_of (child_for key (cells block)) in
     let range = child_ordered cells level key low high (cells block) is in
-    let inside = leaf_in cells key level child range.0 range.1 range.2 in
-    let other : block ≢ leaf = λ e. apart.0 (subst (λ (j : ℕ). IsIn j (flat_map (λ c. nodes_in level c.1) (kids cells level (cells block)))) (sym e) (child_reached cells level key leaf low high (cells block) is inside)) in
-    ap (λ (cs : List Cell). leaf_of cells' key level (child_of (child_for key cs))) (kept block other)
-    ∙ leaf_stays cells cells' key level child range.0 range.1 range.2 (child_once cells level key low high (cells block) is apart.1) kept
+    ap (λ (cs : List Cell). leaf_of cells' key level (child_of (child_for key cs))) (kept block (not_leaf cells key level block low high is apart))
+    ∙ leaf_stays cells cells' key level (child_of (child_for key (cells block))) range.0 range.1 range.2 (child_once cells level key low high (cells block) is apart.1) kept
 
 -- where a descent of a key ends
 pub record EndsAtLeaf (a : Area) (A : Array) (key : List ℕ) (level block : ℕ) (path : List (ℕ × ℕ)) : Type 0 where

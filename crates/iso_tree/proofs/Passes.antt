@@ -51,9 +51,9 @@ key_part_is key short =
     ∙ zeros_are (30 - length key))
 
 -- cells that are not used
-unused_parts : (K : List ℕ) (i m : ℕ) → drop (64 + 31 * i) K ≡ replicate (31 * m) 0 → all_from (λ i. is_unused K i) i m ≡ true
-unused_parts K i zero k = refl
-unused_parts K i (suc m) k =
+zeros_pass : (passes : List ℕ → Bool) → passes (replicate 31 0) ≡ true → (K : List ℕ) (i m : ℕ) → drop (64 + 31 * i) K ≡ replicate (31 * m) 0 → all_from (λ i. passes (bytes_in (key_mark i) K)) i m ≡ true
+zeros_pass passes pass K i zero k = refl
+zeros_pass passes pass K i (suc m) k =
     let e : 31 * suc m ≡ 31 + 31 * m = omega arith in
     let split : drop (64 + 31 * i) K ≡ (replicate 31 0 ++ replicate (31 * m) 0) ++ [] =
     k ∙ ap (λ n. replicate n 0) e ∙ zeros_more 31 (31 * m) ∙ sym (append-nil (replicate 31 0 ++ replicate (31 * m) 0)) in
@@ -61,19 +61,13 @@ unused_parts K i (suc m) k =
     let f : 64 + 31 * i + 31 ≡ 64 + 31 * (i + 1) = omega arith in
     let next : drop (64 + 31 * (i + 1)) K ≡ replicate (31 * m) 0 =
     ap (λ n. drop n K) (sym f) ∙ after_part (64 + 31 * i) 31 K (replicate 31 0) (replicate (31 * m) 0) [] refl split ∙ append-nil (replicate (31 * m) 0) in
-    and_from _ _ (ap (λ (l : List ℕ). get_or l 0 0 == 0) here) (unused_parts K (i + 1) m next)
+    and_from _ _ (ap passes here ∙ pass) (zeros_pass passes pass K (i + 1) m next)
+
+unused_parts : (K : List ℕ) (i m : ℕ) → drop (64 + 31 * i) K ≡ replicate (31 * m) 0 → all_from (λ i. is_unused K i) i m ≡ true
+unused_parts K i m k = zeros_pass (λ part. get_or part 0 0 == 0) refl K i m k
 
 zero_parts : (K : List ℕ) (i m : ℕ) → drop (64 + 31 * i) K ≡ replicate (31 * m) 0 → all_from (λ i. is_part 28 (bytes_in (key_mark i) K)) i m ≡ true
-zero_parts K i zero k = refl
-zero_parts K i (suc m) k =
-    let e : 31 * suc m ≡ 31 + 31 * m = omega arith in
-    let split : drop (64 + 31 * i) K ≡ (replicate 31 0 ++ replicate (31 * m) 0) ++ [] =
-    k ∙ ap (λ n. replicate n 0) e ∙ zeros_more 31 (31 * m) ∙ sym (append-nil (replicate 31 0 ++ replicate (31 * m) 0)) in
-    let here : bytes_in (key_mark i) K ≡ replicate 31 0 = first_part (64 + 31 * i) 31 K (replicate 31 0) (replicate (31 * m) 0) [] refl split in
-    let f : 64 + 31 * i + 31 ≡ 64 + 31 * (i + 1) = omega arith in
-    let next : drop (64 + 31 * (i + 1)) K ≡ replicate (31 * m) 0 =
-    ap (λ n. drop n K) (sym f) ∙ after_part (64 + 31 * i) 31 K (replicate 31 0) (replicate (31 * m) 0) [] refl split ∙ append-nil (replicate (31 * m) 0) in
-    and_from _ _ (ap (is_part 28) here) (zero_parts K (i + 1) m next)
+zero_parts K i m k = zeros_pass (is_part 28) refl K i m k
 
 parts_back : (K : List ℕ) (i m : ℕ) (cs : List Cell) → FitCells cs → drop (64 + 31 * i) K ≡ flat_map (λ c. key_part c.0) cs ++ replicate (31 * m) 0
     → all_from (λ i. is_part 28 (bytes_in (key_mark i) K)) i (length cs + m) ≡ true

@@ -1,5 +1,5 @@
 -- A put writes whole blocks, on whatever array, and is local.
-use Rattle.iso_tree.proofs.{Words.{◌≡◌, ◌∙◌, sym, refl, ap, subst, ℕ, zero, suc, ◌+◌, ◌-◌, ◌*◌, ◌<◌, ◌≤◌, ◌==◌, ◌&&◌, Bool, true, false, cond, nat_le, List, [], ◌∷◌, ◌++◌, map, take, drop, length, replicate, Option, Some, None, Result, Ok, Err, IfOk, arith, inl, inr, nat_lt, AllByRecursion, cases_Bool, and_parts, leb-true, ltb-true, nat_tests, take-append-drop, length-take, length-drop, length-replicate, Access, Area, StoreError, BadKey, BadValue, Broken, NoBlocks, Array, put, own, at_cell, is_key, is_value, IsIn, put_op, block_at, Program, Done, Store, bytes_in, further_bytes, store_access, then_do, accesses_of, answer_of, IsLocal, cell_count, keys_end, keys_mark, value_mark, value_part, block_with, map_bytes, map_mark, free_count, length-laid_at, Tx, IsTx, HasRun, IsLocalCall, AreWhole, accesses_then, own_reads, whole_reads, local_from, whole_run, Cell, FitCells, IsBlock, cell_of, count_of, is_node, is_child, child_of, child_part, is_head, head_mark, node_bytes, Put, put_after, first_key, emptied, half, halves, fit, Descent, AtLeaf, AtBroken, descend, leaf_further, inner_further, with_head, look_again, climb, climb_on, placed, store_nodes, first_write, put_writes, with_map, edit_leaf, put_at, put_below_root, put_program, Answer, full_row, need_of, free_list, cells_in, root_of, level_of, IsTreeArea, IsTreeRegion, tree_map, first_access, HasBlocks, whole_append, blocks_of, length-emptied, all_append, length-placed}, Again.{nodes_at, again_whole}, Bytes.length-node_bytes, Facts.{head_parts, child_below, cell_used, node_parts}, Fits.{cells_fit, cells_few, length-cells}, Gets.descend_reads, MapBits.length-first, NewBlocks.{IsPair, pair_is, HasSizes, sizes_of}, Order.{all_left, all_right, length-put_after, all_put_after}, PutCalls.put_correct, Taking.{AreTaken, taken_are}, Writes.FitWrite, Shapes.same_some}
+use Rattle.iso_tree.proofs.{Words.{◌≡◌, ◌∙◌, sym, refl, ap, subst, ℕ, zero, suc, ◌+◌, ◌-◌, ◌*◌, ◌<◌, ◌≤◌, ◌==◌, ◌&&◌, Bool, true, false, cond, nat_le, List, [], ◌∷◌, ◌++◌, map, take, drop, length, replicate, Option, Some, None, Result, Ok, Err, IfOk, arith, inl, inr, nat_lt, AllByRecursion, cases_Bool, and_parts, leb-true, ltb-true, nat_tests, take-append-drop, length-take, length-drop, length-replicate, Access, Area, StoreError, BadKey, BadValue, Broken, NoBlocks, Array, put, own, at_cell, is_key, is_value, IsIn, put_op, block_at, Program, Done, Store, bytes_in, further_bytes, store_access, then_do, accesses_of, answer_of, IsLocal, cell_count, keys_end, keys_mark, value_mark, value_part, block_with, map_bytes, map_mark, free_count, length-laid_at, Tx, IsTx, HasRun, IsLocalCall, AreWhole, accesses_then, own_reads, whole_reads, local_from, run_local, Cell, FitCells, IsBlock, cell_of, count_of, is_node, is_child, child_of, child_part, is_head, head_mark, node_bytes, Put, put_after, first_key, emptied, half, halves, fit, Descent, AtLeaf, AtBroken, descend, leaf_further, inner_further, with_head, look_again, climb, climb_on, placed, store_nodes, first_write, put_writes, with_map, edit_leaf, put_at, put_below_root, put_program, Answer, full_row, need_of, free_list, cells_in, root_of, level_of, IsTreeArea, IsTreeRegion, tree_map, first_access, HasBlocks, whole_append, blocks_of, length-emptied, all_append, length-placed}, Again.{nodes_at, again_whole}, Bytes.length-node_bytes, Facts.{head_parts, child_below, cell_used, node_parts}, Fits.{cells_fit, cells_few, length-cells}, Gets.descend_reads, MapBits.length-first, NewBlocks.{IsPair, pair_is, HasSizes, sizes_of}, Order.{all_left, all_right, length-put_after, all_put_after}, PutCalls.put_correct, Taking.{AreTaken, taken_are}, Writes.FitWrite, Shapes.same_some}
 
 -- NODES OF A WAY UP
 pub record IsFitNode (a : Area) (w : ℕ × List Cell) : Type 0 where
@@ -245,8 +245,5 @@ put_local a key text A r area key_is value_is shape e =
 -- A put that was made is local.
 pub put_call : (a : Area) (key text : List ℕ) (t u : Tx) (result : Result (Unit {0}) StoreError) → IsTreeArea a → is_key key ≡ true → is_value text ≡ true → IsTx t → t.size ≡ a.size → a.start + a.blocks ≤ t.blocks
     → HasRun (put_program a key text) t u result → IfOk result (IsLocalCall (IsTreeRegion a) (tree_map a) (put_op key text) t u)
-put_call a key text t u (Err e) area key_is value_is tx size fits run = tt
-put_call a key text t u (Ok x) area key_is value_is tx size fits run = λ A told.
-    let whole = whole_run (put_program a key text) t u (Ok x) run A told in
-    subst (λ (accesses : List Access). IsLocal (IsTreeRegion a) (tree_map a) (put_op key text) (own A t.accesses) accesses x) whole.accesses_are
-    (put_local a key text (own A t.accesses) x area key_is value_is (blocks_of a t A tx size fits told) whole.answer_is)
+put_call a key text t u result area key_is value_is tx size fits run =
+    run_local (IsTreeRegion a) (tree_map a) (put_op key text) (put_program a key text) t u result (λ A x told answer. put_local a key text (own A t.accesses) x area key_is value_is (blocks_of a t A tx size fits told) answer) run

@@ -1,5 +1,5 @@
 -- A removal, part by part.
-use Rattle.iso_tree.proofs.{Words.{◌≡◌, ◌≢◌, ◌∙◌, sym, ap, subst, ℕ, ◌+◌, ◌≤◌, Bool, true, false, cond, List, [], ◌∷◌, length, Option, Some, None, Result, Ok, Err, IfOk, ne_eqb, Access, Area, StoreError, TxError, own, at_cell, is_key, del_op, Done, Store, look_access, store_access, then_do, IsLocal, Tx, Device, IsTx, with_accesses, Ran, IsCut, IsCause, HasRun, IsLocalCall, IsAt, at_start, at_then, at_look_whole, at_store, ran_at, whole_run, cut_at_store, run_from, Leaf, Cell, used_cells, node_bytes, Descent, descend, edit_leaf, without_key, del_at, del_below, del_program, with_head, tree_map, IsTreeArea, IsTreeRegion, HasDescended, IsLeaf, AreBytesOf, at_as, refl}, Descending.descent_refused, DelCalls.del_local}
+use Rattle.iso_tree.proofs.{Words.{◌≡◌, ◌≢◌, ◌∙◌, sym, ap, subst, ℕ, ◌+◌, ◌≤◌, Bool, true, false, cond, List, [], ◌∷◌, length, Option, Some, None, Result, Ok, Err, IfOk, ne_eqb, Access, Area, StoreError, TxError, own, at_cell, is_key, del_op, Done, Store, look_access, store_access, then_do, IsLocal, Tx, Device, IsTx, with_accesses, Ran, IsCut, IsCause, HasRun, IsLocalCall, IsAt, at_start, at_then, at_look_whole, at_store, ran_at, run_local, cut_at_store, run_from, Leaf, Cell, used_cells, node_bytes, Descent, descend, edit_leaf, without_key, del_at, del_below, del_program, with_head, tree_map, IsTreeArea, IsTreeRegion, HasDescended, IsLeaf, AreBytesOf, at_as, refl}, Descending.descent_refused, DelCalls.del_local}
 use Rattle.store_model.specs.declared.stores.StoreError.TheVariants as store
 pub use Rattle.tx_blocks.proofs.{Programs.{blocks_of as blocks_in}, Refusals.cut_at_whole}
 
@@ -51,8 +51,5 @@ del_bad_key a key t not = rw not (ran_at (Done (Err store.BadKey)) t t (Err stor
 
 pub del_call : (a : Area) (key : List ℕ) (t u : Tx) (result : Result Bool StoreError) → IsTreeArea a → is_key key ≡ true → IsTx t → t.size ≡ a.size → a.start + a.blocks ≤ t.blocks
     → HasRun (del_program a key) t u result → IfOk result (IsLocalCall (IsTreeRegion a) (tree_map a) (del_op key) t u)
-del_call a key t u (Err e) area is tx size fits run = tt
-del_call a key t u (Ok x) area is tx size fits run = λ A told.
-    let whole = whole_run (del_program a key) t u (Ok x) run A told in
-    subst (λ (accesses : List Access). IsLocal (IsTreeRegion a) (tree_map a) (del_op key) (own A t.accesses) accesses x) whole.accesses_are
-    (del_local a key (own A t.accesses) x area is (blocks_in a t A tx size fits told) whole.answer_is)
+del_call a key t u result area is tx size fits run =
+    run_local (IsTreeRegion a) (tree_map a) (del_op key) (del_program a key) t u result (λ A x told answer. del_local a key (own A t.accesses) x area is (blocks_in a t A tx size fits told) answer) run

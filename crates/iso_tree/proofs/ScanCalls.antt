@@ -1,5 +1,5 @@
 -- A scan is that of the region's map.
-use Rattle.iso_tree.proofs.{Words.{◌≡◌, ◌∙◌, sym, ap, subst, ℕ, Bool, true, false, ◌&&◌, ◌==◌, cond, List, [], take, None, Result, Ok, Err, IfOk, inl, inr, eq-eqb, ne_eqb, entries, and_from, cases_eq, Access, Area, StoreError, BadKey, Broken, Array, own, is_key, AreReads, Program, Done, accesses_of, answer_of, IsLocal, Tx, HasRun, IsLocalCall, own_reads, whole_reads, IsCorrect, local_from, whole_run, tree_at, pairs_in, IsOrdered, scan_below, scan_from, scan_program, with_head, Scanned, cells_in, root_of, level_of, scan_op, tree_map, tree_pairs, AreNodes, IsTreeRegion, cond_reads, same_ok, take-nil}, Gets.head_reads, Scans.within, ScanTrees.{scan_finds, scan_reads}, Sorted.{sorted, entries_are, tree_sorted}}
+use Rattle.iso_tree.proofs.{Words.{◌≡◌, ◌∙◌, sym, ap, subst, ℕ, Bool, true, false, ◌&&◌, ◌==◌, cond, List, [], take, None, Result, Ok, Err, IfOk, inl, inr, eq-eqb, ne_eqb, entries, and_from, cases_eq, Access, Area, StoreError, BadKey, Broken, Array, own, is_key, AreReads, Program, Done, accesses_of, answer_of, IsLocal, Tx, HasRun, IsLocalCall, own_reads, whole_reads, IsCorrect, local_from, run_local, tree_at, pairs_in, IsOrdered, scan_below, scan_from, scan_program, with_head, Scanned, cells_in, root_of, level_of, scan_op, tree_map, tree_pairs, AreNodes, IsTreeRegion, cond_reads, same_ok, take-nil}, Gets.head_reads, Scans.within, ScanTrees.{scan_finds, scan_reads}, Sorted.{sorted, entries_are, tree_sorted}}
 
 -- what is wanted of an empty tree, and below a root
 module _ (a : Area) (A : Array) (region : IsTreeRegion a A) where
@@ -71,8 +71,5 @@ scan_local a from to most A r from_is to_is e =
 -- A scan that was made is local.
 pub scan_call : (a : Area) (from to : List ℕ) (most : ℕ) (t u : Tx) (result : Result (List (List ℕ × List ℕ)) StoreError) → is_key from ≡ true → is_key to ≡ true
     → HasRun (scan_program a from to most) t u result → IfOk result (IsLocalCall (IsTreeRegion a) (tree_map a) (scan_op from to most) t u)
-scan_call a from to most t u (Err e) from_is to_is run = tt
-scan_call a from to most t u (Ok x) from_is to_is run = λ A told.
-    let whole = whole_run (scan_program a from to most) t u (Ok x) run A told in
-    subst (λ (accesses : List Access). IsLocal (IsTreeRegion a) (tree_map a) (scan_op from to most) (own A t.accesses) accesses x) whole.accesses_are
-    (scan_local a from to most (own A t.accesses) x from_is to_is whole.answer_is)
+scan_call a from to most t u result from_is to_is run =
+    run_local (IsTreeRegion a) (tree_map a) (scan_op from to most) (scan_program a from to most) t u result (λ A x told answer. scan_local a from to most (own A t.accesses) x from_is to_is answer) run

@@ -1,7 +1,8 @@
 -- The cells of a node that gets one more.
-use Rattle.std.specs.{Prelude.{◌≡◌, ℕ, zero, suc, ◌+◌, ◌-◌, ◌*◌, ◌<◌, ◌≤◌, ◌==◌, true, cond, List, [], ◌∷◌, nat_lt, take, map}, List.{range_with_len, AllByRecursion}, Option.ForSome}
+use Rattle.std.specs.{Prelude.{◌≡◌, ℕ, zero, suc, ◌+◌, ◌-◌, ◌*◌, ◌<◌, ◌≤◌, ◌==◌, true, cond, List, [], ◌∷◌, nat_lt, length, take, map}, List.{range_with_len, AllByRecursion}, Option.ForSome}
 use Rattle.store_model.specs.{declared.stores.Area.Area, Cells.{cell_count, keys_end, value_mark, key_at, are_key_parts}, Stores.bytes_in, TreeNodes.{before, Cell, count_of, used_cells}}
 use Rattle.iso_model.specs.{Array.Array, Effect.own, Premises.block_at}
+use Rattle.store_model.specs.TreeCalls.{need_of}
 use Rattle.tx_blocks.specs.Tx.{Tx}
 
 -- how many cells in a row from cell i on, at most n of them, have a key that is not above this one
@@ -20,6 +21,14 @@ part_in_row size node place part cell =
 -- so many cells from one on
 abbrev pub row_from : (size : ℕ) → (node : List ℕ) → (place : ℕ) → Cell → (from n : ℕ) → List Cell
 row_from size node place new from n = map (λ i. (key_in_row (take (keys_end size) node) place new.0 i, part_in_row size node place new.1 i)) (range_with_len from n)
+
+-- a node of so many bytes that gets a cell at a place
+pub record GetsCell (size : ℕ) (node : List ℕ) (place : ℕ) (new : Cell) : Type 0 where
+  pub long : length node ≡ size
+  pub parts : are_key_parts size (take (keys_end size) node) ≡ true
+  pub inside : place ≤ cell_count size
+  pub key : length new.0 ≤ 28
+  pub part : length new.1 ≡ 33
 
 -- the nodes of a path whose blocks stand one after the other, from block i on
 abbrev pub nodes_from : (size : ℕ) → (nodes : List ℕ) → (i : ℕ) → List (ℕ × ℕ) → List (ℕ × List Cell)
@@ -52,3 +61,10 @@ ArePathUsable a A path = AllByRecursion (λ (p : ℕ × ℕ). IsUsable a.size (b
 -- the same of the array that a transaction shows, where it is told
 abbrev pub AreShownUsable : Area → Tx → List (ℕ × ℕ) → Type 0
 AreShownUsable a t path = ForSome t.base (λ A. ArePathUsable a (own A t.accesses) path)
+
+-- the path of a put that takes new blocks
+pub record NeedsBlocks (a : Area) (t : Tx) (path : List (ℕ × ℕ)) : Type 0 where
+  pub inside : AreInside a path
+  pub long : length path ≤ 32
+  pub usable : AreShownUsable a t path
+  pub some : 1 ≤ need_of (cell_count a.size) path

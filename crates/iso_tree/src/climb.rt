@@ -1,8 +1,8 @@
 // The way up of a put: the writes of nodes, from the leaf to the first one that is not full, or to a new root.
 ghost use Rattle.std.specs.Prelude.{◌≡◌, ◌+◌, ◌-◌, ◌*◌, ◌<◌, ◌≤◌, OnOk, IfErr, IfSome, IfNone, Ok, length, take, [], ◌∷◌, true};
 ghost use Rattle.store_model.specs.{Cells.{are_key_parts, cell_count, keys_end}, Stores.{Done, Program, Store}, TreeNodes.{count_of, node_bytes, used_cells, Cell, IsBlock}, Trees.emptied, TreeCalls.{Answer, climb, need_of, placed, store_nodes}, TreeRegion.IsTreeArea};
-ghost use Rattle.tx_blocks.specs.{Tx.room_of, Runs.HasRun};
-ghost use Rattle.iso_tree.specs.{Rows.{nodes_from, row_from, AreBlocks, AreInside, AreUsable}, Walks.{HasWritten, IsFollowed}};
+ghost use Rattle.tx_blocks.specs.{Tx.room_of, Runs.{HasArea, HasRun}};
+ghost use Rattle.iso_tree.specs.{Rows.{nodes_from, row_from, AreBlocks, AreInside, AreUsable, GetsCell}, Walks.{HasWritten, IsFollowed}};
 
 use crate::fill::{child_part, empty_first, fill_root, fill_row, row_key, upto};
 use iso_alloc::{cell_count, piece};
@@ -41,10 +41,7 @@ fn fill_right(
     requires size { IsBlock (length node.now) }
     requires least { 256 ≤ length node.now }
     requires into { length into.old ≡ length node.now }
-    requires parts { are_key_parts (length node.now) (take (keys_end (length node.now)) node.now) ≡ true }
-    requires place { place ≤ cell_count (length node.now) }
-    requires key { length key.now ≤ 28 }
-    requires part { length part.now ≡ 33 }
+    requires gets { GetsCell (length node.now) node.now place (key.now, part.now) }
     requires inside { from + count ≤ cell_count (length node.now) + 1 }
     requires some { 1 ≤ count }
     requires count { count ≤ cell_count (length node.now) }
@@ -111,20 +108,14 @@ fn store_halves<T: TxBlocks>(
     others: usize,
     into: &mut [u8],
 ) -> Result<(), StoreError>
-    requires area { IsTreeArea area }
+    requires within { HasArea IsTreeArea (T.state tx.old) area }
     requires block_size { IsBlock area.size }
-    requires size { (T.state tx.old).size ≡ area.size }
-    requires fits { area.start + area.blocks ≤ (T.state tx.old).blocks }
     requires is_open { (T.state tx.old).is_open ≡ true }
     requires room { 1 < room_of (T.state tx.old) }
     requires block { block < area.blocks }
     requires new { new < area.blocks }
-    requires node { length node.now ≡ area.size }
+    requires gets { GetsCell area.size node.now place (key.now, part.now) }
     requires into { length into.old ≡ area.size }
-    requires parts { are_key_parts area.size (take (keys_end area.size) node.now) ≡ true }
-    requires place { place ≤ cell_count area.size }
-    requires key { length key.now ≤ 28 }
-    requires part { length part.now ≡ 33 }
     requires inside { half + others ≤ cell_count area.size + 1 }
     requires half { half ≤ cell_count area.size }
     requires some { 1 ≤ others }
@@ -155,19 +146,13 @@ fn store_grown<T: TxBlocks>(
     count: usize,
     into: &mut [u8],
 ) -> Result<(), StoreError>
-    requires area { IsTreeArea area }
+    requires within { HasArea IsTreeArea (T.state tx.old) area }
     requires block_size { IsBlock area.size }
-    requires size { (T.state tx.old).size ≡ area.size }
-    requires fits { area.start + area.blocks ≤ (T.state tx.old).blocks }
     requires room { 0 < room_of (T.state tx.old) }
     requires is_open { (T.state tx.old).is_open ≡ true }
     requires block { block < area.blocks }
-    requires node { length node.now ≡ area.size }
+    requires gets { GetsCell area.size node.now place (key.now, part.now) }
     requires into { length into.old ≡ area.size }
-    requires parts { are_key_parts area.size (take (keys_end area.size) node.now) ≡ true }
-    requires place { place ≤ cell_count area.size }
-    requires key { length key.now ≤ 28 }
-    requires part { length part.now ≡ 33 }
     requires count { count ≤ cell_count area.size }
     ensures run { HasRun (Store (area.start + block) [] (node_bytes area.size level (row_from area.size node.now place (key.now, part.now) 0 count)) (Done (Ok tt))) (T.state tx.old) (T.state tx.new) result }
     ensures memory { IfErr result (λ e. e ≡ StoreError.Tx TxError.Memory) }
@@ -193,10 +178,8 @@ pub fn climb<T: TxBlocks>(
     news: &[u32],
     into: &mut [u8],
 ) -> Result<(), StoreError>
-    requires area { IsTreeArea area }
+    requires within { HasArea IsTreeArea (T.state tx.old) area }
     requires block_size { IsBlock area.size }
-    requires size { (T.state tx.old).size ≡ area.size }
-    requires fits { area.start + area.blocks ≤ (T.state tx.old).blocks }
     requires is_open { (T.state tx.old).is_open ≡ true }
     requires new_key { length new_key.now ≤ 28 }
     requires part { length part.now ≡ 33 }

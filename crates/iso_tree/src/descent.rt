@@ -1,7 +1,7 @@
 // The way from the root to the leaf of a key.
 ghost use Rattle.std.specs.Prelude.{◌≡◌, ◌+◌, ◌*◌, ◌<◌, ◌≤◌, [], IfOk, OnOk, length};
 ghost use Rattle.store_model.specs.{Cells.{cell_count, keys_mark, value_mark}, Stores.bytes_in, TreeNodes.is_head, TreeRegion.IsTreeArea};
-ghost use Rattle.tx_blocks.specs.Runs.{AreBytesOf, HasRun};
+ghost use Rattle.tx_blocks.specs.Runs.{HasArea, HasBlock, AreBytesOf, HasRun};
 ghost use Rattle.iso_tree.specs.{Rows.AreInside, Walks.{child_program, head_program, HasDescended, HasReadLeaf, IsChild, IsHead, IsLeaf, OnlyReads}};
 
 use crate::node::NodeView;
@@ -75,9 +75,7 @@ pub fn read_head<T: TxBlocks>(
     area: Area,
     buffer: &mut [u8],
 ) -> Result<(u32, u8), StoreError>
-    requires area { IsTreeArea area }
-    requires size { (T.state tx.old).size ≡ area.size }
-    requires fits { area.start + area.blocks ≤ (T.state tx.old).blocks }
+    requires within { HasArea IsTreeArea (T.state tx.old) area }
     requires buffer { length buffer.old ≡ area.size }
     ensures run { HasRun (head_program area) (T.state tx.old) (T.state tx.new) result }
     ensures inside { IfOk result (IsHead area) }
@@ -103,12 +101,8 @@ fn enter<T: TxBlocks>(
     block: u32,
     buffer: &mut [u8],
 ) -> Result<(u32, u32), StoreError>
-    requires area { IsTreeArea area }
-    requires size { (T.state tx.old).size ≡ area.size }
-    requires fits { area.start + area.blocks ≤ (T.state tx.old).blocks }
+    requires block { HasBlock IsTreeArea (T.state tx.old) area block buffer.old }
     requires level { 0 < level }
-    requires block { block < area.blocks }
-    requires buffer { length buffer.old ≡ area.size }
     ensures run { HasRun (child_program area key.now level block) (T.state tx.old) (T.state tx.new) result }
     ensures inside { IfOk result (IsChild area) }
     ensures reads { OnlyReads (T.state tx.old) (T.state tx.new) (T.device tx.old) (T.device tx.new) result }
@@ -145,11 +139,7 @@ fn read_leaf<T: TxBlocks>(
     block: u32,
     buffer: &mut [u8],
 ) -> Result<Leaf, StoreError>
-    requires area { IsTreeArea area }
-    requires size { (T.state tx.old).size ≡ area.size }
-    requires fits { area.start + area.blocks ≤ (T.state tx.old).blocks }
-    requires block { block < area.blocks }
-    requires buffer { length buffer.old ≡ area.size }
+    requires block { HasBlock IsTreeArea (T.state tx.old) area block buffer.old }
     ensures run { HasReadLeaf area key.now with_value block (T.state tx.old) (T.state tx.new) buffer.new result }
     ensures leaf { IfOk result (IsLeaf area key.now buffer.new) }
     ensures bytes { OnOk result (AreBytesOf (T.state tx.new) (area.start + block) buffer.new) }
@@ -190,9 +180,7 @@ pub fn descend<T: TxBlocks>(
     path: &mut Path,
     buffer: &mut [u8],
 ) -> Result<Leaf, StoreError>
-    requires area { IsTreeArea area }
-    requires size { (T.state tx.old).size ≡ area.size }
-    requires fits { area.start + area.blocks ≤ (T.state tx.old).blocks }
+    requires within { HasArea IsTreeArea (T.state tx.old) area }
     requires root { root < area.blocks }
     requires level { level ≤ 31 }
     requires path { path.old ≡ [] }

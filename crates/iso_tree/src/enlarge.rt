@@ -1,8 +1,8 @@
 // A put that takes new blocks, from the read of the map on.
 ghost use Rattle.std.specs.Prelude.{◌≡◌, ◌+◌, ◌-◌, ◌*◌, ◌<◌, ◌≤◌, ◌==◌, ℕ, List, cond, get_or, length, take, suc, true, Some, None};
 ghost use Rattle.store_model.specs.{Cells.{cell_count, value_part}, FreeMap.{map_bytes, map_mark}, Stores.bytes_in, TreeNodes.IsBlock, TreeCalls.{climb, full_row, need_of, put_new, put_writes, with_map, with_used}, TreeRegion.IsTreeArea};
-ghost use Rattle.tx_blocks.specs.Runs.{Behaves, HasRun};
-ghost use Rattle.iso_tree.specs.{FirstBlock.Up, Rows.{nodes_from, AreBlocks, AreInside, AreShownUsable, AreUsable}};
+ghost use Rattle.tx_blocks.specs.Runs.{HasArea, Behaves, HasRun};
+ghost use Rattle.iso_tree.specs.{FirstBlock.Up, Rows.{nodes_from, AreBlocks, AreInside, AreUsable, NeedsBlocks}};
 
 use crate::climb::{climb, first_node};
 use crate::descent::region_of;
@@ -78,10 +78,8 @@ fn put_writes<T: TxBlocks>(
     news: &[u32],
     into: &mut [u8],
 ) -> Result<(), StoreError>
-    requires area { IsTreeArea area }
+    requires within { HasArea IsTreeArea (T.state tx.old) area }
     requires block_size { IsBlock area.size }
-    requires size { (T.state tx.old).size ≡ area.size }
-    requires fits { area.start + area.blocks ≤ (T.state tx.old).blocks }
     requires is_open { (T.state tx.old).is_open ≡ true }
     requires key { length key.now ≤ 28 }
     requires part { length part.now ≡ 33 }
@@ -122,17 +120,12 @@ fn put_taken<T: TxBlocks>(
     nodes: &mut [u8],
     into: &mut [u8],
 ) -> Result<(), StoreError>
-    requires area { IsTreeArea area }
+    requires within { HasArea IsTreeArea (T.state tx.old) area }
     requires block_size { IsBlock area.size }
-    requires size { (T.state tx.old).size ≡ area.size }
-    requires fits { area.start + area.blocks ≤ (T.state tx.old).blocks }
     requires is_open { (T.state tx.old).is_open ≡ true }
     requires key { length key.now ≤ 28 }
     requires value { length value.now ≤ 32 }
-    requires path { AreInside area path.now }
-    requires long { length path.now ≤ 32 }
-    requires usable { AreShownUsable area (T.state tx.old) path.now }
-    requires some { 1 ≤ need_of (cell_count area.size) path.now }
+    requires path { NeedsBlocks area (T.state tx.old) path.now }
     requires map { length map.old ≡ area.size }
     requires nodes { length path.now * area.size ≤ length nodes.old }
     requires short { length nodes.old ≤ 1048576 }
@@ -194,16 +187,11 @@ pub fn put_new<T: TxBlocks>(
     map: &mut [u8],
     into: &mut [u8],
 ) -> Result<(), StoreError>
-    requires area { IsTreeArea area }
+    requires within { HasArea IsTreeArea (T.state tx.old) area }
     requires block_size { IsBlock area.size }
-    requires size { (T.state tx.old).size ≡ area.size }
-    requires fits { area.start + area.blocks ≤ (T.state tx.old).blocks }
     requires key { length key.now ≤ 28 }
     requires value { length value.now ≤ 32 }
-    requires path { AreInside area path.now }
-    requires long { length path.now ≤ 32 }
-    requires usable { AreShownUsable area (T.state tx.old) path.now }
-    requires some { 1 ≤ need_of (cell_count area.size) path.now }
+    requires path { NeedsBlocks area (T.state tx.old) path.now }
     requires map { length map.old ≡ area.size }
     requires into { length into.old ≡ area.size }
     ensures run { HasRun (with_map area key.now value.now path.now) (T.state tx.old) (T.state tx.new) result }

@@ -1,7 +1,7 @@
 // The bytes of nodes that get a new cell.
 ghost use Rattle.std.specs.Prelude.{◌≡◌, ◌+◌, ◌-◌, ◌*◌, ◌<◌, ◌≤◌, ℕ, List, length, take, [], ◌∷◌, true};
 ghost use Rattle.store_model.specs.{Cells.{are_key_parts, cell_count, keys_end}, TreeNodes.{child_part, count_of, node_bytes, Cell, IsBlock}, TreeCalls.root_cells};
-ghost use Rattle.iso_tree.specs.Rows.{key_in_row, part_in_row, row_from, upto_from};
+ghost use Rattle.iso_tree.specs.Rows.{key_in_row, part_in_row, row_from, upto_from, GetsCell};
 
 use crate::build::{add_cell, empty_node};
 use crate::keys::{count_of, is_before, key_of};
@@ -84,10 +84,7 @@ pub fn fill_row(
     requires size { IsBlock (length node.now) }
     requires least { 256 ≤ length node.now }
     requires into { length into.old ≡ length node.now }
-    requires parts { are_key_parts (length node.now) (take (keys_end (length node.now)) node.now) ≡ true }
-    requires place { place ≤ cell_count (length node.now) }
-    requires key { length key.now ≤ 28 }
-    requires part { length part.now ≡ 33 }
+    requires gets { GetsCell (length node.now) node.now place (key.now, part.now) }
     requires inside { from + count ≤ cell_count (length node.now) + 1 }
     requires count { count ≤ cell_count (length node.now) }
     ensures { into.new ≡ node_bytes (length node.now) level (row_from (length node.now) node.now place (key.now, part.now) from count) }

@@ -1,7 +1,7 @@
 // A put that takes new blocks.
 ghost use Rattle.std.specs.{Prelude.{◌≡◌, ◌+◌, ◌-◌, ◌*◌, ◌<◌, ◌≤◌, ◌↔◌, IsTrue, not, List, ℕ, OnOk, IfErr, Err, length, map, take, true}, List.{filter, range_with_len}};
 ghost use Rattle.store_model.specs.{Cells.{are_key_parts, cell_count}, FreeMap.{free_count, map_bit, map_bytes}, Stores.Program, TreeNodes.{count_of, Cell, IsBlock}, TreeCalls.{look_again, with_used, Answer}, TreeRegion.IsTreeArea};
-ghost use Rattle.tx_blocks.{specs.Runs.HasRun, proofs.Progress.IsAt};
+ghost use Rattle.tx_blocks.{specs.Runs.{HasArea, HasRun}, proofs.Progress.IsAt};
 ghost use Rattle.iso_tree.specs.{Rows.{nodes_from, AreInside, AreShownUsable, AreUsable, IsUsable}, Walks.OnlyReads};
 
 use crate::climb::first_node;
@@ -55,10 +55,8 @@ pub fn look_nodes<T: TxBlocks>(
     nodes: &mut [u8],
     into: &mut [u8],
 ) -> Result<(), StoreError>
-    requires area { IsTreeArea area }
+    requires within { HasArea IsTreeArea (T.state tx.old) area }
     requires block_size { IsBlock area.size }
-    requires size { (T.state tx.old).size ≡ area.size }
-    requires fits { area.start + area.blocks ≤ (T.state tx.old).blocks }
     requires is_open { (T.state tx.old).is_open ≡ true }
     requires path { AreInside area path.now }
     requires usable { AreShownUsable area (T.state tx.old) path.now }

@@ -1,7 +1,8 @@
 // The put of a key.
 ghost use Rattle.std.specs.Prelude.{◌≡◌, ◌↔◌, ◌+◌, ◌<◌, ◌≤◌, Err, IsFalse, IsTrue, true, IfOk, IfErr, OnOk, length};
 ghost use Rattle.store_model.specs.{HashCalls.{is_key, is_value}, HashRegion.put_op, TreeCalls.{put_below_root, put_program}, TreeRegion.{tree_map, IsTreeArea, IsTreeRegion}};
-ghost use Rattle.tx_blocks.specs.{Tx.IsLater, Runs.{area_of, Behaves, HasEnded, HasRun, IsLocalCall, IsStoreCause, IsUnwritten}};
+ghost use Rattle.tx_blocks.specs.{Tx.IsLater, Runs.{HasArea, area_of, Behaves, HasEnded, HasRun, IsLocalCall, IsStoreCause, IsUnwritten}};
+ghost use Rattle.iso_tree.specs.Walks.{IsHead};
 
 use crate::descent::{descend, read_head};
 use crate::enlarge::put_new;
@@ -10,7 +11,7 @@ use crate::path::Path;
 use iso_alloc::{buffer, cell_count, is_key, is_value};
 use std::alloc::Global;
 use store_model::{Area, Region, StoreError};
-use tx_blocks::TxBlocks;
+use tx_blocks::{TxBlocks, area_of};
 
 // Puts a value at a key below a root.
 fn put_below<T: TxBlocks>(
@@ -24,13 +25,10 @@ fn put_below<T: TxBlocks>(
     block: &mut [u8],
     into: &mut [u8],
 ) -> Result<(), StoreError>
-    requires area { IsTreeArea area }
-    requires size { (T.state tx.old).size ≡ area.size }
-    requires fits { area.start + area.blocks ≤ (T.state tx.old).blocks }
+    requires within { HasArea IsTreeArea (T.state tx.old) area }
     requires key { length key.now ≤ 28 }
     requires value { length value.now ≤ 32 }
-    requires root { root < area.blocks }
-    requires level { level ≤ 31 }
+    requires head { IsHead area (root, level) }
     requires block { length block.old ≡ area.size }
     requires into { length into.old ≡ area.size }
     ensures run { HasRun (put_below_root area key.now value.now root level) (T.state tx.old) (T.state tx.new) result }
@@ -64,9 +62,7 @@ fn put_with<T: TxBlocks>(
     block: &mut [u8],
     into: &mut [u8],
 ) -> Result<(), StoreError>
-    requires area { IsTreeArea area }
-    requires size { (T.state tx.old).size ≡ area.size }
-    requires fits { area.start + area.blocks ≤ (T.state tx.old).blocks }
+    requires within { HasArea IsTreeArea (T.state tx.old) area }
     requires key { is_key key.now ≡ true }
     requires value { is_value value.now ≡ true }
     requires block { length block.old ≡ area.size }
@@ -108,13 +104,9 @@ pub fn put<T: TxBlocks>(
     if !is_value(value) {
         return Err(StoreError::BadValue);
     }
-    let area = Area {
-        size: tx.block_size(),
-        start: region.start,
-        blocks: region.size,
-    };
-    let size = area.size as usize;
+    let size = tx.block_size() as usize;
     let mut block = buffer(alloc, size)?;
     let mut into = buffer(alloc, size)?;
+    let area = area_of(tx, region);
     put_with(alloc, tx, area, key, value, &mut block, &mut into)
 }

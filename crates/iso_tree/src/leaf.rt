@@ -1,8 +1,8 @@
 // A put into a leaf that has the key, or room for it.
-ghost use Rattle.std.specs.Prelude.{◌≡◌, ◌+◌, ◌*◌, ◌<◌, ◌≤◌, length, take, true, Ok, [], ◌∷◌};
-ghost use Rattle.store_model.specs.{Cells.{block_with, cell_count, keys_end, value_mark, value_part}, Stores.{Done, Store}, TreeNodes.{count_of, is_node, node_bytes, used_cells, IsBlock}, Trees.put_after, TreeCalls.edit_leaf, TreeRegion.IsTreeArea};
-ghost use Rattle.tx_blocks.specs.Runs.{AreBytesOf, Behaves, HasRun};
-ghost use Rattle.iso_tree.specs.Walks.{IsLeaf};
+ghost use Rattle.std.specs.Prelude.{◌≡◌, ◌+◌, ◌*◌, ◌<◌, ◌≤◌, ℕ, List, length, take, true, Ok, IfErr, [], ◌∷◌};
+ghost use Rattle.store_model.specs.{Cells.{block_with, cell_count, keys_end, value_mark, value_part}, Stores.{Done, Store}, TreeNodes.{count_of, is_node, node_bytes, used_cells, Cell, IsBlock}, Trees.put_after, TreeCalls.edit_leaf, TreeRegion.IsTreeArea};
+ghost use Rattle.tx_blocks.specs.Runs.{HasArea, HasBlock, AreBytesOf, Behaves, HasRun};
+ghost use Rattle.iso_tree.specs.Walks.{IsLeaf, IsWalkError};
 
 use crate::descent::{Leaf, value_mark};
 use crate::fill::{fill_row, upto};
@@ -19,10 +19,8 @@ pub fn put_value<T: TxBlocks>(
     value: &[u8],
     into: &mut [u8],
 ) -> Result<(), StoreError>
-    requires area { IsTreeArea area }
+    requires within { HasArea IsTreeArea (T.state tx.old) area }
     requires block_size { IsBlock area.size }
-    requires size { (T.state tx.old).size ≡ area.size }
-    requires fits { area.start + area.blocks ≤ (T.state tx.old).blocks }
     requires block { block < area.blocks }
     requires cell { cell < cell_count area.size }
     requires value { length value.now ≤ 32 }
@@ -33,43 +31,60 @@ pub fn put_value<T: TxBlocks>(
     let span = value_mark(area.size, cell);
     let part = value_part(value);
     lay_alone(into, span.off as usize, &part);
-    last_store(tx, area.start + block, &[span], into)
+    last_store(tx, area.start + block, &[span], into, ())
 }
 
-/// Writes the leaf with a new cell. The leaf is read once more, unmarked, so that the put depends on all of it: its bytes are
-/// those that the descent has read.
+/// Writes the bytes of a leaf with other cells. The leaf is read once more, unmarked, so that the call depends on all of it: its
+/// bytes are those that the descent has read.
+pub fn store_leaf<T: TxBlocks, R: Copy>(
+    tx: &mut T,
+    area: Area,
+    leaf: u32,
+    bytes: &[u8],
+    answer: R,
+    again: &mut [u8],
+) -> Result<R, StoreError>
+    requires leaf { HasBlock IsTreeArea (T.state tx.old) area leaf again.old }
+    requires bytes { length bytes.now ≡ area.size }
+    ensures run { (old : List ℕ) (change : List Cell → List Cell) → AreBytesOf (T.state tx.old) (area.start + leaf) old → bytes.now ≡ node_bytes area.size 0 (change (used_cells area.size old))
+        → HasRun (edit_leaf area leaf change (Ok answer)) (T.state tx.old) (T.state tx.new) result }
+    ensures behaves { Behaves (T.state tx.old) (T.state tx.new) 1 (T.device tx.old) (T.device tx.new) result }
+    ensures known { IfErr result IsWalkError }
+{
+    let image_block = area.start + leaf;
+    if let Err(e) = look_whole(tx, image_block, again) {
+        return Err(StoreError::Tx(e));
+    }
+    match store(tx, image_block, &[], bytes) {
+        Ok(()) => Ok(answer),
+        Err(e) => Err(StoreError::Tx(e)),
+    }
+}
+
+/// Writes the leaf with a new cell; the buffer of its bytes is read into once more.
 pub fn put_cell<T: TxBlocks>(
     tx: &mut T,
     area: Area,
     key: &[u8],
     value: &[u8],
     leaf: Leaf,
-    old: &[u8],
+    old: &mut [u8],
     into: &mut [u8],
 ) -> Result<(), StoreError>
-    requires area { IsTreeArea area }
+    requires within { HasArea IsTreeArea (T.state tx.old) area }
     requires block_size { IsBlock area.size }
-    requires size { (T.state tx.old).size ≡ area.size }
-    requires fits { area.start + area.blocks ≤ (T.state tx.old).blocks }
-    requires leaf { IsLeaf area key.now old.now leaf }
+    requires leaf { IsLeaf area key.now old.old leaf }
     requires room { leaf.count < cell_count area.size }
-    requires bytes { AreBytesOf (T.state tx.old) (area.start + leaf.block) old.now }
+    requires bytes { AreBytesOf (T.state tx.old) (area.start + leaf.block) old.old }
     requires key { length key.now ≤ 28 }
     requires value { length value.now ≤ 32 }
-    requires old { length old.now ≡ area.size }
+    requires old { length old.old ≡ area.size }
     requires into { length into.old ≡ area.size }
     ensures run { HasRun (edit_leaf area leaf.block (put_after key.now (key.now, value_part value.now)) (Ok tt)) (T.state tx.old) (T.state tx.new) result }
     ensures behaves { Behaves (T.state tx.old) (T.state tx.new) 1 (T.device tx.old) (T.device tx.new) result }
 {
-    let image_block = area.start + leaf.block;
-    if let Err(e) = look_whole(tx, image_block, into) {
-        return Err(StoreError::Tx(e));
-    }
     fill_leaf(into, old, key, &value_part(value), leaf.count as usize);
-    match store(tx, image_block, &[], into) {
-        Ok(()) => Ok(()),
-        Err(e) => Err(StoreError::Tx(e)),
-    }
+    store_leaf(tx, area, leaf.block, into, (), old)
 }
 
 // The bytes of a leaf with a new cell.

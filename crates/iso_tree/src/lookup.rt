@@ -1,8 +1,8 @@
 // The look-up of a key.
 ghost use Rattle.std.specs.Prelude.{◌≡◌, ◌↔◌, ◌+◌, ◌<◌, ◌≤◌, Err, IsFalse, true, IfOk, IfErr, OnOk, length};
 ghost use Rattle.store_model.specs.{HashCalls.is_key, HashRegion.get_op, TreeCalls.{get_below, get_program}, TreeRegion.{tree_map, IsTreeArea, IsTreeRegion}};
-ghost use Rattle.tx_blocks.specs.{Tx.IsLater, Runs.{area_of, HasEnded, HasRead, HasRun, IsLocalCall, IsStoreCause}};
-ghost use Rattle.iso_tree.specs.Walks.{OnlyReads};
+ghost use Rattle.tx_blocks.specs.{Tx.IsLater, Runs.{HasArea, area_of, HasEnded, HasRead, HasRun, IsLocalCall, IsStoreCause}};
+ghost use Rattle.iso_tree.specs.Walks.{IsHead, OnlyReads};
 
 use crate::descent::{descend, read_head, value_part};
 use crate::path::Path;
@@ -10,7 +10,7 @@ use iso_alloc::{buffer, is_key, is_part, spelled};
 use iso_model::{Bytes, Items};
 use std::alloc::Global;
 use store_model::{Area, Region, StoreError};
-use tx_blocks::TxBlocks;
+use tx_blocks::{TxBlocks, area_of};
 
 // The value of a key below a root.
 fn get_below<T: TxBlocks>(
@@ -22,11 +22,8 @@ fn get_below<T: TxBlocks>(
     block: &mut [u8],
     room: Vec<u8>,
 ) -> Result<Option<Bytes>, StoreError>
-    requires area { IsTreeArea area }
-    requires size { (T.state tx.old).size ≡ area.size }
-    requires fits { area.start + area.blocks ≤ (T.state tx.old).blocks }
-    requires root { root < area.blocks }
-    requires level { level ≤ 31 }
+    requires within { HasArea IsTreeArea (T.state tx.old) area }
+    requires head { IsHead area (root, level) }
     requires block { length block.old ≡ area.size }
     requires room { length room.items ≡ 32 }
     requires is_open { (T.state tx.old).is_open ≡ true }
@@ -61,9 +58,7 @@ fn get_with<T: TxBlocks>(
     block: &mut [u8],
     room: Vec<u8>,
 ) -> Result<Option<Bytes>, StoreError>
-    requires area { IsTreeArea area }
-    requires size { (T.state tx.old).size ≡ area.size }
-    requires fits { area.start + area.blocks ≤ (T.state tx.old).blocks }
+    requires within { HasArea IsTreeArea (T.state tx.old) area }
     requires key { is_key key.now ≡ true }
     requires block { length block.old ≡ area.size }
     requires room { length room.items ≡ 32 }
@@ -97,12 +92,8 @@ pub fn get<T: TxBlocks>(
     if !is_key(key) {
         return Err(StoreError::BadKey);
     }
-    let area = Area {
-        size: tx.block_size(),
-        start: region.start,
-        blocks: region.size,
-    };
-    let mut block = buffer(alloc, area.size as usize)?;
+    let mut block = buffer(alloc, tx.block_size() as usize)?;
     let room = buffer(alloc, 32)?;
+    let area = area_of(tx, region);
     get_with(tx, area, key, &mut block, room)
 }

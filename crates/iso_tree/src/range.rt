@@ -1,7 +1,7 @@
 // The pairs of a range of keys.
 ghost use Rattle.std.specs.{Prelude.{◌≡◌, ◌⊎◌, ◌↔◌, ◌&&◌, ◌+◌, ◌-◌, ◌*◌, ◌<◌, ◌≤◌, ◌++◌, [], ◌∷◌, Err, IsFalse, true, IfOk, IfErr, OnOk, length, map, take}, List.list_all};
 ghost use Rattle.store_model.specs.{Cells.{are_key_parts, cell_count, is_part, keys_end}, HashCalls.is_key, TreeCalls.{pairs_with, parts_of, scan_below, scan_program}, TreeNodes.child_of, TreeRegion.{scan_op, tree_map, IsTreeArea, IsTreeRegion}};
-ghost use Rattle.tx_blocks.{proofs.Progress.IsAt, specs.Tx.IsLater, specs.Runs.{area_of, HasEnded, HasRead, IsLocalCall, IsStoreCause, WantsMemory}};
+ghost use Rattle.tx_blocks.{proofs.Progress.IsAt, specs.Tx.IsLater, specs.Runs.{HasArea, HasBlock, area_of, HasEnded, HasRead, IsLocalCall, IsStoreCause, WantsMemory}};
 ghost use Rattle.iso_tree.specs.{Visits.{scan_nodes, AreIn, HasScanned}, Walks.OnlyReads};
 
 use crate::descent::read_head;
@@ -12,7 +12,7 @@ use iso_alloc::{buffer, cell_count, is_key, piece, text_of, word_at};
 use iso_model::{Bytes, Items};
 use std::alloc::Global;
 use store_model::{Area, PairList, Region, StoreError, TxError};
-use tx_blocks::TxBlocks;
+use tx_blocks::{TxBlocks, area_of};
 
 // Whether both are keys.
 fn are_keys(from: &[u8], to: &[u8]) -> bool
@@ -107,11 +107,7 @@ fn step<T: TxBlocks>(
     unread: &mut Unread,
     found: &mut PairList,
 ) -> Result<(), StoreError>
-    requires area { IsTreeArea area }
-    requires size { (T.state tx.old).size ≡ area.size }
-    requires fits { area.start + area.blocks ≤ (T.state tx.old).blocks }
-    requires block { block < area.blocks }
-    requires buffer { length buffer.old ≡ area.size }
+    requires block { HasBlock IsTreeArea (T.state tx.old) area block buffer.old }
     requires nodes { AreIn area unread.old }
     requires few { length found.old < max }
     ensures run { OnOk result (IsAt (scan_nodes area from.now to.now ((level, block) ∷ unread.old) (max - length found.old) found.old) (scan_nodes area from.now to.now unread.new (max - length found.new) found.new) (T.state tx.old) (T.state tx.new)) }
@@ -144,9 +140,7 @@ fn walk<T: TxBlocks>(
     buffer: &mut [u8],
     unread: &mut Unread,
 ) -> Result<PairList, StoreError>
-    requires area { IsTreeArea area }
-    requires size { (T.state tx.old).size ≡ area.size }
-    requires fits { area.start + area.blocks ≤ (T.state tx.old).blocks }
+    requires within { HasArea IsTreeArea (T.state tx.old) area }
     requires buffer { length buffer.old ≡ area.size }
     requires nodes { AreIn area unread.old }
     requires is_open { (T.state tx.old).is_open ≡ true }
@@ -179,9 +173,7 @@ fn scan_below<T: TxBlocks>(
     level: u8,
     buffer: &mut [u8],
 ) -> Result<PairList, StoreError>
-    requires area { IsTreeArea area }
-    requires size { (T.state tx.old).size ≡ area.size }
-    requires fits { area.start + area.blocks ≤ (T.state tx.old).blocks }
+    requires within { HasArea IsTreeArea (T.state tx.old) area }
     requires root { root < area.blocks }
     requires buffer { length buffer.old ≡ area.size }
     requires max { 0 < max }
@@ -209,9 +201,7 @@ fn scan_with<T: TxBlocks>(
     max: u32,
     buffer: &mut [u8],
 ) -> Result<PairList, StoreError>
-    requires area { IsTreeArea area }
-    requires size { (T.state tx.old).size ≡ area.size }
-    requires fits { area.start + area.blocks ≤ (T.state tx.old).blocks }
+    requires within { HasArea IsTreeArea (T.state tx.old) area }
     requires keys { (is_key from.now && is_key to.now) ≡ true }
     requires buffer { length buffer.old ≡ area.size }
     requires max { 0 < max }
@@ -251,11 +241,7 @@ pub fn scan<T: TxBlocks>(
     if !are_keys(from, to) {
         return Err(StoreError::BadKey);
     }
-    let area = Area {
-        size: tx.block_size(),
-        start: region.start,
-        blocks: region.size,
-    };
-    let mut block = buffer(alloc, area.size as usize)?;
+    let mut block = buffer(alloc, tx.block_size() as usize)?;
+    let area = area_of(tx, region);
     scan_with(alloc, tx, area, from, to, max, &mut block)
 }

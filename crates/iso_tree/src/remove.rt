@@ -1,47 +1,38 @@
 // The removal of a key.
 ghost use Rattle.std.specs.Prelude.{◌≡◌, ◌↔◌, ◌+◌, ◌<◌, ◌≤◌, [], Err, Ok, IsFalse, true, IfOk, IfErr, OnErr, OnOk, length};
 ghost use Rattle.store_model.specs.{HashCalls.is_key, HashRegion.del_op, TreeCalls.{del_below, del_program, edit_leaf, without_key}, TreeRegion.{tree_map, IsTreeArea, IsTreeRegion}};
-ghost use Rattle.tx_blocks.specs.{Tx.IsLater, Runs.{AreBytesOf, area_of, Behaves, HasEnded, HasRun, HasRead, IsLocalCall, IsStoreCause}};
-ghost use Rattle.iso_tree.specs.Walks.{IsLeaf, IsWalkError, TakesNoBlocks};
+ghost use Rattle.tx_blocks.specs.{Tx.IsLater, Runs.{HasArea, AreBytesOf, area_of, Behaves, HasEnded, HasRun, HasRead, IsLocalCall, IsStoreCause}};
+ghost use Rattle.iso_tree.specs.Walks.{IsHead, IsLeaf, IsWalkError, TakesNoBlocks};
 
 use crate::build::copy_without;
 use crate::descent::{Leaf, descend, read_head};
+use crate::leaf::store_leaf;
 use crate::path::Path;
 use iso_alloc::{buffer, is_key};
 use std::alloc::Global;
 use store_model::{Area, Region, StoreError};
-use tx_blocks::{TxBlocks, look_whole, store};
+use tx_blocks::{TxBlocks, area_of};
 
-// Writes the leaf without the key. The leaf is read once more, unmarked, so that the removal depends on all of it: its bytes are
-// those that the descent has read.
+// Writes the leaf without the key; the buffer of its bytes is read into once more.
 fn remove_cell<T: TxBlocks>(
     tx: &mut T,
     area: Area,
     key: &[u8],
     leaf: Leaf,
-    old: &[u8],
+    old: &mut [u8],
     into: &mut [u8],
 ) -> Result<bool, StoreError>
-    requires area { IsTreeArea area }
-    requires size { (T.state tx.old).size ≡ area.size }
-    requires fits { area.start + area.blocks ≤ (T.state tx.old).blocks }
-    requires leaf { IsLeaf area key.now old.now leaf }
-    requires bytes { AreBytesOf (T.state tx.old) (area.start + leaf.block) old.now }
-    requires old { length old.now ≡ area.size }
+    requires within { HasArea IsTreeArea (T.state tx.old) area }
+    requires leaf { IsLeaf area key.now old.old leaf }
+    requires bytes { AreBytesOf (T.state tx.old) (area.start + leaf.block) old.old }
+    requires old { length old.old ≡ area.size }
     requires into { length into.old ≡ area.size }
     ensures run { HasRun (edit_leaf area leaf.block (without_key key.now) (Ok true)) (T.state tx.old) (T.state tx.new) result }
     ensures behaves { Behaves (T.state tx.old) (T.state tx.new) 1 (T.device tx.old) (T.device tx.new) result }
     ensures known { IfErr result IsWalkError }
 {
-    let image_block = area.start + leaf.block;
-    if let Err(e) = look_whole(tx, image_block, into) {
-        return Err(StoreError::Tx(e));
-    }
     copy_without(key, old, into);
-    match store(tx, image_block, &[], into) {
-        Ok(()) => Ok(true),
-        Err(e) => Err(StoreError::Tx(e)),
-    }
+    store_leaf(tx, area, leaf.block, into, true, old)
 }
 
 // Removes a key below a root.
@@ -54,11 +45,8 @@ fn remove_below<T: TxBlocks>(
     block: &mut [u8],
     into: &mut [u8],
 ) -> Result<bool, StoreError>
-    requires area { IsTreeArea area }
-    requires size { (T.state tx.old).size ≡ area.size }
-    requires fits { area.start + area.blocks ≤ (T.state tx.old).blocks }
-    requires root { root < area.blocks }
-    requires level { level ≤ 31 }
+    requires within { HasArea IsTreeArea (T.state tx.old) area }
+    requires head { IsHead area (root, level) }
     requires block { length block.old ≡ area.size }
     requires into { length into.old ≡ area.size }
     ensures run { HasRun (del_below area key.now root level) (T.state tx.old) (T.state tx.new) result }
@@ -87,9 +75,7 @@ fn remove_with<T: TxBlocks>(
     block: &mut [u8],
     into: &mut [u8],
 ) -> Result<bool, StoreError>
-    requires area { IsTreeArea area }
-    requires size { (T.state tx.old).size ≡ area.size }
-    requires fits { area.start + area.blocks ≤ (T.state tx.old).blocks }
+    requires within { HasArea IsTreeArea (T.state tx.old) area }
     requires key { is_key key.now ≡ true }
     requires block { length block.old ≡ area.size }
     requires into { length into.old ≡ area.size }
@@ -125,12 +111,9 @@ pub fn del<T: TxBlocks>(
     if !is_key(key) {
         return Err(StoreError::BadKey);
     }
-    let area = Area {
-        size: tx.block_size(),
-        start: region.start,
-        blocks: region.size,
-    };
-    let mut block = buffer(alloc, area.size as usize)?;
-    let mut into = buffer(alloc, area.size as usize)?;
+    let size = tx.block_size() as usize;
+    let mut block = buffer(alloc, size)?;
+    let mut into = buffer(alloc, size)?;
+    let area = area_of(tx, region);
     remove_with(tx, area, key, &mut block, &mut into)
 }

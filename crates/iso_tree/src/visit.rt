@@ -2,7 +2,7 @@
 ghost use Rattle.std.specs.{Prelude.{◌≡◌, ◌+◌, ◌*◌, ◌<◌, ◌≤◌, IfOk, IfErr, OnOk, Ok, Err, None, length, true}, List.list_all};
 ghost use Rattle.store_model.specs.{Cells.{are_key_parts, cell_count, keys_end}, Stores.bytes_in, TreeCalls.{first_in, many_in, parts_of}, TreeNodes.count_of, TreeRegion.{is_part_at, IsTreeArea}};
 ghost use Rattle.iso_model.specs.Marks.{marked};
-ghost use Rattle.tx_blocks.specs.{Runs.{HasRun, Ran}, Tx.mark_refusal};
+ghost use Rattle.tx_blocks.specs.{Runs.{HasBlock, HasRun, Ran}, Tx.mark_refusal};
 ghost use Rattle.iso_tree.specs.{Visits.{node_read, values_mark, visit_program, IsVisited}, Walks.OnlyReads};
 
 use crate::descent::keys_mark;
@@ -116,11 +116,7 @@ pub fn read_node<T: TxBlocks>(
     block: u32,
     buffer: &mut [u8],
 ) -> Result<Visit, StoreError>
-    requires area { IsTreeArea area }
-    requires size { (T.state tx.old).size ≡ area.size }
-    requires fits { area.start + area.blocks ≤ (T.state tx.old).blocks }
-    requires block { block < area.blocks }
-    requires buffer { length buffer.old ≡ area.size }
+    requires block { HasBlock IsTreeArea (T.state tx.old) area block buffer.old }
     ensures run { OnOk result (Ran (visit_program area from.now to.now level block) (T.state tx.old) (T.state tx.new) (Ok (node_read area from.now to.now level buffer.new))) }
     ensures refused { IfErr result (λ e. HasRun (visit_program area from.now to.now level block) (T.state tx.old) (T.state tx.new) (Err e)) }
     ensures visited { IfOk result (IsVisited area from.now to.now level buffer.new) }

@@ -1,5 +1,5 @@
 -- An access that was made may be marked, and what its marks make of it.
-use Rattle.tx_blocks.proofs.Words.{◌≡◌, ◌∙◌, refl, ap, subst, ℕ, zero, suc, ◌<◌, true, false, List, [], ◌∷◌, ◌++◌, length, Option, Some, None, Result, Ok, Err, arith, nat_le, inl, inr, AllByRecursion, get_or, cases_Bool, nat_tests, Access, Span, TxError, is_outside, marked, marks_fault, IsSpan, Tx, access_refusal, mark_refusal, with_accesses, IsRefused, marked_last}
+use Rattle.tx_blocks.proofs.Words.{◌≡◌, ◌∙◌, refl, ap, subst, ℕ, zero, suc, ◌<◌, true, false, List, [], ◌∷◌, ◌++◌, length, Option, Some, None, Result, Ok, Err, arith, nat_le, inl, inr, AllByRecursion, get_or, cases_Bool, nat_tests, Access, Span, TxError, is_outside, marked, marks_fault, IsSpan, Tx, access_refusal, mark_refusal, with_accesses, look_access, IsRefused, marked_last}
 use Rattle.store_model.specs.declared.stores.TxError.TheVariants as error
 
 last_fault : (xs : List Access) (a : Access) → length a.spans < 8 → marks_fault (xs ++ a ∷ []) ≡ None
@@ -33,6 +33,10 @@ pub marked_access : (t v w : Tx) (a : Access) (span : Span) → v ≡ with_acces
 marked_access t v w a span is then =
     then ∙ ap (λ (u : Tx). record u { accesses = marked span u.accesses }) is
     ∙ ap (λ accesses. record t { accesses = accesses }) (marked_last span t.accesses a)
+
+-- a read under a mark by another name
+pub looked_as : (t u : Tx) (block : ℕ) (s r : Span) → u ≡ with_accesses t (look_access block (s ∷ []) ∷ []) → s ≡ r → u ≡ with_accesses t (look_access block (r ∷ []) ∷ [])
+looked_as t u block s r is same = is ∙ ap (λ (mark : Span). with_accesses t (look_access block (mark ∷ []) ∷ [])) same
 
 -- what all have, the one at a place has
 pub all_at : {X : Type 0} (P : X → Type 0) (xs : List X) (i : ℕ) (d : X) → AllByRecursion P xs → i < length xs → P (get_or xs i d)

@@ -1,5 +1,5 @@
 -- A call that is made of parts.
-use Rattle.tx_blocks.proofs.{Words.{◌≡◌, ◌≢◌, ◌⊎◌, ◌<◌, ◌∙◌, sym, refl, ap, subst, ℕ, ◌+◌, ◌≤◌, List, [], ◌∷◌, ◌++◌, length, take, Option, Some, None, Result, Ok, Err, inl, inr, arith, length-append, Access, StoreError, TxError, own, Program, accesses_of, after, outcome, Tx, Device, IsLater, with_accesses, room_of, Ends, Ran, Began, Stopped, IsCut, HasRun, HasEnded, HasRead, IsCause, IsStoreCause, Behaves, WantsMemory, Done, then_do}, Programs.reads_append, Progress.{IsAt, at_as, at_start, at_then, ran_at, same_base, with_more}, Refusals.{cut_as, cut_then, cause_earlier, cause_since, later_than, later_same}}
+use Rattle.tx_blocks.proofs.{Words.{◌≡◌, ◌≢◌, ◌⊎◌, ◌<◌, ◌∙◌, sym, refl, ap, subst, ℕ, ◌+◌, ◌≤◌, List, [], ◌∷◌, ◌++◌, length, take, Option, Some, None, Result, Ok, Err, IfOk, inl, inr, arith, length-append, Access, Array, StoreError, TxError, own, Program, IsLocal, IsLocalCall, accesses_of, answer_of, after, outcome, Tx, Device, IsLater, with_accesses, room_of, Ends, Ran, Began, Stopped, IsCut, HasRun, HasEnded, HasRead, IsCause, IsStoreCause, Behaves, WantsMemory, Done, then_do}, Programs.reads_append, Progress.{IsAt, at_as, at_start, at_then, ran_at, same_base, whole_run, with_more}, Refusals.{behaves_more, cut_as, cut_then, cause_earlier, cause_since, later_than, later_same, read_none, read_same}}
 use Rattle.store_model.specs.declared.stores.StoreError.TheVariants as store
 use Rattle.store_model.specs.declared.stores.TxError.TheVariants as error
 
@@ -61,6 +61,15 @@ ended_from p t u (Err store.Memory) run = absurd run
 pub ended_as : {X : Type 0} (p q : Program (Result X StoreError)) (t u : Tx) (result : Result X StoreError) → q ≡ p → HasEnded p t u result → HasEnded q t u result
 ended_as p q t u result e ended = subst (λ (r : Program (Result _ StoreError)). HasEnded r t u result) (sym e) ended
 
+-- a call that ran to Ok is local where its program is
+pub run_local : {X M : Type 0} (IsWellFormed : Array → Type 0) (map_of : Array → M) (op : M → X × M) (p : Program (Result X StoreError)) (t u : Tx) (result : Result X StoreError)
+    → ((A : Array) (x : X) → t.base ≡ Some A → answer_of p (own A t.accesses) ≡ Ok x → IsLocal IsWellFormed map_of op (own A t.accesses) (accesses_of p (own A t.accesses)) x)
+    → HasRun p t u result → IfOk result (IsLocalCall IsWellFormed map_of op t u)
+run_local IsWellFormed map_of op p t u (Err e) local run = tt
+run_local IsWellFormed map_of op p t u (Ok x) local run = λ A told.
+    let whole = whole_run p t u (Ok x) run A told in
+    subst (λ (accesses : List Access). IsLocal IsWellFormed map_of op (own A t.accesses) accesses x) whole.accesses_are (local A x told whole.answer_is)
+
 pub read_join : (t u v : Tx) → HasRead t u → HasRead u v → HasRead t v
 read_join t u v one two = record {
   done = one.done ++ two.done;
@@ -80,9 +89,19 @@ behaves_after t u v writes before mid now (Err e) read later passed is = record 
   passed = tt;
 }
 
+-- a part that makes no more writes than the call, after reads that went well
+pub behaves_next : {R : Type 0} {t u v : Tx} {few writes : ℕ} {before mid now : Device} {result : Result R StoreError} → HasRead t u → IsLater before mid → mid.faults ≡ before.faults
+    → Behaves u v few mid now result → few ≤ writes → Behaves t v writes before now result
+behaves_next {t = t} {u = u} {v = v} {few = few} {writes = writes} {before = before} {mid = mid} {now = now} {result = result} read later passed is le =
+    behaves_after t u v writes before mid now result read later passed (behaves_more u v few writes mid now result le is)
+
 -- a refusal of an access after reads alone
 pub refused_reading : {R : Type 0} (t v : Tx) (writes : ℕ) (before now : Device) (e : TxError) → HasRead t v → 1 ≤ writes → IsCause v 1 before now e → IsLater before now → Behaves {R = R} t v writes before now (Err (store.Tx e))
 refused_reading t v writes before now e read le cause later = record { cause = cause_earlier v 1 writes before before now e le refl cause; unwritten = λ other. read; known = (λ x. cc, λ x. cc); later = later; passed = tt }
+
+-- a refusal of a call's first access, which is a read
+pub refused_first : {R : Type 0} {t u : Tx} {writes : ℕ} {before now : Device} (e : TxError) → u ≡ t → IsCause u 1 before now e → IsLater before now → 1 ≤ writes → Behaves {R = R} t u writes before now (Err (store.Tx e))
+refused_first {R = R} {t = t} {u = u} {writes = writes} {before = before} {now = now} e same cause later le = refused_reading t u writes before now e (read_same t t u (read_none t) same) le cause later
 
 -- any refusal that is not of the arguments
 pub refused_so : {R : Type 0} (t v : Tx) (writes : ℕ) (before now : Device) (e : StoreError) → HasRead t v → IsStoreCause v writes before now e → (e ≢ store.BadKey) × (e ≢ store.BadValue) → IsLater before now

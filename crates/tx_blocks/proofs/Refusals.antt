@@ -21,6 +21,11 @@ pub cut_at_look : {R : Type 0} (whole : Program R) (b : ℕ) (mark : Span) (furt
 cut_at_look whole b mark further next t u v before now e at same =
     cut_so whole t u v before now e (full_at_look whole b mark further next t u v at same) (stopped_at whole (Look b mark further next) t u v at same (λ A. omega arith)) same
 
+-- the first access of a call is refused
+pub cut_first : {R : Type 0} (b : ℕ) (mark : Span) (further : List ℕ → Option Span) (next : List ℕ → List ℕ → Program R) (t u : Tx) (before now : Device) (e : TxError)
+    → u ≡ t → IsCause u 1 before now e → IsCut (Look b mark further next) t u e
+cut_first b mark further next t u before now e same = cut_at_look (Look b mark further next) b mark further next t t u before now e (at_start (Look b mark further next) t) same
+
 pub cut_at_whole : {R : Type 0} (whole : Program R) (b : ℕ) (next : List ℕ → Program R) (t u v : Tx) (before now : Device) (e : TxError)
     → IsAt whole (LookWhole b next) t u → v ≡ u → IsCause v 1 before now e → IsCut whole t v e
 cut_at_whole whole b next t u v before now e at same =
@@ -116,11 +121,11 @@ read_more t u v a has is read = record {
 pub read_same : (t u v : Tx) → HasRead t u → v ≡ u → HasRead t v
 read_same t u v has same = subst (HasRead t) (sym same) has
 
+pub read_one : (t u : Tx) (a : Access) → u ≡ with_accesses t (a ∷ []) → is_write a ≡ false → HasRead t u
+read_one t u a is read = read_more t t u a (read_none t) is read
+
 pub read_base : (t u : Tx) → HasRead t u → u.base ≡ t.base
 read_base t u has = ap (λ (w : Tx). w.base) has.is
 
 pub read_size : (t u : Tx) → HasRead t u → u.size ≡ t.size
 read_size t u has = ap (λ (w : Tx). w.size) has.is
-
-pub read_blocks : (t u : Tx) → HasRead t u → u.blocks ≡ t.blocks
-read_blocks t u has = ap (λ (w : Tx). w.blocks) has.is

@@ -1,5 +1,5 @@
 -- How a store's call that follows a program ends.
-use Rattle.std.specs.{Prelude.{◌≡◌, ◌≢◌, ◌⊎◌, ℕ, ◌+◌, ◌<◌, ◌≤◌, false, IsTrue, List, Option, Some, None, Result, Ok, Err, IfErr, OnOk, length, take}, Option.ForSome}
+use Rattle.std.specs.{Prelude.{◌≡◌, ◌≢◌, ◌⊎◌, ℕ, ◌+◌, ◌<◌, ◌≤◌, true, false, IsTrue, List, [], ◌∷◌, Option, Some, None, Result, Ok, Err, IfErr, OnOk, OnErr, length, take}, Option.ForSome}
 use Rattle.fault_count.specs.Count.{Rose}
 use Rattle.iso_model.specs.{declared.access.Access.Access, Array.Array, Effect.own, Premises.block_at}
 use Rattle.store_model.specs.{declared.stores.Area.Area, declared.stores.Region.Region, declared.stores.StoreError.StoreError, declared.stores.TxError.TxError, Stores.{Program, accesses_of, outcome, AreReads, IsLocal}}
@@ -10,6 +10,18 @@ use Rattle.tx_blocks.specs.Tx.{Tx, Device, IsLater, with_accesses, added, room_o
 -- the area of a region of the transaction's blocks
 abbrev pub area_of : Tx → Region → Area
 area_of t region = record { size = t.size; start = region.start; blocks = region.size }
+
+-- a region of its kind, whose blocks are some of the transaction's
+pub record HasArea (IsKind : Area → Type 0) (t : Tx) (a : Area) : Type 0 where
+  pub area : IsKind a
+  pub size : t.size ≡ a.size
+  pub fits : a.start + a.blocks ≤ t.blocks
+
+-- a block of such a region, and a buffer for its bytes
+pub record HasBlock (IsKind : Area → Type 0) (t : Tx) (a : Area) (k : ℕ) (buffer : List ℕ) : Type 0 where
+  pub within : HasArea IsKind t a
+  pub inside : k < a.blocks
+  pub long : length buffer ≡ a.size
 
 -- the bytes are those of the block that the transaction shows, where that is told
 abbrev pub AreBytesOf : Tx → (block : ℕ) → List ℕ → Type 0
@@ -98,6 +110,15 @@ IsStoreCause u writes before now store.BadValue = Passed before now
 IsStoreCause u writes before now (store.NoBlocks need free) = Passed before now
 IsStoreCause u writes before now (store.Broken block) = Passed before now
 IsStoreCause u writes before now store.Memory = Passed before now
+
+-- How a write of a store's call ends, whatever its other accesses: the access is made, or nothing is; where it fits, memory alone
+-- may be wanted; the disk has no part in it.
+pub record HasStored (access : Access) (t u : Tx) (before now : Device) (result : Result (Unit {0}) TxError) : Type 0 where
+  pub stored : OnOk result (u ≡ with_accesses t (access ∷ []))
+  pub kept : OnErr result (u ≡ t)
+  pub cause : IfErr result (IsCause u 1 before now)
+  pub room : 0 < room_of t → t.is_open ≡ true → IfErr result (λ e. e ≡ error.Memory)
+  pub device : now ≡ before
 
 -- the transaction has further reads, and is else as before
 pub record HasRead (t u : Tx) : Type 0 where

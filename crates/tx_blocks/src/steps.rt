@@ -2,11 +2,22 @@
 ghost use Rattle.std.specs.{Prelude.{◌≡◌, ◌<◌, ◌≤◌, OnOk, OnErr, IfErr, Ok, length, [], ◌∷◌, true, None}, List.AllByRecursion, Option.ForSome};
 ghost use Rattle.iso_model.specs.{Effect.own, Marks.marked, Premises.{block_at, IsSpan}};
 ghost use Rattle.store_model.specs.Stores.{Done, Store, look_access, store_access};
-ghost use Rattle.tx_blocks.specs.{Tx.{mark_refusal, room_of, with_accesses, IsLater, Tx}, Runs.{AreBytesOf, Behaves, HasRun, IsCause}};
+ghost use Rattle.tx_blocks.specs.{Tx.{mark_refusal, room_of, with_accesses, IsLater, Tx}, Runs.{area_of, AreBytesOf, Behaves, HasRun, IsCause}};
 
 use crate::TxBlocks;
 use iso_model::Span;
-use store_model::{StoreError, TxError};
+use store_model::{Area, Region, StoreError, TxError};
+
+/// The area of a region of the transaction's blocks.
+pub fn area_of<T: TxBlocks>(tx: &T, region: Region) -> Area
+    ensures { result ≡ area_of (T.state tx.now) region }
+{
+    Area {
+        size: tx.block_size(),
+        start: region.start,
+        blocks: region.size,
+    }
+}
 
 /// Marks a range of the last access, which has fewer than 8 marks. It takes no memory.
 pub fn mark<T: TxBlocks>(tx: &mut T, span: Span)
@@ -88,22 +99,23 @@ pub fn store<T: TxBlocks>(
     Ok(())
 }
 
-/// The one write of a store's call, or its last.
-pub fn last_store<T: TxBlocks>(
+/// The one write of a store's call, or its last, and the answer that the call has then.
+pub fn last_store<T: TxBlocks, R: Copy>(
     tx: &mut T,
     block: u32,
     spans: &[Span],
     bytes: &[u8],
-) -> Result<(), StoreError>
+    answer: R,
+) -> Result<R, StoreError>
     requires bytes { length bytes.now ≡ (T.state tx.old).size }
     requires block { block < (T.state tx.old).blocks }
     requires spans { AllByRecursion (IsSpan (T.state tx.old).size) spans.now }
     requires few { length spans.now ≤ 8 }
-    ensures run { HasRun (Store block spans.now bytes.now (Done (Ok tt))) (T.state tx.old) (T.state tx.new) result }
+    ensures run { HasRun (Store block spans.now bytes.now (Done (Ok answer))) (T.state tx.old) (T.state tx.new) result }
     ensures behaves { Behaves (T.state tx.old) (T.state tx.new) 1 (T.device tx.old) (T.device tx.new) result }
 {
     match store(tx, block, spans, bytes) {
-        Ok(()) => Ok(()),
+        Ok(()) => Ok(answer),
         Err(e) => Err(StoreError::Tx(e)),
     }
 }

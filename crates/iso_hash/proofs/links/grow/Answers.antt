@@ -19,9 +19,7 @@ returns-in-Err-store_bit-clause-run g c =
 
 pub returns-in-Err-store_bit-clause-behaves : goal.returns-in-Err-store_bit-clause-behaves
 returns-in-Err-store_bit-clause-behaves g c =
-    let state = g.T.TxBlocks.state in
-    refused_memory (state c.args.tx.now) (state c.store_bit.new.tx) 3 (g.T.TxBlocks.device c.args.tx.now) (g.T.TxBlocks.device c.store_bit.new.tx) c.in-Err-store_bit.e (omega arith)
-    (c.in-Err-store_bit.ensures.room (omega (arith, c.in_default.ensures.ok)) c.requires.is_open) c.in-Err-store_bit.ensures.device
+    refused_memory _ _ _ _ _ _ (omega arith) (c.in-Err-store_bit.ensures.room (omega (arith, c.in_default.ensures.ok)) c.requires.is_open) c.in-Err-store_bit.ensures.device
 
 pub returns-in-Err-store_new-clause-run : goal.returns-in-Err-store_new-clause-run
 returns-in-Err-store_new-clause-run g c =
@@ -36,8 +34,7 @@ pub returns-in-Err-store_new-clause-behaves : goal.returns-in-Err-store_new-clau
 returns-in-Err-store_new-clause-behaves g c =
     let state = g.T.TxBlocks.state in
     let less = room_less 2 (state c.args.tx.now) (state c.store_bit.new.tx) _ c.in_default.ensures.ok c.in_default-store_bit.ensures.stored in
-    refused_memory (state c.args.tx.now) (state c.store_new.new.tx) 3 (g.T.TxBlocks.device c.args.tx.now) (g.T.TxBlocks.device c.store_new.new.tx) c.in-Err-store_new.e (omega arith)
-    (c.in-Err-store_new.ensures.room (omega (arith, less)) (ap (λ (t : Tx). t.is_open) c.in_default-store_bit.ensures.stored ∙ c.requires.is_open)) (c.in-Err-store_new.ensures.device ∙ c.in_default-store_bit.ensures.device)
+    refused_memory _ _ _ _ _ _ (omega arith) (c.in-Err-store_new.ensures.room (omega (arith, less)) (ap (λ (t : Tx). t.is_open) c.in_default-store_bit.ensures.stored ∙ c.requires.is_open)) (c.in-Err-store_new.ensures.device ∙ c.in_default-store_bit.ensures.device)
 
 pub returns-in-Err-store_next-clause-run : goal.returns-in-Err-store_next-clause-run
 returns-in-Err-store_next-clause-run g c =
@@ -54,8 +51,7 @@ returns-in-Err-store_next-clause-behaves g c =
     let state = g.T.TxBlocks.state in
     let less = room_less 2 (state c.args.tx.now) (state c.store_bit.new.tx) _ c.in_default.ensures.ok c.in_default-store_bit.ensures.stored in
     let few = room_less 1 (state c.store_bit.new.tx) (state c.store_new.new.tx) _ less c.in_default-store_new.ensures.stored in
-    refused_memory (state c.args.tx.now) (state c.store_next.new.tx) 3 (g.T.TxBlocks.device c.args.tx.now) (g.T.TxBlocks.device c.store_next.new.tx) c.in-Err-store_next.e (omega arith)
-    (c.in-Err-store_next.ensures.room (omega (arith, few)) (ap (λ (t : Tx). t.is_open) c.in_default-store_new.ensures.stored ∙ ap (λ (t : Tx). t.is_open) c.in_default-store_bit.ensures.stored ∙ c.requires.is_open))
+    refused_memory _ _ _ _ _ _ (omega arith) (c.in-Err-store_next.ensures.room (omega (arith, few)) (ap (λ (t : Tx). t.is_open) c.in_default-store_new.ensures.stored ∙ ap (λ (t : Tx). t.is_open) c.in_default-store_bit.ensures.stored ∙ c.requires.is_open))
     (c.in-Err-store_next.ensures.device ∙ c.in_default-store_new.ensures.device ∙ c.in_default-store_bit.ensures.device)
 
 pub returns-in-Ok-clause-run : goal.returns-in-Ok-clause-run
@@ -71,5 +67,4 @@ returns-in-Ok-clause-run g c =
 
 pub returns-in-Ok-clause-behaves : goal.returns-in-Ok-clause-behaves
 returns-in-Ok-clause-behaves g c =
-    done_so (g.T.TxBlocks.state c.args.tx.now) (g.T.TxBlocks.state c.store_next.new.tx) 3 (g.T.TxBlocks.device c.args.tx.now) (g.T.TxBlocks.device c.store_next.new.tx) tt
-    (c.in-Ok.ensures.device ∙ c.in_default-store_new.ensures.device ∙ c.in_default-store_bit.ensures.device)
+    done_so _ _ _ _ _ _ (c.in-Ok.ensures.device ∙ c.in_default-store_new.ensures.device ∙ c.in_default-store_bit.ensures.device)

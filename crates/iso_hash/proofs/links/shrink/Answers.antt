@@ -19,9 +19,7 @@ returns-in-Err-store_bit-clause-run g c =
 
 pub returns-in-Err-store_bit-clause-behaves : goal.returns-in-Err-store_bit-clause-behaves
 returns-in-Err-store_bit-clause-behaves g c =
-    let state = g.T.TxBlocks.state in
-    refused_memory (state c.args.tx.now) (state c.store_bit.new.tx) 2 (g.T.TxBlocks.device c.args.tx.now) (g.T.TxBlocks.device c.store_bit.new.tx) c.in-Err-store_bit.e (omega arith)
-    (c.in-Err-store_bit.ensures.room (omega (arith, c.in_default.ensures.ok)) c.requires.is_open) c.in-Err-store_bit.ensures.device
+    refused_memory _ _ _ _ _ _ (omega arith) (c.in-Err-store_bit.ensures.room (omega (arith, c.in_default.ensures.ok)) c.requires.is_open) c.in-Err-store_bit.ensures.device
 
 pub returns-in-Err-store-clause-run : goal.returns-in-Err-store-clause-run
 returns-in-Err-store-clause-run g c =
@@ -36,10 +34,8 @@ pub returns-in-Err-store-clause-behaves : goal.returns-in-Err-store-clause-behav
 returns-in-Err-store-clause-behaves g c =
     let state = g.T.TxBlocks.state in
     let less = room_less 1 (state c.args.tx.now) (state c.store_bit.new.tx) _ c.in_default.ensures.ok c.in_default-store_bit.ensures.stored in
-    refused_memory (state c.args.tx.now) (state c.store.new.tx) 2 (g.T.TxBlocks.device c.args.tx.now) (g.T.TxBlocks.device c.store.new.tx) c.in-Err-store.e (omega arith)
-    (c.in-Err-store.ensures.room (omega (arith, less)) (ap (λ (t : Tx). t.is_open) c.in_default-store_bit.ensures.stored ∙ c.requires.is_open)) (c.in-Err-store.ensures.device ∙ c.in_default-store_bit.ensures.device)
+    refused_memory _ _ _ _ _ _ (omega arith) (c.in-Err-store.ensures.room (omega (arith, less)) (ap (λ (t : Tx). t.is_open) c.in_default-store_bit.ensures.stored ∙ c.requires.is_open)) (c.in-Err-store.ensures.device ∙ c.in_default-store_bit.ensures.device)
 
 pub returns-in-Ok-clause-behaves : goal.returns-in-Ok-clause-behaves
 returns-in-Ok-clause-behaves g c =
-    done_so (g.T.TxBlocks.state c.args.tx.now) (g.T.TxBlocks.state c.store.new.tx) 2 (g.T.TxBlocks.device c.args.tx.now) (g.T.TxBlocks.device c.store.new.tx) true
-    (c.in-Ok.ensures.device ∙ c.in_default-store_bit.ensures.device)
+    done_so _ _ _ _ _ _ (c.in-Ok.ensures.device ∙ c.in_default-store_bit.ensures.device)

@@ -21,7 +21,7 @@ pub returns-else-not-is_part-clause-local : goal.returns-else-not-is_part-clause
 returns-else-not-is_part-clause-local g c =
     let state = g.T.TxBlocks.state in
     let part = part_is c.args.area c.walk.new.buffer c.piece-part.result.now c.cell_count.result c.in-Ok-AtCell.spot.cell c.cell_count.ensures c.piece-part.ensures.value in
-    call_local c.args.area c.args.key.now (state c.args.tx.now) (state c.walk.new.tx) (Some c.of.result) c.requires.area c.requires.key
+    call_local c.args.area c.args.key.now (state c.args.tx.now) (state c.walk.new.tx) (Some c.of.result) c.requires.within.area c.requires.key
     (answers_value c.args.area c.args.key.now (state c.args.tx.now) (state c.walk.new.tx) c.in-Ok-AtCell.spot _ _ _ c.of.result c.requires.key
     (walked_cell c.args.area c.args.key.now true (state c.args.tx.now) (state c.walk.new.tx) c.walk.new.buffer c.in-Ok-AtCell.field-0 c.in-Ok-AtCell.spot _ c.in-Ok-AtCell.ensures.walked c.in-Ok-AtCell.field-0-is)
     (ap (is_part 32) (sym part) ∙ sym c.is_part.ensures ∙ c.if-not-is_part.false) (c.of.ensures ∙ c.spelled.ensures ∙ ap text_of part))
@@ -35,7 +35,7 @@ returns-in-Ok-AtEnd-clause-ended g c =
 pub returns-in-Ok-AtEnd-clause-local : goal.returns-in-Ok-AtEnd-clause-local
 returns-in-Ok-AtEnd-clause-local g c =
     let state = g.T.TxBlocks.state in
-    call_local c.args.area c.args.key.now (state c.args.tx.now) (state c.walk.new.tx) None c.requires.area c.requires.key
+    call_local c.args.area c.args.key.now (state c.args.tx.now) (state c.walk.new.tx) None c.requires.within.area c.requires.key
     (get_at_end c.args.area c.args.key.now (state c.args.tx.now) (state c.walk.new.tx) c.in-Ok-AtEnd.field-0-0 c.in-Ok-AtEnd.field-0-1 c.in-Ok-AtEnd.field-0-2 c.requires.key
     (walked_end c.args.area c.args.key.now true (state c.args.tx.now) (state c.walk.new.tx) c.walk.new.buffer c.in-Ok-AtEnd.field-0 c.in-Ok-AtEnd.field-0-0 c.in-Ok-AtEnd.field-0-1 c.in-Ok-AtEnd.field-0-2 c.in-Ok-AtEnd.ensures.walked c.in-Ok-AtEnd.field-0-is))
 

@@ -1,4 +1,4 @@
-use Rattle.iso_hash.proofs.{Words.{◌∙◌, sym, area_of}, Storing.{del_bad_key, del_in_area, del_call_in}}
+use Rattle.iso_hash.proofs.{Words.{◌∙◌, sym, refl, subst, Area, del_program, area_of, HasRun, HasEnded, ended_from}, Storing.{del_bad_key, del_call}}
 use Rattle.iso_hash.proofs.remove.del.Goals as goal
 
 pub returns-then-not-is_key-clause-ended : goal.returns-then-not-is_key-clause-ended
@@ -8,10 +8,11 @@ returns-then-not-is_key-clause-ended g c =
 pub returns-clause-ended : goal.returns-clause-ended
 returns-clause-ended g c =
     let state = g.T.TxBlocks.state in
-    del_in_area (state c.args.tx.now) (state c.del_with.new.tx) c.args.region c.block_size.result c.args.key.now c.del_with.result c.block_size.ensures c.del_with.ensures.run
+    subst (λ (a : Area). HasEnded (del_program a c.args.key.now) (state c.args.tx.now) (state c.del_with.new.tx) c.del_with.result) c.area_of-area.ensures (ended_from _ _ _ _ c.del_with.ensures.run)
 
 pub returns-clause-local : goal.returns-clause-local
 returns-clause-local g c =
     let state = g.T.TxBlocks.state in
-    del_call_in (state c.args.tx.now) (state c.del_with.new.tx) c.args.region c.block_size.result c.args.key.now c.del_with.result c.block_size.ensures c.requires.area
-    (sym c.is_key.ensures ∙ c.if-not-is_key.false) (g.met.T.TxBlocks.limits c.args.tx.now) c.requires.fits c.del_with.ensures.run
+    del_call (area_of (state c.args.tx.now) c.args.region) c.args.key.now (state c.args.tx.now) (state c.del_with.new.tx) c.del_with.result c.requires.area
+    (sym c.is_key.ensures ∙ c.if-not-is_key.false) (g.met.T.TxBlocks.limits c.args.tx.now) refl c.requires.fits
+    (subst (λ (a : Area). HasRun (del_program a c.args.key.now) (state c.args.tx.now) (state c.del_with.new.tx) c.del_with.result) c.area_of-area.ensures c.del_with.ensures.run)

@@ -5,7 +5,7 @@ pub loop-position-init : goal.loop-position-init
 loop-position-init g c = record {
   here = walk_begins c.args.area c.args.key.now c.args.with_value c.bucket_of-bucket.result c.last_position-position-end.result (g.T.TxBlocks.state c.args.tx.now) c.bucket_of-bucket.ensures.value c.last_position-position-end.ensures.value;
   inside = omega arith;
-  before = omega (arith, c.requires.area.least);
+  before = omega (arith, c.requires.within.area.least);
   spare = tt;
   reads = read_none (g.T.TxBlocks.state c.args.tx.now);
   later = record { faults = omega arith; down = λ d. d };
@@ -50,7 +50,7 @@ mark-requires g c =
     let state = g.T.TxBlocks.state in
     let size : (state c.loop-position.tx).size ≡ (state c.args.tx.now).size = read_size (state c.args.tx.now) (state c.loop-position.tx) c.loop-position.invariant.reads in
     may_mark (state c.loop-position.tx) (state c.look.new.tx) (look_access (c.args.area.start + c.loop-position.block) (record { off = 0; len = 64 + 31 * c.cell_count.result } ∷ [])) (record { off = 64 + 31 * c.cell_count.result + 33 * c.in-Some.cell; len = 33 })
-    c.in_default.ensures.read c.in_default.ensures.is_open (record { some = omega arith; fits = omega (arith, size, c.requires.size, c.in-Some.ensures.below, c.cell_count.ensures, c.requires.area.least_size) }) (omega arith)
+    c.in_default.ensures.read c.in_default.ensures.is_open (record { some = omega arith; fits = omega (arith, size, c.requires.within.size, c.in-Some.ensures.below, c.cell_count.ensures, c.requires.within.area.least_size) }) (omega arith)
 
 pub returns-in-Some-clause-walked : goal.returns-in-Some-clause-walked
 returns-in-Some-clause-walked g c =

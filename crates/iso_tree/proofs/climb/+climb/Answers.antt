@@ -6,7 +6,7 @@ piece-bytes-requires g t c = omega (arith, (path_room c.args.area.size c.args.i 
 
 pub overflow_add-next : goal.overflow_add-next
 overflow_add-next g t c =
-    let least = c.requires.area.least_size in
+    let least = c.requires.within.area.least_size in
     let room = (path_room c.args.area.size c.args.i (length c.args.nodes.now) c.in-Some.block c.in-Some.count c.in-Some.rest.now c.args.path.now c.in-Some.ensures.some c.requires.nodes).0 in
     let le : c.args.i * 1 ≤ c.args.i * c.args.area.size = Rattle.std.proofs.Math.Nat.mul-le-mul_left c.args.i (omega arith) in
     omega (arith, c.requires.short)
@@ -42,7 +42,7 @@ store_halves-requires-clause-room g t c =
     let r = c.in-Some-first_new-2.new in
     let b = c.piece-bytes.result.now in
     let full : cell_count a.size ≤ c.in-Some.count = omega (arith, c.if-count-cell_count.false, c.cell_count.ensures) in
-    let two : 2 ≤ cell_count a.size = let w = c.requires.block_size.whole in let l = c.requires.area.least_size in omega arith in
+    let two : 2 ≤ cell_count a.size = let w = c.requires.block_size.whole in let l = c.requires.within.area.least_size in omega arith in
     let writes = code_writes a c.args.key.now c.args.level new c.args.below c.in-Some.block c.in-Some.count c.args.i c.in-Some.rest.now c.args.path.now c.args.nodes.now c.args.news.now c.in-Some.ensures.some c.requires.usable
     full r c.in-Some-first_new-2.more.now c.in-Some-first_new-2.ensures.some c.place_in-place.result b c.piece-bytes.ensures.value (c.place_in-place.ensures.row new) two _ _ refl refl in
     omega (arith, ap length writes, c.requires.room)
@@ -55,7 +55,7 @@ returns-in-Err-clause-run g t c =
     let r = c.in-Some-first_new-2.new in
     let b = c.piece-bytes.result.now in
     let full : cell_count a.size ≤ c.in-Some.count = omega (arith, c.if-count-cell_count.false, c.cell_count.ensures) in
-    let two : 2 ≤ cell_count a.size = let w = c.requires.block_size.whole in let l = c.requires.area.least_size in omega arith in
+    let two : 2 ≤ cell_count a.size = let w = c.requires.block_size.whole in let l = c.requires.within.area.least_size in omega arith in
     let writes = code_writes a c.args.key.now c.args.level new c.args.below c.in-Some.block c.in-Some.count c.args.i c.in-Some.rest.now c.args.path.now c.args.nodes.now c.args.news.now c.in-Some.ensures.some c.requires.usable
     full r c.in-Some-first_new-2.more.now c.in-Some-first_new-2.ensures.some c.place_in-place.result b c.piece-bytes.ensures.value (c.place_in-place.ensures.row new) two _ _ refl refl in
     subst (λ (ws : List (ℕ × ℕ × List Cell)). HasRun {X = Unit {0}} (store_nodes a ws (Done (Ok tt))) (state c.args.tx.now) (state c.store_halves.new.tx) (Err c.in-Err.e)) (sym writes) (c.in-Err.ensures.run _)
@@ -68,7 +68,7 @@ climb-requires g t c κs within =
     let r = c.in-Some-first_new-2.new in
     let b = c.piece-bytes.result.now in
     let full : cell_count a.size ≤ c.in-Some.count = omega (arith, c.if-count-cell_count.false, c.cell_count.ensures) in
-    let two : 2 ≤ cell_count a.size = let w = c.requires.block_size.whole in let l = c.requires.area.least_size in omega arith in
+    let two : 2 ≤ cell_count a.size = let w = c.requires.block_size.whole in let l = c.requires.within.area.least_size in omega arith in
     let keys_is : c.piece-keys.result.now ≡ take (keys_end a.size) b = c.piece-keys.ensures.value ∙ ap (λ (n : ℕ). take (64 + 31 * n) b) c.cell_count-2.ensures in
     let k_is : c.row_key-separator.result.now ≡ key_in_row (take (keys_end a.size) b) c.place_in-place.result c.args.new_key.now ((c.in-Some.count + 1) / 2) = c.row_key-separator.ensures ∙ ap (λ (x : List ℕ). key_in_row x c.place_in-place.result c.args.new_key.now ((c.in-Some.count + 1) / 2)) keys_is in
     let writes = code_writes a c.args.key.now c.args.level new c.args.below c.in-Some.block c.in-Some.count c.args.i c.in-Some.rest.now c.args.path.now c.args.nodes.now c.args.news.now c.in-Some.ensures.some c.requires.usable
@@ -84,7 +84,7 @@ climb-requires g t c κs within =
     let others = rest_usable a c.args.key.now c.args.level new c.args.below c.in-Some.block c.in-Some.count c.args.i c.in-Some.rest.now c.args.path.now c.args.nodes.now c.args.news.now c.in-Some.ensures.some c.requires.usable in
     let more = more_inside a c.args.key.now c.args.level new c.args.below c.in-Some.block c.in-Some.count c.args.i c.in-Some.rest.now c.args.path.now c.args.nodes.now c.args.news.now c.in-Some.ensures.some c.requires.usable full r c.in-Some-first_new-2.more.now c.in-Some-first_new-2.ensures.some c.place_in-place.result row2 two c.requires.news in
     let enough = rest_enough a c.args.key.now c.args.level new c.args.below c.in-Some.block c.in-Some.count c.args.i c.in-Some.rest.now c.args.path.now c.args.nodes.now c.args.news.now c.in-Some.ensures.some c.requires.usable full r c.in-Some-first_new-2.more.now c.in-Some-first_new-2.ensures.some c.place_in-place.result row2 two c.requires.enough in
-    (omega (arith, shorter, c.decreases), (search rules, (c.requires.area, (c.requires.block_size, (after.size ∙ c.requires.size, (omega (arith, c.requires.fits, after.blocks), (after.is_open ∙ c.requires.is_open, (short, (ap length c.child_part-new_part.ensures, (omega (arith, shorter, c.requires.level), (inside, (space, (c.requires.short, (others, (more, (enough, (omega (arith, ap length writes, c.requires.room, after.room), c.store_halves.auto.into ∙ c.requires.into)))))))))))))))))
+    (omega (arith, shorter, c.decreases), (search rules, (record { area = c.requires.within.area; size = after.size ∙ c.requires.within.size; fits = omega (arith, c.requires.within.fits, after.blocks) }, (c.requires.block_size, (after.is_open ∙ c.requires.is_open, (short, (ap length c.child_part-new_part.ensures, (omega (arith, shorter, c.requires.level), (inside, (space, (c.requires.short, (others, (more, (enough, (omega (arith, ap length writes, c.requires.room, after.room), c.store_halves.auto.into ∙ c.requires.into)))))))))))))))
 
 pub returns-clause-run : goal.returns-clause-run
 returns-clause-run g t c =
@@ -94,7 +94,7 @@ returns-clause-run g t c =
     let r = c.in-Some-first_new-2.new in
     let b = c.piece-bytes.result.now in
     let full : cell_count a.size ≤ c.in-Some.count = omega (arith, c.if-count-cell_count.false, c.cell_count.ensures) in
-    let two : 2 ≤ cell_count a.size = let w = c.requires.block_size.whole in let l = c.requires.area.least_size in omega arith in
+    let two : 2 ≤ cell_count a.size = let w = c.requires.block_size.whole in let l = c.requires.within.area.least_size in omega arith in
     let keys_is : c.piece-keys.result.now ≡ take (keys_end a.size) b = c.piece-keys.ensures.value ∙ ap (λ (n : ℕ). take (64 + 31 * n) b) c.cell_count-2.ensures in
     let k_is : c.row_key-separator.result.now ≡ key_in_row (take (keys_end a.size) b) c.place_in-place.result c.args.new_key.now ((c.in-Some.count + 1) / 2) = c.row_key-separator.ensures ∙ ap (λ (x : List ℕ). key_in_row x c.place_in-place.result c.args.new_key.now ((c.in-Some.count + 1) / 2)) keys_is in
     let writes = code_writes a c.args.key.now c.args.level new c.args.below c.in-Some.block c.in-Some.count c.args.i c.in-Some.rest.now c.args.path.now c.args.nodes.now c.args.news.now c.in-Some.ensures.some c.requires.usable

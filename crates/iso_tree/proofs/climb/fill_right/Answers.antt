@@ -21,5 +21,5 @@ returns c =
     let cs = row_from (length node) node c.args.place (c.args.key.now, c.args.part.now) c.args.from c.args.count in
     first_gone (length node) c.args.level cs c.fill_row.new.into c.empty_first.new.into c.if-level-eq0.false
     (omega (arith, c.requires.some, length-row (length node) node c.args.place (c.args.key.now, c.args.part.now) c.args.from c.args.count))
-    (row_fits (length node) node c.args.place (c.args.key.now, c.args.part.now) c.requires.parts c.requires.key c.requires.size refl c.requires.part c.requires.place c.args.from c.args.count c.requires.inside)
+    (row_fits (length node) node c.args.place (c.args.key.now, c.args.part.now) c.requires.gets.parts c.requires.gets.key c.requires.size refl c.requires.gets.part c.requires.gets.inside c.args.from c.args.count c.requires.inside)
     c.fill_row.ensures c.empty_first.ensures

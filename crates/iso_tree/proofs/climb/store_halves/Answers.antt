@@ -1,12 +1,18 @@
-use Rattle.iso_tree.proofs.{Words.{◌∙◌, ap, subst, ℕ, ◌+◌, List, [], Store, Program, Answer, node_bytes, row_from, emptied, IsFollowed, Err, Cell}, Climbing.{follows, written_two}}
+use Rattle.iso_tree.proofs.{Words.{◌∙◌, sym, ap, subst, ℕ, ◌+◌, List, [], Store, Program, Answer, node_bytes, row_from, emptied, IsFollowed, GetsCell, Err, Cell}, Climbing.{follows, written_two}}
 use Rattle.iso_tree.proofs.climb.store_halves.Goals as goal
+
+pub fill_row-requires-clause-gets : goal.fill_row-requires-clause-gets
+fill_row-requires-clause-gets g c = subst (λ (n : ℕ). GetsCell n c.args.node.now c.args.place (c.args.key.now, c.args.part.now)) (sym c.requires.gets.long) c.requires.gets
+
+pub fill_right-requires-clause-gets : goal.fill_right-requires-clause-gets
+fill_right-requires-clause-gets g c = subst (λ (n : ℕ). GetsCell n c.args.node.now c.args.place (c.args.key.now, c.args.part.now)) (sym c.requires.gets.long) c.requires.gets
 
 pub returns-in-Err-clause-run : goal.returns-in-Err-clause-run
 returns-in-Err-clause-run g c = λ rest.
     let state = g.T.TxBlocks.state in
     let a = c.args.area in
     let new : Cell = (c.args.key.now, c.args.part.now) in
-    let left = c.fill_row.ensures ∙ ap (λ (n : ℕ). node_bytes n c.args.level (row_from n c.args.node.now c.args.place new 0 c.args.half)) c.requires.node in
+    let left = c.fill_row.ensures ∙ ap (λ (n : ℕ). node_bytes n c.args.level (row_from n c.args.node.now c.args.place new 0 c.args.half)) c.requires.gets.long in
     let next = Store (a.start + c.args.new) [] (node_bytes a.size c.args.level (emptied c.args.level (row_from a.size c.args.node.now c.args.place new c.args.half c.args.others))) rest in
     subst (λ (b : List ℕ). IsFollowed (Store (a.start + c.args.block) [] b next) next (state c.args.tx.now) (state c.store_next.new.tx) (Err c.in-Err.e)) left (c.in-Err.ensures.run next)
 
@@ -15,8 +21,8 @@ returns-clause-run g c = λ rest.
     let state = g.T.TxBlocks.state in
     let a = c.args.area in
     let new : Cell = (c.args.key.now, c.args.part.now) in
-    let left = c.fill_row.ensures ∙ ap (λ (n : ℕ). node_bytes n c.args.level (row_from n c.args.node.now c.args.place new 0 c.args.half)) c.requires.node in
-    let right = c.fill_right.ensures ∙ ap (λ (n : ℕ). node_bytes n c.args.level (emptied c.args.level (row_from n c.args.node.now c.args.place new c.args.half c.args.others))) c.requires.node in
+    let left = c.fill_row.ensures ∙ ap (λ (n : ℕ). node_bytes n c.args.level (row_from n c.args.node.now c.args.place new 0 c.args.half)) c.requires.gets.long in
+    let right = c.fill_right.ensures ∙ ap (λ (n : ℕ). node_bytes n c.args.level (emptied c.args.level (row_from n c.args.node.now c.args.place new c.args.half c.args.others))) c.requires.gets.long in
     let whole : List ℕ → List ℕ → Program Answer = λ b d. Store (a.start + c.args.block) [] b (Store (a.start + c.args.new) [] d rest) in
     subst (λ (d : List ℕ). IsFollowed (whole (node_bytes a.size c.args.level (row_from a.size c.args.node.now c.args.place new 0 c.args.half)) d) rest (state c.args.tx.now) (state c.store_next-2.new.tx) c.store_next-2.result) right
     (subst (λ (b : List ℕ). IsFollowed (whole b c.fill_right.new.into) rest (state c.args.tx.now) (state c.store_next-2.new.tx) c.store_next-2.result) left

@@ -1,4 +1,4 @@
-use Rattle.iso_tree.proofs.{Words.{◌∙◌, sym, ap, None, word_at, head_mark, is_head, at_start, cut_at_look, head_program}, Looking.{head_broken, head_read}}
+use Rattle.iso_tree.proofs.{Words.{◌∙◌, sym, ap, None, word_at, head_mark, is_head, cut_first, head_program}, Looking.{head_broken, head_read}}
 use Rattle.iso_tree.proofs.descent.read_head.Goals as goal
 
 pub returns-then-not-is_head-clause-run : goal.returns-then-not-is_head-clause-run
@@ -16,7 +16,5 @@ returns-clause-run g c =
 
 pub returns-in-Err-clause-run : goal.returns-in-Err-clause-run
 returns-in-Err-clause-run g c =
-    let state = g.T.TxBlocks.state in
-    let whole = head_program c.args.area in
-    cut_at_look whole c.args.area.start head_mark (λ head. None) _ (state c.args.tx.now) (state c.args.tx.now) (state c.look.new.tx) (g.T.TxBlocks.device c.args.tx.now) (g.T.TxBlocks.device c.look.new.tx) c.in-Err.e
-    (at_start whole (state c.args.tx.now)) c.in-Err.ensures.kept c.in-Err.ensures.cause
+    cut_first c.args.area.start head_mark (λ head. None) _
+    (g.T.TxBlocks.state c.args.tx.now) (g.T.TxBlocks.state c.look.new.tx) (g.T.TxBlocks.device c.args.tx.now) (g.T.TxBlocks.device c.look.new.tx) c.in-Err.e c.in-Err.ensures.kept c.in-Err.ensures.cause

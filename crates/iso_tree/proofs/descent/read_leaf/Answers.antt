@@ -1,28 +1,33 @@
-use Rattle.iso_tree.proofs.{Words.{◌≡◌, ◌∙◌, sym, refl, ap, subst, ◌+◌, [], ◌∷◌, Some, None, arith, Span, keys_mark, value_mark, bytes_in, look_access, mark_refusal, with_accesses, may_mark, marked_access, cell_of, at_start, cut_at_look, leaf_further, leaf_program}, Facts.{missing, cell_used, node_parts, nothing_is}, Looking.{bytes_after, node_of, not_node, leaf_not_node, leaf_plain, leaf_missing, leaf_found, ok_marked}}
+use Rattle.iso_tree.proofs.{Words.{looked_as, ◌≡◌, ◌∙◌, sym, refl, ap, subst, ◌+◌, [], ◌∷◌, Some, None, arith, Span, keys_mark, value_mark, bytes_in, look_access, mark_refusal, with_accesses, may_mark, marked_access, cell_of, cut_first, leaf_further}, Facts.{missing, cell_used, node_parts, nothing_is}, Looking.{IsNodeOf, bytes_after, node_of, not_node, leaf_not_node, leaf_plain, leaf_missing, leaf_found, ok_marked}, descent.read_leaf.Goals.In-Some}
+use Rattle.iso_tree.proofs.descent.read_leaf.Given as given
 use Rattle.iso_tree.proofs.descent.read_leaf.Goals as goal
+
+-- the leaf that the view shows
+node_at : (g : given.Over) (c : In-Some g) → IsNodeOf c.args.area 0 c.look.new.into c.in-Some.node
+node_at g c = node_of c.args.area 0 c.look.new.into c.in-Some.node c.region_of.result (c.look.auto.into ∙ c.requires.block.long) c.in-Some.ensures.value c.region_of.ensures (c.in-Some.ensures.some.0 refl)
 
 pub returns-in_default-of-clause-run : goal.returns-in_default-of-clause-run
 returns-in_default-of-clause-run g c =
     let state = g.T.TxBlocks.state in
     let a = c.args.area in
-    let access = c.in_default.ensures.read ∙ ap (λ (s : Span). with_accesses (state c.args.tx.now) (look_access (a.start + c.args.block) (s ∷ []) ∷ [])) c.keys_mark.ensures in
+    let access = looked_as (state c.args.tx.now) (state c.look.new.tx) (a.start + c.args.block) _ _ c.in_default.ensures.read c.keys_mark.ensures in
     leaf_not_node a (state c.args.tx.now) (state c.look.new.tx) c.look.new.into (g.met.T.TxBlocks.limits c.look.new.tx).count c.args.block c.in_default.ensures.bytes c.args.key.now c.args.with_value access
-    (not_node a 0 c.look.new.into (c.look.auto.into ∙ c.requires.buffer) (λ e. nothing_is (c.in_default-of.ensures.some.1 e)))
+    (not_node a 0 c.look.new.into (c.look.auto.into ∙ c.requires.block.long) (λ e. nothing_is (c.in_default-of.ensures.some.1 e)))
 
 pub returns-then-not-with_value-clause-run : goal.returns-then-not-with_value-clause-run
 returns-then-not-with_value-clause-run g c =
     let state = g.T.TxBlocks.state in
     let a = c.args.area in
-    let node = node_of a 0 c.look.new.into c.in-Some.node c.region_of.result (c.look.auto.into ∙ c.requires.buffer) c.in-Some.ensures.value c.region_of.ensures (c.in-Some.ensures.some.0 refl) in
-    let access = c.in_default.ensures.read ∙ ap (λ (s : Span). with_accesses (state c.args.tx.now) (look_access (a.start + c.args.block) (s ∷ []) ∷ [])) c.keys_mark.ensures in
+    let node = node_at g (goal.at.returns-then-not-with_value-clause-run g c).In-Some in
+    let access = looked_as (state c.args.tx.now) (state c.look.new.tx) (a.start + c.args.block) _ _ c.in_default.ensures.read c.keys_mark.ensures in
     leaf_plain a (state c.args.tx.now) (state c.look.new.tx) c.look.new.into (g.met.T.TxBlocks.limits c.look.new.tx).count c.args.block c.in_default.ensures.bytes c.args.key.now c.args.with_value c.if-not-with_value.true access node.passes
 
 pub returns-in_default-cell-clause-run : goal.returns-in_default-cell-clause-run
 returns-in_default-cell-clause-run g c =
     let state = g.T.TxBlocks.state in
     let a = c.args.area in
-    let node = node_of a 0 c.look.new.into c.in-Some.node c.region_of.result (c.look.auto.into ∙ c.requires.buffer) c.in-Some.ensures.value c.region_of.ensures (c.in-Some.ensures.some.0 refl) in
-    let access = c.in_default.ensures.read ∙ ap (λ (s : Span). with_accesses (state c.args.tx.now) (look_access (a.start + c.args.block) (s ∷ []) ∷ [])) c.keys_mark.ensures in
+    let node = node_at g (goal.at.returns-in_default-cell-clause-run g c).In-Some in
+    let access = looked_as (state c.args.tx.now) (state c.look.new.tx) (a.start + c.args.block) _ _ c.in_default.ensures.read c.keys_mark.ensures in
     let none = ap (cell_of c.args.key.now) (sym node.keys_are) ∙ sym c.cell.ensures.value ∙ missing c.cell.result c.in_default-cell.not-Some in
     leaf_missing a (state c.args.tx.now) (state c.look.new.tx) c.look.new.into (g.met.T.TxBlocks.limits c.look.new.tx).count c.args.block c.in_default.ensures.bytes c.args.key.now c.args.with_value c.if-not-with_value.false none access node.passes
 
@@ -30,20 +35,20 @@ pub mark-requires : goal.mark-requires
 mark-requires g c =
     let state = g.T.TxBlocks.state in
     let a = c.args.area in
-    let node = node_of a 0 c.look.new.into c.in-Some.node c.region_of.result (c.look.auto.into ∙ c.requires.buffer) c.in-Some.ensures.value c.region_of.ensures (c.in-Some.ensures.some.0 refl) in
+    let node = node_at g (goal.at.mark-requires g c).In-Some in
     let some : cell_of c.args.key.now (bytes_in (keys_mark a.size) c.look.new.into) ≡ Some c.in-Some-cell.cell =
     ap (cell_of c.args.key.now) (sym node.keys_are) ∙ sym c.cell.ensures.value ∙ c.in-Some-cell.is in
     let parts = node_parts a.size 0 (bytes_in (keys_mark a.size) c.look.new.into) node.passes in
     let used = cell_used c.args.key.now (bytes_in (keys_mark a.size) c.look.new.into) c.in-Some-cell.cell some in
     subst (λ (s : Span). mark_refusal (state c.look.new.tx) s.off s.len ≡ None) (sym c.value_mark.ensures)
     (may_mark (state c.args.tx.now) (state c.look.new.tx) (look_access (a.start + c.args.block) (c.keys_mark.result ∷ [])) (value_mark a.size c.in-Some-cell.cell)
-    c.in_default.ensures.read c.in_default.ensures.is_open (record { some = omega arith; fits = omega (arith, c.requires.size, used, parts.few, c.requires.area.least_size) }) (omega arith))
+    c.in_default.ensures.read c.in_default.ensures.is_open (record { some = omega arith; fits = omega (arith, c.requires.block.within.size, used, parts.few, c.requires.block.within.area.least_size) }) (omega arith))
 
 pub returns-clause-run : goal.returns-clause-run
 returns-clause-run g c =
     let state = g.T.TxBlocks.state in
     let a = c.args.area in
-    let node = node_of a 0 c.look.new.into c.in-Some.node c.region_of.result (c.look.auto.into ∙ c.requires.buffer) c.in-Some.ensures.value c.region_of.ensures (c.in-Some.ensures.some.0 refl) in
+    let node = node_at g (goal.at.returns-clause-run g c).In-Some in
     let some : cell_of c.args.key.now (bytes_in (keys_mark a.size) c.look.new.into) ≡ Some c.in-Some-cell.cell =
     ap (cell_of c.args.key.now) (sym node.keys_are) ∙ sym c.cell.ensures.value ∙ c.in-Some-cell.is in
     let parts = node_parts a.size 0 (bytes_in (keys_mark a.size) c.look.new.into) node.passes in
@@ -78,8 +83,5 @@ returns-clause-bytes g c =
 
 pub returns-in-Err-clause-run : goal.returns-in-Err-clause-run
 returns-in-Err-clause-run g c =
-    let state = g.T.TxBlocks.state in
-    let a = c.args.area in
-    let whole = leaf_program a c.args.key.now c.args.with_value c.args.block in
-    cut_at_look whole (a.start + c.args.block) (keys_mark a.size) (leaf_further a c.args.key.now c.args.with_value) _ (state c.args.tx.now) (state c.args.tx.now) (state c.look.new.tx)
-    (g.T.TxBlocks.device c.args.tx.now) (g.T.TxBlocks.device c.look.new.tx) c.in-Err.e (at_start whole (state c.args.tx.now)) c.in-Err.ensures.kept c.in-Err.ensures.cause
+    cut_first (c.args.area.start + c.args.block) (keys_mark c.args.area.size) (leaf_further c.args.area c.args.key.now c.args.with_value) _
+    (g.T.TxBlocks.state c.args.tx.now) (g.T.TxBlocks.state c.look.new.tx) (g.T.TxBlocks.device c.args.tx.now) (g.T.TxBlocks.device c.look.new.tx) c.in-Err.e c.in-Err.ensures.kept c.in-Err.ensures.cause

@@ -1,24 +1,24 @@
-use Rattle.iso_tree.proofs.{Words.{◌∙◌, sym, ap, subst, ℕ, suc, ◌+◌, ◌*◌, ◌<◌, ◌≤◌, List, length, take, arith, Region, cell_count, map_mark, bytes_in, behaves_after, AreInside, full_row, need_of}, Enlarging.{all_taken, need_taken, room_taken, row_taken, used_same}, Joining.{shown_taken, news_are, taken_is, few_run, taken_refused, taken_run}}
+use Rattle.iso_tree.proofs.{Words.{◌∙◌, sym, ap, subst, ℕ, suc, ◌+◌, ◌*◌, ◌<◌, ◌≤◌, List, length, take, arith, Region, cell_count, map_mark, bytes_in, behaves_next, AreInside, full_row, need_of}, Enlarging.{all_taken, need_taken, room_taken, row_taken, used_same}, Joining.{shown_taken, news_are, taken_is, few_run, taken_refused, taken_run}}
 use Rattle.iso_tree.proofs.enlarge.put_taken.Goals as goal
 
 pub returns-then-free-need-clause-run : goal.returns-then-free-need-clause-run
 returns-then-free-need-clause-run g c =
-    few_run c.args.area c.requires.area c.args.path.now c.args.map.now c.full_row-full.result c.need_of-need.result c.free_blocks-free.result c.full_row-full.ensures.value c.need_of-need.ensures
+    few_run c.args.area c.requires.within.area c.args.path.now c.args.map.now c.full_row-full.result c.need_of-need.result c.free_blocks-free.result c.full_row-full.ensures.value c.need_of-need.ensures
     c.region_of-region.result.size (ap (λ (r : Region). r.size) c.region_of-region.ensures) c.free_blocks-free.ensures c.args.key.now c.args.value.now (g.T.TxBlocks.state c.args.tx.now) c.if-free-need.true
 
 pub look_nodes-requires-clause-usable : goal.look_nodes-requires-clause-usable
 look_nodes-requires-clause-usable g c =
-    shown_taken c.args.area (g.T.TxBlocks.state c.args.tx.now) (suc c.full_row-full.result) c.written-rows.result.now c.args.path.now c.written-rows.ensures c.requires.usable
+    shown_taken c.args.area (g.T.TxBlocks.state c.args.tx.now) (suc c.full_row-full.result) c.written-rows.result.now c.args.path.now c.written-rows.ensures c.requires.path.usable
 
 pub returns-in-Err-clause-run : goal.returns-in-Err-clause-run
 returns-in-Err-clause-run g c =
-    taken_refused c.args.area c.requires.area c.args.path.now c.args.map.now c.full_row-full.result c.need_of-need.result c.free_blocks-free.result c.full_row-full.ensures.value c.need_of-need.ensures
+    taken_refused c.args.area c.requires.within.area c.args.path.now c.args.map.now c.full_row-full.result c.need_of-need.result c.free_blocks-free.result c.full_row-full.ensures.value c.need_of-need.ensures
     c.region_of-region.result.size (ap (λ (r : Region). r.size) c.region_of-region.ensures) c.free_blocks-free.ensures c.args.key.now c.args.value.now (g.T.TxBlocks.state c.args.tx.now) (omega (arith, c.if-free-need.false))
     c.written-rows.result.now c.written-rows.ensures (g.T.TxBlocks.state c.look_nodes.new.tx) c.in-Err.e c.in-Err.ensures.refused
 
 pub put_writes-requires-clause-path : goal.put_writes-requires-clause-path
 put_writes-requires-clause-path g c =
-    subst (AreInside c.args.area) (sym c.written-rows.ensures) (all_taken (λ (p : ℕ × ℕ). p.0 < c.args.area.blocks) (suc c.full_row-full.result) c.args.path.now c.requires.path)
+    subst (AreInside c.args.area) (sym c.written-rows.ensures) (all_taken (λ (p : ℕ × ℕ). p.0 < c.args.area.blocks) (suc c.full_row-full.result) c.args.path.now c.requires.path.inside)
 
 pub put_writes-requires-clause-full : goal.put_writes-requires-clause-full
 put_writes-requires-clause-full g c =
@@ -33,18 +33,18 @@ put_writes-requires-clause-nodes g c =
 
 pub put_writes-requires-clause-rising : goal.put_writes-requires-clause-rising
 put_writes-requires-clause-rising g c =
-    (news_are c.args.area c.requires.area c.args.path.now c.args.map.now c.full_row-full.result c.need_of-need.result c.free_blocks-free.result c.full_row-full.ensures.value c.need_of-need.ensures
+    (news_are c.args.area c.requires.within.area c.args.path.now c.args.map.now c.full_row-full.result c.need_of-need.result c.free_blocks-free.result c.full_row-full.ensures.value c.need_of-need.ensures
     c.region_of-region.result.size (ap (λ (r : Region). r.size) c.region_of-region.ensures) c.free_blocks-free.ensures (omega (arith, c.if-free-need.false)) c.take_blocks.new.news c.take_blocks.ensures.taken).0
 
 pub put_writes-requires-clause-news : goal.put_writes-requires-clause-news
 put_writes-requires-clause-news g c =
-    (news_are c.args.area c.requires.area c.args.path.now c.args.map.now c.full_row-full.result c.need_of-need.result c.free_blocks-free.result c.full_row-full.ensures.value c.need_of-need.ensures
+    (news_are c.args.area c.requires.within.area c.args.path.now c.args.map.now c.full_row-full.result c.need_of-need.result c.free_blocks-free.result c.full_row-full.ensures.value c.need_of-need.ensures
     c.region_of-region.result.size (ap (λ (r : Region). r.size) c.region_of-region.ensures) c.free_blocks-free.ensures (omega (arith, c.if-free-need.false)) c.take_blocks.new.news c.take_blocks.ensures.taken).1
 
 pub put_writes-requires-clause-enough : goal.put_writes-requires-clause-enough
 put_writes-requires-clause-enough g c =
     let n = cell_count c.args.area.size in
-    let news = news_are c.args.area c.requires.area c.args.path.now c.args.map.now c.full_row-full.result c.need_of-need.result c.free_blocks-free.result c.full_row-full.ensures.value c.need_of-need.ensures
+    let news = news_are c.args.area c.requires.within.area c.args.path.now c.args.map.now c.full_row-full.result c.need_of-need.result c.free_blocks-free.result c.full_row-full.ensures.value c.need_of-need.ensures
     c.region_of-region.result.size (ap (λ (r : Region). r.size) c.region_of-region.ensures) c.free_blocks-free.ensures (omega (arith, c.if-free-need.false)) c.take_blocks.new.news c.take_blocks.ensures.taken in
     let rows : need_of n c.written-rows.result.now ≤ need_of n c.args.path.now =
     subst (λ (p : List (ℕ × ℕ)). need_of n p ≤ need_of n c.args.path.now) (sym (c.written-rows.ensures ∙ ap (λ (f : ℕ). take (suc f) c.args.path.now) c.full_row-full.ensures.value)) (need_taken n c.args.path.now) in
@@ -53,18 +53,14 @@ put_writes-requires-clause-enough g c =
 pub returns-clause-run : goal.returns-clause-run
 returns-clause-run g c =
     let state = g.T.TxBlocks.state in
-    let is = taken_is c.args.area c.requires.area c.args.path.now c.args.map.now c.full_row-full.result c.need_of-need.result c.free_blocks-free.result c.full_row-full.ensures.value c.need_of-need.ensures
+    let is = taken_is c.args.area c.requires.within.area c.args.path.now c.args.map.now c.full_row-full.result c.need_of-need.result c.free_blocks-free.result c.full_row-full.ensures.value c.need_of-need.ensures
     c.region_of-region.result.size (ap (λ (r : Region). r.size) c.region_of-region.ensures) c.free_blocks-free.ensures (omega (arith, c.if-free-need.false)) c.take_blocks.new.news c.take_blocks.ensures.taken in
-    let inside = (news_are c.args.area c.requires.area c.args.path.now c.args.map.now c.full_row-full.result c.need_of-need.result c.free_blocks-free.result c.full_row-full.ensures.value c.need_of-need.ensures
+    let inside = (news_are c.args.area c.requires.within.area c.args.path.now c.args.map.now c.full_row-full.result c.need_of-need.result c.free_blocks-free.result c.full_row-full.ensures.value c.need_of-need.ensures
     c.region_of-region.result.size (ap (λ (r : Region). r.size) c.region_of-region.ensures) c.free_blocks-free.ensures (omega (arith, c.if-free-need.false)) c.take_blocks.new.news c.take_blocks.ensures.taken).1 in
-    taken_run c.args.area c.requires.area c.args.path.now c.args.map.now c.full_row-full.result c.need_of-need.result c.free_blocks-free.result c.full_row-full.ensures.value c.need_of-need.ensures
+    taken_run c.args.area c.requires.within.area c.args.path.now c.args.map.now c.full_row-full.result c.need_of-need.result c.free_blocks-free.result c.full_row-full.ensures.value c.need_of-need.ensures
     c.region_of-region.result.size (ap (λ (r : Region). r.size) c.region_of-region.ensures) c.free_blocks-free.ensures c.args.key.now c.args.value.now (state c.args.tx.now) (omega (arith, c.if-free-need.false))
     c.written-rows.result.now c.written-rows.ensures (state c.look_nodes.new.tx) (state c.put_writes.new.tx) c.put_writes.result c.look_nodes.new.nodes (take c.need_of-need.result c.take_blocks.new.news) c.value_part-part.result is c.value_part-part.ensures c.in_default.ensures.read
-    (c.put_writes.ensures.run (bytes_in (map_mark c.args.area.blocks) c.args.map.now) (used_same c.args.area c.requires.area c.args.map.now c.take_blocks.new.map (take c.need_of-need.result c.take_blocks.new.news) inside c.take_blocks.ensures.used))
+    (c.put_writes.ensures.run (bytes_in (map_mark c.args.area.blocks) c.args.map.now) (used_same c.args.area c.requires.within.area c.args.map.now c.take_blocks.new.map (take c.need_of-need.result c.take_blocks.new.news) inside c.take_blocks.ensures.used))
 
 pub returns-clause-behaves : goal.returns-clause-behaves
-returns-clause-behaves g c =
-    let state = g.T.TxBlocks.state in
-    let device = g.T.TxBlocks.device in
-    behaves_after (state c.args.tx.now) (state c.look_nodes.new.tx) (state c.put_writes.new.tx) 66 (device c.args.tx.now) (device c.look_nodes.new.tx) (device c.put_writes.new.tx) c.put_writes.result
-    c.in_default.ensures.reads.reads c.in_default.ensures.reads.later c.in_default.ensures.reads.passed c.put_writes.ensures.behaves
+returns-clause-behaves g c = behaves_next c.in_default.ensures.reads.reads c.in_default.ensures.reads.later c.in_default.ensures.reads.passed c.put_writes.ensures.behaves (omega arith)

@@ -7,7 +7,7 @@ add_cell-requires-clause-key c =
     let keys_is : c.piece-keys.result.now ≡ take (keys_end (length node)) node = c.piece-keys.ensures.value ∙ ap (λ (n : ℕ). take (64 + 31 * n) node) c.cell_count.ensures in
     let same : c.row_key-cell_key.result.now ≡ key_in_row (take (keys_end (length node)) node) c.args.place c.args.key.now (c.args.from + c.loop-i.i) =
     c.row_key-cell_key.ensures ∙ ap (λ (k : List ℕ). key_in_row k c.args.place c.args.key.now (c.args.from + c.loop-i.i)) keys_is in
-    omega (arith, ap length same, key_fits (length node) node c.args.place (c.args.key.now, c.args.part.now) c.requires.parts c.requires.key c.requires.place (c.args.from + c.loop-i.i) (omega (arith, c.requires.inside, c.loop-i-test.true)))
+    omega (arith, ap length same, key_fits (length node) node c.args.place (c.args.key.now, c.args.part.now) c.requires.gets.parts c.requires.gets.key c.requires.gets.inside (c.args.from + c.loop-i.i) (omega (arith, c.requires.inside, c.loop-i-test.true)))
 
 pub loop-i-preserved : goal.loop-i-preserved
 loop-i-preserved c =
@@ -20,7 +20,7 @@ loop-i-preserved c =
     c.row_key-cell_key.ensures ∙ ap (λ (k : List ℕ). key_in_row k c.args.place c.args.key.now (c.args.from + i)) keys_is in
     let part : c.row_part-cell_part.result.now ≡ part_in_row size node c.args.place c.args.part.now (c.args.from + i) = c.row_part-cell_part.ensures.value in
     let cs = row_from size node c.args.place new c.args.from i in
-    let fit = row_fits size node c.args.place new c.requires.parts c.requires.key c.requires.size refl c.requires.part c.requires.place c.args.from i (omega (arith, c.requires.inside, c.loop-i-test.true)) in
+    let fit = row_fits size node c.args.place new c.requires.gets.parts c.requires.gets.key c.requires.size refl c.requires.gets.part c.requires.gets.inside c.args.from i (omega (arith, c.requires.inside, c.loop-i-test.true)) in
     c.add_cell.ensures.added size c.args.level cs c.loop-i.invariant (length-row size node c.args.place new c.args.from i) fit (c.loop-i.auto.into ∙ c.empty_node.auto.into ∙ c.requires.into)
     ∙ (λ j. node_bytes size c.args.level (cs ++ (same j, part j) ∷ []))
     ∙ ap (node_bytes size c.args.level) (sym (row_more size node c.args.place new c.args.from i))

@@ -1,4 +1,4 @@
-use Rattle.iso_tree.proofs.{Words.{◌≡◌, ◌∙◌, sym, refl, ap, subst, ℕ, suc, ◌+◌, ◌*◌, ◌≤◌, [], ◌∷◌, length, rules, arith, look_access, Tx, read_none, read_more}, Descending.reads_after, Rereading.{map_ok, map_err, first_refused, rest_refused, rest_read, shown_after, here_after, before_after, none_again, path_room, usable_more}}
+use Rattle.iso_tree.proofs.{Words.{◌≡◌, ◌∙◌, sym, refl, ap, subst, ℕ, suc, ◌+◌, ◌*◌, ◌≤◌, [], ◌∷◌, length, rules, arith, look_access, Tx, HasArea, IsTreeArea, read_one}, Descending.reads_after, Rereading.{map_ok, map_err, first_refused, rest_refused, rest_read, shown_after, here_after, before_after, none_again, path_room, usable_more}}
 use Rattle.iso_tree.proofs.grow.+look_nodes.Goals as goal
 
 pub returns-in-Err-clause-refused : goal.returns-in-Err-clause-refused
@@ -12,7 +12,7 @@ lay-requires g t c =
 
 pub overflow_add-i : goal.overflow_add-i
 overflow_add-i g t c =
-    let least = c.requires.area.least_size in
+    let least = c.requires.within.area.least_size in
     let room = (path_room c.args.area.size c.args.i (length c.args.nodes.now) c.in-Some.block c.in-Some.count c.in-Some.rest.now c.args.path.now c.in-Some.ensures.some c.requires.nodes).0 in
     let le : c.args.i * 1 ≤ c.args.i * c.args.area.size = Rattle.std.proofs.Math.Nat.mul-le-mul_left c.args.i (omega arith) in
     omega (arith, c.requires.short)
@@ -23,40 +23,11 @@ look_nodes-requires g t c κs within =
     let read = c.in_default-look_whole.ensures.read in
     let shorter : length c.args.path.now ≡ suc (length c.in-Some.rest.now) = ap length c.in-Some.ensures.some in
     let room = (path_room c.args.area.size c.args.i (length c.args.nodes.now) c.in-Some.block c.in-Some.count c.in-Some.rest.now c.args.path.now c.in-Some.ensures.some c.requires.nodes).1 in
-    let inside = subst (Rattle.iso_tree.specs.Rows.AreInside c.args.area) c.in-Some.ensures.some c.requires.path in (
-      omega (arith, shorter, c.decreases),
-      (
-        search rules,
-        (
-          c.requires.area,
-          (
-            c.requires.block_size,
-            (
-              ap (λ (w : Tx). w.size) read ∙ c.requires.size,
-              (
-                omega (arith, c.requires.fits, ap (λ (w : Tx). w.blocks) read),
-                (
-                  ap (λ (w : Tx). w.is_open) read ∙ c.requires.is_open,
-                  (
-                    inside.1,
-                    (
-                      shown_after c.args.area c.in-Some.block c.in-Some.count c.in-Some.rest.now c.args.path.now (state c.args.tx.now) (state c.look_whole.new.tx) (c.args.area.start + c.in-Some.block) c.in-Some.ensures.some read c.requires.usable,
-                      (
-                        subst (λ (n : ℕ). (c.args.i + 1 + length c.in-Some.rest.now) * c.args.area.size ≤ n) (sym c.lay.auto.into) room,
-                        (
-                          omega (arith, c.requires.short, c.lay.auto.into),
-                          c.look_whole.auto.into ∙ c.requires.into,
-                        ),
-                      ),
-                    ),
-                  ),
-                ),
-              ),
-            ),
-          ),
-        ),
-      ),
-    )
+    let inside = subst (Rattle.iso_tree.specs.Rows.AreInside c.args.area) c.in-Some.ensures.some c.requires.path in
+    let there : HasArea IsTreeArea (state c.look_whole.new.tx) c.args.area = record { area = c.requires.within.area; size = ap (λ (w : Tx). w.size) read ∙ c.requires.within.size; fits = omega (arith, c.requires.within.fits, ap (λ (w : Tx). w.blocks) read) } in
+    let usable = shown_after c.args.area c.in-Some.block c.in-Some.count c.in-Some.rest.now c.args.path.now (state c.args.tx.now) (state c.look_whole.new.tx) (c.args.area.start + c.in-Some.block) c.in-Some.ensures.some read c.requires.usable in
+    let fits = subst (λ (n : ℕ). (c.args.i + 1 + length c.in-Some.rest.now) * c.args.area.size ≤ n) (sym c.lay.auto.into) room in
+    (omega (arith, shorter, c.decreases), (search rules, (there, (c.requires.block_size, (ap (λ (w : Tx). w.is_open) read ∙ c.requires.is_open, (inside.1, (usable, (fits, (omega (arith, c.requires.short, c.lay.auto.into), c.look_whole.auto.into ∙ c.requires.into)))))))))
 
 pub returns-clause-read : goal.returns-clause-read
 returns-clause-read g t c =
@@ -94,7 +65,7 @@ returns-clause-reads g t c =
     let state = g.T.TxBlocks.state in
     let device = g.T.TxBlocks.device in
     reads_after (state c.args.tx.now) (state c.look_whole.new.tx) (state c.look_nodes.new.tx) (device c.args.tx.now) (device c.look_whole.new.tx) (device c.look_nodes.new.tx) c.look_nodes.result
-    (read_more (state c.args.tx.now) (state c.args.tx.now) (state c.look_whole.new.tx) (look_access (c.args.area.start + c.in-Some.block) []) (read_none (state c.args.tx.now)) c.in_default-look_whole.ensures.read refl)
+    (read_one (state c.args.tx.now) (state c.look_whole.new.tx) (look_access (c.args.area.start + c.in-Some.block) []) c.in_default-look_whole.ensures.read refl)
     c.in_default-look_whole.ensures.later c.in_default-look_whole.ensures.passed c.look_nodes.ensures.reads
 
 pub returns-in_default-clause-read : goal.returns-in_default-clause-read

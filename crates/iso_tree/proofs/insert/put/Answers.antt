@@ -1,4 +1,4 @@
-use Rattle.iso_tree.proofs.{Words.{◌∙◌, sym, refl, subst, ℕ, area_of, HasRun, put_program}, Inserting.{put_bad_key, put_bad_value}, PutWhole.put_call}
+use Rattle.iso_tree.proofs.{Words.{◌∙◌, sym, refl, subst, Area, area_of, HasRun, put_program}, Inserting.{put_bad_key, put_bad_value}, PutWhole.put_call}
 use Rattle.iso_tree.proofs.insert.put.Goals as goal
 
 pub returns-then-not-is_key-clause-ended : goal.returns-then-not-is_key-clause-ended
@@ -14,4 +14,4 @@ returns-clause-local g c =
     let state = g.T.TxBlocks.state in
     put_call (area_of (state c.args.tx.now) c.args.region) c.args.key.now c.args.value.now (state c.args.tx.now) (state c.put_with.new.tx) c.put_with.result c.requires.area (sym c.is_key.ensures ∙ c.if-not-is_key.false)
     (sym c.is_value.ensures ∙ c.if-not-is_value.false) (g.met.T.TxBlocks.limits c.args.tx.now) refl c.requires.fits
-    (subst (λ (n : ℕ). HasRun (put_program (record { size = n; start = c.args.region.start; blocks = c.args.region.size }) c.args.key.now c.args.value.now) (state c.args.tx.now) (state c.put_with.new.tx) c.put_with.result) c.block_size.ensures c.put_with.ensures.run)
+    (subst (λ (a : Area). HasRun (put_program a c.args.key.now c.args.value.now) (state c.args.tx.now) (state c.put_with.new.tx) c.put_with.result) c.area_of-area.ensures c.put_with.ensures.run)

@@ -1,4 +1,4 @@
-use Rattle.iso_tree.proofs.{Words.{◌≡◌, ◌∙◌, sym, subst, ℕ, ◌≤◌, List, take, arith, cell_count, keys_end, HasRun, behaves_after, behaves_more, AreShownUsable, need_of, with_map}, Facts.{cell_used, missing, node_parts}, Inserting.{put_refused, put_found, put_room, put_full, leaf_usable, full_needs}}
+use Rattle.iso_tree.proofs.{Words.{◌≡◌, ◌∙◌, sym, subst, ℕ, ◌+◌, ◌≤◌, List, length, take, arith, cell_count, keys_end, HasRun, behaves_next, NeedsBlocks, with_map}, Facts.{cell_used, missing, node_parts}, Inserting.{put_refused, put_found, put_room, put_full, leaf_usable, full_needs}}
 use Rattle.iso_tree.proofs.insert.put_below.Goals as goal
 
 pub returns-in-Err-clause-run : goal.returns-in-Err-clause-run
@@ -20,12 +20,7 @@ returns-in-Some-clause-run g c =
     c.in-Some.cell (state c.put_value.new.tx) c.put_value.result c.in-Some.is c.put_value.ensures.run
 
 pub returns-in-Some-clause-behaves : goal.returns-in-Some-clause-behaves
-returns-in-Some-clause-behaves g c =
-    let state = g.T.TxBlocks.state in
-    let device = g.T.TxBlocks.device in
-    behaves_after (state c.args.tx.now) (state c.descend.new.tx) (state c.put_value.new.tx) 66 (device c.args.tx.now) (device c.descend.new.tx) (device c.put_value.new.tx) c.put_value.result
-    c.in-Ok.ensures.reads.reads c.in-Ok.ensures.reads.later c.in-Ok.ensures.reads.passed
-    (behaves_more (state c.descend.new.tx) (state c.put_value.new.tx) 1 66 (device c.descend.new.tx) (device c.put_value.new.tx) c.put_value.result (omega arith) c.put_value.ensures.behaves)
+returns-in-Some-clause-behaves g c = behaves_next c.in-Ok.ensures.reads.reads c.in-Ok.ensures.reads.later c.in-Ok.ensures.reads.passed c.put_value.ensures.behaves (omega arith)
 
 pub returns-then-leaf-cell_count-clause-run : goal.returns-then-leaf-cell_count-clause-run
 returns-then-leaf-cell_count-clause-run g c =
@@ -34,29 +29,23 @@ returns-then-leaf-cell_count-clause-run g c =
     (state c.put_cell.new.tx) c.put_cell.result (missing c.in-Ok.leaf.cell c.in_default.not-Some) (omega (arith, c.if-leaf-cell_count.true, c.cell_count.ensures)) c.put_cell.ensures.run
 
 pub returns-then-leaf-cell_count-clause-behaves : goal.returns-then-leaf-cell_count-clause-behaves
-returns-then-leaf-cell_count-clause-behaves g c =
-    let state = g.T.TxBlocks.state in
-    let device = g.T.TxBlocks.device in
-    behaves_after (state c.args.tx.now) (state c.descend.new.tx) (state c.put_cell.new.tx) 66 (device c.args.tx.now) (device c.descend.new.tx) (device c.put_cell.new.tx) c.put_cell.result
-    c.in-Ok.ensures.reads.reads c.in-Ok.ensures.reads.later c.in-Ok.ensures.reads.passed
-    (behaves_more (state c.descend.new.tx) (state c.put_cell.new.tx) 1 66 (device c.descend.new.tx) (device c.put_cell.new.tx) c.put_cell.result (omega arith) c.put_cell.ensures.behaves)
+returns-then-leaf-cell_count-clause-behaves g c = behaves_next c.in-Ok.ensures.reads.reads c.in-Ok.ensures.reads.later c.in-Ok.ensures.reads.passed c.put_cell.ensures.behaves (omega arith)
 
-pub put_new-requires-2-clause-usable : goal.put_new-requires-2-clause-usable
-put_new-requires-2-clause-usable g c =
+pub put_new-requires-2-clause-path : goal.put_new-requires-2-clause-path
+put_new-requires-2-clause-path g c =
     let state = g.T.TxBlocks.state in
-    let least = c.requires.area.least_size in
-    let one : 1 ≤ c.in-Ok.leaf.count = omega (arith, c.if-leaf-cell_count.false, c.cell_count.ensures) in
-    subst (AreShownUsable c.args.area (state c.descend.new.tx)) (sym (c.nodes.ensures ∙ c.push.ensures))
-    (leaf_usable c.args.area c.args.key.now c.args.value.now c.args.root c.args.level c.if-root-eq0.false (state c.args.tx.now) (state c.descend.new.tx) c.descend.new.path c.descend.new.buffer c.in-Ok.leaf c.in-Ok.ensures.leaf c.in-Ok.ensures.run
-    c.in-Ok.ensures.reads.reads one)
-
-pub put_new-requires-2-clause-some : goal.put_new-requires-2-clause-some
-put_new-requires-2-clause-some g c =
-    let keys = take (keys_end c.args.area.size) c.descend.new.buffer in
     let n = cell_count c.args.area.size in
-    let few = (node_parts c.args.area.size 0 keys c.in-Ok.ensures.leaf.node).few in
+    let least = c.requires.within.area.least_size in
+    let one : 1 ≤ c.in-Ok.leaf.count = omega (arith, c.if-leaf-cell_count.false, c.cell_count.ensures) in
+    let few = (node_parts c.args.area.size 0 (take (keys_end c.args.area.size) c.descend.new.buffer) c.in-Ok.ensures.leaf.node).few in
     let full : c.in-Ok.leaf.count ≡ n = omega (arith, c.if-leaf-cell_count.false, c.cell_count.ensures, c.in-Ok.ensures.leaf.count) in
-    subst (λ (p : List (ℕ × ℕ)). 1 ≤ need_of n p) (sym (c.nodes.ensures ∙ c.push.ensures)) (full_needs n c.in-Ok.leaf.block c.in-Ok.leaf.count c.descend.new.path full)
+    let long : length c.descend.new.path + 1 ≤ 32 = omega (arith, c.in-Ok.ensures.long, c.requires.head.level) in
+    subst (NeedsBlocks c.args.area (state c.descend.new.tx)) (sym (c.nodes.ensures ∙ c.push.ensures)) (record {
+      inside = (c.in-Ok.ensures.leaf.inside, c.in-Ok.ensures.path);
+      long = omega (arith, long);
+      usable = leaf_usable c.args.area c.args.key.now c.args.value.now c.args.root c.args.level c.if-root-eq0.false (state c.args.tx.now) (state c.descend.new.tx) c.descend.new.path c.descend.new.buffer c.in-Ok.leaf c.in-Ok.ensures.leaf c.in-Ok.ensures.run c.in-Ok.ensures.reads.reads one;
+      some = full_needs n c.in-Ok.leaf.block c.in-Ok.leaf.count c.descend.new.path full;
+    })
 
 pub returns-clause-run : goal.returns-clause-run
 returns-clause-run g c =
@@ -66,8 +55,4 @@ returns-clause-run g c =
     (subst (λ (p : List (ℕ × ℕ)). HasRun (with_map c.args.area c.args.key.now c.args.value.now p) (state c.descend.new.tx) (state c.put_new-2.new.tx) c.put_new-2.result) (c.nodes.ensures ∙ c.push.ensures) c.put_new-2.ensures.run)
 
 pub returns-clause-behaves : goal.returns-clause-behaves
-returns-clause-behaves g c =
-    let state = g.T.TxBlocks.state in
-    let device = g.T.TxBlocks.device in
-    behaves_after (state c.args.tx.now) (state c.descend.new.tx) (state c.put_new-2.new.tx) 66 (device c.args.tx.now) (device c.descend.new.tx) (device c.put_new-2.new.tx) c.put_new-2.result
-    c.in-Ok.ensures.reads.reads c.in-Ok.ensures.reads.later c.in-Ok.ensures.reads.passed c.put_new-2.ensures.behaves
+returns-clause-behaves g c = behaves_next c.in-Ok.ensures.reads.reads c.in-Ok.ensures.reads.later c.in-Ok.ensures.reads.passed c.put_new-2.ensures.behaves (omega arith)

@@ -1,4 +1,4 @@
-use Rattle.iso_tree.proofs.{Words.{◌∙◌, sym, subst, ℕ, get_program, area_of, HasRun}, Getting.{bad_key, local_any}}
+use Rattle.iso_tree.proofs.{Words.{◌∙◌, sym, subst, Area, get_program, area_of, HasRun}, Getting.{bad_key, local_any}}
 use Rattle.iso_tree.proofs.lookup.get.Goals as goal
 
 pub returns-then-not-is_key-clause-ended : goal.returns-then-not-is_key-clause-ended
@@ -9,4 +9,4 @@ pub returns-clause-local : goal.returns-clause-local
 returns-clause-local g c =
     let state = g.T.TxBlocks.state in
     local_any (area_of (state c.args.tx.now) c.args.region) c.args.key.now (state c.args.tx.now) (state c.get_with.new.tx) c.get_with.result (sym c.is_key.ensures ∙ c.if-not-is_key.false)
-    (subst (λ (n : ℕ). HasRun (get_program (record { size = n; start = c.args.region.start; blocks = c.args.region.size }) c.args.key.now) (state c.args.tx.now) (state c.get_with.new.tx) c.get_with.result) c.block_size.ensures c.get_with.ensures.run)
+    (subst (λ (a : Area). HasRun (get_program a c.args.key.now) (state c.args.tx.now) (state c.get_with.new.tx) c.get_with.result) c.area_of-area.ensures c.get_with.ensures.run)

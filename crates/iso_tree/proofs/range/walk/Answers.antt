@@ -1,16 +1,25 @@
-use Rattle.iso_tree.proofs.{Words.{◌≡◌, ◌∙◌, refl, sym, subst, ◌-◌, ℕ, List, [], ◌∷◌, Err, inl, length, arith, read_join, IsAt, at_join, at_start, later_than, read_none, scan_nodes}, Scanning.{at_next, scanned_from, walk_full}}
+use Rattle.iso_tree.proofs.{Words.{◌≡◌, ◌∙◌, refl, sym, subst, ◌-◌, ℕ, List, [], ◌∷◌, Err, inl, length, arith, Program, Scanned, read_join, IsAt, at_join, at_start, later_than, read_none, scan_nodes}, Scanning.{at_next, scanned_from, walk_full}, range.walk.Goals.In-Some}
+use Rattle.iso_tree.proofs.range.walk.Given as given
 use Rattle.iso_tree.proofs.range.walk.Goals as goal
+
+-- the next node is before the others, whether its step is refused or not
+module _ (g : given.Over) (c : In-Some g) where
+  abbrev whole : Program Scanned
+  whole = scan_nodes c.args.area c.args.from.now c.args.to.now c.args.unread.now c.args.max []
+
+  abbrev next : Program Scanned
+  next = scan_nodes c.args.area c.args.from.now c.args.to.now ((c.in-Some.level, c.in-Some.block) ∷ c.pop.new.self) (c.args.max - length c.loop-alloc.found) c.loop-alloc.found
+
+  here : IsAt whole next (g.T.TxBlocks.state c.args.tx.now) (g.T.TxBlocks.state c.loop-alloc.tx)
+  here =
+      at_next c.args.area c.args.from.now c.args.to.now whole (g.T.TxBlocks.state c.args.tx.now) (g.T.TxBlocks.state c.loop-alloc.tx) c.loop-alloc.unread (c.in-Some.level, c.in-Some.block) c.pop.new.self (c.args.max - length c.loop-alloc.found) c.loop-alloc.found
+      c.in-Some.ensures.some c.loop-alloc.invariant.here
 
 pub returns-in-Err-clause-run : goal.returns-in-Err-clause-run
 returns-in-Err-clause-run g c =
     let state = g.T.TxBlocks.state in
-    let a = c.args.area in
-    let whole = scan_nodes a c.args.from.now c.args.to.now c.args.unread.now c.args.max [] in
-    let max = c.args.max in
-    let found = c.loop-alloc.found in
-    let next = scan_nodes a c.args.from.now c.args.to.now ((c.in-Some.level, c.in-Some.block) ∷ c.pop.new.self) (max - length found) found in
-    let here = at_next a c.args.from.now c.args.to.now whole (state c.args.tx.now) (state c.loop-alloc.tx) c.loop-alloc.unread (c.in-Some.level, c.in-Some.block) c.pop.new.self (max - length found) found c.in-Some.ensures.some c.loop-alloc.invariant.here in
-    scanned_from whole next (state c.args.tx.now) (state c.loop-alloc.tx) (state c.step.new.tx) (Err c.in-Err.e) here c.in-Err.ensures.refused
+    let s = (goal.at.returns-in-Err-clause-run g c).In-Some in
+    scanned_from (whole g s) (next g s) (state c.args.tx.now) (state c.loop-alloc.tx) (state c.step.new.tx) (Err c.in-Err.e) (here g s) c.in-Err.ensures.refused
 
 pub loop-alloc-init : goal.loop-alloc-init
 loop-alloc-init g c =
@@ -31,15 +40,11 @@ loop-alloc-init g c =
 pub loop-alloc-preserved : goal.loop-alloc-preserved
 loop-alloc-preserved g c =
     let state = g.T.TxBlocks.state in
-    let a = c.args.area in
-    let whole = scan_nodes a c.args.from.now c.args.to.now c.args.unread.now c.args.max [] in
-    let max = c.args.max in
-    let found = c.loop-alloc.found in
-    let next = scan_nodes a c.args.from.now c.args.to.now ((c.in-Some.level, c.in-Some.block) ∷ c.pop.new.self) (max - length found) found in
-    let here = at_next a c.args.from.now c.args.to.now whole (state c.args.tx.now) (state c.loop-alloc.tx) c.loop-alloc.unread (c.in-Some.level, c.in-Some.block) c.pop.new.self (max - length found) found c.in-Some.ensures.some c.loop-alloc.invariant.here in
     let device = g.T.TxBlocks.device in
+    let s = (goal.at.loop-alloc-preserved g c).In-Some in
+    let later = scan_nodes c.args.area c.args.from.now c.args.to.now c.step.new.unread (c.args.max - length c.step.new.found) c.step.new.found in
     record {
-      here = at_join whole next (scan_nodes a c.args.from.now c.args.to.now c.step.new.unread (max - length c.step.new.found) c.step.new.found) (state c.args.tx.now) (state c.loop-alloc.tx) (state c.step.new.tx) here c.in_default-step.ensures.run;
+      here = at_join (whole g s) (next g s) later (state c.args.tx.now) (state c.loop-alloc.tx) (state c.step.new.tx) (here g s) c.in_default-step.ensures.run;
       nodes = c.in_default-step.ensures.nodes;
       reads = read_join (state c.args.tx.now) (state c.loop-alloc.tx) (state c.step.new.tx) c.loop-alloc.invariant.reads c.in_default-step.ensures.reads.reads;
       later = later_than (device c.args.tx.now) (device c.loop-alloc.tx) (device c.step.new.tx) c.loop-alloc.invariant.later c.in_default-step.ensures.reads.later;

@@ -1,4 +1,4 @@
-use Rattle.iso_tree.proofs.{Words.{◌∙◌, sym, refl, subst, ℕ, area_of, HasRun, del_program}, Removing.{del_bad_key, del_call}}
+use Rattle.iso_tree.proofs.{Words.{◌∙◌, sym, refl, subst, Area, area_of, HasRun, del_program}, Removing.{del_bad_key, del_call}}
 use Rattle.iso_tree.proofs.remove.del.Goals as goal
 
 pub returns-then-not-is_key-clause-ended : goal.returns-then-not-is_key-clause-ended
@@ -10,4 +10,4 @@ returns-clause-local g c =
     let state = g.T.TxBlocks.state in
     del_call (area_of (state c.args.tx.now) c.args.region) c.args.key.now (state c.args.tx.now) (state c.remove_with.new.tx) c.remove_with.result c.requires.area (sym c.is_key.ensures ∙ c.if-not-is_key.false)
     (g.met.T.TxBlocks.limits c.args.tx.now) refl c.requires.fits
-    (subst (λ (n : ℕ). HasRun (del_program (record { size = n; start = c.args.region.start; blocks = c.args.region.size }) c.args.key.now) (state c.args.tx.now) (state c.remove_with.new.tx) c.remove_with.result) c.block_size.ensures c.remove_with.ensures.run)
+    (subst (λ (a : Area). HasRun (del_program a c.args.key.now) (state c.args.tx.now) (state c.remove_with.new.tx) c.remove_with.result) c.area_of-area.ensures c.remove_with.ensures.run)
