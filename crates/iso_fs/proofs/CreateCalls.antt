@@ -1,5 +1,5 @@
 -- A create is local.
-use Rattle.iso_fs.proofs.{Words.{◌≡◌, ◌∙◌, sym, refl, ap, subst, ℕ, ◌+◌, ◌-◌, ◌<◌, ◌≤◌, Bool, true, cond, List, [], ◌∷◌, length, Option, Some, None, Result, Ok, Err, arith, get, w32, to_be_bytes, StoreError, NoBlocks, Array, put, own, bit_place, lowest_free, map_mark, set_bit, is_key, block_at, IsLocal, accesses_of, answer_of, bytes_in, get_program, put_program, tree_map, AreWhole, IsCorrect, accesses_then, answer_then, local_from, HasBlocks, whole_append, nothing_is, put_whole, FsError, FileAreas, Call, create_at, create_new, create_op, create_program, empty_writes, goes_on, in_tree, refuse, AreFileAreas, AreFileRegions, files}, AfterTree.{answer_got, own_got, own_then, whole_behind_get}, Creates.{HasCreated, created}, MapByte.{IsFree, is_free, length-block_with}, NewFile.length-empty_file}
+use Rattle.iso_fs.proofs.{Words.{length-block_with, ◌≡◌, ◌∙◌, sym, refl, ap, subst, ℕ, ◌+◌, ◌-◌, ◌<◌, ◌≤◌, Bool, true, cond, List, [], ◌∷◌, length, Option, Some, None, Result, Ok, Err, arith, get, w32, to_be_bytes, StoreError, NoBlocks, Array, put, own, bit_place, lowest_free, map_mark, set_bit, is_key, block_at, IsLocal, accesses_of, answer_of, bytes_in, get_program, put_program, tree_map, AreWhole, IsCorrect, accesses_then, answer_then, local_from, HasBlocks, whole_append, nothing_is, put_whole, FsError, FileAreas, Call, create_at, create_new, create_op, create_program, empty_writes, goes_on, in_tree, refuse, AreFileAreas, AreFileRegions, files}, AfterTree.{answer_got, own_got, own_then, whole_behind_get}, Creates.{HasCreated, created}, MapByte.{IsFree, is_free}, NewFile.length-empty_file}
 use Rattle.store_model.specs.declared.files.FsError.TheVariants as fs
 
 no_ok : (e : FsError) (r : Unit {0}) → ◌≡◌ {A = Result (Unit {0}) FsError} (Err e) (Ok r) → ⊥

@@ -1,5 +1,5 @@
 -- A block of which one span was written with the bytes of another list.
-use Rattle.iso_fs.proofs.{Words.{◌≡◌, ◌≢◌, ◌↔◌, ◌∙◌, sym, refl, ap, ℕ, ◌+◌, ◌-◌, ◌<◌, ◌≤◌, ◌==◌, ◌&&◌, true, false, not, cond, IsTrue, List, [], ◌∷◌, length, get_or, drop, replicate, arith, inl, inr, eq-eqb, ne_eqb, nat_lt, and_from, and_parts, cases_Bool, or_left, nat_tests, get_or-take, get_or-drop, get_or-set_other, length-drop, length-replicate, length-set, length-take-le, Span, covered, in_span, merged, bytes_in, block_with, bit_place, clear_bit, map_bit, without_bit, IsIn, merged_kept, laid_here, laid_all, high_place, low_place}, MapByte.length-block_with}
+use Rattle.iso_fs.proofs.{Words.{length-block_with, ◌≡◌, ◌≢◌, ◌↔◌, ◌∙◌, sym, refl, ap, ℕ, ◌+◌, ◌-◌, ◌<◌, ◌≤◌, ◌==◌, ◌&&◌, true, false, not, cond, IsTrue, List, [], ◌∷◌, length, get_or, drop, replicate, arith, inl, inr, eq-eqb, ne_eqb, nat_lt, and_from, and_parts, cases_Bool, or_left, nat_tests, get_or-take, get_or-drop, get_or-set_other, length-drop, length-replicate, length-set, length-take-le, Span, covered, in_span, merged, bytes_in, block_with, bit_place, clear_bit, map_bit, without_bit, IsIn, merged_kept, laid_here, laid_all, high_place, low_place}}
 use Rattle.iso_alloc.proofs.Bits.{without_bits}
 use Rattle.store_model.specs.FileCalls as calls
 

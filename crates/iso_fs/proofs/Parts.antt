@@ -1,19 +1,10 @@
 -- The parts of a call: what follows another name of a program, a call of the tree store, a read or a write.
-use Rattle.iso_fs.proofs.{Words.{◌≡◌, ◌≢◌, ◌∙◌, refl, ap, ℕ, ◌+◌, ◌≤◌, Bool, true, List, [], ◌∷◌, None, Result, Ok, Err, arith, IfErr, Access, Span, Area, StoreError, TxError, FsError, FileAreas, FsRegion, map_mark, Done, LookWhole, Program, AreReads, Store, bytes_in, look_access, store_access, Tx, Device, IsLater, IsTx, with_accesses, AreBytesOf, Ran, IsCause, IsStoreCause, HasEnded, HasRead, Passed, HasAccess, at_look, at_look_whole, at_start, at_store, ran_at, cut_at_look, cut_at_store, cut_at_whole, read_more, read_none, read_same, later_same, store_cause, Call, in_tree, look_map, refuse, AreFileAreas, HasAnswered, HasArea, HasRun, IsFsCause, IsPart, areas_of, may_follow}, Ended.{behaves_after, behaves_behind, done_so, fs_since, refused_access, refused_so, refused_store, run_from, tree_done, tree_refused, unwritten_tree}}
+use Rattle.iso_fs.proofs.{Words.{◌≡◌, ◌≢◌, ◌∙◌, refl, ap, ℕ, ◌≤◌, Bool, true, List, [], ◌∷◌, None, Result, Ok, Err, arith, IfErr, Access, Span, Area, StoreError, TxError, FsError, FileAreas, map_mark, Done, LookWhole, Program, AreReads, Store, bytes_in, look_access, store_access, Tx, Device, IsLater, IsTx, with_accesses, AreBytesOf, Ran, IsCause, IsStoreCause, HasEnded, HasRead, Passed, HasAccess, at_look, at_look_whole, at_start, at_store, ran_at, cut_at_look, cut_at_store, cut_at_whole, read_more, read_none, read_same, later_same, store_cause, Call, in_tree, look_map, refuse, AreFileAreas, HasAnswered, HasArea, HasRun, IsFsCause, IsPart, may_follow}, Ended.{behaves_after, behaves_behind, done_so, fs_since, refused_access, refused_so, refused_store, run_from, tree_done, tree_refused, unwritten_tree}}
 use Rattle.store_model.specs.declared.stores.StoreError.TheVariants as store
 use Rattle.store_model.specs.declared.files.FsError.TheVariants as fs
 use Rattle.tx_blocks.specs.Runs as runs
 
 -- THE BLOCKS STAY
-pub area_stays : {t u : Tx} {a : Area} (done : List Access) → u ≡ with_accesses t done → HasArea t a → HasArea u a
-area_stays done is has =
-    let fits = has.fits in
-    let same = ap (λ (w : Tx). w.blocks) is in
-    record { least = has.least; most = has.most; size = ap (λ (w : Tx). w.size) is ∙ has.size; fits = omega (arith, same, fits) }
-
-pub area_read : {t u : Tx} {a : Area} → HasRead t u → HasArea t a → HasArea u a
-area_read read has = area_stays read.done read.is has
-
 pub tree_area : {t : Tx} {a : FileAreas} → AreFileAreas a → HasArea t a.files → HasArea t a.tree
 tree_area areas has =
     let size = areas.size in
@@ -22,10 +13,6 @@ tree_area areas has =
     let most = has.most in
     let fits = has.fits in
     record { least = omega arith; most = omega arith; size = has.size ∙ size; fits = omega arith }
-
--- where the call begins
-pub first_area : {a : FileAreas} (t : Tx) (at : FsRegion) → a ≡ areas_of t at → AreFileAreas (areas_of t at) → IsTx t → at.files.start + at.files.size ≤ t.blocks → HasArea t a.files
-first_area t at is areas tx fits = rw is (record { least = areas.tree.least_size; most = tx.most; size = refl; fits = fits })
 
 -- READS
 pub read_kept : {t u : Tx} → u ≡ t → HasRead t u

@@ -1,5 +1,5 @@
 -- A removal is local.
-use Rattle.iso_fs.proofs.{Words.{◌≡◌, ◌∙◌, sym, refl, ap, subst, ℕ, ◌+◌, ◌<◌, ◌==◌, Bool, true, false, cond, List, ◌∷◌, length, drop, Option, Some, None, option_map, Result, Ok, Err, arith, inl, inr, is_some, get, remove, and_parts, cases_Bool, length-take, StoreError, Array, own, map_bytes, map_mark, IsIn, is_key, block_at, IsLocal, LookWhole, accesses_of, answer_of, bytes_in, del_program, get_program, tree_map, AreWhole, IsCorrect, accesses_then, answer_then, local_from, del_whole, whole_append, nothing_is, area_block, same_ok, FsError, FileAreas, data_count, entries_of, entry_at, is_file, is_handed, is_number, number_of, Call, at_file, bits_mark, broken, goes_on, in_tree, refuse, without_bits, remove_file, remove_op, remove_program, remove_writes, AreFileAreas, AreFileRegions, content, file_at, files, same_map, slice_cmp-IsAntisymmetric, nat_cmp-IsAntisymmetric, nat_list_cmp_total}, AfterTree.{answer_at_file, answer_got, own_at_file, own_got, own_then, whole_behind_get}, CreateCalls.HaveBlocks, Files.{IsHanded, entry_handed, file_parts, handed_is}, MapByte.length-block_with, MapLaid.{high_below, high_is, low_is}, Lookups.{files_get, name_is, same_name}, Removes.{in_range_map, removed}, Renames.remove_get}
+use Rattle.iso_fs.proofs.{Words.{length-block_with, ◌≡◌, ◌∙◌, sym, refl, ap, subst, ℕ, ◌+◌, ◌<◌, ◌==◌, Bool, true, false, cond, List, ◌∷◌, length, drop, Option, Some, None, option_map, Result, Ok, Err, arith, inl, inr, is_some, get, remove, and_parts, cases_Bool, length-take, StoreError, Array, own, map_bytes, map_mark, IsIn, is_key, block_at, IsLocal, LookWhole, accesses_of, answer_of, bytes_in, del_program, get_program, tree_map, AreWhole, IsCorrect, accesses_then, answer_then, local_from, del_whole, whole_append, nothing_is, area_block, same_ok, FsError, FileAreas, data_count, entries_of, entry_at, is_file, is_handed, is_number, number_of, Call, at_file, bits_mark, broken, goes_on, in_tree, refuse, without_bits, remove_file, remove_op, remove_program, remove_writes, AreFileAreas, AreFileRegions, content, file_at, files, same_map, slice_cmp-IsAntisymmetric, nat_cmp-IsAntisymmetric, nat_list_cmp_total}, AfterTree.{answer_at_file, answer_got, own_at_file, own_got, own_then, whole_behind_get}, CreateCalls.HaveBlocks, Files.{IsHanded, entry_handed, file_parts, handed_is}, MapLaid.{high_below, high_is, low_is}, Lookups.{files_get, name_is, same_name}, Removes.{in_range_map, removed}, Renames.remove_get}
 use Rattle.store_model.specs.declared.files.FsError.TheVariants as fs
 
 no_ok : (e : FsError) (r : Bool) → ◌≡◌ {A = Result Bool FsError} (Err e) (Ok r) → ⊥

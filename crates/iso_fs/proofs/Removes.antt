@@ -24,12 +24,6 @@ range_map_in f from (suc n) i low high = elim (Rattle.std.proofs.lemmas.Bool.cas
 
 module _ (a : FileAreas) (areas : AreFileAreas a) (A : Array) (regions : AreFileRegions a A) (name : List ℕ) (key : is_key name ≡ true) (value : List ℕ) (there : get (tree_map a.tree A) name ≡ Some value)
     (r : Bool) (ok : answer_of (del_program a.tree name) A ≡ Ok r) where
-  abbrev start : ℕ
-  start = a.files.start
-
-  abbrev size : ℕ
-  size = a.files.size
-
   abbrev number : ℕ
   number = number_of value
 
@@ -37,10 +31,10 @@ module _ (a : FileAreas) (areas : AreFileAreas a) (A : Array) (regions : AreFile
   file = file_at a A number
 
   abbrev entries : List ℕ
-  entries = entries_of size file
+  entries = entries_of a.files.size file
 
   abbrev F : List ℕ
-  F = block_at A start
+  F = block_at A a.files.start
 
   abbrev first : List ℕ
   first = bytes_in (map_mark a.files.blocks) F
@@ -52,7 +46,7 @@ module _ (a : FileAreas) (areas : AreFileAreas a) (A : Array) (regions : AreFile
   m = bits_mark number entries
 
   abbrev w : Access
-  w = store_access start (m ∷ []) (block_with size m.off (bytes_in m U))
+  w = store_access a.files.start (m ∷ []) (block_with a.files.size m.off (bytes_in m U))
 
   abbrev B : Array
   B = own A (accesses_of (del_program a.tree name) A)
@@ -63,10 +57,10 @@ module _ (a : FileAreas) (areas : AreFileAreas a) (A : Array) (regions : AreFile
   named : number_at a A name ≡ Some number
   named = ap (option_map number_of) there
 
-  zero_start : start + 0 ≡ start
+  zero_start : a.files.start + 0 ≡ a.files.start
   zero_start = omega arith
 
-  size_some : 256 ≤ size
+  size_some : 256 ≤ a.files.size
   size_some = let s = areas.size in let l = areas.tree.least_size in omega arith
 
   -- the blocks of the file
@@ -74,7 +68,7 @@ module _ (a : FileAreas) (areas : AreFileAreas a) (A : Array) (regions : AreFile
   to_use j is = elim is [
     | inl here ↦ (0, record { number = number; named = named; inside = omega arith; is = here })
     | inr later ↦
-        (let at = in_range_map (entry_at file) 0 (data_count size file) j later in
+        (let at = in_range_map (entry_at file) 0 (data_count a.files.size file) j later in
         (suc at.0, record { number = number; named = named; inside = (let h = at.2 in omega arith); is = at.3 }))
   ]
 
@@ -82,9 +76,9 @@ module _ (a : FileAreas) (areas : AreFileAreas a) (A : Array) (regions : AreFile
   from_use zero j uses = inl (same_some number uses.number (sym named ∙ uses.named) ∙ uses.is)
   from_use (suc i) j uses =
       let same : uses.number ≡ number = same_some uses.number number (sym uses.named ∙ named) in
-      let inside : suc i ≤ data_count size file = subst (λ (n : ℕ). suc i ≤ data_count size (file_at a A n)) same uses.inside in
+      let inside : suc i ≤ data_count a.files.size file = subst (λ (n : ℕ). suc i ≤ data_count a.files.size (file_at a A n)) same uses.inside in
       let is : entry_at file i ≡ j = ap (λ (n : ℕ). entry_at (file_at a A n) i) (sym same) ∙ uses.is in
-      inr (subst (λ (x : ℕ). IsIn x entries) is (range_map_in (entry_at file) 0 (data_count size file) i (omega arith) (omega arith)))
+      inr (subst (λ (x : ℕ). IsIn x entries) is (range_map_in (entry_at file) 0 (data_count a.files.size file) i (omega arith) (omega arith)))
 
   below : (j : ℕ) → IsIn j (number ∷ entries) → j < a.files.blocks
   below j is = let found = to_use j is in (uses_handed a A regions name found.0 j found.1).below
@@ -96,16 +90,16 @@ module _ (a : FileAreas) (areas : AreFileAreas a) (A : Array) (regions : AreFile
   map_B : tree_map a.tree B ≡ remove (tree_map a.tree A) name
   map_B = (del_correct a.tree name areas.tree key).maps A r regions.tree ok
 
-  file_out : (j : ℕ) → in_area a.tree (start + j) ≡ false
+  file_out : (j : ℕ) → in_area a.tree (a.files.start + j) ≡ false
   file_out j = let f = areas.follows in grind (arith, nat_tests)
 
-  start_out : in_area a.tree start ≡ false
+  start_out : in_area a.tree a.files.start ≡ false
   start_out = ap (in_area a.tree) (sym zero_start) ∙ file_out 0
 
   file_B : (j : ℕ) → file_at a B j ≡ file_at a A j
-  file_B j = kept_outside (in_area a.tree) (del_program a.tree name) A (start + j) (del_program_stores a.tree name) (file_out j)
+  file_B j = kept_outside (in_area a.tree) (del_program a.tree name) A (a.files.start + j) (del_program_stores a.tree name) (file_out j)
 
-  first_B : block_at B start ≡ F
+  first_B : block_at B a.files.start ≡ F
   first_B = ap (block_at B) (sym zero_start) ∙ file_B 0 ∙ ap (block_at A) zero_start
 
   tree_C : (b : ℕ) → in_area a.tree b ≡ true → block_at C b ≡ block_at B b
@@ -119,12 +113,12 @@ module _ (a : FileAreas) (areas : AreFileAreas a) (A : Array) (regions : AreFile
 
   -- THE BLOCKS OF THE FILE REGION
   other_C : (j : ℕ) → 1 ≤ j → file_at a C j ≡ file_at a A j
-  other_C j some = other_block B w (start + j) (λ e. absurd (omega arith)) ∙ file_B j
+  other_C j some = other_block B w (a.files.start + j) (λ e. absurd (omega arith)) ∙ file_B j
 
-  first_long : length F ≡ size
+  first_long : length F ≡ a.files.size
   first_long = ap (λ (b : ℕ). length (block_at A b)) (sym zero_start) ∙ regions.shape 0 (let l = areas.least in omega arith)
 
-  room : 64 + map_bytes a.files.blocks ≤ size
+  room : 64 + map_bytes a.files.blocks ≤ a.files.size
   room = let x = areas.most in let s = size_some in omega arith
 
   first_size : length first ≡ 64 + map_bytes a.files.blocks
@@ -152,15 +146,15 @@ module _ (a : FileAreas) (areas : AreFileAreas a) (A : Array) (regions : AreFile
       let has : in_span p m ≡ true = grind (arith, nat_tests) in
       both_ways (in_span p m) out has))
 
-  first_C : block_at C start ≡ merged (m ∷ []) 0 F (block_with size m.off (bytes_in m U))
-  first_C = written_block B w ∙ ap (λ (old : List ℕ). merged (m ∷ []) 0 old (block_with size m.off (bytes_in m U))) first_B
+  first_C : block_at C a.files.start ≡ merged (m ∷ []) 0 F (block_with a.files.size m.off (bytes_in m U))
+  first_C = written_block B w ∙ ap (λ (old : List ℕ). merged (m ∷ []) 0 old (block_with a.files.size m.off (bytes_in m U))) first_B
 
-  byte_C : (p : ℕ) → p < length U → get_or (block_at C start) p 0 ≡ get_or U p 0
+  byte_C : (p : ℕ) → p < length U → get_or (block_at C a.files.start) p 0 ≡ get_or U p 0
   byte_C p inside =
       ap (λ (b : List ℕ). get_or b p 0) first_C
-      ∙ laid_as size F U m first_long (let x = m_fits in omega (arith, U_long)) (let x = m_fits in let y = room in omega arith) outside_same p inside
+      ∙ laid_as a.files.size F U m first_long (let x = m_fits in omega (arith, U_long)) (let x = m_fits in let y = room in omega arith) outside_same p inside
 
-  bit_C : (k : ℕ) → k < 8 * map_bytes a.files.blocks → map_bit (block_at C start) k ≡ map_bit U k
+  bit_C : (k : ℕ) → k < 8 * map_bytes a.files.blocks → map_bit (block_at C a.files.start) k ≡ map_bit U k
   bit_C k low = ap (λ (x : ℕ). Rattle.std.specs.Int.bit_at x (k % 8) == 1) (byte_C (bit_place k) (omega (arith, U_long)))
 
   bit_first : (k : ℕ) → k < 8 * map_bytes a.files.blocks → map_bit first k ≡ map_bit F k
@@ -200,7 +194,7 @@ module _ (a : FileAreas) (areas : AreFileAreas a) (A : Array) (regions : AreFile
   used_now : (q : List ℕ) (place block : ℕ) → same_name q name ≡ false → Uses a A q place block → Uses a C q place block
   used_now q place block other uses = still_uses a A C q uses.number uses.named (number_now q uses.number other uses.named) (kept q) place block uses
 
-  bits_C : (k : ℕ) → k < 8 * map_bytes a.files.blocks → map_bit (block_at C start) k ≡ true → IsUsed a C k
+  bits_C : (k : ℕ) → k < 8 * map_bytes a.files.blocks → map_bit (block_at C a.files.start) k ≡ true → IsUsed a C k
   bits_C k low set =
       let left = bits_left first (number ∷ entries) (λ j is. omega (arith, place_inside j is, first_size)) k in
       let both = left.0 (sym (bit_C k low) ∙ set) in
@@ -210,7 +204,7 @@ module _ (a : FileAreas) (areas : AreFileAreas a) (A : Array) (regions : AreFile
         | inr other ↦ record { name = used.name; place = used.place; uses = used_now used.name used.place k other used.uses }
       ]
 
-  set_C : (k : ℕ) → k < 8 * map_bytes a.files.blocks → IsUsed a C k → map_bit (block_at C start) k ≡ true
+  set_C : (k : ℕ) → k < 8 * map_bytes a.files.blocks → IsUsed a C k → map_bit (block_at C a.files.start) k ≡ true
   set_C k low used =
       let left = bits_left first (number ∷ entries) (λ j is. omega (arith, place_inside j is, first_size)) k in
       let was = used_before used.name used.place k used.uses in
@@ -224,16 +218,16 @@ module _ (a : FileAreas) (areas : AreFileAreas a) (A : Array) (regions : AreFile
         set,
       )
 
-  head_C : list_all is_zero (take 64 (block_at C start)) ≡ true
+  head_C : list_all is_zero (take 64 (block_at C a.files.start)) ≡ true
   head_C =
       let low = low_least number entries in
       ap (λ (b : List ℕ). list_all is_zero (take 64 b)) first_C
-      ∙ ap (list_all is_zero) (kept_1 (record { off = 0; len = 64 }) m F (block_with size m.off (bytes_in m U)) (inl (omega arith))) ∙ regions.head
+      ∙ ap (list_all is_zero) (kept_1 (record { off = 0; len = 64 }) m F (block_with a.files.size m.off (bytes_in m U)) (inl (omega arith))) ∙ regions.head
 
   regions_C : AreFileRegions a C
   regions_C = record {
     tree = region_C;
-    shape = λ k inside. length-block_put B w (start + k) ∙ length-block_own A (accesses_of (del_program a.tree name) A) (start + k) ∙ regions.shape k inside;
+    shape = λ k inside. length-block_put B w (a.files.start + k) ∙ length-block_own A (accesses_of (del_program a.tree name) A) (a.files.start + k) ∙ regions.shape k inside;
     named = λ q v e. regions.named q v (stayed q v e).before;
     files = λ q n e.
         let was = number_was q n e in

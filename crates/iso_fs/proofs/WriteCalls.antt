@@ -1,5 +1,5 @@
 -- A write is that of the files.
-use Rattle.iso_fs.proofs.{Words.{◌≡◌, ◌∙◌, sym, refl, ap, subst, ℕ, zero, suc, ◌+◌, ◌-◌, ◌*◌, ◌/◌, ◌%◌, ◌^◌, ◌<◌, ◌≤◌, ◌==◌, ◌&&◌, Bool, true, false, cond, List, [], ◌∷◌, ◌++◌, length, get_or, take, nat_le, Option, Some, None, option_map, Result, Ok, Err, arith, inl, inr, nat_lt, list_all, get, and_parts, cases_Bool, leb-true, nat_tests, mul-le-mul_right, append-nil, Access, NoBlocks, Array, put, own, is_zero, free_count, map_bit, map_bytes, map_mark, is_key, block_at, Done, Store, accesses_of, answer_of, bytes_in, store_access, changed_map, changed_mark, first_write, free_list, get_program, tree_map, length-block_put, other_block, written_block, IsCorrect, kept_1, laid_whole, bits_after, sizes_of, same_ok, AreTaken, taken_are, up_apart, FsError, FileAreas, blocks_for, bytes_of, data_count, entries_of, entry_at, file_block, is_file, is_handed, most_bytes, number_of, Call, at_file, in_tree, is_many, refuse, with_new, write_in, write_op, write_pieces, write_program, write_sized, write_to, written, AreFileAreas, AreFileRegions, Uses, content, file_at, files}, AfterTree.{answer_at_file, answer_got, own_at_file, own_got}, FileBlocks.{block_bytes, block_count, block_entry, block_is_file, length-file_block}, Files.{IsHanded, count_fits, count_mono, uses_handed}, MapByte.map_byte, Lookups.files_get, Writes.{E_handed, E_long, HasBlock, HasTaken, HasWritten, has_written, old_entry}}
+use Rattle.iso_fs.proofs.{Words.{map_byte, ◌≡◌, ◌∙◌, sym, refl, ap, subst, ℕ, zero, suc, ◌+◌, ◌-◌, ◌*◌, ◌/◌, ◌%◌, ◌^◌, ◌<◌, ◌≤◌, ◌==◌, ◌&&◌, Bool, true, false, cond, List, [], ◌∷◌, ◌++◌, length, get_or, take, nat_le, Option, Some, None, option_map, Result, Ok, Err, arith, inl, inr, nat_lt, list_all, get, and_parts, cases_Bool, leb-true, nat_tests, mul-le-mul_right, append-nil, Access, NoBlocks, Array, put, own, is_zero, free_count, map_bit, map_bytes, map_mark, is_key, block_at, Done, Store, accesses_of, answer_of, bytes_in, store_access, changed_map, changed_mark, first_write, free_list, get_program, tree_map, length-block_put, other_block, written_block, IsCorrect, kept_1, laid_whole, bits_after, sizes_of, same_ok, AreTaken, taken_are, up_apart, FsError, FileAreas, blocks_for, bytes_of, data_count, entries_of, entry_at, file_block, is_file, is_handed, most_bytes, number_of, Call, at_file, in_tree, is_many, refuse, with_new, write_in, write_op, write_pieces, write_program, write_sized, write_to, written, AreFileAreas, AreFileRegions, Uses, content, file_at, files}, AfterTree.{answer_at_file, answer_got, own_at_file, own_got}, FileBlocks.{block_bytes, block_count, block_entry, block_is_file, length-file_block}, Files.{IsHanded, count_fits, count_mono, uses_handed}, Lookups.files_get, Writes.{E_handed, E_long, HasBlock, HasTaken, HasWritten, has_written, old_entry}}
 use Rattle.store_model.specs.declared.files.FsError.TheVariants as fs
 
 pub most_is : (size : ℕ) → size ≤ 4096 → most_bytes size ≤ 1008 * 4096

@@ -1,5 +1,5 @@
 -- What the writes of the pieces make of the bytes of a file's blocks.
-use Rattle.iso_fs.proofs.{Words.{◌≡◌, ◌≢◌, ◌⊎◌, ◌∙◌, sym, refl, ap, ℕ, zero, suc, ◌+◌, ◌-◌, ◌*◌, ◌/◌, ◌%◌, ◌<◌, ◌≤◌, Bool, true, false, cond, List, [], ◌∷◌, length, get_or, take, drop, replicate, nat_le, Ok, arith, inl, inr, nat_lt, cases_eq, cases_lt, or_left, nat_tests, div-add-mod', div-lt_iff_lt-mul, mod-lt, get_or-take, get_or-drop, length-drop, length-replicate, length-take-le, Access, Span, Area, Array, byte_at, covered, put, own, block_with, block_at, Done, Store, accesses_of, store_access, length-block_put, other_block, put_here, laid_here, piece_len, piece_mark, Call, write_pieces}, MapByte.length-block_with, MapLaid.byte_in, Pieces.{IsPiece, near_div, near_mod, piece_is}}
+use Rattle.iso_fs.proofs.{Words.{length-block_with, ◌≡◌, ◌≢◌, ◌⊎◌, ◌∙◌, sym, refl, ap, ℕ, zero, suc, ◌+◌, ◌-◌, ◌*◌, ◌/◌, ◌%◌, ◌<◌, ◌≤◌, Bool, true, false, cond, List, [], ◌∷◌, length, get_or, take, drop, replicate, nat_le, Ok, arith, inl, inr, nat_lt, cases_eq, cases_lt, or_left, nat_tests, div-add-mod', div-lt_iff_lt-mul, mod-lt, get_or-take, get_or-drop, length-drop, length-replicate, length-take-le, Access, Span, Area, Array, byte_at, covered, put, own, block_with, block_at, Done, Store, accesses_of, store_access, length-block_put, other_block, put_here, laid_here, piece_len, piece_mark, Call, write_pieces}, MapLaid.byte_in, Pieces.{IsPiece, near_div, near_mod, piece_is}}
 
 -- one piece's marks, and the piece and the others
 abbrev pub marks : Area → (old from to : ℕ) → List Span

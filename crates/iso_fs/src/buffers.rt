@@ -1,11 +1,11 @@
 // Where a call works, the tests of its arguments, and bytes laid into a block.
-ghost use Rattle.std.specs.{Prelude.{◌≡◌, ◌≤◌, IfErr, IfOk, length, []}, Int.{w32, to_be_bytes}};
-ghost use Rattle.store_model.specs.{FileCalls.is_many, FileNodes.file_block};
+ghost use Rattle.std.specs.{Prelude.{◌≡◌, ◌≤◌, IfErr, IfOk, false, length, true, []}, Int.{w32, to_be_bytes}};
+ghost use Rattle.store_model.specs.{FileCalls.is_many, FileNodes.file_block, HashCalls.is_key};
 ghost use Rattle.iso_fs.specs.Ends.{areas_of};
 
-use iso_alloc::{buffer, clear, lay};
+use iso_alloc::{buffer, clear, is_key, lay};
 use std::alloc::Global;
-use store_model::{Area, FileAreas, FsRegion, StoreError};
+use store_model::{Area, FileAreas, FsError, FsRegion, StoreError};
 use tx_blocks::TxBlocks;
 
 /// The areas of the regions in the transaction's blocks.
@@ -25,6 +25,18 @@ pub fn areas_of<T: TxBlocks>(tx: &T, at: FsRegion) -> FileAreas
             blocks: at.files.size,
         },
     }
+}
+
+/// The same for a call at a name, which is one that a file may have.
+pub fn named_areas<T: TxBlocks>(tx: &T, at: FsRegion, name: &[u8]) -> Result<FileAreas, FsError>
+    ensures areas { IfOk result (λ a. a ≡ areas_of (T.state tx.now) at) }
+    ensures name { IfOk result (λ a. is_key name.now ≡ true) }
+    ensures bad_name { IfErr result (λ e. (e ≡ FsError.BadName) × (is_key name.now ≡ false)) }
+{
+    if !is_key(name) {
+        return Err(FsError::BadName);
+    }
+    Ok(areas_of(tx, at))
 }
 
 /// Two buffers of so many bytes, and a third one.

@@ -2,7 +2,7 @@
 ghost use Rattle.std.specs.Prelude.{false, ◌≡◌, ◌+◌, ◌<◌, length, true, None};
 ghost use Rattle.store_model.specs.{HashCalls.is_key, FileCalls.{at_file, numbered, with_file}, FileRegion.AreFileAreas};
 ghost use Rattle.tx_blocks.specs.Runs.{HasRead};
-ghost use Rattle.iso_fs.specs.{Ends.{HasArea, IsPart}, Finds.{find_program, found_as, found_file, IsFound}};
+ghost use Rattle.iso_fs.specs.{Ends.{HasArea, IsNamed, IsPart}, Finds.{find_program, found_as, found_file, IsFound}};
 
 use crate::file::{is_file, number_of};
 use crate::names::value_of;
@@ -84,9 +84,7 @@ pub fn find<T: TxBlocks>(
     name: &[u8],
     file: &mut [u8],
 ) -> Result<Option<u32>, FsError>
-    requires areas { AreFileAreas a }
-    requires holds { HasArea (T.state tx.old) a.files }
-    requires name { is_key name.now ≡ true }
+    requires named { IsNamed (T.state tx.old) a name.now }
     requires file { length file.old ≡ a.files.size }
     ensures part { IsPart false 1 (find_program a name.now) (T.state tx.old) (T.state tx.new) (T.device tx.old) (T.device tx.new) (found_as file.new result) }
     ensures found { IsFound a.files file.new result }

@@ -2,7 +2,7 @@
 ghost use Rattle.std.specs.{Prelude.{◌≡◌, ◌+◌, ◌-◌, ◌*◌, ◌<◌, ◌≤◌, IfErr, OnErr, OnOk, [], ◌∷◌, length, map, true}, List.range_with_len};
 ghost use Rattle.store_model.specs.{Cells.block_with, FreeMap.map_mark, Stores.{bytes_in, store_access}, TreeRegion.IsTreeArea, FileCalls.{bits_mark, high_place, low_place, without_bits}, FileNodes.{data_count, entries_of, entry_at, is_file}};
 ghost use Rattle.tx_blocks.specs.{Tx.with_accesses, Runs.IsCause};
-ghost use Rattle.iso_fs.specs.{Ends.HasArea, Finds.ArePlaces};
+ghost use Rattle.iso_fs.specs.{Ends.HasFile, Finds.ArePlaces};
 
 use crate::file::{data_count, entry_at};
 use crate::names::region_of;
@@ -65,10 +65,8 @@ pub fn store_left<T: TxBlocks>(
     into: &mut [u8],
 ) -> Result<(), TxError>
     requires area { IsTreeArea area }
-    requires holds { HasArea (T.state tx.old) area }
+    requires file { HasFile (T.state tx.old) area file.now }
     requires number { number < area.blocks }
-    requires file { is_file area file.now ≡ true }
-    requires long { length file.now ≡ area.size }
     requires map { length map.old ≡ area.size }
     requires into { length into.old ≡ area.size }
     ensures stored { OnOk result (T.state tx.new ≡ with_accesses (T.state tx.old) (store_access area.start (bits_mark number (entries_of area.size file.now) ∷ []) (block_with area.size (low_place number (entries_of area.size file.now)) (bytes_in (bits_mark number (entries_of area.size file.now)) (without_bits (bytes_in (map_mark area.blocks) map.old) (number ∷ entries_of area.size file.now)))) ∷ [])) }

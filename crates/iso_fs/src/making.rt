@@ -1,13 +1,13 @@
 // A new file.
 ghost use Rattle.std.specs.{Prelude.{false, ◌≡◌, ◌↔◌, ◌+◌, ◌-◌, ◌<◌, ◌≤◌, Err, IsFalse, IsTrue, is_some, true, IfOk, IfErr, OnOk, OnErr, length, [], ◌∷◌, Ok, None}, FinMap.get};
-ghost use Rattle.store_model.specs.{Cells.block_with, FreeMap.{bit_mark, bit_place}, HashCalls.is_key, Stores.store_access, FileCalls.{create_new, create_op, create_program, empty_writes, name_file}, FileNodes.file_block, FileRegion.{files, AreFileAreas, AreFileRegions}};
+ghost use Rattle.store_model.specs.{Cells.block_with, FreeMap.{bit_mark, bit_place}, HashCalls.is_key, Stores.store_access, FileCalls.{create_op, create_program, name_file}, FileNodes.file_block, FileRegion.{files, AreFileAreas, AreFileRegions}};
 ghost use Rattle.tx_blocks.specs.{Tx.{with_accesses, IsLater}, Runs.{IsCause, IsLocalCall}};
-ghost use Rattle.iso_fs.specs.Ends.{areas_of, ExistsWhere, HasArea, HasRun, IsFsCause, IsOfTx, IsPart, IsUnwritten};
+ghost use Rattle.iso_fs.specs.Ends.{areas_of, ExistsWhere, HasArea, HasRun, IsFsCause, IsNamed, IsPart, IsUnwritten};
 
-use crate::buffers::{areas_of, lay_empty, spelled};
+use crate::buffers::{lay_empty, named_areas, spelled};
 use crate::names::{put_value, region_of, value_of};
-use iso_alloc::{buffer, is_key, lay_alone, take_lowest};
-use iso_model::{Bytes, Span};
+use iso_alloc::{buffer, lay_alone, take_lowest};
+use iso_model::Span;
 use iso_tree::map_mark;
 use std::alloc::Global;
 use store_model::{FileAreas, FsError, FsRegion, StoreError, TxError};
@@ -59,30 +59,6 @@ fn store_empty<T: TxBlocks>(
     store(tx, a.files.start + block, &[], buffer)
 }
 
-// Writes the byte of the map with the bit of a block, and an empty file into that block.
-fn store_file<T: TxBlocks>(
-    tx: &mut T,
-    a: FileAreas,
-    block: u32,
-    byte: u8,
-    buffer: &mut [u8],
-) -> Result<(), FsError>
-    requires areas { AreFileAreas a }
-    requires holds { HasArea (T.state tx.old) a.files }
-    requires block { block < a.files.blocks }
-    requires buffer { length buffer.old ≡ a.files.size }
-    ensures part { IsPart false 66 (empty_writes a block byte) (T.state tx.old) (T.state tx.new) (T.device tx.old) (T.device tx.new) result }
-    ensures of_tx { IfErr result IsOfTx }
-{
-    if let Err(e) = store_bit(tx, a, block, byte, buffer) {
-        return Err(FsError::Store(StoreError::Tx(e)));
-    }
-    match store_empty(tx, a, block, buffer) {
-        Ok(()) => Ok(()),
-        Err(e) => Err(FsError::Store(StoreError::Tx(e))),
-    }
-}
-
 // Names a block in the tree, and makes it an empty file.
 fn name_file<T: TxBlocks>(
     alloc: Global,
@@ -93,33 +69,40 @@ fn name_file<T: TxBlocks>(
     byte: u8,
     buffer: &mut [u8],
 ) -> Result<(), FsError>
-    requires areas { AreFileAreas a }
-    requires holds { HasArea (T.state tx.old) a.files }
+    requires named { IsNamed (T.state tx.old) a name.now }
     requires block { block < a.files.blocks }
-    requires name { is_key name.now ≡ true }
     requires buffer { length buffer.old ≡ a.files.size }
     ensures { IsPart false 66 (name_file a name.now block byte) (T.state tx.old) (T.state tx.new) (T.device tx.old) (T.device tx.new) result }
 {
-    match put_value(alloc, tx, a.tree, name, &spelled(block)) {
-        Ok(()) => store_file(tx, a, block, byte, buffer),
-        Err(e) => Err(FsError::Store(e)),
+    if let Err(e) = put_value(alloc, tx, a.tree, name, &spelled(block)) {
+        return Err(FsError::Store(e));
+    }
+    if let Err(e) = store_bit(tx, a, block, byte, buffer) {
+        return Err(FsError::Store(StoreError::Tx(e)));
+    }
+    match store_empty(tx, a, block, buffer) {
+        Ok(()) => Ok(()),
+        Err(e) => Err(FsError::Store(StoreError::Tx(e))),
     }
 }
 
 // A new file of a name that has none, with a buffer for a block.
-fn create_new<T: TxBlocks>(
+fn create_with<T: TxBlocks>(
     alloc: Global,
     tx: &mut T,
     a: FileAreas,
     name: &[u8],
     buffer: &mut [u8],
 ) -> Result<(), FsError>
-    requires areas { AreFileAreas a }
-    requires holds { HasArea (T.state tx.old) a.files }
-    requires name { is_key name.now ≡ true }
+    requires named { IsNamed (T.state tx.old) a name.now }
     requires buffer { length buffer.old ≡ a.files.size }
-    ensures { IsPart false 66 (create_new a name.now None) (T.state tx.old) (T.state tx.new) (T.device tx.old) (T.device tx.new) result }
+    ensures { IsPart false 66 (create_program a name.now) (T.state tx.old) (T.state tx.new) (T.device tx.old) (T.device tx.new) result }
 {
+    match value_of(alloc, tx, a.tree, name) {
+        Ok(Some(_)) => return Err(FsError::Exists),
+        Ok(None) => {}
+        Err(e) => return Err(FsError::Store(e)),
+    }
     if let Err(e) = look(tx, a.files.start, map_mark(a.files), buffer) {
         return Err(FsError::Store(StoreError::Tx(e)));
     }
@@ -129,47 +112,6 @@ fn create_new<T: TxBlocks>(
             name_file(alloc, tx, a, name, block, byte, buffer)
         }
         None => Err(FsError::Store(StoreError::NoBlocks { need: 1, free: 0 })),
-    }
-}
-
-// A new file, once it is known what its name has.
-fn create_found<T: TxBlocks>(
-    alloc: Global,
-    tx: &mut T,
-    a: FileAreas,
-    name: &[u8],
-    found: Option<Bytes>,
-    buffer: &mut [u8],
-) -> Result<(), FsError>
-    requires areas { AreFileAreas a }
-    requires holds { HasArea (T.state tx.old) a.files }
-    requires name { is_key name.now ≡ true }
-    requires buffer { length buffer.old ≡ a.files.size }
-    ensures { IsPart false 66 (create_new a name.now found) (T.state tx.old) (T.state tx.new) (T.device tx.old) (T.device tx.new) result }
-{
-    match found {
-        Some(_) => Err(FsError::Exists),
-        None => create_new(alloc, tx, a, name, buffer),
-    }
-}
-
-// A new file, with a buffer for a block.
-fn create_with<T: TxBlocks>(
-    alloc: Global,
-    tx: &mut T,
-    a: FileAreas,
-    name: &[u8],
-    buffer: &mut [u8],
-) -> Result<(), FsError>
-    requires areas { AreFileAreas a }
-    requires holds { HasArea (T.state tx.old) a.files }
-    requires name { is_key name.now ≡ true }
-    requires buffer { length buffer.old ≡ a.files.size }
-    ensures { IsPart false 66 (create_program a name.now) (T.state tx.old) (T.state tx.new) (T.device tx.old) (T.device tx.new) result }
-{
-    match value_of(alloc, tx, a.tree, name) {
-        Ok(found) => create_found(alloc, tx, a, name, found, buffer),
-        Err(e) => Err(FsError::Store(e)),
     }
 }
 
@@ -193,10 +135,7 @@ pub fn create<T: TxBlocks>(
     ensures later { IsLater (T.device tx.old) (T.device tx.new) }
     ensures passed { OnOk result ((T.device tx.new).faults ≡ (T.device tx.old).faults) }
 {
-    if !is_key(name) {
-        return Err(FsError::BadName);
-    }
-    let a = areas_of(tx, at);
+    let a = named_areas(tx, at, name)?;
     let mut block = match buffer(alloc, a.files.size as usize) {
         Ok(block) => block,
         Err(e) => return Err(FsError::Store(e)),

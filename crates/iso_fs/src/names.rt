@@ -36,15 +36,7 @@ pub fn value_of<T: TxBlocks>(
     ensures later { IsLater (T.device tx.old) (T.device tx.new) }
     ensures passed { OnOk result ((T.device tx.new).faults ≡ (T.device tx.old).faults) }
 {
-    get(
-        alloc,
-        tx,
-        Region {
-            start: tree.start,
-            size: tree.blocks,
-        },
-        name,
-    )
+    get(alloc, tx, region_of(tree), name)
 }
 
 /// Puts a value at a name.
@@ -64,16 +56,7 @@ pub fn put_value<T: TxBlocks>(
     ensures later { IsLater (T.device tx.old) (T.device tx.new) }
     ensures passed { OnOk result ((T.device tx.new).faults ≡ (T.device tx.old).faults) }
 {
-    put(
-        alloc,
-        tx,
-        Region {
-            start: tree.start,
-            size: tree.blocks,
-        },
-        name,
-        value,
-    )
+    put(alloc, tx, region_of(tree), name, value)
 }
 
 /// Removes a name.
@@ -92,13 +75,5 @@ pub fn remove_name<T: TxBlocks>(
     ensures later { IsLater (T.device tx.old) (T.device tx.new) }
     ensures passed { OnOk result ((T.device tx.new).faults ≡ (T.device tx.old).faults) }
 {
-    del(
-        alloc,
-        tx,
-        Region {
-            start: tree.start,
-            size: tree.blocks,
-        },
-        name,
-    )
+    del(alloc, tx, region_of(tree), name)
 }

@@ -2,7 +2,7 @@
 ghost use Rattle.std.specs.Prelude.{false, ◌≡◌, ◌↔◌, ◌+◌, ◌-◌, ◌/◌, ◌<◌, ◌≤◌, ℕ, suc, Err, IsFalse, IsTrue, None, Ok, true, IfOk, IfErr, IfSome, OnOk, cond, length, nat_lt, option_map, take, []};
 ghost use Rattle.store_model.specs.{HashCalls.is_key, FileCalls.{is_many, read_from, read_op, read_pieces, read_program}, FileNodes.{bytes_of, entry_at, is_file, piece_mark}, FileRegion.{files, AreFileAreas, AreFileRegions}};
 ghost use Rattle.tx_blocks.{specs.Tx.IsLater, specs.Runs.{HasRead, IsLocalCall}, proofs.Progress.IsAt};
-ghost use Rattle.iso_fs.specs.{Ends.{areas_of, FsBehaves, HasArea, HasRun, IsFsCause, IsPart}, Finds.{found_as, got_as, on_found}};
+ghost use Rattle.iso_fs.specs.{Ends.{areas_of, FsBehaves, HasFile, HasRun, IsNamed, IsFsCause, IsPart}, Finds.got_as};
 
 use crate::buffers::{areas_of, buffers, is_many};
 use crate::file::{bytes_of, entry_at};
@@ -48,39 +48,6 @@ fn block_of(area: Area, file: &[u8], at: u32) -> u32
     entry_at(file, (at / area.size) as usize)
 }
 
-// Reads the first piece of a range, and lays its bytes behind the first `at` of the buffer. Answers how many there are.
-fn read_piece<T: TxBlocks>(
-    tx: &mut T,
-    area: Area,
-    file: &[u8],
-    from: u32,
-    to: u32,
-    block: &mut [u8],
-    room: &mut [u8],
-    at: usize,
-) -> Result<u32, FsError>
-    requires holds { HasArea (T.state tx.old) area }
-    requires file { is_file area file.now ≡ true }
-    requires long { length file.now ≡ area.size }
-    requires less { from < to }
-    requires inside { to ≤ bytes_of file.now }
-    requires block { length block.old ≡ area.size }
-    requires room { at + (to - from) ≤ length room.old }
-    ensures run { IfOk result (λ n. (most : ℕ) → IsAt (read_pieces area file.now (suc most) from to (take at room.old)) (read_pieces area file.now most (from + n) to (take (at + n) room.new)) (T.state tx.old) (T.state tx.new)) }
-    ensures refused { IfErr result (λ e. (most : ℕ) → HasRun (read_pieces area file.now (suc most) from to (take at room.old)) (T.state tx.old) (T.state tx.new) (Err e)) }
-    ensures some { IfOk result (λ n. (1 ≤ n) × (n ≤ to - from)) }
-    ensures reads { HasRead (T.state tx.old) (T.state tx.new) }
-    ensures behaves { FsBehaves false (T.state tx.old) (T.state tx.new) 1 (T.device tx.old) (T.device tx.new) result }
-{
-    let span = piece_mark(area.size, from, to);
-    let number = block_of(area, file, from);
-    if let Err(e) = look(tx, area.start + number, span, block) {
-        return Err(FsError::Store(StoreError::Tx(e)));
-    }
-    lay(room, at, piece(block, span.off as usize, span.len as usize));
-    Ok(span.len as u32)
-}
-
 // Reads the pieces of a range; `most` is no less than its length. Answers how many bytes there are.
 fn read_pieces<T: TxBlocks>(
     tx: &mut T,
@@ -92,9 +59,7 @@ fn read_pieces<T: TxBlocks>(
     block: &mut [u8],
     room: &mut [u8],
 ) -> Result<Option<u32>, FsError>
-    requires holds { HasArea (T.state tx.old) area }
-    requires file { is_file area file.now ≡ true }
-    requires long { length file.now ≡ area.size }
+    requires file { HasFile (T.state tx.old) area file.now }
     requires most { to - from ≤ most }
     requires up { from ≤ to }
     requires inside { to ≤ bytes_of file.now }
@@ -105,10 +70,17 @@ fn read_pieces<T: TxBlocks>(
 {
     let mut at = from;
     while at < to {
-        match read_piece(tx, area, file, at, to, block, room, (at - from) as usize) {
-            Ok(n) => at += n,
-            Err(e) => return Err(e),
+        let span = piece_mark(area.size, at, to);
+        let number = block_of(area, file, at);
+        if let Err(e) = look(tx, area.start + number, span, block) {
+            return Err(FsError::Store(StoreError::Tx(e)));
         }
+        lay(
+            room,
+            (at - from) as usize,
+            piece(block, span.off as usize, span.len as usize),
+        );
+        at += span.len as u32;
     }
     Ok(Some(to - from))
 }
@@ -137,9 +109,7 @@ fn read_from<T: TxBlocks>(
     block: &mut [u8],
     room: &mut [u8],
 ) -> Result<Option<u32>, FsError>
-    requires holds { HasArea (T.state tx.old) area }
-    requires file { is_file area file.now ≡ true }
-    requires long { length file.now ≡ area.size }
+    requires file { HasFile (T.state tx.old) area file.now }
     requires block { length block.old ≡ area.size }
     requires room { len ≤ length room.old }
     ensures part { (number : ℕ) → IsPart false 1 (read_from area off len number file.now) (T.state tx.old) (T.state tx.new) (T.device tx.old) (T.device tx.new) (got_as room.new result) }
@@ -151,31 +121,6 @@ fn read_from<T: TxBlocks>(
     }
     let to = end_of(off, len, bytes);
     read_pieces(tx, area, file, len, off, to, block, room)
-}
-
-// Reads a range of a file, once its file block was looked for.
-fn read_found<T: TxBlocks>(
-    tx: &mut T,
-    area: Area,
-    found: Option<u32>,
-    off: u32,
-    len: u32,
-    file: &[u8],
-    block: &mut [u8],
-    room: &mut [u8],
-) -> Result<Option<u32>, FsError>
-    requires holds { HasArea (T.state tx.old) area }
-    requires found { IfSome found (λ number. (number < area.blocks) × IsTrue (is_file area file.now)) }
-    requires long { length file.now ≡ area.size }
-    requires block { length block.old ≡ area.size }
-    requires room { len ≤ length room.old }
-    ensures part { IsPart false 1 (on_found None (read_from area off len) (found_as file.now (Ok found))) (T.state tx.old) (T.state tx.new) (T.device tx.old) (T.device tx.new) (got_as room.new result) }
-    ensures reads { HasRead (T.state tx.old) (T.state tx.new) }
-{
-    match found {
-        Some(_) => read_from(tx, area, off, len, file, block, room),
-        None => Ok(None),
-    }
 }
 
 // Reads a range of the file of a name, with buffers for two blocks and for the bytes. Answers how many bytes there are.
@@ -190,9 +135,7 @@ fn read_with<T: TxBlocks>(
     block: &mut [u8],
     room: &mut [u8],
 ) -> Result<Option<u32>, FsError>
-    requires areas { AreFileAreas a }
-    requires holds { HasArea (T.state tx.old) a.files }
-    requires name { is_key name.now ≡ true }
+    requires named { IsNamed (T.state tx.old) a name.now }
     requires len { is_many len ≡ true }
     requires file { length file.old ≡ a.files.size }
     requires block { length block.old ≡ a.files.size }
@@ -201,7 +144,8 @@ fn read_with<T: TxBlocks>(
     ensures reads { HasRead (T.state tx.old) (T.state tx.new) }
 {
     match find(alloc, tx, a, name, file) {
-        Ok(found) => read_found(tx, a.files, found, off, len, file, block, room),
+        Ok(Some(_)) => read_from(tx, a.files, off, len, file, block, room),
+        Ok(None) => Ok(None),
         Err(e) => Err(e),
     }
 }

@@ -1,37 +1,17 @@
 // Another name for a file.
 ghost use Rattle.std.specs.{Prelude.{◌≡◌, ◌↔◌, ◌+◌, ◌≤◌, ◌&&◌, Err, IsFalse, IsTrue, is_some, true, IfOk, IfErr, OnOk, None}, FinMap.get};
-ghost use Rattle.store_model.specs.{HashCalls.is_key, TreeRegion.IsTreeArea, FileCalls.{rename_found, rename_free, rename_op, rename_program, in_tree}, TreeCalls.get_program, FileRegion.{files, AreFileAreas, AreFileRegions}};
+ghost use Rattle.store_model.specs.{HashCalls.is_key, FileCalls.{rename_free, rename_op, rename_program, in_tree}, TreeCalls.get_program, FileRegion.{files, AreFileAreas, AreFileRegions}};
 ghost use Rattle.tx_blocks.specs.{Tx.IsLater, Runs.IsLocalCall};
-ghost use Rattle.iso_fs.specs.{Ends.{areas_of, may_follow, ExistsWhere, HasArea, HasRun, IsFsCause, IsPart, IsUnwritten}, Finds.drop_name};
+ghost use Rattle.iso_fs.specs.Ends.{areas_of, ExistsWhere, HasRun, IsFsCause, IsNamed, IsPart, IsUnwritten};
 
 use crate::buffers::areas_of;
 use crate::names::{put_value, remove_name, value_of};
 use iso_alloc::is_key;
-use iso_model::Bytes;
 use std::alloc::Global;
 use store_model::{FileAreas, FsError, FsRegion};
 use tx_blocks::TxBlocks;
 
-// Removes the old name.
-fn drop_name<T: TxBlocks>(
-    alloc: Global,
-    tx: &mut T,
-    a: FileAreas,
-    old: &[u8],
-) -> Result<bool, FsError>
-    requires area { IsTreeArea a.tree }
-    requires holds { HasArea (T.state tx.old) a.tree }
-    requires old { is_key old.now ≡ true }
-    ensures part { IsPart true 1 (drop_name a old.now) (T.state tx.old) (T.state tx.new) (T.device tx.old) (T.device tx.new) result }
-    ensures follows { IfErr result (λ e. may_follow true e ≡ true) }
-{
-    match remove_name(alloc, tx, a.tree, old) {
-        Ok(_) => Ok(true),
-        Err(e) => Err(FsError::Store(e)),
-    }
-}
-
-// Puts the value at the new name, and removes the old one.
+// Puts the value at the new name, where that has none, and removes the old one.
 fn move_value<T: TxBlocks>(
     alloc: Global,
     tx: &mut T,
@@ -40,79 +20,21 @@ fn move_value<T: TxBlocks>(
     new: &[u8],
     value: &[u8],
 ) -> Result<bool, FsError>
-    requires area { IsTreeArea a.tree }
-    requires holds { HasArea (T.state tx.old) a.tree }
-    requires old { is_key old.now ≡ true }
-    requires new { is_key new.now ≡ true }
-    ensures { IsPart true 66 (rename_free a old.now new.now value.now None) (T.state tx.old) (T.state tx.new) (T.device tx.old) (T.device tx.new) result }
-{
-    match put_value(alloc, tx, a.tree, new, value) {
-        Ok(()) => drop_name(alloc, tx, a, old),
-        Err(e) => Err(FsError::Store(e)),
-    }
-}
-
-// Moves the value, once it is known what the new name has.
-fn rename_free<T: TxBlocks>(
-    alloc: Global,
-    tx: &mut T,
-    a: FileAreas,
-    old: &[u8],
-    new: &[u8],
-    value: &[u8],
-    found: Option<Bytes>,
-) -> Result<bool, FsError>
-    requires area { IsTreeArea a.tree }
-    requires holds { HasArea (T.state tx.old) a.tree }
-    requires old { is_key old.now ≡ true }
-    requires new { is_key new.now ≡ true }
-    ensures { IsPart true 66 (rename_free a old.now new.now value.now found) (T.state tx.old) (T.state tx.new) (T.device tx.old) (T.device tx.new) result }
-{
-    match found {
-        Some(_) => Err(FsError::Exists),
-        None => move_value(alloc, tx, a, old, new, value),
-    }
-}
-
-// Moves the value of the old name.
-fn rename_value<T: TxBlocks>(
-    alloc: Global,
-    tx: &mut T,
-    a: FileAreas,
-    old: &[u8],
-    new: &[u8],
-    value: &[u8],
-) -> Result<bool, FsError>
-    requires area { IsTreeArea a.tree }
-    requires holds { HasArea (T.state tx.old) a.tree }
-    requires old { is_key old.now ≡ true }
+    requires named { IsNamed (T.state tx.old) a old.now }
     requires new { is_key new.now ≡ true }
     ensures { IsPart true 66 (in_tree (get_program a.tree new.now) (rename_free a old.now new.now value.now)) (T.state tx.old) (T.state tx.new) (T.device tx.old) (T.device tx.new) result }
 {
     match value_of(alloc, tx, a.tree, new) {
-        Ok(found) => rename_free(alloc, tx, a, old, new, value, found),
-        Err(e) => Err(FsError::Store(e)),
+        Ok(Some(_)) => return Err(FsError::Exists),
+        Ok(None) => {}
+        Err(e) => return Err(FsError::Store(e)),
     }
-}
-
-// Renames a file, once it is known what its name has.
-fn rename_found<T: TxBlocks>(
-    alloc: Global,
-    tx: &mut T,
-    a: FileAreas,
-    old: &[u8],
-    new: &[u8],
-    found: Option<Bytes>,
-) -> Result<bool, FsError>
-    requires area { IsTreeArea a.tree }
-    requires holds { HasArea (T.state tx.old) a.tree }
-    requires old { is_key old.now ≡ true }
-    requires new { is_key new.now ≡ true }
-    ensures { IsPart true 66 (rename_found a old.now new.now found) (T.state tx.old) (T.state tx.new) (T.device tx.old) (T.device tx.new) result }
-{
-    match found {
-        Some(value) => rename_value(alloc, tx, a, old, new, value.as_slice()),
-        None => Ok(false),
+    if let Err(e) = put_value(alloc, tx, a.tree, new, value) {
+        return Err(FsError::Store(e));
+    }
+    match remove_name(alloc, tx, a.tree, old) {
+        Ok(_) => Ok(true),
+        Err(e) => Err(FsError::Store(e)),
     }
 }
 
@@ -124,14 +46,13 @@ fn rename_in<T: TxBlocks>(
     old: &[u8],
     new: &[u8],
 ) -> Result<bool, FsError>
-    requires area { IsTreeArea a.tree }
-    requires holds { HasArea (T.state tx.old) a.tree }
-    requires old { is_key old.now ≡ true }
+    requires named { IsNamed (T.state tx.old) a old.now }
     requires new { is_key new.now ≡ true }
     ensures { IsPart true 66 (rename_program a old.now new.now) (T.state tx.old) (T.state tx.new) (T.device tx.old) (T.device tx.new) result }
 {
     match value_of(alloc, tx, a.tree, old) {
-        Ok(found) => rename_found(alloc, tx, a, old, new, found),
+        Ok(Some(value)) => move_value(alloc, tx, a, old, new, value.as_slice()),
+        Ok(None) => Ok(false),
         Err(e) => Err(FsError::Store(e)),
     }
 }

@@ -52,43 +52,6 @@ fn store_piece<T: TxBlocks>(
     store(tx, block, &[], bytes)
 }
 
-// Writes the first piece of a range. Answers how many bytes it has.
-fn write_piece<T: TxBlocks>(
-    tx: &mut T,
-    area: Area,
-    file: &[u8],
-    old: usize,
-    news: &[u32],
-    from: u32,
-    to: u32,
-    bytes: &[u8],
-    into: &mut [u8],
-) -> Result<u32, FsError>
-    requires holds { HasArea (T.state tx.old) area }
-    requires file { is_file area file.now ≡ true }
-    requires long { length file.now ≡ area.size }
-    requires old { old ≡ data_count area.size file.now }
-    requires news { AreBlocks area news.now }
-    requires less { from < to }
-    requires covered { to ≤ (old + length news.now) * area.size }
-    requires bytes { length bytes.now ≡ to - from }
-    requires into { length into.old ≡ area.size }
-    ensures run { IfOk result (λ n. (most : ℕ) → IsAt (write_pieces area (entries_of area.size file.now ++ news.now) old (suc most) from to bytes.now) (write_pieces area (entries_of area.size file.now ++ news.now) old most (from + n) to (drop n bytes.now)) (T.state tx.old) (T.state tx.new)) }
-    ensures refused { IfErr result (λ e. (most : ℕ) → HasRun (write_pieces area (entries_of area.size file.now ++ news.now) old (suc most) from to bytes.now) (T.state tx.old) (T.state tx.new) (Err e)) }
-    ensures some { IfOk result (λ n. (1 ≤ n) × (n ≤ to - from)) }
-    ensures behaves { FsBehaves false (T.state tx.old) (T.state tx.new) 1 (T.device tx.old) (T.device tx.new) result }
-    ensures of_tx { IfErr result IsOfTx }
-{
-    let span = piece_mark(area.size, from, to);
-    let place = (from / area.size) as usize;
-    let number = number_at(area, file, old, news, place);
-    lay_alone(into, span.off as usize, &bytes[..span.len as usize]);
-    match store_piece(tx, area.start + number, span, place < old, into) {
-        Ok(()) => Ok(span.len as u32),
-        Err(e) => Err(FsError::Store(StoreError::Tx(e))),
-    }
-}
-
 /// Writes the pieces of a range.
 pub fn write_pieces<T: TxBlocks>(
     tx: &mut T,
@@ -116,10 +79,14 @@ pub fn write_pieces<T: TxBlocks>(
     let mut at = from;
     while at < to {
         let rest = piece(bytes, (at - from) as usize, (to - at) as usize);
-        match write_piece(tx, area, file, old, news, at, to, rest, into) {
-            Ok(n) => at += n,
-            Err(e) => return Err(e),
+        let span = piece_mark(area.size, at, to);
+        let place = (at / area.size) as usize;
+        let number = number_at(area, file, old, news, place);
+        lay_alone(into, span.off as usize, &rest[..span.len as usize]);
+        if let Err(e) = store_piece(tx, area.start + number, span, place < old, into) {
+            return Err(FsError::Store(StoreError::Tx(e)));
         }
+        at += span.len as u32;
     }
     Ok(true)
 }

@@ -3,7 +3,7 @@ ghost use Rattle.std.specs.Prelude.{◌≡◌, ◌↔◌, ◌+◌, ◌<◌, ◌�
 ghost use Rattle.store_model.specs.{HashCalls.is_key, FreeMap.{map_bytes, map_mark}, Stores.bytes_in, TreeCalls.{first_write, with_used}, TreeRegion.IsTreeArea, FileCalls.{is_many, with_new, write_op, write_program, write_sized, write_to}, FileNodes.{blocks_for, bytes_of, data_count, is_file, most_bytes}, FileRegion.{files, AreFileAreas, AreFileRegions}};
 ghost use Rattle.tx_blocks.specs.{Tx.IsLater, Runs.IsLocalCall};
 ghost use Rattle.iso_tree.specs.{FirstBlock.Up, Rows.AreBlocks};
-ghost use Rattle.iso_fs.specs.{Ends.{areas_of, HasArea, HasRun, IsFsCause, IsOfTx, IsPart, IsUnwritten}, Finds.{found_as, on_found, with_taken}};
+ghost use Rattle.iso_fs.specs.{Ends.{areas_of, HasArea, HasRun, IsFsCause, IsNamed, IsOfTx, IsPart, IsUnwritten}, Finds.with_taken};
 
 use crate::buffers::{areas_of, buffers, is_many};
 use crate::file::{bytes_of, data_count};
@@ -247,33 +247,6 @@ fn write_to<T: TxBlocks>(
     write_new(tx, area, now - old, number, off, bytes, file, map, into)
 }
 
-// Writes bytes into a file, once its file block was looked for.
-fn write_found<T: TxBlocks>(
-    tx: &mut T,
-    area: Area,
-    found: Option<u32>,
-    off: u32,
-    bytes: &[u8],
-    file: &[u8],
-    map: &mut [u8],
-    into: &mut [u8],
-) -> Result<bool, FsError>
-    requires area { IsTreeArea area }
-    requires holds { HasArea (T.state tx.old) area }
-    requires found { IfSome found (λ number. (number < area.blocks) × IsTrue (is_file area file.now)) }
-    requires long { length file.now ≡ area.size }
-    requires some { 1 ≤ length bytes.now }
-    requires few { length bytes.now ≤ 4096 }
-    requires map { length map.old ≡ area.size }
-    requires into { length into.old ≡ area.size }
-    ensures { IsPart false 1 (on_found false (write_to area off bytes.now) (found_as file.now (Ok found))) (T.state tx.old) (T.state tx.new) (T.device tx.old) (T.device tx.new) result }
-{
-    match found {
-        Some(number) => write_to(tx, area, number, off, bytes, file, map, into),
-        None => Ok(false),
-    }
-}
-
 // Writes bytes into the file of a name, with buffers for three blocks.
 fn write_with<T: TxBlocks>(
     alloc: Global,
@@ -286,9 +259,7 @@ fn write_with<T: TxBlocks>(
     map: &mut [u8],
     into: &mut [u8],
 ) -> Result<bool, FsError>
-    requires areas { AreFileAreas a }
-    requires holds { HasArea (T.state tx.old) a.files }
-    requires name { is_key name.now ≡ true }
+    requires named { IsNamed (T.state tx.old) a name.now }
     requires some { 1 ≤ length bytes.now }
     requires few { length bytes.now ≤ 4096 }
     requires file { length file.old ≡ a.files.size }
@@ -297,7 +268,8 @@ fn write_with<T: TxBlocks>(
     ensures { IsPart false 1 (write_program a name.now off bytes.now) (T.state tx.old) (T.state tx.new) (T.device tx.old) (T.device tx.new) result }
 {
     match find(alloc, tx, a, name, file) {
-        Ok(found) => write_found(tx, a.files, found, off, bytes, file, map, into),
+        Ok(Some(number)) => write_to(tx, a.files, number, off, bytes, file, map, into),
+        Ok(None) => Ok(false),
         Err(e) => Err(e),
     }
 }

@@ -129,3 +129,13 @@ file_refusal_of fs.BadName = Ok reply.BadName
 file_refusal_of fs.BadRange = Ok reply.BadRange
 file_refusal_of fs.Exists = Ok reply.Exists
 file_refusal_of (fs.Store e) = refusal_of e
+
+-- an answer of the hash store or the tree store, as that of a call on files
+abbrev pub of_store : {R : Type 0} → Result R StoreError → Result R FsError
+of_store (Ok x) = Ok x
+of_store (Err e) = Err (fs.Store e)
+
+-- what an answer is told as: a reply, or why there is none
+abbrev pub told : {R : Type 0} → (R → Reply) → Result R FsError → Result Reply Stop
+told answer (Ok x) = Ok (answer x)
+told answer (Err e) = file_refusal_of e

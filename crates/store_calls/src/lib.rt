@@ -2,10 +2,9 @@
 #![tactic(auto)]
 
 mod calls;
-mod file;
-mod hash;
+mod range;
 mod region;
-mod tree;
+mod replies;
 
 pub use calls::call;
 pub use region::{is_empty_scan, store_region};

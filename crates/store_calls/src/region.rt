@@ -58,23 +58,7 @@ pub fn store_region(geometry: &Geometry, op: &Op) -> FsRegion
                 size: file_blocks(geometry),
             },
         },
-        Op::Begin { .. }
-        | Op::End
-        | Op::Abort
-        | Op::Put { .. }
-        | Op::Read { .. }
-        | Op::Get { .. }
-        | Op::Write { .. }
-        | Op::Fill { .. }
-        | Op::Mark { .. }
-        | Op::Release { .. }
-        | Op::Takeover { .. }
-        | Op::Await { .. }
-        | Op::Group { .. }
-        | Op::Trim
-        | Op::Stat
-        | Op::Compact
-        | Op::Upgrade => one(Region { start: 0, size: 0 }),
+        _ => one(Region { start: 0, size: 0 }),
     }
 }
 

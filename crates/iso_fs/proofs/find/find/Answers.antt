@@ -10,4 +10,4 @@ returns-in-Ok-clause-reads g c = read_join _ _ _ c.value_of.ensures.reads c.look
 
 pub returns-in-Err-clause-part : goal.returns-in-Err-clause-part
 returns-in-Err-clause-part g c =
-    tree_stops (get_program c.args.a.tree c.args.name.now) (at_file c.args.a None found_file) (get_has c.args.a.tree c.args.name.now c.requires.name) c.in-Err.ensures.ended c.value_of.ensures.reads (omega arith) c.in-Err.ensures.cause c.value_of.ensures.later
+    tree_stops (get_program c.args.a.tree c.args.name.now) (at_file c.args.a None found_file) (get_has c.args.a.tree c.args.name.now c.requires.named.key) c.in-Err.ensures.ended c.value_of.ensures.reads (omega arith) c.in-Err.ensures.cause c.value_of.ensures.later

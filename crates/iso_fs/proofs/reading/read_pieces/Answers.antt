@@ -1,4 +1,6 @@
-use Rattle.iso_fs.proofs.{Words.{◌≡◌, ◌∙◌, refl, arith, ◌+◌, ◌-◌, Err, take, read_join, later_same, later_than, read_none}, Lefts.{piece_less, piece_stops}, ReadSteps.{all_done, left_first}, Ended.{behaves_after, done_so}}
+use Rattle.iso_fs.proofs.{Words.{◌≡◌, ◌∙◌, refl, ap, arith, ◌+◌, ◌-◌, Err, take, read_join, later_same, later_than, read_none}, Lefts.{piece_less, piece_stops}, Parts.{read_kept, read_one}, ReadSteps.{all_done, code_piece, left_first, more_read, piece_refused}, Ended.{behaves_after, done_so, refused_access}}
+use Rattle.store_model.specs.declared.stores.StoreError.TheVariants as store
+use Rattle.store_model.specs.declared.files.FsError.TheVariants as fs
 use Rattle.iso_fs.proofs.reading.read_pieces.Goals as goal
 
 pub loop-at-init : goal.loop-at-init
@@ -13,29 +15,50 @@ loop-at-init g c =
       passed = refl;
     }
 
+pub lay-requires : goal.lay-requires
+lay-requires g c =
+    let long = c.piece.ensures.length in
+    let within = c.piece_mark-span.ensures.within in
+    let room = c.requires.room in
+    let most = c.requires.most in
+    omega (arith, long, within, room, most, c.loop-at.auto.room)
+
 pub loop-at-preserved : goal.loop-at-preserved
 loop-at-preserved g c =
+    let state = g.T.TxBlocks.state in
     let low = c.loop-at.invariant.low in
-    let more : c.loop-at.at - c.args.from + c.in-Ok.n ≡ c.loop-at.at + c.in-Ok.n - c.args.from = omega arith in
+    let within = c.piece_mark-span.ensures.within in
+    let room = c.requires.room in
+    let most = c.requires.most in
+    let less = c.loop-at-test.true in
+    let place = c.loop-at.at - c.args.from in
+    let len = c.piece_mark-span.result.len in
+    let more : place + len ≡ c.loop-at.at + len - c.args.from = omega arith in
     record {
-      left = piece_less c.in-Ok.n c.in-Ok.ensures.some.0 c.in-Ok.ensures.some.1 (omega arith) c.loop-at.invariant.left (λ most. rw more at (c.in-Ok.ensures.run most));
+      left = piece_less len c.piece_mark-span.ensures.some within (omega arith) c.loop-at.invariant.left (λ most. rw more at
+          (code_piece c.args.area c.args.file.now c.loop-at.at c.args.to (take place c.loop-at.room) less (state c.loop-at.tx) (state c.look.new.tx) c.look.new.into c.block_of-number.result c.piece_mark-span.result c.block_of-number.ensures.number c.piece_mark-span.ensures.span
+          c.in_default.ensures.bytes (g.met.T.TxBlocks.limits c.look.new.tx) c.in_default.ensures.read len c.piece.result.now _ refl c.piece.ensures.value
+          (ap (take (place + len)) c.lay.ensures ∙ more_read place len c.piece.result.now c.loop-at.room c.piece.ensures.length (omega (arith, within, room, most, c.loop-at.auto.room))) most));
       low = omega (arith, low);
-      up = (let few = c.in-Ok.ensures.some.1 in let less = c.loop-at-test.true in omega arith);
-      reads = read_join _ _ _ c.loop-at.invariant.reads c.read_piece.ensures.reads;
-      later = later_than _ _ _ c.loop-at.invariant.later c.in-Ok.ensures.behaves.later;
-      passed = c.in-Ok.ensures.behaves.passed ∙ c.loop-at.invariant.passed;
+      up = omega (arith, within, less);
+      reads = read_join _ _ _ c.loop-at.invariant.reads (read_one _ c.in_default.ensures.read (refl, tt));
+      later = later_than _ _ _ c.loop-at.invariant.later c.in_default.ensures.later;
+      passed = c.in_default.ensures.passed ∙ c.loop-at.invariant.passed;
     }
 
 pub returns-in-Err-clause-part : goal.returns-in-Err-clause-part
 returns-in-Err-clause-part g c =
-    let b = c.in-Err.ensures.behaves in
+    let state = g.T.TxBlocks.state in
+    let device = g.T.TxBlocks.device in
+    let less = c.loop-at-test.true in
     record {
-      run = piece_stops (g.T.TxBlocks.state c.read_piece.new.tx) c.in-Err.e (let less = c.loop-at-test.true in omega arith) c.loop-at.invariant.left c.in-Err.ensures.refused;
-      behaves = behaves_after _ _ _ 1 _ _ _ (Err c.in-Err.e) c.loop-at.invariant.reads c.loop-at.invariant.later c.loop-at.invariant.passed (record { cause = b.cause; unwritten = b.unwritten; known = b.known; later = b.later; passed = tt });
+      run = piece_stops (state c.look.new.tx) (fs.Store (store.Tx c.in-Err.e)) (omega (arith, less)) c.loop-at.invariant.left
+          (λ most. piece_refused c.args.area c.args.file.now most c.loop-at.at c.args.to (take (c.loop-at.at - c.args.from) c.loop-at.room) less (state c.loop-at.tx) (state c.look.new.tx) (device c.loop-at.tx) (device c.look.new.tx) c.in-Err.e c.in-Err.ensures.kept c.in-Err.ensures.cause);
+      behaves = behaves_after _ _ _ 1 _ _ _ (Err (fs.Store (store.Tx c.in-Err.e))) c.loop-at.invariant.reads c.loop-at.invariant.later c.loop-at.invariant.passed (refused_access _ _ 1 _ _ c.in-Err.e (omega arith) c.in-Err.ensures.cause c.in-Err.ensures.later);
     }
 
 pub returns-in-Err-clause-reads : goal.returns-in-Err-clause-reads
-returns-in-Err-clause-reads g c = read_join _ _ _ c.loop-at.invariant.reads c.read_piece.ensures.reads
+returns-in-Err-clause-reads g c = read_join _ _ _ c.loop-at.invariant.reads (read_kept c.in-Err.ensures.kept)
 
 pub returns-clause-part : goal.returns-clause-part
 returns-clause-part g c =

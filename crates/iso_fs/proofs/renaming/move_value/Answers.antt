@@ -1,10 +1,29 @@
-use Rattle.iso_fs.proofs.{Words.{sym, ◌∙◌, arith, drop_name, put_program}, Finding.put_has, Parts.{part_more, put_stops, tree_wrote}, RenameSteps.memory_value}
+use Rattle.iso_fs.proofs.{Words.{sym, ◌∙◌, arith, Done, Ok, true, del_program, drop_name, get_program, put_program, rename_free}, Finding.{del_has, get_has, put_has}, Parts.{part_done, part_refused, put_stops, tree_read, tree_stops, tree_wrote}, RenameSteps.{memory_value, tree_follows}}
+use Rattle.store_model.specs.declared.files.FsError.TheVariants as fs
 use Rattle.iso_fs.proofs.renaming.move_value.Goals as goal
 
-pub returns-in-Ok : goal.returns-in-Ok
-returns-in-Ok g c = tree_wrote (put_program c.args.a.tree c.args.new.now c.args.value.now) (λ put. drop_name c.args.a c.args.old.now) c.in-Ok.ensures.ended c.in-Ok.ensures.later c.in-Ok.ensures.passed c.drop_name.ensures.follows (part_more c.drop_name.result (omega arith) c.drop_name.ensures.part)
+pub returns-in-Ok-Some : goal.returns-in-Ok-Some
+returns-in-Ok-Some g c =
+    tree_read (get_program c.args.a.tree c.args.new.now) (rename_free c.args.a c.args.old.now c.args.new.now c.args.value.now) c.in-Ok-Some.ensures.ended c.value_of.ensures.reads c.value_of.ensures.later c.in-Ok-Some.ensures.passed (rw c.in-Ok-Some.field-0-is (part_refused fs.Exists (λ x. cc) tt))
 
 pub returns-in-Err : goal.returns-in-Err
 returns-in-Err g c =
-    put_stops (put_program c.args.a.tree c.args.new.now c.args.value.now) (λ put. drop_name c.args.a c.args.old.now) (λ memory. put_has c.args.a.tree c.args.new.now c.args.value.now c.requires.new (c.in-Err.ensures.value c.requires.new (λ bad. memory_value (sym memory ∙ bad))))
-    c.in-Err.ensures.ended c.in-Err.ensures.unwritten c.in-Err.ensures.cause c.in-Err.ensures.later
+    tree_stops (get_program c.args.a.tree c.args.new.now) (rename_free c.args.a c.args.old.now c.args.new.now c.args.value.now) (get_has c.args.a.tree c.args.new.now c.requires.new) c.in-Err.ensures.ended c.value_of.ensures.reads (omega arith) c.in-Err.ensures.cause c.value_of.ensures.later
+
+pub returns-in-Err-put_value : goal.returns-in-Err-put_value
+returns-in-Err-put_value g c =
+    tree_read (get_program c.args.a.tree c.args.new.now) (rename_free c.args.a c.args.old.now c.args.new.now c.args.value.now) c.in-Ok-None.ensures.ended c.value_of.ensures.reads c.value_of.ensures.later c.in-Ok-None.ensures.passed
+    (rw c.in-Ok-None.field-0-is (put_stops (put_program c.args.a.tree c.args.new.now c.args.value.now) (λ put. drop_name c.args.a c.args.old.now) (λ memory. put_has c.args.a.tree c.args.new.now c.args.value.now c.requires.new (c.in-Err-put_value.ensures.value c.requires.new (λ bad. memory_value (sym memory ∙ bad))))
+    c.in-Err-put_value.ensures.ended c.in-Err-put_value.ensures.unwritten c.in-Err-put_value.ensures.cause c.in-Err-put_value.ensures.later))
+
+pub returns-in-Err-remove_name : goal.returns-in-Err-remove_name
+returns-in-Err-remove_name g c =
+    tree_read (get_program c.args.a.tree c.args.new.now) (rename_free c.args.a c.args.old.now c.args.new.now c.args.value.now) c.in-Ok-None.ensures.ended c.value_of.ensures.reads c.value_of.ensures.later c.in-Ok-None.ensures.passed
+    (rw c.in-Ok-None.field-0-is (tree_wrote (put_program c.args.a.tree c.args.new.now c.args.value.now) (λ put. drop_name c.args.a c.args.old.now) c.in_default.ensures.ended c.in_default.ensures.later c.in_default.ensures.passed (tree_follows c.in-Err-remove_name.e (c.in-Err-remove_name.ensures.known c.requires.named.key))
+    (tree_stops (del_program c.args.a.tree c.args.old.now) (λ there. Done (Ok true)) (del_has c.args.a.tree c.args.old.now c.requires.named.key) c.in-Err-remove_name.ensures.ended c.in-Err-remove_name.ensures.unwritten (omega arith) c.in-Err-remove_name.ensures.cause c.in-Err-remove_name.ensures.later)))
+
+pub returns-in-Ok : goal.returns-in-Ok
+returns-in-Ok g c =
+    tree_read (get_program c.args.a.tree c.args.new.now) (rename_free c.args.a c.args.old.now c.args.new.now c.args.value.now) c.in-Ok-None.ensures.ended c.value_of.ensures.reads c.value_of.ensures.later c.in-Ok-None.ensures.passed
+    (rw c.in-Ok-None.field-0-is (tree_wrote (put_program c.args.a.tree c.args.new.now c.args.value.now) (λ put. drop_name c.args.a c.args.old.now) c.in_default.ensures.ended c.in_default.ensures.later c.in_default.ensures.passed tt
+    (tree_wrote (del_program c.args.a.tree c.args.old.now) (λ there. Done (Ok true)) c.in-Ok.ensures.ended c.in-Ok.ensures.later c.in-Ok.ensures.passed tt part_done)))

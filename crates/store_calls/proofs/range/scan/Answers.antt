@@ -1,6 +1,6 @@
 use Rattle.store_calls.proofs.{Words.{◌≡◌, [], sym, refl, ap, ◌&&◌, ◌==◌, Bool, true, false, cond, ℕ, List, Err, eq-eqb, arith, Area, BadKey, Array, is_key, pairs_reply, Done, Program, outcome, Scanned, scan_below, scan_program, with_head, area_of, stored}, Called.{no_more, scan_refused}}
 use Rattle.script_model.specs.declared.script.Reply.TheVariants as reply
-use Rattle.store_calls.proofs.tree.scan.Goals as goal
+use Rattle.store_calls.proofs.range.scan.Goals as goal
 
 not_both : (x y z : Bool) → (x && y && z) ≡ false → z ≡ true → (x && y) ≡ false
 not_both true true true e t = e
