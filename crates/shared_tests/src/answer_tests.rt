@@ -3,7 +3,7 @@ ghost use Rattle.std.specs.Prelude.{◌≡◌, ◌+◌, ◌<◌, IfSome, MatchOp
 ghost use Rattle.iso_memdisk.specs.MemDisk.{state_of};
 ghost use Rattle.iso_shared.specs.{Ports.{IsPort, IsTx, port_view, tx_view}, TestImage.{small, MayStart}};
 
-use crate::tests::{commits, ended, new_core, put, same};
+use crate::tests::{commits, device, ended, new_core, put, same};
 use iso_core::Core;
 use iso_memdisk::MemDisk;
 use iso_model::{CoreError, EndReply, Label, Mode};
@@ -76,19 +76,15 @@ fn run_ahead<O: Origin, R: Wait>(
 ) -> Option<(Option<u64>, u64, Result<EndReply, CoreError>)>
     requires start { MayStart state_of O.start O.disk core }
 {
-    match Shared::<MemDisk, O>::new(alloc, core) {
-        Err((_memory, _core)) => None,
-        Ok((shared, mut mine)) => {
-            let others = shared.port(&mut mine, 1 << 32);
-            let mut tx = one_at_work(rt, &shared, &mut mine)?;
-            let (others, _) = commits(rt, &shared, others, 1, 10);
-            let upto = check(rt, &shared, &mut tx);
-            let checked = tx.checked();
-            let (_others, _) = commits(rt, &shared, others, 1, 3);
-            let reply = ended::<O, Brand, R>(Blank::new(1), rt, &shared, &mut mine, tx);
-            Some((upto, checked, reply))
-        }
-    }
+    let (shared, mut mine) = device::<O>(alloc, core)?;
+    let others = shared.port(&mut mine, 1 << 32);
+    let mut tx = one_at_work(rt, &shared, &mut mine)?;
+    let (others, _) = commits(rt, &shared, others, 1, 10);
+    let upto = check(rt, &shared, &mut tx);
+    let checked = tx.checked();
+    let (_others, _) = commits(rt, &shared, others, 1, 3);
+    let reply = ended::<O, Brand, R>(Blank::new(1), rt, &shared, &mut mine, tx);
+    Some((upto, checked, reply))
 }
 
 /// The same over a new core.
@@ -96,7 +92,7 @@ fn checked_ahead<R: Wait>(
     rt: &R,
     alloc: Global,
 ) -> Option<(Option<u64>, u64, Result<EndReply, CoreError>)> {
-    let core = new_core(alloc).ok()?;
+    let core = new_core(alloc)?;
     run_ahead::<Brand, R>(rt, alloc, core)
 }
 
@@ -183,26 +179,22 @@ fn run_labels<O: Origin, R: Wait>(
 ) -> Option<LabelAnswers>
     requires start { MayStart state_of O.start O.disk core }
 {
-    match Shared::<MemDisk, O>::new(alloc, core) {
-        Err((_memory, _core)) => None,
-        Ok((shared, mut port)) => {
-            let first = post(rt, &shared, &mut port, label.copy());
-            let second = post(rt, &shared, &mut port, label.copy());
-            let found = look(rt, &shared, &mut port, label);
-            let none = look(rt, &shared, &mut port, label);
-            let _ = post(rt, &shared, &mut port, other);
-            let _ = post(rt, &shared, &mut port, label.copy());
-            let swept = sweeps(rt, &shared, &mut port);
-            Some((first, second, found, none, swept))
-        }
-    }
+    let (shared, mut port) = device::<O>(alloc, core)?;
+    let first = post(rt, &shared, &mut port, label.copy());
+    let second = post(rt, &shared, &mut port, label.copy());
+    let found = look(rt, &shared, &mut port, label);
+    let none = look(rt, &shared, &mut port, label);
+    let _ = post(rt, &shared, &mut port, other);
+    let _ = post(rt, &shared, &mut port, label.copy());
+    let swept = sweeps(rt, &shared, &mut port);
+    Some((first, second, found, none, swept))
 }
 
 /// The same over a new core.
 fn label_answers<R: Wait>(rt: &R, alloc: Global) -> Option<LabelAnswers> {
     let label = Label::new(b"a1")?;
     let other = Label::new(b"z9")?;
-    let core = new_core(alloc).ok()?;
+    let core = new_core(alloc)?;
     run_labels::<Brand, R>(rt, alloc, core, &label, other)
 }
 
@@ -272,21 +264,17 @@ fn run_upkeep<O: Origin, R: Wait>(
 ) -> Option<UpkeepAnswers>
     requires start { MayStart state_of O.start O.disk core }
 {
-    match Shared::<MemDisk, O>::new(alloc, core) {
-        Err((_memory, _core)) => None,
-        Ok((shared, mut port)) => {
-            let _ = put(rt, &shared, &mut port, 1, 7);
-            let fixed = begun_in(rt, &shared, &mut port);
-            let kept = upkeep(rt, &shared, &mut port);
-            let free = begun_in(rt, &shared, &mut port);
-            Some((fixed, kept, free))
-        }
-    }
+    let (shared, mut port) = device::<O>(alloc, core)?;
+    let _ = put(rt, &shared, &mut port, 1, 7);
+    let fixed = begun_in(rt, &shared, &mut port);
+    let kept = upkeep(rt, &shared, &mut port);
+    let free = begun_in(rt, &shared, &mut port);
+    Some((fixed, kept, free))
 }
 
 /// The same over a new core.
 fn upkeep_answers<R: Wait>(rt: &R, alloc: Global) -> Option<UpkeepAnswers> {
-    let core = new_core(alloc).ok()?;
+    let core = new_core(alloc)?;
     run_upkeep::<Brand, R>(rt, alloc, core)
 }
 

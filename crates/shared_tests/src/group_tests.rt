@@ -4,7 +4,7 @@ ghost use Rattle.iso_memdisk.specs.MemDisk.{state_of};
 ghost use Rattle.iso_shared.specs.{Ports.{IsPort, IsTx, port_view}, TestImage.{small, MayStart}};
 
 use crate::answer_tests::one_at_work;
-use crate::tests::{core_failing, put, same};
+use crate::tests::{core_failing, device, put, same};
 use iso_core::Core;
 use iso_memdisk::{CallKind, MemDisk};
 use iso_model::{Clash, CoreError, GroupReply};
@@ -142,36 +142,41 @@ fn ended_group<O: Origin, R: Wait>(
     }
 }
 
-/// The end of two as a group, over this core; the last commit and the live transactions then, and whether the device is down.
+/// The same, with the last commit and the live transactions behind it, and whether the device is down.
+type Ended = (Told, (u64, u32, bool));
+
+/// Those numbers of a device.
+fn numbers<O: Origin, R: Wait>(
+    rt: &R,
+    shared: &Shared<MemDisk, O>,
+    port: &mut Port<MemDisk, O>,
+) -> (u64, u32, bool)
+    requires port { IsPort shared.now port.old }
+{
+    let stat = shared.stat(rt, port);
+    (stat.last, stat.live, stat.down)
+}
+
+/// The end of two as a group, over this core.
 fn run_group<O: Origin, R: Wait>(
     rt: &R,
     alloc: Global,
     core: Core<MemDisk>,
     block: u32,
-) -> Option<(Told, (u64, u32, bool))>
+) -> Option<Ended>
     requires start { MayStart state_of O.start O.disk core }
     requires block { block < 4 }
 {
-    match Shared::<MemDisk, O>::new(alloc, core) {
-        Err((_memory, _core)) => None,
-        Ok((shared, mut port)) => {
-            let group = two(rt, alloc, &shared, &mut port, block)?;
-            let told = ended_group(rt, &shared, &mut port, group);
-            let stat = shared.stat(rt, &mut port);
-            Some((told, (stat.last, stat.live, stat.down)))
-        }
-    }
+    let (shared, mut port) = device::<O>(alloc, core)?;
+    let group = two(rt, alloc, &shared, &mut port, block)?;
+    let told = ended_group(rt, &shared, &mut port, group);
+    Some((told, numbers(rt, &shared, &mut port)))
 }
 
-fn grouped<R: Wait>(
-    rt: &R,
-    alloc: Global,
-    sync: u64,
-    block: u32,
-) -> Option<(Told, (u64, u32, bool))>
+fn grouped<R: Wait>(rt: &R, alloc: Global, sync: u64, block: u32) -> Option<Ended>
     requires { block < 4 }
 {
-    let core = core_failing(alloc, CallKind::Sync, sync).ok()?;
+    let core = core_failing(alloc, CallKind::Sync, sync)?;
     run_group::<Brand, R>(rt, alloc, core, block)
 }
 
@@ -223,28 +228,19 @@ fn a_fault_of_a_group_leaves_no_member(rt: HostRuntime) -> Result<(), Fail> {
 
 /// The end of two as a group, once the end of a third one has set the device down; how many are live before the members that
 /// were handed back are aborted is two.
-fn run_down<O: Origin, R: Wait>(
-    rt: &R,
-    alloc: Global,
-    core: Core<MemDisk>,
-) -> Option<(Told, (u64, u32, bool))>
+fn run_down<O: Origin, R: Wait>(rt: &R, alloc: Global, core: Core<MemDisk>) -> Option<Ended>
     requires start { MayStart state_of O.start O.disk core }
 {
-    match Shared::<MemDisk, O>::new(alloc, core) {
-        Err((_memory, _core)) => None,
-        Ok((shared, mut port)) => {
-            let mut others = shared.port(&mut port, 1 << 32);
-            let group = two(rt, alloc, &shared, &mut port, 1)?;
-            let _ = put(rt, &shared, &mut others, 3, 5);
-            let told = ended_group(rt, &shared, &mut port, group);
-            let stat = shared.stat(rt, &mut port);
-            Some((told, (stat.last, stat.live, stat.down)))
-        }
-    }
+    let (shared, mut port) = device::<O>(alloc, core)?;
+    let mut others = shared.port(&mut port, 1 << 32);
+    let group = two(rt, alloc, &shared, &mut port, 1)?;
+    let _ = put(rt, &shared, &mut others, 3, 5);
+    let told = ended_group(rt, &shared, &mut port, group);
+    Some((told, numbers(rt, &shared, &mut port)))
 }
 
-fn down<R: Wait>(rt: &R, alloc: Global) -> Option<(Told, (u64, u32, bool))> {
-    let core = core_failing(alloc, CallKind::Sync, 3).ok()?;
+fn down<R: Wait>(rt: &R, alloc: Global) -> Option<Ended> {
+    let core = core_failing(alloc, CallKind::Sync, 3)?;
     run_down::<Brand, R>(rt, alloc, core)
 }
 

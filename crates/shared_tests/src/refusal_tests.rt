@@ -4,13 +4,14 @@ ghost use Rattle.iso_memdisk.specs.MemDisk.{state_of};
 ghost use Rattle.iso_shared.specs.{Ports.{IsPort, port_view}, TestImage.MayStart};
 
 use crate::answer_tests::{Upkeep, one_at_work, upkeep};
-use crate::tests::{commits, core_failing, ended, new_core, put, same};
+use crate::tests::{commits, core_failing, device, ended, new_core, put, same};
 use iso_core::Core;
 use iso_memdisk::{CallKind, MemDisk};
 use iso_model::{Clash, CoreError, EndReply, Label};
 use iso_shared::{Origin, Port, Shared};
 use std::alloc::Global;
 use std::marker::Brand;
+use std::process::Abort;
 use std::sync::Wait;
 use std::sync::ledger::Blank;
 use std::test::Fail;
@@ -30,18 +31,14 @@ fn run_full<O: Origin, R: Wait>(
 >
     requires start { MayStart state_of O.start O.disk core }
 {
-    match Shared::<MemDisk, O>::new(alloc, core) {
-        Err((_memory, _core)) => None,
-        Ok((shared, mut port)) => {
-            let mut others = shared.port(&mut port, 1 << 32);
-            let tx = one_at_work(rt, &shared, &mut port)?;
-            let _ = put(rt, &shared, &mut others, 0, 3);
-            let clash = ended::<O, Brand, R>(Blank::new(1), rt, &shared, &mut port, tx);
-            let (mut others, in_order) = commits(rt, &shared, others, 1, 140);
-            let full = put(rt, &shared, &mut others, 1, 4);
-            Some((clash, in_order, full))
-        }
-    }
+    let (shared, mut port) = device::<O>(alloc, core)?;
+    let mut others = shared.port(&mut port, 1 << 32);
+    let tx = one_at_work(rt, &shared, &mut port)?;
+    let _ = put(rt, &shared, &mut others, 0, 3);
+    let clash = ended::<O, Brand, R>(Blank::new(1), rt, &shared, &mut port, tx);
+    let (mut others, in_order) = commits(rt, &shared, others, 1, 140);
+    let full = put(rt, &shared, &mut others, 1, 4);
+    Some((clash, in_order, full))
 }
 
 /// The same over a new core.
@@ -55,7 +52,7 @@ fn full<R: Wait>(
         Result<(u64, EndReply), CoreError>,
     ),
 > {
-    let core = new_core(alloc).ok()?;
+    let core = new_core(alloc)?;
     run_full::<Brand, R>(rt, alloc, core)
 }
 
@@ -119,16 +116,12 @@ fn run_crowd<O: Origin, R: Wait>(
 ) -> Option<((u32, Option<CoreError>), u32, Option<u64>, u32)>
     requires start { MayStart state_of O.start O.disk core }
 {
-    match Shared::<MemDisk, O>::new(alloc, core) {
-        Err((_memory, _core)) => None,
-        Ok((shared, mut port)) => {
-            let begun = crowd(rt, &shared, &mut port, 1025);
-            let live = shared.stat(rt, &mut port).live;
-            let swept = shared.sweep(rt, &mut port);
-            let left = shared.stat(rt, &mut port).live;
-            Some((begun, live, swept, left))
-        }
-    }
+    let (shared, mut port) = device::<O>(alloc, core)?;
+    let begun = crowd(rt, &shared, &mut port, 1025);
+    let live = shared.stat(rt, &mut port).live;
+    let swept = shared.sweep(rt, &mut port);
+    let left = shared.stat(rt, &mut port).live;
+    Some((begun, live, swept, left))
 }
 
 /// The same over a new core.
@@ -136,7 +129,7 @@ fn crowded<R: Wait>(
     rt: &R,
     alloc: Global,
 ) -> Option<((u32, Option<CoreError>), u32, Option<u64>, u32)> {
-    let core = new_core(alloc).ok()?;
+    let core = new_core(alloc)?;
     run_crowd::<Brand, R>(rt, alloc, core)
 }
 
@@ -165,29 +158,25 @@ type FaultAnswers = (
 fn run_fault<O: Origin, R: Wait>(rt: &R, alloc: Global, core: Core<MemDisk>) -> Option<FaultAnswers>
     requires start { MayStart state_of O.start O.disk core }
 {
-    match Shared::<MemDisk, O>::new(alloc, core) {
-        Err((_memory, _core)) => None,
-        Ok((shared, mut port)) => {
-            let mut bytes = [0; 64];
-            let Ok(mut other) = shared.begin(rt, &mut port, None) else {
-                return None;
-            };
-            let mut tx = match one_at_work(rt, &shared, &mut port) {
-                Some(tx) => tx,
-                None => {
-                    shared.abort(rt, &mut port, other);
-                    return None;
-                }
-            };
-            let first = shared.fetch(rt, &mut tx, 1, &mut bytes);
-            let end = ended::<O, Brand, R>(Blank::new(1), rt, &shared, &mut port, tx);
-            let second = shared.fetch(rt, &mut other, 1, &mut bytes);
-            let kept = upkeep(rt, &shared, &mut port);
-            let down = ended::<O, Brand, R>(Blank::new(1), rt, &shared, &mut port, other);
-            let stat = shared.stat(rt, &mut port);
-            Some((first, second, end, kept, down, (stat.down, stat.live)))
+    let (shared, mut port) = device::<O>(alloc, core)?;
+    let mut bytes = [0; 64];
+    let Ok(mut other) = shared.begin(rt, &mut port, None) else {
+        return None;
+    };
+    let mut tx = match one_at_work(rt, &shared, &mut port) {
+        Some(tx) => tx,
+        None => {
+            shared.abort(rt, &mut port, other);
+            return None;
         }
-    }
+    };
+    let first = shared.fetch(rt, &mut tx, 1, &mut bytes);
+    let end = ended::<O, Brand, R>(Blank::new(1), rt, &shared, &mut port, tx);
+    let second = shared.fetch(rt, &mut other, 1, &mut bytes);
+    let kept = upkeep(rt, &shared, &mut port);
+    let down = ended::<O, Brand, R>(Blank::new(1), rt, &shared, &mut port, other);
+    let stat = shared.stat(rt, &mut port);
+    Some((first, second, end, kept, down, (stat.down, stat.live)))
 }
 
 /// The same over a core whose disk fails once.
@@ -197,62 +186,62 @@ fn fault_answers<R: Wait>(
     kind: CallKind,
     number: u64,
 ) -> Option<FaultAnswers> {
-    let core = core_failing(alloc, kind, number).ok()?;
+    let core = core_failing(alloc, kind, number)?;
     run_fault::<Brand, R>(rt, alloc, core)
+}
+
+// A device whose disk fails once, at this call, answers so.
+fn answers_are<R: Abort + Wait>(
+    rt: &R,
+    alloc: Global,
+    kind: CallKind,
+    number: u64,
+    wanted: FaultAnswers,
+) {
+    same(rt, fault_answers(rt, alloc, kind, number), Some(wanted));
 }
 
 #[test]
 fn a_fault_of_an_end_sets_the_device_down(rt: HostRuntime) -> Result<(), Fail> {
-    let answers = fault_answers(&rt, rt.alloc(), CallKind::Sync, 3);
     let down = CoreError::Down;
-    same(
+    let kept = (Err(down), Err(down), Err(down));
+    let end = Err(CoreError::Disk);
+    answers_are(
         &rt,
-        answers,
-        Some((
-            Ok(()),
-            Err(down),
-            Err(CoreError::Disk),
-            (Err(down), Err(down), Err(down)),
-            Err(down),
-            (true, 0),
-        )),
+        rt.alloc(),
+        CallKind::Sync,
+        3,
+        (Ok(()), Err(down), end, kept, Err(down), (true, 0)),
     );
     Ok(())
 }
 
 #[test]
 fn a_fault_of_a_fetch_leaves_the_device_up(rt: HostRuntime) -> Result<(), Fail> {
-    let answers = fault_answers(&rt, rt.alloc(), CallKind::Read, 2);
-    same(
+    let fetched = Err(CoreError::Disk);
+    let kept = (Ok(0), Ok(0), Ok(0));
+    let (end, other) = (Ok(EndReply::Committed(1)), Ok(EndReply::ReadOnly));
+    answers_are(
         &rt,
-        answers,
-        Some((
-            Err(CoreError::Disk),
-            Ok(()),
-            Ok(EndReply::Committed(1)),
-            (Ok(0), Ok(0), Ok(0)),
-            Ok(EndReply::ReadOnly),
-            (false, 0),
-        )),
+        rt.alloc(),
+        CallKind::Read,
+        2,
+        (fetched, Ok(()), end, kept, other, (false, 0)),
     );
     Ok(())
 }
 
 #[test]
 fn a_fault_of_a_compaction_sets_the_device_down(rt: HostRuntime) -> Result<(), Fail> {
-    let answers = fault_answers(&rt, rt.alloc(), CallKind::Sync, 5);
     let down = CoreError::Down;
-    same(
+    let kept = (Ok(0), Err(CoreError::Disk), Err(down));
+    let end = Ok(EndReply::Committed(1));
+    answers_are(
         &rt,
-        answers,
-        Some((
-            Ok(()),
-            Ok(()),
-            Ok(EndReply::Committed(1)),
-            (Ok(0), Err(CoreError::Disk), Err(down)),
-            Err(down),
-            (true, 0),
-        )),
+        rt.alloc(),
+        CallKind::Sync,
+        5,
+        (Ok(()), Ok(()), end, kept, Err(down), (true, 0)),
     );
     Ok(())
 }

@@ -1,18 +1,18 @@
 // Runs over a device in memory: threads, and what the calls answer through the lock. The image has four blocks of 64 bytes and
 // logs of 4,096 bytes.
-ghost use Rattle.std.specs.Prelude.{◌≡◌, ◌+◌, ◌<◌, replicate, IfOk, IsTrue};
+ghost use Rattle.std.specs.Prelude.{◌≡◌, ◌+◌, ◌<◌, replicate, IfSome, IsTrue};
 ghost use denote.Param.Send.{IsSync};
-ghost use Rattle.iso_core.specs.{Core.StandsFor, Standing.up};
-ghost use Rattle.iso_model.specs.{World.{empty_history, fresh}, Geometry.is_valid};
+ghost use Rattle.iso_model.specs.{declared.limits.TheConstants.LAST, Geometry.is_valid};
 ghost use Rattle.iso_memdisk.specs.MemDisk.{state_of};
 ghost use Rattle.iso_shared.specs.{Ports.{IsPort, IsTx, port_view, tx_view}, TestImage.{small, MayStart}};
+ghost use Rattle.shared_tests.specs.Starts.{IsNew};
 
 use iso_core::{Core, Stat};
 use iso_memdisk::{CallKind, MemDisk};
-use iso_model::{CoreError, EndReply, Geometry, Memory, Mode};
+use iso_model::{CoreError, EndReply, Geometry, Mode};
 use iso_recover::format_image;
 use iso_shared::{Origin, Port, Shared, Tx};
-use std::alloc::{AllocError, Global};
+use std::alloc::Global;
 use std::fmt::Debug;
 use std::marker::Brand;
 use std::process::Abort;
@@ -43,34 +43,48 @@ fn small() -> Geometry
     }
 }
 
-fn zeros(alloc: Global) -> Result<Vec<u8>, AllocError>
-    ensures { IfOk result (λ v. v.items ≡ replicate 8832 0) }
+fn zeros(alloc: Global) -> Option<Vec<u8>>
+    ensures { IfSome result (λ v. v.items ≡ replicate 8832 0) }
 {
-    Ok(vec![in alloc; 0; 8832]?)
+    match vec![in alloc; 0; 8832] {
+        Ok(bytes) => Some(bytes),
+        Err(_) => None,
+    }
 }
 
 /// A core over a new image, on a disk of which the call of this kind with this number fails alone.
-pub(crate) fn core_failing(
-    alloc: Global,
-    kind: CallKind,
-    number: u64,
-) -> Result<Core<MemDisk>, Memory>
-    ensures { IfOk result (λ core. StandsFor state_of core (fresh small 1 (empty_history small)) up) }
+pub(crate) fn core_failing(alloc: Global, kind: CallKind, number: u64) -> Option<Core<MemDisk>>
+    ensures { IfSome result IsNew }
 {
     let bytes = zeros(alloc)?;
     let mut disk = MemDisk::new(alloc, bytes);
     disk.fail_kind(kind, number);
     match format_image(alloc, disk, &small()) {
-        Ok(core) => Ok(core),
-        Err((_error, _disk)) => Err(Memory),
+        Ok(core) => Some(core),
+        Err((_error, _disk)) => None,
     }
 }
 
 /// A core over a new image, on a disk that does not fail.
-pub(crate) fn new_core(alloc: Global) -> Result<Core<MemDisk>, Memory>
-    ensures { IfOk result (λ core. StandsFor state_of core (fresh small 1 (empty_history small)) up) }
+pub(crate) fn new_core(alloc: Global) -> Option<Core<MemDisk>>
+    ensures { IfSome result IsNew }
 {
     core_failing(alloc, CallKind::Bind, 0)
+}
+
+/// A device over a core, and its first port.
+pub(crate) fn device<O: Origin>(
+    alloc: Global,
+    core: Core<MemDisk>,
+) -> Option<(Shared<MemDisk, O>, Port<MemDisk, O>)>
+    requires start { MayStart state_of O.start O.disk core }
+    ensures port { IfSome result (λ r. IsPort r.0 r.1 × ((port_view r.1).units ≡ LAST)) }
+    ensures image { IfSome result (λ _. O.start.world.geometry ≡ small) }
+{
+    match Shared::<MemDisk, O>::new(alloc, core) {
+        Ok((shared, port)) => Some((shared, port)),
+        Err((_memory, _core)) => None,
+    }
 }
 
 /// What the end of a transaction is answered. Where it is handed back, it is aborted.
@@ -194,15 +208,11 @@ fn run_two<O: Origin + Send + Sync, R: Threads + Wait + Sync>(
 ) -> Option<(Stat, bool)>
     requires start { MayStart state_of O.start O.disk core }
 {
-    match Shared::<MemDisk, O>::new(alloc, core) {
-        Err((_memory, _core)) => None,
-        Ok((shared, mut first)) => {
-            let second = shared.port(&mut first, 1 << 32);
-            let (all, in_order) = side_by_side(rt, &shared, first, second, times);
-            let core = shared.close(all);
-            Some((core.stat(), in_order))
-        }
-    }
+    let (shared, mut first) = device::<O>(alloc, core)?;
+    let second = shared.port(&mut first, 1 << 32);
+    let (all, in_order) = side_by_side(rt, &shared, first, second, times);
+    let core = shared.close(all);
+    Some((core.stat(), in_order))
 }
 
 /// The same over a new core.
@@ -211,7 +221,7 @@ fn two_threads<R: Threads + Wait + Sync>(
     alloc: Global,
     times: u32,
 ) -> Option<(Stat, bool)> {
-    let core = new_core(alloc).ok()?;
+    let core = new_core(alloc)?;
     run_two::<Brand, R>(rt, alloc, core, times)
 }
 

@@ -1,9 +1,8 @@
 -- The list begins where the core does.
 use Rattle.iso_core.specs.Core.{disk_of}
 use Rattle.iso_memdisk.specs.MemDisk.{state_of}
-use Rattle.iso_model.specs.World.{empty_history, fresh}
-use Rattle.iso_shared.specs.{Standing.start_at, TestImage.small}
+use Rattle.shared_tests.specs.Starts.{start_of}
 use Rattle.shared_tests.proofs.answer_tests.upkeep_answers.Given as goal
 
 abbrev pub ghosts-run_upkeep : goal.ghosts-run_upkeep
-ghosts-run_upkeep g a = record { start = start_at (fresh small 1 (empty_history small)) (state_of (disk_of a.core)); disk = state_of (disk_of a.core) }
+ghosts-run_upkeep g a = record { start = start_of a.core; disk = state_of (disk_of a.core) }
