@@ -2,6 +2,8 @@
 ghost use Rattle.std.specs.{Prelude.{◌≡◌, ◌≢◌, false}, Option.ForSome};
 ghost use Rattle.command_line.specs.{declared.task.Task.TheVariants.Par, Grammar.texts, Requests.request_of};
 
+use crate::disks::{Fault, faulty, no_disk};
+use crate::outcome::Outcome;
 use crate::texts::text;
 use command_line::{Task, read_words};
 use iso_disk::Image;
@@ -22,14 +24,6 @@ pub const PAR: &str = "isotope par t.img";
 
 pub const RECOVER: &str = "isotope recover t.img";
 
-/// What a call gave.
-#[derive(Drop)]
-pub struct Outcome {
-    pub status: u8,
-    pub output: Vec<u8>,
-    pub disk: MemDisk,
-}
-
 /// The words of a command line.
 fn words_of(alloc: Global, line: &str) -> Result<Vec<String>, AllocError> {
     let mut words = Vec::new(alloc);
@@ -39,9 +33,14 @@ fn words_of(alloc: Global, line: &str) -> Result<Vec<String>, AllocError> {
     Ok(words)
 }
 
-/// A disk without bytes.
-pub fn no_disk(alloc: Global) -> MemDisk {
-    MemDisk::new(alloc, Vec::new(alloc))
+/// A source of these bytes that does not fail.
+pub fn source_of(alloc: Global, input: &[u8]) -> Result<MemSource, AllocError> {
+    Ok(MemSource::new(input.to_vec(alloc)?, Vec::new(alloc)))
+}
+
+/// A sink that does not fail.
+pub fn whole_sink(alloc: Global) -> MemSink {
+    MemSink::new(alloc, Vec::new(alloc))
 }
 
 /// Whether the words may be a `par` command.
@@ -154,9 +153,8 @@ pub fn isotope_on<R: Threads + Wait + Sync>(
     disk: MemDisk,
     input: &[u8],
 ) -> Result<Outcome, AllocError> {
-    let source = MemSource::new(input.to_vec(alloc)?, Vec::new(alloc));
-    let sink = MemSink::new(alloc, Vec::new(alloc));
-    threads_over(rt, alloc, line, disk, source, sink)
+    let source = source_of(alloc, input)?;
+    threads_over(rt, alloc, line, disk, source, whole_sink(alloc))
 }
 
 /// The clients of a script in threads, on an image of these bytes, where nothing fails.
@@ -176,9 +174,19 @@ pub fn call_on(
     disk: MemDisk,
     input: &[u8],
 ) -> Result<Outcome, AllocError> {
-    let source = MemSource::new(input.to_vec(alloc)?, Vec::new(alloc));
-    let sink = MemSink::new(alloc, Vec::new(alloc));
-    call_over(alloc, line, disk, source, sink)
+    let source = source_of(alloc, input)?;
+    call_over(alloc, line, disk, source, whole_sink(alloc))
+}
+
+/// The same over a disk of these bytes that fails so.
+pub fn call_failing(
+    alloc: Global,
+    line: &str,
+    image: &[u8],
+    fault: Fault,
+    input: &[u8],
+) -> Result<Outcome, AllocError> {
+    call_on(alloc, line, faulty(alloc, image, fault)?, input)
 }
 
 /// A call over a disk without bytes, in which nothing fails.
@@ -188,10 +196,7 @@ pub fn call(alloc: Global, line: &str, input: &[u8]) -> Result<Outcome, AllocErr
 
 /// The image that these words make and this script leaves.
 pub fn made_image(alloc: Global, line: &str, script: &[u8]) -> Result<Vec<u8>, AllocError> {
-    call(alloc, line, script)?
-        .disk
-        .crash(alloc, 0)
-        .or(Err(AllocError))
+    call(alloc, line, script)?.image(alloc, 0)
 }
 
 /// A script on an image of these bytes, in which nothing fails.
@@ -206,9 +211,40 @@ pub fn answers_on(
     script: &[u8],
     replies: &[u8],
 ) -> Result<bool, AllocError> {
-    let outcome = call(alloc, line, script)?;
-    let expected = text(alloc, replies)?;
-    Ok(outcome.status == 0 && outcome.output.as_slice() == expected.as_slice())
+    Ok(call(alloc, line, script)?.gave(0, &text(alloc, replies)?))
+}
+
+/// How many of these scripts are answered so, all of each, with status 0: the first one on the new image that these words make,
+/// and then each on what the one before it has left.
+pub fn answered(alloc: Global, line: &str, rows: &[(&[u8], &[u8])]) -> Result<usize, AllocError> {
+    let mut line = line;
+    let mut disk = no_disk(alloc);
+    for (number, row) in rows.iter().enumerate() {
+        let outcome = call_on(alloc, line, disk, row.0)?;
+        if !outcome.gave(0, &text(alloc, row.1)?) {
+            return Ok(number);
+        }
+        disk = outcome.disk;
+        line = RUN;
+    }
+    Ok(rows.len())
+}
+
+/// Whether a script is answered so, with status 0, on each image that a crash may leave of an outcome, for the picks up to this
+/// one.
+pub fn shows(
+    alloc: Global,
+    outcome: &Outcome,
+    last: u64,
+    script: &[u8],
+    replies: &[u8],
+) -> Result<bool, AllocError> {
+    for pick in 0..last.saturating_add(1) {
+        if !run_image(alloc, outcome.image(alloc, pick)?, script)?.gave(0, replies) {
+            return Ok(false);
+        }
+    }
+    Ok(true)
 }
 
 /// The reply to `stat` on an image of these bytes that is opened.

@@ -2,12 +2,17 @@
 #![tactic(auto)]
 
 mod calls;
+mod disks;
 mod images;
+mod outcome;
 mod texts;
 
 pub use calls::{
-    Outcome, PAR, RECOVER, RUN, SMALL, answers_on, call, call_from, call_on, call_over, call_with,
-    gated_over, isotope_on, made_image, no_disk, par_image, run_image, stat_of, threads_over,
+    PAR, RECOVER, RUN, SMALL, answered, answers_on, call, call_failing, call_from, call_on,
+    call_over, call_with, gated_over, isotope_on, made_image, par_image, run_image, shows,
+    source_of, stat_of, threads_over, whole_sink,
 };
+pub use disks::{Fault, faulty, no_disk};
 pub use images::{RECORD, change, one_put_image, part, small_image};
-pub use texts::{joined, text};
+pub use outcome::Outcome;
+pub use texts::{joined, repeated, text};

@@ -20,3 +20,19 @@ pub fn joined(alloc: Global, front: &[u8], rest: &[u8]) -> Result<Vec<u8>, Alloc
     all.extend_from_slice(rest)?;
     Ok(all)
 }
+
+/// A text that stands so many times between two others.
+pub fn repeated(
+    alloc: Global,
+    front: &[u8],
+    line: &[u8],
+    count: usize,
+    rest: &[u8],
+) -> Result<Vec<u8>, AllocError> {
+    let mut all = front.to_vec(alloc)?;
+    for _ in 0..count {
+        all.extend_from_slice(line)?;
+    }
+    all.extend_from_slice(rest)?;
+    Ok(all)
+}
