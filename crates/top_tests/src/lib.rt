@@ -6,6 +6,8 @@ mod drawn_lines;
 #[cfg(test)]
 mod plain_files;
 #[cfg(test)]
+mod talk;
+#[cfg(test)]
 mod tests_commands;
 #[cfg(test)]
 mod tests_drawn;

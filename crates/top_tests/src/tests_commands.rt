@@ -6,12 +6,22 @@ use std::fmt::Debug;
 use std::process::Abort;
 use std::test::Fail;
 use top_calls::{
-    Outcome, RECOVER, RUN, answers_on, call, call_on, call_over, no_disk, one_put_image, part,
+    Fault, Outcome, RECOVER, RUN, SMALL, answered, answers_on, call, call_on, call_over, faulty,
+    joined, no_disk, one_put_image, part, run_image, whole_sink,
 };
 
 // Two values that are to be the same. Each test that compared them itself would prove what is printed where they differ.
 pub(crate) fn same<T: PartialEq + Debug + Drop>(rt: &impl Abort, found: T, wanted: T) {
     assert_eq!(rt; found, wanted);
+}
+
+// That a call ended with this status and this output.
+pub(crate) fn gave(rt: &impl Abort, outcome: &Outcome, status: u8, output: &[u8]) {
+    same(
+        rt,
+        (outcome.status, outcome.output.as_slice()),
+        (status, output),
+    );
 }
 
 // A script on the new image that these words make is answered so, all of it, with status 0.
@@ -25,6 +35,55 @@ pub(crate) fn told(
     assert!(rt; answers_on(alloc, line, script, replies)?);
     Ok(())
 }
+
+// The same of each row: the words, a script and its replies.
+pub(crate) fn told_each(
+    rt: &impl Abort,
+    alloc: Global,
+    rows: &[(&str, &[u8], &[u8])],
+) -> Result<(), Fail> {
+    for (line, script, replies) in rows {
+        told(rt, alloc, line, script, replies)?;
+    }
+    Ok(())
+}
+
+// The same of a run on an image of these bytes.
+pub(crate) fn told_on(
+    rt: &impl Abort,
+    alloc: Global,
+    image: Vec<u8>,
+    script: &[u8],
+    replies: &[u8],
+) -> Result<(), Fail> {
+    gave(rt, &run_image(alloc, image, script)?, 0, replies);
+    Ok(())
+}
+
+// The same of lines behind others on a new small image, with the replies to these.
+pub(crate) fn told_behind(
+    rt: &impl Abort,
+    alloc: Global,
+    front: (&[u8], &[u8]),
+    lines: &[u8],
+    replies: &[u8],
+) -> Result<(), Fail> {
+    let script = joined(alloc, front.0, lines)?;
+    told(rt, alloc, SMALL, &script, &joined(alloc, front.1, replies)?)
+}
+
+// The same of one script after the other: the first on the new image that these words make, and then each on what is left.
+pub(crate) fn told_in_turn(
+    rt: &impl Abort,
+    alloc: Global,
+    line: &str,
+    rows: &[(&[u8], &[u8])],
+) -> Result<(), Fail> {
+    same(rt, answered(alloc, line, rows)?, rows.len());
+    Ok(())
+}
+
+const FAULT: &[u8] = b"! disk fault\n";
 
 const ONE_PUT_LINE: &[u8] =
     b"last 1 base 0 sha256 f370e2888af0e189545aa7b782add4dbf5f49125a6f5cf94f25c0fde4605d5dd\n";
@@ -43,7 +102,24 @@ fn call_without_input(
 
 /// The same with a sink that does not fail.
 fn call_alone(alloc: Global, line: &str, disk: MemDisk) -> Result<Outcome, AllocError> {
-    call_without_input(alloc, line, disk, MemSink::new(alloc, Vec::new(alloc)))
+    call_without_input(alloc, line, disk, whole_sink(alloc))
+}
+
+/// That such a call ends with status 0 and this output.
+fn tells(
+    rt: &impl Abort,
+    alloc: Global,
+    line: &str,
+    disk: MemDisk,
+    output: &[u8],
+) -> Result<(), Fail> {
+    gave(rt, &call_alone(alloc, line, disk)?, 0, output);
+    Ok(())
+}
+
+/// The disk of a new image with the one put, once this script has run on it.
+fn put_and_run(alloc: Global, script: &[u8]) -> Result<MemDisk, AllocError> {
+    Ok(run_image(alloc, one_put_image(alloc)?, script)?.disk)
 }
 
 #[test]
@@ -52,58 +128,40 @@ fn an_empty_image_is_recovered(rt: HostRuntime) -> Result<(), Fail> {
     let line = "isotope new t.img --block-size 64 --blocks 1 --log 64";
     let made = call(alloc, line, b"")?;
     same(&rt, made.status, 0);
-    same(&rt, made.disk.crash(alloc, 0)?.len(), 384);
-    let outcome = call_alone(alloc, RECOVER, made.disk)?;
+    same(&rt, made.image(alloc, 0)?.len(), 384);
     let expected =
-        b"last 0 base 0 sha256 f5a5fd42d16a20302798ef6ed309979b43003d2320d9f0e8ea9831a92759fb4b\n".as_slice();
-    same(&rt, outcome.status, 0);
-    same(&rt, outcome.output.as_slice(), expected);
-    Ok(())
+        b"last 0 base 0 sha256 f5a5fd42d16a20302798ef6ed309979b43003d2320d9f0e8ea9831a92759fb4b\n";
+    tells(&rt, alloc, RECOVER, made.disk, expected)
 }
 
 #[test]
 fn a_commit_is_recovered_and_nothing_is_written(rt: HostRuntime) -> Result<(), Fail> {
     let alloc = rt.alloc();
     let image = one_put_image(alloc)?;
-    let mut disk = MemDisk::new(alloc, image.clone()?);
-    disk.fail_kind(CallKind::Write, 1);
+    let disk = faulty(alloc, &image, Fault::OfKind(CallKind::Write, 1))?;
     let outcome = call_alone(alloc, RECOVER, disk)?;
-    same(&rt, outcome.status, 0);
-    same(&rt, outcome.output.as_slice(), ONE_PUT_LINE);
-    for pick in 0..3 {
-        let left = outcome.disk.crash(alloc, pick)?;
-        assert!(rt; left.as_slice() == image.as_slice());
-    }
+    gave(&rt, &outcome, 0, ONE_PUT_LINE);
+    assert!(rt; outcome.leaves(alloc, 2, &image)?);
     Ok(())
 }
 
 #[test]
 fn a_compaction_keeps_the_digest(rt: HostRuntime) -> Result<(), Fail> {
     let alloc = rt.alloc();
-    let disk = MemDisk::new(alloc, one_put_image(alloc)?);
-    let compacted = call_on(alloc, RUN, disk, b"1 compact\n")?;
-    same(
-        &rt,
-        compacted.output.as_slice(),
-        b"1 ok compact 1\n".as_slice(),
-    );
-    let outcome = call_alone(alloc, RECOVER, compacted.disk)?;
+    let compacted = run_image(alloc, one_put_image(alloc)?, b"1 compact\n")?;
+    gave(&rt, &compacted, 0, b"1 ok compact 1\n");
     let expected =
-        b"last 1 base 1 sha256 f370e2888af0e189545aa7b782add4dbf5f49125a6f5cf94f25c0fde4605d5dd\n".as_slice();
-    same(&rt, outcome.output.as_slice(), expected);
-    Ok(())
+        b"last 1 base 1 sha256 f370e2888af0e189545aa7b782add4dbf5f49125a6f5cf94f25c0fde4605d5dd\n";
+    tells(&rt, alloc, RECOVER, compacted.disk, expected)
 }
 
 #[test]
 fn a_commit_above_the_base_changes_the_digest(rt: HostRuntime) -> Result<(), Fail> {
     let alloc = rt.alloc();
-    let disk = MemDisk::new(alloc, one_put_image(alloc)?);
-    let script = b"1 compact\n1 begin\n1 put 0 0 01\n1 end\n";
-    let outcome = call_alone(alloc, RECOVER, call_on(alloc, RUN, disk, script)?.disk)?;
+    let disk = put_and_run(alloc, b"1 compact\n1 begin\n1 put 0 0 01\n1 end\n")?;
     let expected =
-        b"last 2 base 1 sha256 8becf5631d3c42f312dae53b10d53a3d703d4754a0f5478f1eb1bbd7c7591c5b\n".as_slice();
-    same(&rt, outcome.output.as_slice(), expected);
-    Ok(())
+        b"last 2 base 1 sha256 8becf5631d3c42f312dae53b10d53a3d703d4754a0f5478f1eb1bbd7c7591c5b\n";
+    tells(&rt, alloc, RECOVER, disk, expected)
 }
 
 #[test]
@@ -111,13 +169,9 @@ fn a_fault_at_each_call_of_a_recovery(rt: HostRuntime) -> Result<(), Fail> {
     let alloc = rt.alloc();
     let image = one_put_image(alloc)?;
     let whole = call_alone(alloc, RECOVER, MemDisk::new(alloc, image.clone()?))?;
-    let calls = whole.disk.calls();
-    for number in 1..calls.saturating_add(1) {
-        let mut disk = MemDisk::new(alloc, image.clone()?);
-        disk.fail(number);
-        let outcome = call_alone(alloc, RECOVER, disk)?;
-        same(&rt, outcome.status, 5);
-        same(&rt, outcome.output.as_slice(), b"! disk fault\n".as_slice());
+    for number in 1..whole.disk.calls().saturating_add(1) {
+        let disk = faulty(alloc, &image, Fault::At(number))?;
+        gave(&rt, &call_alone(alloc, RECOVER, disk)?, 5, FAULT);
     }
     Ok(())
 }
@@ -134,9 +188,7 @@ fn a_line_of_a_result_is_put_once(rt: HostRuntime) -> Result<(), Fail> {
         let disk = MemDisk::new(alloc, one_put_image(alloc)?);
         let sink = MemSink::in_pieces(alloc, [failing].to_vec(alloc)?, piece);
         let outcome = call_without_input(alloc, RECOVER, disk, sink)?;
-        same(&rt, outcome.status, status);
-        same(&rt, outcome.output.len(), length);
-        assert!(rt; ONE_PUT_LINE.starts_with(&outcome.output));
+        gave(&rt, &outcome, status, part(ONE_PUT_LINE, 0, length));
     }
     Ok(())
 }
@@ -146,10 +198,9 @@ fn a_bench_without_rounds_makes_an_image(rt: HostRuntime) -> Result<(), Fail> {
     let alloc = rt.alloc();
     let outcome = call_alone(alloc, "isotope bench t.img 0 0", no_disk(alloc))?;
     let expected =
-        b"rounds 0 commits 0 conflicts 0 sha256 e3b0c44298fc1c149afbf4c8996fb92427ae41e4649b934ca495991b7852b855\n".as_slice();
-    same(&rt, outcome.status, 0);
-    same(&rt, outcome.output.as_slice(), expected);
-    let image = outcome.disk.crash(alloc, 0)?;
+        b"rounds 0 commits 0 conflicts 0 sha256 e3b0c44298fc1c149afbf4c8996fb92427ae41e4649b934ca495991b7852b855\n";
+    gave(&rt, &outcome, 0, expected);
+    let image = outcome.image(alloc, 0)?;
     same(&rt, image.len(), 16_785_536);
     let front = [
         0x49, 0x53, 0x4f, 0x54, 0x4f, 0x50, 0x45, 0x31, 0, 0, 0, 1, 0, 0, 0, 64, 0, 0, 0, 64, 0,
@@ -161,7 +212,6 @@ fn a_bench_without_rounds_makes_an_image(rt: HostRuntime) -> Result<(), Fail> {
 
 #[test]
 fn a_bench_answers_the_drawn_script(rt: HostRuntime) -> Result<(), Fail> {
-    let alloc = rt.alloc();
     for (line, expected) in [
         (
             "isotope bench t.img 0 1",
@@ -176,9 +226,7 @@ fn a_bench_answers_the_drawn_script(rt: HostRuntime) -> Result<(), Fail> {
             b"rounds 3 commits 6 conflicts 0 sha256 1c163a39bd3a580f9d81dccefeaf9e14ffcb7043f47f882dd8b26accc3326f55\n",
         ),
     ] {
-        let outcome = call_alone(alloc, line, no_disk(alloc))?;
-        same(&rt, outcome.status, 0);
-        same(&rt, outcome.output.as_slice(), expected);
+        tells(&rt, rt.alloc(), line, no_disk(rt.alloc()), expected)?;
     }
     Ok(())
 }
@@ -190,24 +238,23 @@ const THOUSAND: &[u8] =
 #[test]
 fn a_bench_of_a_thousand_rounds(rt: HostRuntime) -> Result<(), Fail> {
     let alloc = rt.alloc();
-    let outcome = call_alone(alloc, "isotope bench t.img 7 1000", no_disk(alloc))?;
-    same(&rt, outcome.status, 0);
-    same(&rt, outcome.output.as_slice(), THOUSAND);
-    Ok(())
+    tells(
+        &rt,
+        alloc,
+        "isotope bench t.img 7 1000",
+        no_disk(alloc),
+        THOUSAND,
+    )
 }
 
 #[test]
 fn a_bench_is_the_same_again_and_is_recovered(rt: HostRuntime) -> Result<(), Fail> {
     let alloc = rt.alloc();
     let again = call_alone(alloc, "isotope bench t.img 7 1000", no_disk(alloc))?;
-    same(&rt, again.status, 0);
-    same(&rt, again.output.as_slice(), THOUSAND);
-    let recovered = call_alone(alloc, RECOVER, again.disk)?;
+    gave(&rt, &again, 0, THOUSAND);
     let line =
-        b"last 1923 base 0 sha256 3fa3f2ea1f82072a56c7861afc4be23b6b4cf6b2c5fad650f32c311c51a114b4\n".as_slice();
-    same(&rt, recovered.status, 0);
-    same(&rt, recovered.output.as_slice(), line);
-    Ok(())
+        b"last 1923 base 0 sha256 3fa3f2ea1f82072a56c7861afc4be23b6b4cf6b2c5fad650f32c311c51a114b4\n";
+    tells(&rt, alloc, RECOVER, again.disk, line)
 }
 
 #[test]
@@ -215,19 +262,24 @@ fn a_bench_whose_disk_or_sink_fails(rt: HostRuntime) -> Result<(), Fail> {
     let alloc = rt.alloc();
     // two commits are four writes and four syncs, behind those of the formatting
     for calls in [0, 1, 5, 6, 7, 9, 10, 13] {
-        let mut disk = no_disk(alloc);
-        disk.fuse(calls);
-        let outcome = call_alone(alloc, "isotope bench t.img 0 1", disk)?;
-        same(&rt, outcome.status, 5);
-        same(&rt, outcome.output.as_slice(), b"! disk fault\n".as_slice());
+        let disk = faulty(alloc, b"", Fault::Behind(calls))?;
+        gave(
+            &rt,
+            &call_alone(alloc, "isotope bench t.img 0 1", disk)?,
+            5,
+            FAULT,
+        );
     }
     let sink = MemSink::new(alloc, [1].to_vec(alloc)?);
     let outcome = call_without_input(alloc, "isotope bench t.img 0 1", no_disk(alloc), sink)?;
-    same(&rt, outcome.status, 7);
-    same(&rt, outcome.output.len(), 0);
+    gave(&rt, &outcome, 7, b"");
     // all commits stand all the same
     let again = call_on(alloc, RUN, outcome.disk, b"1 stat\n")?;
-    let stat = b"1 ok last 2 base 0 trim 0 live 0 used 58 versions 2\n".as_slice();
-    same(&rt, again.output.as_slice(), stat);
+    gave(
+        &rt,
+        &again,
+        0,
+        b"1 ok last 2 base 0 trim 0 live 0 used 58 versions 2\n",
+    );
     Ok(())
 }

@@ -245,7 +245,7 @@ fn drawn_transactions_on_files_agree_with_a_plain_map(rt: HostRuntime) -> Result
             "{seed}"
         );
         // The files stand in the next run.
-        let image = outcome.disk.crash(alloc, 0).or(Err(AllocError))?;
+        let image = outcome.image(alloc, 0)?;
         let outcome = run_image(alloc, image, spelled(alloc, &closing)?.as_bytes())?;
         same(&rt, outcome.status, 0);
         let replies = replies_of(alloc, &outcome.output, &closing)?;

@@ -1,8 +1,10 @@
 // Scripts on images with files, alone and beside a hash store.
-use crate::tests_commands::{same, told};
+use crate::tests_commands::{told, told_each, told_on};
+use crate::tests_limits::behind_reads;
 use std::alloc::{AllocError, Global};
+use std::process::Abort;
 use std::test::Fail;
-use top_calls::{SMALL, call, made_image, run_image};
+use top_calls::{SMALL, made_image};
 
 // Sixteen blocks of 256 bytes: four of the tree store, and twelve of the files, whose map is block 4. A file has at most 12,288 bytes.
 const FILES: &str = "isotope new t.img --block-size 256 --blocks 16 --log 8192 --tree 4";
@@ -39,101 +41,114 @@ fn two_clients_that_append_to_a_file_conflict(rt: HostRuntime) -> Result<(), Fai
     told(&rt, rt.alloc(), FILES, script, replies)
 }
 
-/// Adds a write of so many bytes of one value, which two digits spell, to the file 61.
-fn push_write(
-    script: &mut Vec<u8>,
-    off: &[u8],
-    digits: [u8; 2],
-    count: usize,
-) -> Result<(), AllocError> {
-    script.extend_from_slice(b"1 fwrite 61 ")?;
-    script.extend_from_slice(off)?;
-    script.push(b' ')?;
-    for _ in 0..count {
-        script.extend_from_slice(&digits)?;
-    }
-    script.push(b'\n')?;
-    Ok(())
-}
+/// Makes the file 61.
+const MADE: &[u8] = b"1 begin\n1 fnew 61\n";
 
-/// A script that makes the file 61, writes so many bytes of one value at its front, and goes on so.
-fn behind_a_file(alloc: Global, count: usize, rest: &[u8]) -> Result<Vec<u8>, AllocError> {
-    let mut script = b"1 begin\n1 fnew 61\n".to_vec(alloc)?;
-    push_write(&mut script, b"0", [b'1', b'1'], count)?;
+/// Lines, and behind them a write to the file 61: where it begins, the two digits of each of its bytes, and how many these are.
+type Write = (&'static [u8], &'static str, [u8; 2], usize);
+
+/// A script of these writes, and of lines behind them.
+fn written(alloc: Global, writes: &[Write], rest: &[u8]) -> Result<Vec<u8>, AllocError> {
+    let mut script = Vec::new(alloc);
+    for (lines, off, digits, count) in writes {
+        script.extend_from_slice(lines)?;
+        script.extend_from_slice(b"1 fwrite 61 ")?;
+        script.extend_from_slice(off.as_bytes())?;
+        script.push(b' ')?;
+        for _ in 0..*count {
+            script.extend_from_slice(digits)?;
+        }
+        script.push(b'\n')?;
+    }
     script.extend_from_slice(rest)?;
     Ok(script)
 }
 
+/// That such a script is answered so on the new image that these words make.
+fn told_written(
+    rt: &impl Abort,
+    alloc: Global,
+    words: &str,
+    writes: &[Write],
+    rest: &[u8],
+    replies: &[u8],
+) -> Result<(), Fail> {
+    told(rt, alloc, words, &written(alloc, writes, rest)?, replies)
+}
+
 #[test]
 fn a_write_across_three_blocks(rt: HostRuntime) -> Result<(), Fail> {
-    let alloc = rt.alloc();
-    let mut script = behind_a_file(alloc, 600, b"")?;
-    push_write(&mut script, b"250", [b'e', b'e'], 300)?;
-    script.extend_from_slice(
-        b"1 fread 61 248 4\n1 fread 61 254 4\n1 fread 61 510 4\n1 fread 61 548 4\n1 fread 61 598 9\n",
-    )?;
+    let writes = [(MADE, "0", *b"11", 600), (b"", "250", *b"ee", 300)];
+    let rest =
+        b"1 fread 61 248 4\n1 fread 61 254 4\n1 fread 61 510 4\n1 fread 61 548 4\n1 fread 61 598 9\n";
     let replies =
         b"1 ok begin 0\n1 ok\n1 ok\n1 ok\n1 ok 1111eeee\n1 ok eeeeeeee\n1 ok eeeeeeee\n1 ok eeee1111\n1 ok 1111\n";
-    told(&rt, rt.alloc(), FILES, &script, replies)
+    told_written(&rt, rt.alloc(), FILES, &writes, rest, replies)
 }
 
 #[test]
 fn a_file_of_the_largest_size(rt: HostRuntime) -> Result<(), Fail> {
-    let alloc = rt.alloc();
     let words = "isotope new t.img --block-size 256 --blocks 60 --log 32768 --tree 4";
-    let mut script = behind_a_file(alloc, 4096, b"")?;
-    push_write(&mut script, b"4096", [b'2', b'2'], 4096)?;
-    push_write(&mut script, b"8192", [b'3', b'3'], 4096)?;
-    script.extend_from_slice(
-        b"1 fwrite 61 12288 01\n1 fwrite 61 12287 0102\n1 fwrite 61 12287 44\n1 end\n1 begin\n1 fread 61 4095 2\n1 fread 61 8191 2\n1 fread 61 12286 4096\n1 fread 61 12288 1\n1 fread 61 12289 1\n",
-    )?;
+    let writes = [
+        (MADE, "0", *b"11", 4096),
+        (b"", "4096", *b"22", 4096),
+        (b"", "8192", *b"33", 4096),
+    ];
+    let rest =
+        b"1 fwrite 61 12288 01\n1 fwrite 61 12287 0102\n1 fwrite 61 12287 44\n1 end\n1 begin\n1 fread 61 4095 2\n1 fread 61 8191 2\n1 fread 61 12286 4096\n1 fread 61 12288 1\n1 fread 61 12289 1\n";
     let replies =
         b"1 ok begin 0\n1 ok\n1 ok\n1 ok\n1 ok\n1 bad-range\n1 bad-range\n1 ok\n1 ok commit 1\n1 ok begin 1\n1 ok 1122\n1 ok 2233\n1 ok 3344\n1 ok -\n1 bad-range\n";
-    told(&rt, rt.alloc(), words, &script, replies)
+    told_written(&rt, rt.alloc(), words, &writes, rest, replies)
 }
 
 #[test]
 fn a_call_asks_for_at_most_4096_bytes(rt: HostRuntime) -> Result<(), Fail> {
-    let alloc = rt.alloc();
-    let script = behind_a_file(
-        alloc,
-        4097,
-        b"1 fread 61 0 4096\n1 fread 61 0 4097\n1 fread 61 0 0\n1 fread 62 9 4096\n",
-    )?;
+    let rest = b"1 fread 61 0 4096\n1 fread 61 0 4097\n1 fread 61 0 0\n1 fread 62 9 4096\n";
     let replies = b"1 ok begin 0\n1 ok\n1 bad-range\n1 ok -\n1 bad-range\n1 bad-range\n1 ok none\n";
-    told(&rt, rt.alloc(), FILES, &script, replies)
+    told_written(
+        &rt,
+        rt.alloc(),
+        FILES,
+        &[(MADE, "0", *b"11", 4097)],
+        rest,
+        replies,
+    )
 }
 
 #[test]
 fn a_full_region_takes_no_block(rt: HostRuntime) -> Result<(), Fail> {
-    let alloc = rt.alloc();
     // The file has ten data blocks, and then no block is free.
-    let script = behind_a_file(
-        alloc,
-        2560,
-        b"1 fwrite 61 2560 01\n1 fnew 62\n1 fwrite 61 2559 01\n1 get 4 64 2\n1 end\n",
-    )?;
+    let rest = b"1 fwrite 61 2560 01\n1 fnew 62\n1 fwrite 61 2559 01\n1 get 4 64 2\n1 end\n";
     let replies =
         b"1 ok begin 0\n1 ok\n1 ok\n1 no-blocks need 1 free 0\n1 no-blocks need 1 free 0\n1 ok\n1 ok fe0f\n1 ok commit 1\n";
-    told(&rt, rt.alloc(), FILES, &script, replies)?;
-    let script = behind_a_file(alloc, 2561, b"1 fread 61 0 1\n1 end\n")?;
+    told_written(
+        &rt,
+        rt.alloc(),
+        FILES,
+        &[(MADE, "0", *b"11", 2560)],
+        rest,
+        replies,
+    )?;
+    let rest = b"1 fread 61 0 1\n1 end\n";
     let replies = b"1 ok begin 0\n1 ok\n1 no-blocks need 11 free 10\n1 ok -\n1 ok commit 1\n";
-    told(&rt, rt.alloc(), FILES, &script, replies)
+    told_written(
+        &rt,
+        rt.alloc(),
+        FILES,
+        &[(MADE, "0", *b"11", 2561)],
+        rest,
+        replies,
+    )
 }
 
 #[test]
 fn a_file_that_is_removed_gives_its_blocks_back(rt: HostRuntime) -> Result<(), Fail> {
-    let alloc = rt.alloc();
-    let mut script = behind_a_file(
-        alloc,
-        2560,
-        b"1 fdel 61\n1 get 4 64 2\n1 fdel 61\n1 fnew 62\n1 fnew 61\n",
-    )?;
-    push_write(&mut script, b"0", [b'7', b'7'], 2304)?;
-    script.extend_from_slice(b"1 fwrite 62 0 01\n1 get 4 64 2\n1 fdel 62\n1 get 4 64 2\n1 end\n")?;
+    let removed = b"1 fdel 61\n1 get 4 64 2\n1 fdel 61\n1 fnew 62\n1 fnew 61\n";
+    let writes = [(MADE, "0", *b"11", 2560), (removed, "0", *b"77", 2304)];
+    let rest = b"1 fwrite 62 0 01\n1 get 4 64 2\n1 fdel 62\n1 get 4 64 2\n1 end\n";
     let replies =
         b"1 ok begin 0\n1 ok\n1 ok\n1 ok\n1 ok 0000\n1 ok none\n1 ok\n1 ok\n1 ok\n1 no-blocks need 1 free 0\n1 ok fe0f\n1 ok\n1 ok fc0f\n1 ok commit 1\n";
-    told(&rt, rt.alloc(), FILES, &script, replies)
+    told_written(&rt, rt.alloc(), FILES, &writes, rest, replies)
 }
 
 #[test]
@@ -196,58 +211,52 @@ fn a_value_that_names_no_file_block_is_refused(rt: HostRuntime) -> Result<(), Fa
 
 #[test]
 fn files_are_refused(rt: HostRuntime) -> Result<(), Fail> {
-    let script = b"1 fnew 61\n1 begin\n1 fnew -\n1 fread 61 0 1\n";
-    let replies = b"1 not-in-tx\n1 ok begin 0\n1 no-store\n1 no-store\n";
-    told(&rt, rt.alloc(), SMALL, script, replies)?;
-    // One block behind the tree store is too few, and of two the files have one.
-    let one = "isotope new t.img --block-size 256 --blocks 16 --log 8192 --tree 15";
-    let script = b"1 begin\n1 fnew 61\n1 tput 61 31\n1 fdel 61\n";
-    let replies = b"1 ok begin 0\n1 no-store\n1 ok\n1 no-store\n";
-    told(&rt, rt.alloc(), one, script, replies)?;
-    let two = "isotope new t.img --block-size 256 --blocks 16 --log 8192 --tree 14";
-    let script = b"1 begin\n1 fnew 61\n1 fnew 62\n1 fwrite 61 0 01\n1 fread 61 0 1\n";
-    let replies =
-        b"1 ok begin 0\n1 ok\n1 no-blocks need 1 free 0\n1 no-blocks need 1 free 0\n1 ok -\n";
-    told(&rt, rt.alloc(), two, script, replies)?;
-    let script = b"1 upgrade\n1 begin snapshot\n1 fnew 61\n1 fread - 0 0\n";
-    let replies = b"1 ok upgrade 0\n1 ok begin 0\n1 store-mode\n1 store-mode\n";
-    told(&rt, rt.alloc(), FILES, script, replies)
+    let rows = [
+        (
+            SMALL,
+            b"1 fnew 61\n1 begin\n1 fnew -\n1 fread 61 0 1\n".as_slice(),
+            b"1 not-in-tx\n1 ok begin 0\n1 no-store\n1 no-store\n".as_slice(),
+        ),
+        // One block behind the tree store is too few, and of two the files have one.
+        (
+            "isotope new t.img --block-size 256 --blocks 16 --log 8192 --tree 15",
+            b"1 begin\n1 fnew 61\n1 tput 61 31\n1 fdel 61\n",
+            b"1 ok begin 0\n1 no-store\n1 ok\n1 no-store\n",
+        ),
+        (
+            "isotope new t.img --block-size 256 --blocks 16 --log 8192 --tree 14",
+            b"1 begin\n1 fnew 61\n1 fnew 62\n1 fwrite 61 0 01\n1 fread 61 0 1\n",
+            b"1 ok begin 0\n1 ok\n1 no-blocks need 1 free 0\n1 no-blocks need 1 free 0\n1 ok -\n",
+        ),
+        (
+            FILES,
+            b"1 upgrade\n1 begin snapshot\n1 fnew 61\n1 fread - 0 0\n",
+            b"1 ok upgrade 0\n1 ok begin 0\n1 store-mode\n1 store-mode\n",
+        ),
+    ];
+    told_each(&rt, rt.alloc(), &rows)
 }
 
 #[test]
 fn a_call_without_room_leaves_its_writes(rt: HostRuntime) -> Result<(), Fail> {
-    let alloc = rt.alloc();
     // A first file takes eight accesses: six of them are two look-ups of the name, the map, and the name in the tree.
-    let mut script = b"1 begin\n".to_vec(alloc)?;
-    for _ in 0..4090 {
-        script.extend_from_slice(b"1 get 15 0 1\n")?;
-    }
-    script.extend_from_slice(b"1 fnew 61\n1 fdel 61\n1 end\n1 begin\n1 tget 61\n1 fread 61 0 1\n")?;
-    let outcome = call(alloc, FILES, &script)?;
-    same(&rt, outcome.status, 0);
-    let last =
-        b"1 ok 00\n1 too-many-accesses\n1 too-many-accesses\n1 ok commit 1\n1 ok begin 1\n1 ok 00000001\n1 broken block 5\n";
-    assert!(rt; outcome.output.ends_with(last));
-    Ok(())
+    let front = (b"1 begin\n".as_slice(), b"1 ok begin 0\n".as_slice());
+    let reads = (b"1 get 15 0 1\n".as_slice(), 4090);
+    let rest = (
+        b"1 fnew 61\n1 fdel 61\n1 end\n1 begin\n1 tget 61\n1 fread 61 0 1\n".as_slice(),
+        b"1 too-many-accesses\n1 too-many-accesses\n1 ok commit 1\n1 ok begin 1\n1 ok 00000001\n1 broken block 5\n".as_slice(),
+    );
+    behind_reads(&rt, rt.alloc(), FILES, front, reads, rest)
 }
 
 #[test]
 fn files_stand_in_the_next_run(rt: HostRuntime) -> Result<(), Fail> {
-    let alloc = rt.alloc();
-    let script = behind_a_file(
-        alloc,
-        300,
-        b"1 hput 61 31\n1 end\n1 begin\n1 fdel 61\n1 abort\n",
-    )?;
-    let image = made_image(alloc, BEHIND_A_HASH_STORE, &script)?;
-    let outcome = run_image(
-        alloc,
-        image,
-        b"2 begin\n2 fread 61 255 2\n2 fmove 61 62\n2 hget 61\n2 release a\n1 takeover a\n1 fread 62 299 9\n1 end\n",
-    )?;
-    same(&rt, outcome.status, 0);
+    let rest = b"1 hput 61 31\n1 end\n1 begin\n1 fdel 61\n1 abort\n";
+    let script = written(rt.alloc(), &[(MADE, "0", *b"11", 300)], rest)?;
+    let image = made_image(rt.alloc(), BEHIND_A_HASH_STORE, &script)?;
+    let script =
+        b"2 begin\n2 fread 61 255 2\n2 fmove 61 62\n2 hget 61\n2 release a\n1 takeover a\n1 fread 62 299 9\n1 end\n";
     let replies =
         b"2 ok begin 1\n2 ok 1111\n2 ok\n2 ok 31\n2 ok\n1 ok begin 1\n1 ok 11\n1 ok commit 2\n";
-    assert!(rt; outcome.output.as_slice() == replies.as_slice());
-    Ok(())
+    told_on(&rt, rt.alloc(), image, script, replies)
 }

@@ -1,9 +1,10 @@
 // Groups of released transactions: what each label is answered, and the device calls that a group makes.
-use crate::tests_commands::{same, told};
+use crate::talk::Talk;
+use crate::tests_commands::{gave, same, told, told_behind};
 use std::alloc::{AllocError, Global};
 use std::process::Abort;
 use std::test::Fail;
-use top_calls::{SMALL, call, joined, part};
+use top_calls::{Outcome, SMALL, call, joined, part};
 
 /// Two transactions under labels, each with a put.
 const TWO_PUTS: &[u8] = b"1 begin\n1 put 0 0 aa\n1 release a\n2 begin\n2 put 0 1 bb\n2 release b\n";
@@ -12,9 +13,7 @@ const TWO_REPLIES: &[u8] = b"1 ok begin 0\n1 ok\n1 ok\n2 ok begin 0\n2 ok\n2 ok\
 
 /// That these lines behind the two transactions are answered so.
 fn behind_two(rt: &impl Abort, alloc: Global, lines: &[u8], replies: &[u8]) -> Result<(), Fail> {
-    let script = joined(alloc, TWO_PUTS, lines)?;
-    let expected = joined(alloc, TWO_REPLIES, replies)?;
-    told(rt, alloc, SMALL, &script, &expected)
+    told_behind(rt, alloc, (TWO_PUTS, TWO_REPLIES), lines, replies)
 }
 
 #[test]
@@ -31,36 +30,34 @@ fn a_group_ends_in_the_order_of_its_labels(rt: HostRuntime) -> Result<(), Fail> 
     behind_two(&rt, rt.alloc(), lines, replies)
 }
 
+/// What lines make of a script on a new image, and how many calls of the disk they add.
+fn added(alloc: Global, front: &[u8], lines: &[u8]) -> Result<(Outcome, u64), AllocError> {
+    let before = call(alloc, SMALL, front)?.disk.calls();
+    let after = call(alloc, SMALL, &joined(alloc, front, lines)?)?;
+    let calls = after.disk.calls().saturating_sub(before);
+    Ok((after, calls))
+}
+
 #[test]
 fn a_group_makes_four_device_calls(rt: HostRuntime) -> Result<(), Fail> {
     let alloc = rt.alloc();
-    let before = call(alloc, SMALL, TWO_PUTS)?;
-    let script = joined(alloc, TWO_PUTS, b"3 group a b zz\n")?;
-    let after = call(alloc, SMALL, &script)?;
-    same(&rt, after.status, 0);
-    same(
-        &rt,
-        after.disk.calls(),
-        before.disk.calls().saturating_add(4),
-    );
+    let (after, calls) = added(alloc, TWO_PUTS, b"3 group a b zz\n")?;
+    same(&rt, (after.status, calls), (0, 4));
     // two open gates, and a closed one behind them
-    let image = after.disk.crash(alloc, 0)?;
-    same(&rt, part(&image, 352, 1), [1].as_slice());
-    same(&rt, part(&image, 381, 1), [1].as_slice());
-    same(&rt, part(&image, 410, 1), [0].as_slice());
+    let image = after.image(alloc, 0)?;
+    for (gate, byte) in [(352, 1), (381, 1), (410, 0)] {
+        same(&rt, part(&image, gate, 1), [byte].as_slice());
+    }
     Ok(())
 }
 
 #[test]
 fn a_group_without_a_commit_makes_none(rt: HostRuntime) -> Result<(), Fail> {
-    let alloc = rt.alloc();
     let front = b"1 begin\n1 release a\n2 begin\n2 put 0 0 aa\n";
-    let before = call(alloc, SMALL, front)?;
-    let script = joined(alloc, front, b"2 group a\n2 group b c\n")?;
-    let after = call(alloc, SMALL, &script)?;
+    let (after, calls) = added(rt.alloc(), front, b"2 group a\n2 group b c\n")?;
     let replies = b"1 ok begin 0\n1 ok\n2 ok begin 0\n2 ok\n2 ok read-only\n2 ok none; none\n";
-    same(&rt, after.output.as_slice(), replies.as_slice());
-    same(&rt, after.disk.calls(), before.disk.calls());
+    gave(&rt, &after, 0, replies);
+    same(&rt, calls, 0);
     Ok(())
 }
 
@@ -90,96 +87,69 @@ fn a_client_keeps_its_own_transaction(rt: HostRuntime) -> Result<(), Fail> {
     behind_two(&rt, rt.alloc(), lines, replies)
 }
 
-/// A transaction of client 1 with this access, released under a label, and its replies.
-fn released(
-    script: &mut Vec<u8>,
-    replies: &mut Vec<u8>,
-    access: &[u8],
-    reply: &[u8],
-    label: &[u8],
+/// A transaction of client 1 with these accesses for each of the labels, released under it.
+fn add_each(
+    talk: &mut Talk,
+    labels: &[u8],
+    lines: &[u8],
+    replies: &[u8],
 ) -> Result<(), AllocError> {
-    script.extend_from_slice(b"1 begin\n")?;
-    replies.extend_from_slice(b"1 ok begin 0\n")?;
-    script.extend_from_slice(access)?;
-    replies.extend_from_slice(reply)?;
-    script.extend_from_slice(b"1 release ")?;
-    script.extend_from_slice(label)?;
-    script.extend_from_slice(b"\n")?;
-    replies.extend_from_slice(b"1 ok\n")?;
+    for label in labels {
+        talk.add(b"1 begin\n", b"1 ok begin 0\n")?;
+        talk.add(lines, replies)?;
+        talk.add(b"1 release ", b"1 ok\n")?;
+        talk.add(&[*label, b'\n'], b"")?;
+    }
     Ok(())
+}
+
+/// Nine transactions under labels, and a group of them.
+fn nine(alloc: Global) -> Result<Talk, AllocError> {
+    let mut talk = Talk::new(alloc);
+    add_each(&mut talk, b"abcdefghi", b"1 put 0 0 aa\n", b"1 ok\n")?;
+    talk.add(
+        b"2 group a b c d e f g h i\n2 stat\n2 takeover i\n",
+        b"2 ok commit 1; commit 2; commit 3; commit 4; commit 5; commit 6; commit 7; commit 8; log full need 30 free 24\n2 ok last 8 base 0 trim 0 live 0 used 232 versions 8\n2 no-handle\n",
+    )?;
+    Ok(talk)
 }
 
 #[test]
 fn the_last_of_nine_members_has_no_room(rt: HostRuntime) -> Result<(), Fail> {
-    let alloc = rt.alloc();
-    let mut script = Vec::new(alloc);
-    let mut replies = Vec::new(alloc);
-    for label in b"abcdefghi" {
-        released(
-            &mut script,
-            &mut replies,
-            b"1 put 0 0 aa\n",
-            b"1 ok\n",
-            &[*label],
-        )?;
+    let talk = nine(rt.alloc())?;
+    told(&rt, rt.alloc(), SMALL, &talk.script, &talk.replies)
+}
+
+/// A group of sixteen labels, of which one has no transaction.
+fn sixteen(alloc: Global) -> Result<Talk, AllocError> {
+    let mut talk = Talk::new(alloc);
+    for (labels, lines, replies) in [
+        (
+            b"a".as_slice(),
+            b"1 put 0 0 01\n".as_slice(),
+            b"1 ok\n".as_slice(),
+        ),
+        (b"b", b"1 read 0\n1 put 1 0 bb\n", b"1 ok Z\n1 ok\n"),
+        (b"c", b"1 get 2 0 1\n", b"1 ok 00\n"),
+        (b"efghijklmn", b"1 put 2 5 77\n", b"1 ok\n"),
+        // the record of a whole block needs 93 bytes, of which 81 are left
+        (b"o", b"1 fill 3 ff\n", b"1 ok\n"),
+        (b"p", b"1 put 3 0 99\n", b"1 ok\n"),
+    ] {
+        add_each(&mut talk, labels, lines, replies)?;
     }
-    script.extend_from_slice(b"2 group a b c d e f g h i\n2 stat\n2 takeover i\n")?;
-    replies.extend_from_slice(
-        b"2 ok commit 1; commit 2; commit 3; commit 4; commit 5; commit 6; commit 7; commit 8; log full need 30 free 24\n2 ok last 8 base 0 trim 0 live 0 used 232 versions 8\n2 no-handle\n",
+    talk.add(
+        b"64 group a b c d e f g h i j k l m n o p\n64 stat\n",
+        b"64 ok commit 1; conflict with 1 block 0 at 0; read-only; none; commit 2; commit 3; commit 4; commit 5; commit 6; commit 7; commit 8; commit 9; commit 10; commit 11; log full need 93 free 81; commit 12\n64 ok last 12 base 0 trim 0 live 0 used 348 versions 12\n",
     )?;
-    told(&rt, rt.alloc(), SMALL, &script, &replies)
+    Ok(talk)
 }
 
 #[test]
 fn sixteen_labels_of_every_kind(rt: HostRuntime) -> Result<(), Fail> {
-    let alloc = rt.alloc();
-    let mut script = Vec::new(alloc);
-    let mut replies = Vec::new(alloc);
-    released(
-        &mut script,
-        &mut replies,
-        b"1 put 0 0 01\n",
-        b"1 ok\n",
-        b"a",
-    )?;
-    released(
-        &mut script,
-        &mut replies,
-        b"1 read 0\n1 put 1 0 bb\n",
-        b"1 ok Z\n1 ok\n",
-        b"b",
-    )?;
-    released(
-        &mut script,
-        &mut replies,
-        b"1 get 2 0 1\n",
-        b"1 ok 00\n",
-        b"c",
-    )?;
-    for label in b"efghijklmn" {
-        released(
-            &mut script,
-            &mut replies,
-            b"1 put 2 5 77\n",
-            b"1 ok\n",
-            &[*label],
-        )?;
-    }
-    // the record of a whole block needs 93 bytes, of which 81 are left
-    released(&mut script, &mut replies, b"1 fill 3 ff\n", b"1 ok\n", b"o")?;
-    released(
-        &mut script,
-        &mut replies,
-        b"1 put 3 0 99\n",
-        b"1 ok\n",
-        b"p",
-    )?;
-    script.extend_from_slice(b"64 group a b c d e f g h i j k l m n o p\n64 stat\n")?;
-    replies.extend_from_slice(
-        b"64 ok commit 1; conflict with 1 block 0 at 0; read-only; none; commit 2; commit 3; commit 4; commit 5; commit 6; commit 7; commit 8; commit 9; commit 10; commit 11; log full need 93 free 81; commit 12\n64 ok last 12 base 0 trim 0 live 0 used 348 versions 12\n",
-    )?;
+    let talk = sixteen(rt.alloc())?;
     let line = "isotope new t.img --block-size 64 --blocks 4 --log 400";
-    told(&rt, rt.alloc(), line, &script, &replies)
+    told(&rt, rt.alloc(), line, &talk.script, &talk.replies)
 }
 
 #[test]

@@ -1,9 +1,10 @@
 // One long script with every operation and nearly every refusal, in two runs on a small image: each line stands beside its
 // reply, as the rules have it. Behind each group it is said what stands then.
-use crate::tests_commands::same;
+use crate::talk::Talk;
+use crate::tests_commands::told_in_turn;
 use std::alloc::{AllocError, Global};
 use std::test::Fail;
-use top_calls::{RUN, SMALL, call, call_on, text};
+use top_calls::SMALL;
 
 // Outside a transaction nothing is tried but that. A compaction of nothing goes into the other half.
 const OUTSIDE: &[(&str, &str)] = &[
@@ -245,75 +246,34 @@ const TO_THE_END: &[(&str, &str)] = &[
     ("2 abort", "2 ok"),
 ];
 
-/// Lines, and the replies to them.
-#[derive(Drop)]
-struct Talk {
-    lines: Vec<u8>,
-    replies: Vec<u8>,
-}
-
-/// Adds a text and a line feed.
-fn add_line(all: &mut Vec<u8>, line: &str) -> Result<(), AllocError> {
-    all.extend_from_slice(line.as_bytes())?;
-    all.push(b'\n')?;
-    Ok(())
-}
-
-/// Adds a group of lines and their replies.
-fn add(talk: &mut Talk, group: &[(&str, &str)]) -> Result<(), AllocError> {
-    for (line, reply) in group {
-        add_line(&mut talk.lines, line)?;
-        add_line(&mut talk.replies, reply)?;
-    }
-    Ok(())
-}
-
-fn no_talk(alloc: Global) -> Talk {
-    Talk {
-        lines: Vec::new(alloc),
-        replies: Vec::new(alloc),
-    }
-}
-
 /// What is said on the new image.
-fn first_talk(alloc: Global) -> Result<Talk, AllocError> {
-    let mut talk = no_talk(alloc);
-    add(&mut talk, OUTSIDE)?;
-    add(&mut talk, BEGINS)?;
-    add(&mut talk, REFUSED)?;
-    add(&mut talk, MARKS)?;
-    add(&mut talk, ENDS)?;
-    add(&mut talk, CONFLICTS)?;
-    add(&mut talk, LEAST)?;
-    add(&mut talk, HANDLES)?;
-    add(&mut talk, TAKEN_OVER)?;
-    add(&mut talk, UPGRADED)?;
-    add(&mut talk, LEFT)?;
-    Ok(talk)
-}
+const FIRST: &[&[(&str, &str)]] = &[
+    OUTSIDE, BEGINS, REFUSED, MARKS, ENDS, CONFLICTS, LEAST, HANDLES, TAKEN_OVER, UPGRADED, LEFT,
+];
 
 /// What is said on it after that.
-fn second_talk(alloc: Global) -> Result<Talk, AllocError> {
-    let mut talk = no_talk(alloc);
-    add(&mut talk, AGAIN)?;
-    add(&mut talk, TO_THE_END)?;
+const SECOND: &[&[(&str, &str)]] = &[AGAIN, TO_THE_END];
+
+/// The lines of these groups and their replies, each with a line feed.
+fn said(alloc: Global, groups: &[&[(&str, &str)]]) -> Result<Talk, AllocError> {
+    let mut talk = Talk::new(alloc);
+    for group in groups {
+        for (line, reply) in *group {
+            talk.add(line.as_bytes(), reply.as_bytes())?;
+            talk.add(b"\n", b"\n")?;
+        }
+    }
     Ok(talk)
 }
 
 #[test]
 fn a_long_script_in_two_runs(rt: HostRuntime) -> Result<(), Fail> {
     let alloc = rt.alloc();
-    let first = first_talk(alloc)?;
-    let lines = text(alloc, &first.lines)?;
-    let made = call(alloc, SMALL, &lines)?;
-    let replies = text(alloc, &first.replies)?;
-    same(&rt, made.status, 0);
-    same(&rt, made.output.as_slice(), replies.as_slice());
-    let second = second_talk(alloc)?;
-    let lines = text(alloc, &second.lines)?;
-    let again = call_on(alloc, RUN, made.disk, &lines)?;
-    let replies = text(alloc, &second.replies)?;
-    same(&rt, again.status, 0);
-    same(&rt, again.output.as_slice(), replies.as_slice());
-    Ok(())
+    let first = said(alloc, FIRST)?;
+    let second = said(alloc, SECOND)?;
+    let rows = [
+        (first.script.as_slice(), first.replies.as_slice()),
+        (second.script.as_slice(), second.replies.as_slice()),
+    ];
+    told_in_turn(&rt, alloc, SMALL, &rows)
 }

@@ -1,7 +1,7 @@
 // Scripts on new images, reply by reply, and the bytes of images.
-use crate::tests_commands::{same, told};
+use crate::tests_commands::{gave, same, told, told_behind, told_in_turn};
 use std::test::Fail;
-use top_calls::{RECORD, RUN, SMALL, call, call_on, joined, part, small_image};
+use top_calls::{RECORD, SMALL, call, joined, part, small_image};
 
 const SNAPSHOT: &str = "isotope new t.img --block-size 64 --blocks 4 --log 256 --mode snapshot";
 
@@ -9,9 +9,8 @@ const SNAPSHOT: &str = "isotope new t.img --block-size 64 --blocks 4 --log 256 -
 fn an_empty_script_makes_the_default_image(rt: HostRuntime) -> Result<(), Fail> {
     let alloc = rt.alloc();
     let outcome = call(alloc, "isotope new t.img", b"")?;
-    same(&rt, outcome.status, 0);
-    same(&rt, outcome.output.len(), 0);
-    same(&rt, outcome.disk.crash(alloc, 0)?.len(), 16_777_344);
+    gave(&rt, &outcome, 0, b"");
+    same(&rt, outcome.image(alloc, 0)?.len(), 16_777_344);
     Ok(())
 }
 
@@ -19,28 +18,24 @@ fn an_empty_script_makes_the_default_image(rt: HostRuntime) -> Result<(), Fail> 
 fn a_small_image_has_these_bytes(rt: HostRuntime) -> Result<(), Fail> {
     let alloc = rt.alloc();
     let outcome = call(alloc, SMALL, b"")?;
-    same(&rt, outcome.status, 0);
-    same(&rt, outcome.output.len(), 0);
+    gave(&rt, &outcome, 0, b"");
     let expected = small_image(alloc)?;
-    for pick in 0..2 {
-        let image = outcome.disk.crash(alloc, pick)?;
-        same(&rt, image.len(), 1152);
-        assert!(rt; image.as_slice() == expected.as_slice());
-    }
+    same(&rt, expected.len(), 1152);
+    assert!(rt; outcome.leaves(alloc, 1, &expected)?);
     Ok(())
 }
 
 #[test]
 fn a_put_is_a_record_behind_an_open_gate(rt: HostRuntime) -> Result<(), Fail> {
     let alloc = rt.alloc();
-    let script = b"1 begin\n1 put 2 5 abcd\n1 end\n";
     for (line, log) in [("isotope new t.img", 4_194_400), (SMALL, 352)] {
-        let outcome = call(alloc, line, script)?;
-        same(&rt, outcome.status, 0);
-        let replies = b"1 ok begin 0\n1 ok\n1 ok commit 1\n".as_slice();
-        same(&rt, outcome.output.as_slice(), replies);
-        let image = outcome.disk.crash(alloc, 0)?;
-        same(&rt, part(&image, log, 31), RECORD.as_slice());
+        let outcome = call(alloc, line, b"1 begin\n1 put 2 5 abcd\n1 end\n")?;
+        gave(&rt, &outcome, 0, b"1 ok begin 0\n1 ok\n1 ok commit 1\n");
+        same(
+            &rt,
+            part(&outcome.image(alloc, 0)?, log, 31),
+            RECORD.as_slice(),
+        );
     }
     Ok(())
 }
@@ -115,44 +110,29 @@ const COMPACTED: &[u8] = b"1 abort\n1 compact\n1 begin\n1 put 0 0 01\n1 end\n1 s
 
 #[test]
 fn a_log_is_filled_to_its_last_byte(rt: HostRuntime) -> Result<(), Fail> {
-    let alloc = rt.alloc();
+    let replies =
+        b"1 ok begin 2\n1 ok\n1 ok commit 3\n1 ok begin 3\n1 ok\n1 log full need 30 free 1\n";
     for front in [TWO_FILLS, TWO_PUTS] {
-        let script = joined(alloc, front, LAST_BYTES)?;
-        let replies = joined(
-            alloc,
-            TWO_REPLIES,
-            b"1 ok begin 2\n1 ok\n1 ok commit 3\n1 ok begin 3\n1 ok\n1 log full need 30 free 1\n",
-        )?;
-        told(&rt, rt.alloc(), SMALL, &script, &replies)?;
+        told_behind(&rt, rt.alloc(), (front, TWO_REPLIES), LAST_BYTES, replies)?;
     }
     Ok(())
 }
 
 #[test]
 fn a_record_that_is_a_byte_too_long_is_refused(rt: HostRuntime) -> Result<(), Fail> {
-    let alloc = rt.alloc();
+    let replies = b"1 ok begin 2\n1 ok\n1 log full need 73 free 72\n1 in-tx\n1 ok\n";
     for front in [TWO_FILLS, TWO_PUTS] {
-        let script = joined(alloc, front, TOO_MANY)?;
-        let replies = joined(
-            alloc,
-            TWO_REPLIES,
-            b"1 ok begin 2\n1 ok\n1 log full need 73 free 72\n1 in-tx\n1 ok\n",
-        )?;
-        told(&rt, rt.alloc(), SMALL, &script, &replies)?;
+        told_behind(&rt, rt.alloc(), (front, TWO_REPLIES), TOO_MANY, replies)?;
     }
     Ok(())
 }
 
 #[test]
 fn a_compaction_makes_room_in_a_full_log(rt: HostRuntime) -> Result<(), Fail> {
-    let alloc = rt.alloc();
-    let script = joined(alloc, &joined(alloc, TWO_FILLS, LAST_BYTES)?, COMPACTED)?;
-    let replies = joined(
-        alloc,
-        TWO_REPLIES,
-        b"1 ok begin 2\n1 ok\n1 ok commit 3\n1 ok begin 3\n1 ok\n1 log full need 30 free 1\n1 ok\n1 ok compact 3\n1 ok begin 3\n1 ok\n1 ok commit 4\n1 ok last 4 base 3 trim 3 live 0 used 29 versions 1\n",
-    )?;
-    told(&rt, rt.alloc(), SMALL, &script, &replies)
+    let lines = joined(rt.alloc(), LAST_BYTES, COMPACTED)?;
+    let replies =
+        b"1 ok begin 2\n1 ok\n1 ok commit 3\n1 ok begin 3\n1 ok\n1 log full need 30 free 1\n1 ok\n1 ok compact 3\n1 ok begin 3\n1 ok\n1 ok commit 4\n1 ok last 4 base 3 trim 3 live 0 used 29 versions 1\n";
+    told_behind(&rt, rt.alloc(), (TWO_FILLS, TWO_REPLIES), &lines, replies)
 }
 
 #[test]
@@ -193,38 +173,29 @@ fn marks_and_their_refusals(rt: HostRuntime) -> Result<(), Fail> {
 
 #[test]
 fn an_old_snapshot_is_read_to_its_end(rt: HostRuntime) -> Result<(), Fail> {
-    let alloc = rt.alloc();
-    let front =
-        b"1 begin\n2 begin\n2 put 0 0 01\n2 end\n2 begin\n2 put 0 0 02\n2 end\n1 read 0\n".as_slice();
-    let front_replies =
-        b"1 ok begin 0\n2 ok begin 0\n2 ok\n2 ok commit 1\n2 ok begin 1\n2 ok\n2 ok commit 2\n1 ok Z\n".as_slice();
-    let script = joined(alloc, front, b"1 end\n")?;
-    let replies = joined(alloc, front_replies, b"1 ok read-only\n")?;
-    told(&rt, rt.alloc(), SMALL, &script, &replies)?;
-    let script = joined(alloc, front, b"1 put 1 0 aa\n1 end\n")?;
-    let replies = joined(
-        alloc,
-        front_replies,
-        b"1 ok\n1 conflict with 1 block 0 at 0\n",
-    )?;
-    told(&rt, rt.alloc(), SMALL, &script, &replies)
+    let front = (
+        b"1 begin\n2 begin\n2 put 0 0 01\n2 end\n2 begin\n2 put 0 0 02\n2 end\n1 read 0\n".as_slice(),
+        b"1 ok begin 0\n2 ok begin 0\n2 ok\n2 ok commit 1\n2 ok begin 1\n2 ok\n2 ok commit 2\n1 ok Z\n".as_slice(),
+    );
+    told_behind(&rt, rt.alloc(), front, b"1 end\n", b"1 ok read-only\n")?;
+    let replies = b"1 ok\n1 conflict with 1 block 0 at 0\n";
+    told_behind(&rt, rt.alloc(), front, b"1 put 1 0 aa\n1 end\n", replies)
 }
 
 #[test]
 fn a_trim_drops_what_no_snapshot_shows(rt: HostRuntime) -> Result<(), Fail> {
-    let alloc = rt.alloc();
-    let script =
-        b"1 begin\n1 put 0 0 01\n1 end\n1 begin\n1 put 0 0 02\n1 end\n1 begin\n1 put 0 1 03\n1 end\n1 stat\n1 trim\n1 stat\n";
-    let replies =
-        b"1 ok begin 0\n1 ok\n1 ok commit 1\n1 ok begin 1\n1 ok\n1 ok commit 2\n1 ok begin 2\n1 ok\n1 ok commit 3\n1 ok last 3 base 0 trim 0 live 0 used 87 versions 3\n1 ok trim 3\n1 ok last 3 base 0 trim 3 live 0 used 87 versions 2\n".as_slice();
-    let outcome = call(alloc, SMALL, script)?;
-    same(&rt, outcome.status, 0);
-    same(&rt, outcome.output.as_slice(), replies);
-    // what is trimmed is told again when the image is opened
-    let again = call_on(alloc, RUN, outcome.disk, b"1 stat\n")?;
-    let stat = b"1 ok last 3 base 0 trim 0 live 0 used 87 versions 3\n".as_slice();
-    same(&rt, again.output.as_slice(), stat);
-    Ok(())
+    let rows = [
+        (
+            b"1 begin\n1 put 0 0 01\n1 end\n1 begin\n1 put 0 0 02\n1 end\n1 begin\n1 put 0 1 03\n1 end\n1 stat\n1 trim\n1 stat\n".as_slice(),
+            b"1 ok begin 0\n1 ok\n1 ok commit 1\n1 ok begin 1\n1 ok\n1 ok commit 2\n1 ok begin 2\n1 ok\n1 ok commit 3\n1 ok last 3 base 0 trim 0 live 0 used 87 versions 3\n1 ok trim 3\n1 ok last 3 base 0 trim 3 live 0 used 87 versions 2\n".as_slice(),
+        ),
+        // what is trimmed is told again when the image is opened
+        (
+            b"1 stat\n",
+            b"1 ok last 3 base 0 trim 0 live 0 used 87 versions 3\n",
+        ),
+    ];
+    told_in_turn(&rt, rt.alloc(), SMALL, &rows)
 }
 
 #[test]

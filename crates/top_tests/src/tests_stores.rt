@@ -1,5 +1,5 @@
 // Scripts on images with a hash store.
-use crate::tests_commands::{same, told};
+use crate::tests_commands::{same, told, told_each};
 use std::test::Fail;
 use top_calls::{SMALL, call};
 
@@ -75,10 +75,17 @@ fn a_damaged_block_is_named(rt: HostRuntime) -> Result<(), Fail> {
 
 #[test]
 fn a_store_is_refused(rt: HostRuntime) -> Result<(), Fail> {
-    let script = b"1 hget 61\n1 begin\n1 hget 61\n1 hput - 31\n";
-    let replies = b"1 not-in-tx\n1 ok begin 0\n1 no-store\n1 no-store\n";
-    told(&rt, rt.alloc(), SMALL, script, replies)?;
-    let script = b"1 upgrade\n1 begin snapshot\n1 hget 61\n1 hdel -\n";
-    let replies = b"1 ok upgrade 0\n1 ok begin 0\n1 store-mode\n1 store-mode\n";
-    told(&rt, rt.alloc(), STORE, script, replies)
+    let rows = [
+        (
+            SMALL,
+            b"1 hget 61\n1 begin\n1 hget 61\n1 hput - 31\n".as_slice(),
+            b"1 not-in-tx\n1 ok begin 0\n1 no-store\n1 no-store\n".as_slice(),
+        ),
+        (
+            STORE,
+            b"1 upgrade\n1 begin snapshot\n1 hget 61\n1 hdel -\n",
+            b"1 ok upgrade 0\n1 ok begin 0\n1 store-mode\n1 store-mode\n",
+        ),
+    ];
+    told_each(&rt, rt.alloc(), &rows)
 }
