@@ -15,6 +15,23 @@ pub enum Fault {
     OfKind(CallKind, u64),
 }
 
+/// How a disk fails from a call on: for good, or at that call alone.
+#[derive(Clone, Copy)]
+pub enum Failing {
+    From,
+    At,
+}
+
+impl Failing {
+    /// So, from the call of this number on, counted from 1.
+    pub fn fault(self, number: u64) -> Fault {
+        match self {
+            Failing::From => Fault::Behind(number.saturating_sub(1)),
+            Failing::At => Fault::At(number),
+        }
+    }
+}
+
 /// A disk without bytes.
 pub fn no_disk(alloc: Global) -> MemDisk {
     MemDisk::new(alloc, Vec::new(alloc))

@@ -12,7 +12,7 @@ pub use calls::{
     call_over, call_with, gated_over, isotope_on, made_image, par_image, run_image, shows,
     source_of, stat_of, threads_over, whole_sink,
 };
-pub use disks::{Fault, faulty, no_disk};
+pub use disks::{Failing, Fault, faulty, no_disk};
 pub use images::{RECORD, change, one_put_image, part, small_image};
 pub use outcome::Outcome;
-pub use texts::{joined, repeated, text};
+pub use texts::{joined, of_each_client, repeated, text};

@@ -36,3 +36,24 @@ pub fn repeated(
     all.extend_from_slice(rest)?;
     Ok(all)
 }
+
+/// A number of one or two digits.
+fn push_number(out: &mut Vec<u8>, number: u8) -> Result<(), AllocError> {
+    if number >= 10 {
+        out.push(b'0' + (number / 10) % 10)?;
+    }
+    out.push(b'0' + number % 10)?;
+    Ok(())
+}
+
+/// These texts of each of the 64 clients, one client after the other, each text behind the client's number.
+pub fn of_each_client(alloc: Global, texts: &[&[u8]]) -> Result<Vec<u8>, AllocError> {
+    let mut out = Vec::new(alloc);
+    for client in 1..65u8 {
+        for rest in texts {
+            push_number(&mut out, client)?;
+            out.extend_from_slice(rest)?;
+        }
+    }
+    Ok(out)
+}
