@@ -1,5 +1,5 @@
 // Images that are damaged in one place, one test each: what they are refused for, by both calls that open an image.
-use crate::tests_cut::same;
+use crate::tests_cut::gave;
 use iso_memdisk::MemDisk;
 use std::alloc::{AllocError, Global};
 use std::process::Abort;
@@ -7,13 +7,12 @@ use std::test::Fail;
 use top_calls::{RECOVER, RUN, call_on, change, one_put_image, run_image, small_image};
 
 /// Whether an image is refused with this text by both calls that open one, and stays as it is.
-fn is_refused(alloc: Global, image: &[u8], refusal: &[u8]) -> Result<bool, Fail> {
+fn is_refused(alloc: Global, image: &[u8], refusal: &[u8]) -> Result<bool, AllocError> {
     for line in [RUN, RECOVER] {
         let disk = MemDisk::new(alloc, image.to_vec(alloc)?);
         // the script is not read, so its bad line is not met
         let outcome = call_on(alloc, line, disk, b"1 jump\n")?;
-        let left = outcome.disk.crash(alloc, 1)?;
-        if outcome.status != 4 || outcome.output.as_slice() != refusal || left.as_slice() != image {
+        if !outcome.gave(4, refusal) || !outcome.leaves(alloc, 1, image)? {
             return Ok(false);
         }
     }
@@ -26,16 +25,17 @@ fn refused(rt: &impl Abort, alloc: Global, image: &[u8], refusal: &[u8]) -> Resu
     Ok(())
 }
 
-/// The same of a new image with other bytes in this place.
+/// The same of a new image with another byte in each of these places.
 fn refused_when_new(
     rt: &impl Abort,
     alloc: Global,
-    at: usize,
-    bytes: &[u8],
+    changes: &[(usize, u8)],
     refusal: &[u8],
 ) -> Result<(), Fail> {
     let mut image = small_image(alloc)?;
-    change(&mut image, at, bytes);
+    for (at, byte) in changes {
+        change(&mut image, *at, &[*byte]);
+    }
     refused(rt, alloc, &image, refusal)
 }
 
@@ -54,101 +54,103 @@ fn refused_with_a_record(
 
 #[test]
 fn an_image_begins_with_its_name(rt: HostRuntime) -> Result<(), Fail> {
-    refused_when_new(&rt, rt.alloc(), 0, &[0x4a], b"! not an Isotope image\n")
+    refused_when_new(&rt, rt.alloc(), &[(0, 0x4a)], b"! not an Isotope image\n")
 }
 
 #[test]
 fn a_closed_superblock_is_no_image(rt: HostRuntime) -> Result<(), Fail> {
-    refused_when_new(&rt, rt.alloc(), 63, &[2], b"! not an Isotope image\n")
+    refused_when_new(&rt, rt.alloc(), &[(63, 2)], b"! not an Isotope image\n")
 }
 
 #[test]
 fn a_version_is_1(rt: HostRuntime) -> Result<(), Fail> {
-    refused_when_new(&rt, rt.alloc(), 11, &[2], b"! bad geometry field 1\n")
+    refused_when_new(&rt, rt.alloc(), &[(11, 2)], b"! bad geometry field 1\n")
 }
 
 #[test]
 fn a_block_size_is_a_power_of_two(rt: HostRuntime) -> Result<(), Fail> {
-    refused_when_new(&rt, rt.alloc(), 15, &[0x41], b"! bad geometry field 2\n")
+    refused_when_new(&rt, rt.alloc(), &[(15, 0x41)], b"! bad geometry field 2\n")
 }
 
 #[test]
 fn an_image_has_a_block(rt: HostRuntime) -> Result<(), Fail> {
-    refused_when_new(&rt, rt.alloc(), 19, &[0], b"! bad geometry field 3\n")
+    refused_when_new(&rt, rt.alloc(), &[(19, 0)], b"! bad geometry field 3\n")
 }
 
 #[test]
 fn a_log_has_64_bytes(rt: HostRuntime) -> Result<(), Fail> {
+    // four bytes have the length of a log, of which the third one is 1 before
     refused_when_new(
         &rt,
         rt.alloc(),
-        20,
-        &[0, 0, 0, 0x3f],
+        &[(22, 0), (23, 0x3f)],
         b"! bad geometry field 4\n",
     )
 }
 
 #[test]
 fn a_mode_is_0_or_1(rt: HostRuntime) -> Result<(), Fail> {
-    refused_when_new(&rt, rt.alloc(), 24, &[2], b"! bad geometry field 5\n")
+    refused_when_new(&rt, rt.alloc(), &[(24, 2)], b"! bad geometry field 5\n")
 }
 
 #[test]
 fn zero_bytes_of_a_superblock_are_zero(rt: HostRuntime) -> Result<(), Fail> {
-    refused_when_new(&rt, rt.alloc(), 36, &[1], b"! bad geometry field 6\n")
+    refused_when_new(&rt, rt.alloc(), &[(36, 1)], b"! bad geometry field 6\n")
 }
 
 #[test]
 fn a_region_needs_larger_blocks(rt: HostRuntime) -> Result<(), Fail> {
-    refused_when_new(&rt, rt.alloc(), 31, &[3], b"! bad geometry field 7\n")
+    refused_when_new(&rt, rt.alloc(), &[(31, 3)], b"! bad geometry field 7\n")
 }
 
 #[test]
 fn one_half_is_open(rt: HostRuntime) -> Result<(), Fail> {
-    refused_when_new(&rt, rt.alloc(), 64, &[0], b"! no open half\n")
+    refused_when_new(&rt, rt.alloc(), &[(64, 0)], b"! no open half\n")
 }
 
 #[test]
 fn a_form_is_1_or_2(rt: HostRuntime) -> Result<(), Fail> {
-    refused_when_new(&rt, rt.alloc(), 65, &[3], b"! unknown form 3\n")
+    refused_when_new(&rt, rt.alloc(), &[(65, 3)], b"! unknown form 3\n")
 }
 
 #[test]
 fn the_form_of_the_current_half_is_asked(rt: HostRuntime) -> Result<(), Fail> {
-    let alloc = rt.alloc();
-    let mut image = small_image(alloc)?;
-    change(&mut image, 608, &[1]);
-    change(&mut image, 623, &[2]);
-    refused(&rt, rt.alloc(), &image, b"! unknown form 0\n")
+    refused_when_new(
+        &rt,
+        rt.alloc(),
+        &[(608, 1), (623, 2)],
+        b"! unknown form 0\n",
+    )
 }
 
 #[test]
 fn zero_bytes_of_a_header_are_zero(rt: HostRuntime) -> Result<(), Fail> {
-    refused_when_new(&rt, rt.alloc(), 66, &[1], b"! damaged at 66 cause 3\n")
+    refused_when_new(&rt, rt.alloc(), &[(66, 1)], b"! damaged at 66 cause 3\n")
 }
 
 #[test]
 fn zero_bytes_come_before_the_generation(rt: HostRuntime) -> Result<(), Fail> {
-    let alloc = rt.alloc();
-    let mut image = small_image(alloc)?;
-    change(&mut image, 88, &[1]);
-    change(&mut image, 72, &[0x80]);
-    refused(&rt, rt.alloc(), &image, b"! damaged at 88 cause 3\n")
+    refused_when_new(
+        &rt,
+        rt.alloc(),
+        &[(88, 1), (72, 0x80)],
+        b"! damaged at 88 cause 3\n",
+    )
 }
 
 #[test]
 fn a_generation_is_below_2_to_the_63(rt: HostRuntime) -> Result<(), Fail> {
-    refused_when_new(&rt, rt.alloc(), 72, &[0x80], b"! damaged at 72 cause 8\n")
+    refused_when_new(&rt, rt.alloc(), &[(72, 0x80)], b"! damaged at 72 cause 8\n")
 }
 
 #[test]
 fn a_base_number_is_below_2_to_the_63(rt: HostRuntime) -> Result<(), Fail> {
-    refused_when_new(&rt, rt.alloc(), 80, &[0x80], b"! damaged at 80 cause 8\n")
+    refused_when_new(&rt, rt.alloc(), &[(80, 0x80)], b"! damaged at 80 cause 8\n")
 }
 
 #[test]
 fn a_record_has_a_kind(rt: HostRuntime) -> Result<(), Fail> {
-    refused_when_new(&rt, rt.alloc(), 352, &[1], b"! damaged at 353 cause 2\n")
+    refused_when_new(&rt, rt.alloc(), &[(352, 1)], b"! damaged at 353 cause 2\n")
 }
 
 #[test]
@@ -219,9 +221,8 @@ fn nothing_is_asked_behind_a_closed_gate(rt: HostRuntime) -> Result<(), Fail> {
     for image in [with_falling(alloc, 7)?, one] {
         let outcome = run_image(alloc, image, b"1 stat\n1 begin\n1 get 2 5 2\n")?;
         let empty =
-            b"1 ok last 0 base 0 trim 0 live 0 used 0 versions 0\n1 ok begin 0\n1 ok 0000\n".as_slice();
-        same(&rt, outcome.status, 0);
-        same(&rt, outcome.output.as_slice(), empty);
+            b"1 ok last 0 base 0 trim 0 live 0 used 0 versions 0\n1 ok begin 0\n1 ok 0000\n";
+        gave(&rt, &outcome, 0, empty);
     }
     Ok(())
 }

@@ -1,14 +1,16 @@
 // Each status with its causes, and what stands behind it.
-use crate::tests_cut::same;
-use iso_memdisk::{CallKind, MemDisk};
+use crate::tests_cut::{FAULT, ONE_PUT, gave, holds, same};
+use iso_memdisk::CallKind;
 use std::alloc::{AllocError, Global};
+use std::process::Abort;
 use std::test::Fail;
-use top_calls::{RECOVER, RUN, SMALL, call, call_on, no_disk, one_put_image, small_image};
+use top_calls::{
+    Fault, Outcome, RECOVER, RUN, SMALL, call, call_failing, one_put_image, run_image, shows,
+    small_image,
+};
 
 const USAGE: &[u8] =
     b"! usage\nnew IMAGE [--block-size B] [--blocks N] [--log L] [--mode serial|snapshot] [--hash H] [--tree T]\nrun IMAGE\npar IMAGE\nrecover IMAGE\nbench IMAGE SEED COUNT\n";
-
-const ONE_PUT: &[u8] = b"1 begin\n1 put 2 5 abcd\n1 end\n";
 
 #[test]
 fn words_outside_the_grammar(rt: HostRuntime) -> Result<(), Fail> {
@@ -45,8 +47,7 @@ fn words_outside_the_grammar(rt: HostRuntime) -> Result<(), Fail> {
         "isotope bench t.img 00 1",
     ] {
         let outcome = call(alloc, line, ONE_PUT)?;
-        assert_eq!(rt; outcome.status, 2, "{line}");
-        same(&rt, outcome.output.as_slice(), USAGE);
+        assert!(rt; outcome.gave(2, USAGE), "{line}");
         // it was not bound
         same(&rt, outcome.disk.calls(), 0);
     }
@@ -63,23 +64,25 @@ fn options_stand_anywhere_and_in_two_spellings(rt: HostRuntime) -> Result<(), Fa
         "isotope new --blocks=4 --log=256 --mode serial --block-size 64 -- t.img",
     ] {
         let outcome = call(alloc, line, b"")?;
-        same(&rt, outcome.status, 0);
-        let left = outcome.disk.crash(alloc, 0)?;
-        assert!(rt; left.as_slice() == expected.as_slice());
+        gave(&rt, &outcome, 0, b"");
+        assert!(rt; outcome.leaves(alloc, 0, &expected)?);
     }
     Ok(())
+}
+
+/// That a call ended with a fault of the disk, as the last of so many calls of it.
+fn ended_at(rt: &impl Abort, outcome: &Outcome, calls: u64) {
+    gave(rt, outcome, 5, FAULT);
+    same(rt, outcome.disk.calls(), calls);
 }
 
 #[test]
 fn a_bind_that_fails_ends_the_call(rt: HostRuntime) -> Result<(), Fail> {
     let alloc = rt.alloc();
+    let image = small_image(alloc)?;
+    let fault = Fault::OfKind(CallKind::Bind, 1);
     for line in [SMALL, RUN, RECOVER, "isotope bench t.img 0 1"] {
-        let mut disk = MemDisk::new(alloc, small_image(alloc)?);
-        disk.fail_kind(CallKind::Bind, 1);
-        let outcome = call_on(alloc, line, disk, ONE_PUT)?;
-        same(&rt, outcome.status, 5);
-        same(&rt, outcome.output.as_slice(), b"! disk fault\n".as_slice());
-        same(&rt, outcome.disk.calls(), 1);
+        ended_at(&rt, &call_failing(alloc, line, &image, fault, ONE_PUT)?, 1);
     }
     Ok(())
 }
@@ -88,31 +91,30 @@ fn a_bind_that_fails_ends_the_call(rt: HostRuntime) -> Result<(), Fail> {
 fn a_formatting_that_fails_ends_the_call(rt: HostRuntime) -> Result<(), Fail> {
     let alloc = rt.alloc();
     for number in 2..7 {
-        let mut disk = no_disk(alloc);
-        disk.fail(number);
-        let outcome = call_on(alloc, SMALL, disk, ONE_PUT)?;
-        same(&rt, outcome.status, 5);
-        same(&rt, outcome.output.as_slice(), b"! disk fault\n".as_slice());
-        same(&rt, outcome.disk.calls(), number);
+        ended_at(
+            &rt,
+            &call_failing(alloc, SMALL, b"", Fault::At(number), ONE_PUT)?,
+            number,
+        );
     }
     Ok(())
+}
+
+/// How many calls of the disk an opening of this image makes.
+fn calls_to_open(alloc: Global, image: &[u8]) -> Result<u64, AllocError> {
+    Ok(run_image(alloc, image.to_vec(alloc)?, b"")?.disk.calls())
 }
 
 #[test]
 fn an_opening_that_fails_ends_the_call(rt: HostRuntime) -> Result<(), Fail> {
     let alloc = rt.alloc();
     let image = one_put_image(alloc)?;
-    let opened = call_on(alloc, RUN, MemDisk::new(alloc, image.clone()?), b"")?;
-    let calls = opened.disk.calls();
+    let calls = calls_to_open(alloc, &image)?;
     for line in [RUN, RECOVER] {
         for number in 1..calls.saturating_add(1) {
-            let mut disk = MemDisk::new(alloc, image.clone()?);
-            disk.fail(number);
-            let outcome = call_on(alloc, line, disk, ONE_PUT)?;
-            same(&rt, outcome.status, 5);
-            same(&rt, outcome.output.as_slice(), b"! disk fault\n".as_slice());
-            let left = outcome.disk.crash(alloc, 1)?;
-            assert!(rt; left.as_slice() == image.as_slice());
+            let outcome = call_failing(alloc, line, &image, Fault::At(number), ONE_PUT)?;
+            gave(&rt, &outcome, 5, FAULT);
+            assert!(rt; outcome.leaves(alloc, 1, &image)?);
         }
     }
     Ok(())
@@ -122,9 +124,8 @@ fn an_opening_that_fails_ends_the_call(rt: HostRuntime) -> Result<(), Fail> {
 fn reads_of(alloc: Global, image: &[u8], script: &[u8]) -> Result<u64, AllocError> {
     let mut count = 0;
     for number in 1..101 {
-        let mut disk = MemDisk::new(alloc, image.to_vec(alloc)?);
-        disk.fail_kind(CallKind::Read, number);
-        if call_on(alloc, RUN, disk, script)?.status == 5 {
+        let fault = Fault::OfKind(CallKind::Read, number);
+        if call_failing(alloc, RUN, image, fault, script)?.status == 5 {
             count = number;
         }
     }
@@ -135,50 +136,32 @@ fn reads_of(alloc: Global, image: &[u8], script: &[u8]) -> Result<u64, AllocErro
 fn a_read_that_fails_ends_the_run(rt: HostRuntime) -> Result<(), Fail> {
     let alloc = rt.alloc();
     let image = one_put_image(alloc)?;
-    let of_the_opening = reads_of(alloc, &image, b"1 begin\n")?;
-    let mut disk = MemDisk::new(alloc, image.clone()?);
-    disk.fail_kind(CallKind::Read, of_the_opening.saturating_add(1));
-    let outcome = call_on(alloc, RUN, disk, b"1 begin\n1 read 2\n")?;
-    same(&rt, outcome.status, 5);
-    let replies = b"1 ok begin 1\n! disk fault\n".as_slice();
-    same(&rt, outcome.output.as_slice(), replies);
-    for pick in 0..6 {
-        let left = outcome.disk.crash(alloc, pick)?;
-        assert!(rt; left.as_slice() == image.as_slice());
-    }
-    Ok(())
+    let next = reads_of(alloc, &image, b"1 begin\n")?.saturating_add(1);
+    let fault = Fault::OfKind(CallKind::Read, next);
+    let outcome = call_failing(alloc, RUN, &image, fault, b"1 begin\n1 read 2\n")?;
+    gave(&rt, &outcome, 5, b"1 ok begin 1\n! disk fault\n");
+    holds(&rt, outcome.leaves(alloc, 5, &image))
 }
 
 #[test]
 fn no_read_is_tried_again(rt: HostRuntime) -> Result<(), Fail> {
     let alloc = rt.alloc();
     let image = one_put_image(alloc)?;
-    let opened = call_on(alloc, RUN, MemDisk::new(alloc, image.clone()?), b"")?;
-    let number = opened.disk.calls().saturating_add(1);
-    let mut disk = MemDisk::new(alloc, image);
-    disk.fail(number);
-    let outcome = call_on(alloc, RUN, disk, b"1 begin\n1 read 2\n1 read 2\n")?;
-    same(&rt, outcome.status, 5);
-    same(&rt, outcome.disk.calls(), number);
+    let number = calls_to_open(alloc, &image)?.saturating_add(1);
+    let script = b"1 begin\n1 read 2\n1 read 2\n";
+    let outcome = call_failing(alloc, RUN, &image, Fault::At(number), script)?;
+    same(&rt, (outcome.status, outcome.disk.calls()), (5, number));
     Ok(())
 }
 
 #[test]
 fn a_commit_that_fails_ends_the_run(rt: HostRuntime) -> Result<(), Fail> {
     let alloc = rt.alloc();
-    let mut disk = MemDisk::new(alloc, small_image(alloc)?);
-    disk.fail_kind(CallKind::Write, 3);
+    let fault = Fault::OfKind(CallKind::Write, 3);
     let script = b"1 begin\n1 put 0 0 aa\n1 end\n1 begin\n1 put 0 1 bb\n1 end\n1 begin\n";
-    let outcome = call_on(alloc, RUN, disk, script)?;
-    let replies =
-        b"1 ok begin 0\n1 ok\n1 ok commit 1\n1 ok begin 1\n1 ok\n! disk fault\n".as_slice();
-    same(&rt, outcome.status, 5);
-    same(&rt, outcome.output.as_slice(), replies);
-    let stat = b"1 ok last 1 base 0 trim 0 live 0 used 29 versions 1\n".as_slice();
-    for pick in 0..6 {
-        let left = outcome.disk.crash(alloc, pick)?;
-        let again = call_on(alloc, RUN, MemDisk::new(alloc, left), b"1 stat\n")?;
-        same(&rt, again.output.as_slice(), stat);
-    }
-    Ok(())
+    let outcome = call_failing(alloc, RUN, &small_image(alloc)?, fault, script)?;
+    let replies = b"1 ok begin 0\n1 ok\n1 ok commit 1\n1 ok begin 1\n1 ok\n! disk fault\n";
+    gave(&rt, &outcome, 5, replies);
+    let stat = b"1 ok last 1 base 0 trim 0 live 0 used 29 versions 1\n";
+    holds(&rt, shows(alloc, &outcome, 5, b"1 stat\n", stat))
 }

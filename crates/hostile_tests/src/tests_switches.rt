@@ -1,11 +1,10 @@
 // Compactions and upgrades whose disk stops after each call, or fails at one call alone: what the images are opened to that a
 // crash then leaves, and a second switch of halves of each of these images, which is stopped in the same way.
-use crate::tests_cut::same;
+use crate::tests_cut::{FAULT, gave, holds};
 use crate::tests_stops::leaves;
-use iso_memdisk::MemDisk;
 use std::alloc::{AllocError, Global};
 use std::test::Fail;
-use top_calls::{Outcome, RUN, SMALL, call, call_on, no_disk, run_image};
+use top_calls::{Failing, Fault, Outcome, RUN, SMALL, call, call_failing, made_image, run_image};
 
 /// A transaction under a label, a commit beside it, a trim and a compaction below it, and a compaction above it.
 const COMPACTIONS: &[u8] =
@@ -39,12 +38,12 @@ const IN_THE_BASE: &[u8] =
 /// that, where the switch above the label was reached.
 pub(crate) fn opens_at_the_commit(
     alloc: Global,
-    disk: &MemDisk,
+    outcome: &Outcome,
     begun: bool,
     told: bool,
-) -> Result<bool, Fail> {
+) -> Result<bool, AllocError> {
     for pick in 0..6 {
-        let opened = run_image(alloc, disk.crash(alloc, pick)?, SHOW)?;
+        let opened = run_image(alloc, outcome.image(alloc, pick)?, SHOW)?;
         let found = opened.output.as_slice();
         let none = found == WITHOUT_COMMIT && !told;
         let logged = found == IN_THE_LOG && begun;
@@ -57,14 +56,10 @@ pub(crate) fn opens_at_the_commit(
 }
 
 /// The same of a run, by its output.
-fn opens_as_told(alloc: Global, outcome: &Outcome) -> Result<bool, Fail> {
-    let output = outcome.output.as_slice();
-    opens_at_the_commit(
-        alloc,
-        &outcome.disk,
-        output.starts_with(BEFORE_IT),
-        output.starts_with(WITH_IT),
-    )
+fn opens_as_told(alloc: Global, outcome: &Outcome) -> Result<bool, AllocError> {
+    let begun = outcome.output.starts_with(BEFORE_IT);
+    let told = outcome.output.starts_with(WITH_IT);
+    opens_at_the_commit(alloc, outcome, begun, told)
 }
 
 /// Whether a run ended with all replies, or with a fault of the disk behind some of them.
@@ -72,27 +67,25 @@ fn is_cut_or_whole(outcome: &Outcome) -> bool {
     let output = outcome.output.as_slice();
     match outcome.status {
         0 => output.starts_with(WITH_IT) && output.ends_with(AT_THE_END),
-        5 => output.ends_with(b"! disk fault\n"),
+        5 => output.ends_with(FAULT),
         _ => false,
     }
 }
 
-/// A script on a new image, whose disk stops after so many calls.
-fn made_until(alloc: Global, script: &[u8], calls: u64) -> Result<Outcome, AllocError> {
-    let mut disk = no_disk(alloc);
-    disk.fuse(calls);
-    call_on(alloc, SMALL, disk, script)
-}
-
-/// Whether a stop behind each call of a script, from the end of the formatting on until it is done, leaves what was told of.
-fn each_stop_is_survived(alloc: Global, script: &[u8]) -> Result<bool, Fail> {
-    for calls in 6..100 {
-        let outcome = made_until(alloc, script, calls)?;
-        if !is_cut_or_whole(&outcome) || !opens_as_told(alloc, &outcome)? {
-            return Ok(false);
-        }
-        if outcome.status == 0 {
-            return Ok(true);
+/// Whether a disk that fails so from each call behind a formatting on leaves what was told of, until the script is done. Nothing is
+/// called behind a call that fails alone.
+fn each_is_survived(alloc: Global, script: &[u8], how: Failing) -> Result<bool, AllocError> {
+    for number in 7..101u64 {
+        let outcome = call_failing(alloc, SMALL, b"", how.fault(number), script)?;
+        let done = outcome.status == 0;
+        let last = match how {
+            Failing::From => true,
+            Failing::At if done => outcome.disk.calls() < number,
+            Failing::At => outcome.disk.calls() == number,
+        };
+        let survived = last && is_cut_or_whole(&outcome) && opens_as_told(alloc, &outcome)?;
+        if done || !survived {
+            return Ok(survived);
         }
     }
     Ok(false)
@@ -100,56 +93,36 @@ fn each_stop_is_survived(alloc: Global, script: &[u8]) -> Result<bool, Fail> {
 
 #[test]
 fn a_stop_after_each_call_of_compactions_around_a_label(rt: HostRuntime) -> Result<(), Fail> {
-    assert!(rt; each_stop_is_survived(rt.alloc(), COMPACTIONS)?);
-    Ok(())
+    let found = each_is_survived(rt.alloc(), COMPACTIONS, Failing::From);
+    holds(&rt, found)
 }
 
 #[test]
 fn a_stop_after_each_call_of_upgrades_around_a_label(rt: HostRuntime) -> Result<(), Fail> {
-    assert!(rt; each_stop_is_survived(rt.alloc(), UPGRADES)?);
-    Ok(())
-}
-
-/// Whether a fault of each call alone leaves what was told of, and ends the calls of the disk.
-fn each_fault_is_survived(alloc: Global, script: &[u8]) -> Result<bool, Fail> {
-    for number in 7..100 {
-        let mut disk = no_disk(alloc);
-        disk.fail(number);
-        let outcome = call_on(alloc, SMALL, disk, script)?;
-        if !is_cut_or_whole(&outcome) || !opens_as_told(alloc, &outcome)? {
-            return Ok(false);
-        }
-        if outcome.status == 0 {
-            return Ok(outcome.disk.calls() < number);
-        }
-        if outcome.disk.calls() != number {
-            return Ok(false);
-        }
-    }
-    Ok(false)
+    holds(&rt, each_is_survived(rt.alloc(), UPGRADES, Failing::From))
 }
 
 #[test]
 fn a_fault_at_each_call_of_compactions_around_a_label(rt: HostRuntime) -> Result<(), Fail> {
-    assert!(rt; each_fault_is_survived(rt.alloc(), COMPACTIONS)?);
-    Ok(())
+    holds(&rt, each_is_survived(rt.alloc(), COMPACTIONS, Failing::At))
 }
 
 #[test]
 fn a_fault_at_each_call_of_upgrades_around_a_label(rt: HostRuntime) -> Result<(), Fail> {
-    assert!(rt; each_fault_is_survived(rt.alloc(), UPGRADES)?);
-    Ok(())
+    holds(&rt, each_is_survived(rt.alloc(), UPGRADES, Failing::At))
 }
 
 #[test]
 fn an_upgrade_below_a_label_leaves_its_snapshot(rt: HostRuntime) -> Result<(), Fail> {
-    let alloc = rt.alloc();
-    let outcome = call(alloc, SMALL, UPGRADES)?;
-    same(&rt, outcome.status, 0);
     let replies =
-        b"1 ok begin 0\n1 ok 00\n1 ok\n2 ok begin 0\n2 ok\n2 ok commit 1\n2 ok trim 0\n2 ok upgrade 0\n2 ok last 1 base 0 trim 0 live 1 used 29 versions 1\n3 ok begin 0\n3 ok 00\n3 ok read-only\n3 ok upgrade 1\n3 ok last 1 base 1 trim 1 live 0 used 0 versions 0\n".as_slice();
-    same(&rt, outcome.output.as_slice(), replies);
+        b"1 ok begin 0\n1 ok 00\n1 ok\n2 ok begin 0\n2 ok\n2 ok commit 1\n2 ok trim 0\n2 ok upgrade 0\n2 ok last 1 base 0 trim 0 live 1 used 29 versions 1\n3 ok begin 0\n3 ok 00\n3 ok read-only\n3 ok upgrade 1\n3 ok last 1 base 1 trim 1 live 0 used 0 versions 0\n";
+    gave(&rt, &call(rt.alloc(), SMALL, UPGRADES)?, 0, replies);
     Ok(())
+}
+
+/// A script on a new image, whose disk stops after so many calls.
+fn made_until(alloc: Global, script: &[u8], calls: u64) -> Result<Outcome, AllocError> {
+    call_failing(alloc, SMALL, b"", Fault::Behind(calls), script)
 }
 
 /// A script on an image whose disk stops after so many calls.
@@ -159,9 +132,7 @@ fn run_until(
     script: &[u8],
     calls: u64,
 ) -> Result<Outcome, AllocError> {
-    let mut disk = MemDisk::new(alloc, image.to_vec(alloc)?);
-    disk.fuse(calls);
-    call_on(alloc, RUN, disk, script)
+    call_failing(alloc, RUN, image, Fault::Behind(calls), script)
 }
 
 /// What the blocks of an image hold behind its last commit.
@@ -175,12 +146,12 @@ fn array_of(alloc: Global, image: Vec<u8>) -> Result<Vec<u8>, AllocError> {
 }
 
 /// Whether a switch of an image leaves its array wherever its disk stops, from its opening on until it is done.
-fn keeps_its_array(alloc: Global, image: &[u8], script: &[u8]) -> Result<bool, Fail> {
+fn keeps_its_array(alloc: Global, image: &[u8], script: &[u8]) -> Result<bool, AllocError> {
     let array = array_of(alloc, image.to_vec(alloc)?)?;
     for calls in 6..100 {
         let outcome = run_until(alloc, image, script, calls)?;
         for pick in 0..3 {
-            let left = outcome.disk.crash(alloc, pick)?;
+            let left = outcome.image(alloc, pick)?;
             if left.as_slice() != image && array_of(alloc, left)?.as_slice() != array.as_slice() {
                 return Ok(false);
             }
@@ -193,13 +164,17 @@ fn keeps_its_array(alloc: Global, image: &[u8], script: &[u8]) -> Result<bool, F
 }
 
 /// Whether that holds of each image that a stop of a script leaves.
-fn each_second_stop_is_survived(alloc: Global, first: &[u8], second: &[u8]) -> Result<bool, Fail> {
+fn each_second_stop_is_survived(
+    alloc: Global,
+    first: &[u8],
+    second: &[u8],
+) -> Result<bool, AllocError> {
     let mut tried = Vec::new(alloc);
     for calls in 6..100 {
         let outcome = made_until(alloc, first, calls)?;
         for pick in 0..3 {
             // most stops leave what the one before has left
-            let left = outcome.disk.crash(alloc, pick)?;
+            let left = outcome.image(alloc, pick)?;
             if left.as_slice() != tried.as_slice() && !keeps_its_array(alloc, &left, second)? {
                 return Ok(false);
             }
@@ -214,14 +189,14 @@ fn each_second_stop_is_survived(alloc: Global, first: &[u8], second: &[u8]) -> R
 
 #[test]
 fn a_second_compaction_is_stopped_behind_a_stop(rt: HostRuntime) -> Result<(), Fail> {
-    assert!(rt; each_second_stop_is_survived(rt.alloc(), COMPACTIONS, b"1 compact\n")?);
-    Ok(())
+    let found = each_second_stop_is_survived(rt.alloc(), COMPACTIONS, b"1 compact\n");
+    holds(&rt, found)
 }
 
 #[test]
 fn a_second_upgrade_is_stopped_behind_a_stop(rt: HostRuntime) -> Result<(), Fail> {
-    assert!(rt; each_second_stop_is_survived(rt.alloc(), UPGRADES, b"1 upgrade\n")?);
-    Ok(())
+    let found = each_second_stop_is_survived(rt.alloc(), UPGRADES, b"1 upgrade\n");
+    holds(&rt, found)
 }
 
 /// Three commits that use 213 bytes of the log.
@@ -244,21 +219,26 @@ fn shows_three(alloc: Global, image: Vec<u8>) -> Result<bool, AllocError> {
 }
 
 /// Whether a switch of the three commits leaves them wherever its disk stops, until it is done with this reply.
-fn keeps_three(alloc: Global, image: &[u8], script: &[u8], reply: &[u8]) -> Result<bool, Fail> {
+fn keeps_three(
+    alloc: Global,
+    image: &[u8],
+    script: &[u8],
+    reply: &[u8],
+) -> Result<bool, AllocError> {
     for calls in 0..100 {
         let outcome = run_until(alloc, image, script, calls)?;
         let ended = outcome.status == 0;
-        let output = if ended { reply } else { b"! disk fault\n" };
+        let output = if ended { reply } else { FAULT };
         if outcome.output.as_slice() != output {
             return Ok(false);
         }
         for pick in 0..6 {
-            if !shows_three(alloc, outcome.disk.crash(alloc, pick)?)? {
+            if !shows_three(alloc, outcome.image(alloc, pick)?)? {
                 return Ok(false);
             }
         }
         if ended {
-            return leaves(alloc, &outcome.disk, SHOW_THREE, NEW_THREE, NEW_THREE);
+            return leaves(alloc, &outcome, SHOW_THREE, NEW_THREE, NEW_THREE);
         }
     }
     Ok(false)
@@ -267,8 +247,12 @@ fn keeps_three(alloc: Global, image: &[u8], script: &[u8], reply: &[u8]) -> Resu
 #[test]
 fn a_stop_after_each_call_of_a_switch_of_halves(rt: HostRuntime) -> Result<(), Fail> {
     let alloc = rt.alloc();
-    let image = call(alloc, SMALL, THREE)?.disk.crash(alloc, 0)?;
-    assert!(rt; keeps_three(alloc, &image, b"1 compact\n", b"1 ok compact 3\n")?);
-    assert!(rt; keeps_three(alloc, &image, b"1 upgrade\n", b"1 ok upgrade 3\n")?);
+    let image = made_image(alloc, SMALL, THREE)?;
+    for (script, reply) in [
+        (b"1 compact\n".as_slice(), b"1 ok compact 3\n".as_slice()),
+        (b"1 upgrade\n", b"1 ok upgrade 3\n"),
+    ] {
+        holds(&rt, keeps_three(alloc, &image, script, reply))?;
+    }
     Ok(())
 }
