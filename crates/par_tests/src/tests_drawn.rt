@@ -101,6 +101,18 @@ fn told(alloc: Global, replies: &[u8], client: u8) -> Result<Vec<u8>, AllocError
     Ok(out)
 }
 
+/// Whether two outputs tell each client the same, and something.
+fn are_alike(alloc: Global, beside: &[u8], behind: &[u8]) -> Result<bool, AllocError> {
+    for client in 0..CLIENTS {
+        let one = told(alloc, beside, client)?;
+        let other = told(alloc, behind, client)?;
+        if one.is_empty() || one.as_slice() != other.as_slice() {
+            return Ok(false);
+        }
+    }
+    Ok(true)
+}
+
 #[test]
 fn clients_without_shared_blocks_are_told_what_a_run_tells(rt: HostRuntime) -> Result<(), Fail> {
     let alloc = rt.alloc();
@@ -108,14 +120,8 @@ fn clients_without_shared_blocks_are_told_what_a_run_tells(rt: HostRuntime) -> R
         let script = drawn(alloc, seed, 20)?;
         let beside = par_image(&rt, alloc, made_image(alloc, ROOMY, b"")?, &script)?;
         let behind = run_image(alloc, made_image(alloc, ROOMY, b"")?, &script)?;
-        same(&rt, beside.status, 0);
-        same(&rt, behind.status, 0);
-        for client in 0..CLIENTS {
-            let one = told(alloc, &beside.output, client)?;
-            let other = told(alloc, &behind.output, client)?;
-            assert!(rt; !one.is_empty());
-            assert_eq!(rt; one.as_slice(), other.as_slice(), "{seed} {client}");
-        }
+        same(&rt, (beside.status, behind.status), (0, 0));
+        assert!(rt; are_alike(alloc, &beside.output, &behind.output)?, "{seed}");
     }
     Ok(())
 }

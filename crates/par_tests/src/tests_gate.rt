@@ -1,15 +1,15 @@
 // The gate that `isotope` is handed: it is called once before each line of a client that runs, with the client and the number of the
 // line, and for nothing else.
-use crate::tests_clients::same;
-use iso_io::{MemSink, MemSource};
-use iso_memdisk::{CallKind, MemDisk};
+use crate::tests_clients::{gave, same};
+use iso_memdisk::CallKind;
 use par_runner::Gate;
-use std::alloc::{AllocError, Global};
+use std::alloc::Global;
+use std::process::Abort;
 use std::sync::Wait;
 use std::sync::atomic::{AtomicBool, AtomicU64, Ordering};
 use std::test::Fail;
 use std::thread::{Threads, yield_now};
-use top_calls::{Outcome, PAR, gated_over, small_image};
+use top_calls::{Fault, PAR, faulty, gated_over, small_image, source_of, whole_sink};
 
 /// It adds up what it is told; the products show that each number came with its own client.
 #[derive(Drop)]
@@ -53,58 +53,73 @@ impl Gate for Sums {
     }
 }
 
-/// The clients of a script on a disk, behind a gate.
-fn gated<G: Gate, R: Threads + Wait + Sync>(
+/// That the clients of a script behind a gate end so, on a small image whose disk fails so.
+fn gated<G: Gate, R: Abort + Threads + Wait + Sync>(
     rt: &R,
     alloc: Global,
-    disk: MemDisk,
+    fault: Fault,
     script: &[u8],
     gate: &G,
-) -> Result<Outcome, AllocError> {
-    let source = MemSource::new(script.to_vec(alloc)?, Vec::new(alloc));
-    let sink = MemSink::new(alloc, Vec::new(alloc));
-    gated_over(rt, alloc, PAR, disk, source, sink, gate)
+    ended: (u8, &[u8]),
+) -> Result<(), Fail> {
+    let disk = faulty(alloc, &small_image(alloc)?, fault)?;
+    let source = source_of(alloc, script)?;
+    let outcome = gated_over(rt, alloc, PAR, disk, source, whole_sink(alloc), gate)?;
+    gave(rt, &outcome, ended.0, ended.1);
+    Ok(())
+}
+
+/// That such clients end so, and a gate is called so often, and told these sums.
+fn told_sums<R: Abort + Threads + Wait + Sync>(
+    rt: &R,
+    alloc: Global,
+    fault: Fault,
+    script: &[u8],
+    ended: (u8, &[u8]),
+    sums: [u64; 4],
+) -> Result<(), Fail> {
+    let gate = Sums::new();
+    gated(rt, alloc, fault, script, &gate, ended)?;
+    same(rt, gate.told(), sums);
+    Ok(())
 }
 
 #[test]
 fn a_gate_is_called_once_for_each_line(rt: HostRuntime) -> Result<(), Fail> {
-    let alloc = rt.alloc();
-    let disk = MemDisk::new(alloc, small_image(alloc)?);
-    let gate = Sums::new();
     // the lines 2, 3 and 6 of client 1, and the line 5 of client 9
     let script = b"# a comment\n1 begin\n1 put 0 0 aa\n\n9 mark 0 1\n1 end\n";
     let replies =
         b"1 ok begin 0\n1 ok\n1 ok commit 1\n9 not-in-tx\ncommit 1 by 1 line 6\n".as_slice();
-    let outcome = gated(&rt, alloc, disk, script, &gate)?;
-    same(&rt, outcome.status, 0);
-    same(&rt, outcome.output.as_slice(), replies);
-    same(&rt, gate.told(), [4, 12, 16, 56]);
-    Ok(())
+    told_sums(
+        &rt,
+        rt.alloc(),
+        Fault::Never,
+        script,
+        (0, replies),
+        [4, 12, 16, 56],
+    )
 }
 
 #[test]
 fn a_gate_is_not_called_behind_a_client_that_stopped(rt: HostRuntime) -> Result<(), Fail> {
-    let alloc = rt.alloc();
-    let mut disk = MemDisk::new(alloc, small_image(alloc)?);
-    disk.fail_kind(CallKind::Write, 1);
-    let gate = Sums::new();
+    let fault = Fault::OfKind(CallKind::Write, 1);
     // client 1 stops at line 3, and so line 4 is not run
     let script = b"1 begin\n1 put 0 0 aa\n1 end\n1 begin\n2 mark 0 1\n";
-    let outcome = gated(&rt, alloc, disk, script, &gate)?;
-    same(&rt, outcome.status, 5);
-    same(&rt, gate.told(), [4, 5, 11, 16]);
-    Ok(())
+    let said = b"1 ok begin 0\n1 ok\n2 not-in-tx\n! disk fault\n".as_slice();
+    told_sums(&rt, rt.alloc(), fault, script, (5, said), [4, 5, 11, 16])
 }
 
 #[test]
 fn a_gate_is_not_called_where_no_line_runs(rt: HostRuntime) -> Result<(), Fail> {
-    let alloc = rt.alloc();
-    let disk = MemDisk::new(alloc, small_image(alloc)?);
-    let gate = Sums::new();
-    let outcome = gated(&rt, alloc, disk, b"1 begin\n1 jump\n", &gate)?;
-    same(&rt, outcome.status, 3);
-    same(&rt, gate.told(), [0, 0, 0, 0]);
-    Ok(())
+    let said = b"! bad line 2 cause 2\n".as_slice();
+    told_sums(
+        &rt,
+        rt.alloc(),
+        Fault::Never,
+        b"1 begin\n1 jump\n",
+        (3, said),
+        [0; 4],
+    )
 }
 
 /// Client 1 does not begin before client 2 stands at its first line, and client 2 stands there until client 1 has committed.
@@ -141,8 +156,6 @@ impl Gate for Held {
 
 #[test]
 fn a_gate_holds_its_line_back(rt: HostRuntime) -> Result<(), Fail> {
-    let alloc = rt.alloc();
-    let disk = MemDisk::new(alloc, small_image(alloc)?);
     let gate = Held {
         second_came: AtomicBool::new(false),
         first_ended: AtomicBool::new(false),
@@ -150,8 +163,5 @@ fn a_gate_holds_its_line_back(rt: HostRuntime) -> Result<(), Fail> {
     let script = b"1 begin\n1 put 0 0 aa\n1 end\n1 begin\n2 begin\n2 get 0 0 1\n2 end\n";
     let replies =
         b"1 ok begin 0\n1 ok\n1 ok commit 1\n1 ok begin 1\n2 ok begin 1\n2 ok aa\n2 ok read-only\ncommit 1 by 1 line 3\n".as_slice();
-    let outcome = gated(&rt, alloc, disk, script, &gate)?;
-    same(&rt, outcome.status, 0);
-    same(&rt, outcome.output.as_slice(), replies);
-    Ok(())
+    gated(&rt, rt.alloc(), Fault::Never, script, &gate, (0, replies))
 }

@@ -1,11 +1,10 @@
 // Clients that commit beside each other, and beside switches of halves, on a disk that stops after each of its calls: whatever a
 // crash might have left at that moment opens to a front of what they made, with all that one of them was told.
-use iso_memdisk::MemDisk;
 use std::alloc::{AllocError, Global};
 use std::sync::Wait;
 use std::test::Fail;
 use std::thread::Threads;
-use top_calls::{Outcome, PAR, isotope_on, run_image, small_image};
+use top_calls::{Fault, Outcome, PAR, faulty, isotope_on, run_image, small_image};
 
 /// Three clients that commit, each in a block of its own, one of them between switches of halves.
 const BESIDE: &[u8] =
@@ -152,8 +151,7 @@ fn each_stop_is_survived<R: Threads + Wait + Sync>(
     case: &Case,
 ) -> Result<bool, Fail> {
     for calls in 0..200 {
-        let mut disk = MemDisk::new(alloc, small_image(alloc)?);
-        disk.fuse(calls);
+        let disk = faulty(alloc, &small_image(alloc)?, Fault::Behind(calls))?;
         let outcome = isotope_on(rt, alloc, PAR, disk, case.script)?;
         if !is_survived(alloc, case, &outcome)? {
             return Ok(false);

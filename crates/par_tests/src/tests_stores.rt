@@ -1,107 +1,73 @@
 // Stores that several clients call beside each other.
-use crate::tests_clients::same;
+use crate::tests_clients::{told, told_and_left};
 use std::test::Fail;
-use top_calls::{made_image, par_image, run_image};
+use top_calls::made_image;
 
 const HASH: &str = "isotope new t.img --block-size 256 --blocks 8 --log 4096 --hash 3";
 
 const TREE: &str = "isotope new t.img --block-size 256 --blocks 8 --log 4096 --tree 3";
 
-/// Client 1 begins two transactions before it hands out the first of them, so both begin at the same commit.
-const TWO_KEYS: &[u8] =
-    b"1 begin\n1 release x\n1 begin\n1 release b\n1 takeover x\n1 release a\n2 await b\n2 hput 62 38\n2 end\n3 await a\n3 hput 61 39\n3 end\n";
-
-const SECOND_CLIENT_FIRST: &[u8] =
-    b"1 ok begin 1\n1 ok\n1 ok begin 1\n1 ok\n1 ok begin 1\n1 ok\n2 ok begin 1\n2 ok\n2 ok commit 2\n3 ok begin 1\n3 ok\n3 ok commit 3\ncommit 2 by 2 line 9\ncommit 3 by 3 line 12\n";
-
-const THIRD_CLIENT_FIRST: &[u8] =
-    b"1 ok begin 1\n1 ok\n1 ok begin 1\n1 ok\n1 ok begin 1\n1 ok\n2 ok begin 1\n2 ok\n2 ok commit 3\n3 ok begin 1\n3 ok\n3 ok commit 2\ncommit 2 by 3 line 12\ncommit 3 by 2 line 9\n";
-
 #[test]
 fn two_clients_change_keys_of_one_block(rt: HostRuntime) -> Result<(), Fail> {
-    let alloc = rt.alloc();
-    let image = made_image(alloc, HASH, b"1 begin\n1 hput 61 31\n1 hput 62 32\n1 end\n")?;
-    let outcome = par_image(&rt, alloc, image, TWO_KEYS)?;
-    same(&rt, outcome.status, 0);
-    let found = outcome.output.as_slice();
-    assert!(rt; found == SECOND_CLIENT_FIRST || found == THIRD_CLIENT_FIRST);
-    let left = outcome.disk.crash(alloc, 0)?;
-    let shown = run_image(alloc, left, b"1 begin\n1 hget 61\n1 hget 62\n")?;
-    same(
-        &rt,
-        shown.output.as_slice(),
+    let made = b"1 begin\n1 hput 61 31\n1 hput 62 32\n1 end\n";
+    let image = made_image(rt.alloc(), HASH, made)?;
+    // client 1 begins two transactions before it hands out the first of them, so both begin at the same commit
+    let script =
+        b"1 begin\n1 release x\n1 begin\n1 release b\n1 takeover x\n1 release a\n2 await b\n2 hput 62 38\n2 end\n3 await a\n3 hput 61 39\n3 end\n".as_slice();
+    let ways = [
+        // client 2 is the first to commit, or client 3
+        b"1 ok begin 1\n1 ok\n1 ok begin 1\n1 ok\n1 ok begin 1\n1 ok\n2 ok begin 1\n2 ok\n2 ok commit 2\n3 ok begin 1\n3 ok\n3 ok commit 3\ncommit 2 by 2 line 9\ncommit 3 by 3 line 12\n".as_slice(),
+        b"1 ok begin 1\n1 ok\n1 ok begin 1\n1 ok\n1 ok begin 1\n1 ok\n2 ok begin 1\n2 ok\n2 ok commit 3\n3 ok begin 1\n3 ok\n3 ok commit 2\ncommit 2 by 3 line 12\ncommit 3 by 2 line 9\n",
+    ];
+    let run = (
+        b"1 begin\n1 hget 61\n1 hget 62\n".as_slice(),
         b"1 ok begin 3\n1 ok 39\n1 ok 38\n".as_slice(),
     );
-    Ok(())
+    told_and_left(&rt, rt.alloc(), image, (script, &ways), run)
 }
 
 #[test]
 fn a_scan_of_one_client_meets_a_key_of_another(rt: HostRuntime) -> Result<(), Fail> {
-    let alloc = rt.alloc();
-    let image = made_image(alloc, TREE, b"1 begin\n1 tput 61 31\n1 tput 62 32\n1 end\n")?;
+    let made = b"1 begin\n1 tput 61 31\n1 tput 62 32\n1 end\n";
     // client 1 has read the range when client 2 puts a key into it, and waits for that commit before it ends
     let script =
         b"1 begin\n1 tscan 61 7a 9\n1 release a\n1 await b\n1 tput 64 34\n1 end\n2 await a\n2 release c\n2 begin\n2 tput 63 33\n2 end\n2 takeover c\n2 release b\n";
     let replies =
-        b"1 ok begin 1\n1 ok 61=31 62=32\n1 ok\n1 ok begin 1\n1 ok\n1 conflict with 2 block 1 at 0\n2 ok begin 1\n2 ok\n2 ok begin 1\n2 ok\n2 ok commit 2\n2 ok begin 1\n2 ok\ncommit 2 by 2 line 11\n".as_slice();
-    let outcome = par_image(&rt, alloc, image, script)?;
-    same(&rt, outcome.status, 0);
-    same(&rt, outcome.output.as_slice(), replies);
-    Ok(())
+        b"1 ok begin 1\n1 ok 61=31 62=32\n1 ok\n1 ok begin 1\n1 ok\n1 conflict with 2 block 1 at 0\n2 ok begin 1\n2 ok\n2 ok begin 1\n2 ok\n2 ok commit 2\n2 ok begin 1\n2 ok\ncommit 2 by 2 line 11\n";
+    let image = made_image(rt.alloc(), TREE, made)?;
+    told(&rt, rt.alloc(), image, script, replies)
 }
 
 const FILES: &str = "isotope new t.img --block-size 256 --blocks 16 --log 8192 --tree 4";
 
-/// Two clients write different bytes of one file. The one may begin behind the commit of the other.
-const TWO_WRITES: &[u8] = b"1 begin\n2 begin\n1 fwrite 61 0 aa\n2 fwrite 61 1 bb\n1 end\n2 end\n";
-
-const WRITTEN_FIRST_BY_1: &[u8] =
-    b"1 ok begin 1\n1 ok\n1 ok commit 2\n2 ok begin 1\n2 ok\n2 ok commit 3\ncommit 2 by 1 line 5\ncommit 3 by 2 line 6\n";
-
-const WRITTEN_FIRST_BY_2: &[u8] =
-    b"1 ok begin 1\n1 ok\n1 ok commit 3\n2 ok begin 1\n2 ok\n2 ok commit 2\ncommit 2 by 2 line 6\ncommit 3 by 1 line 5\n";
-
-const WRITTEN_BEHIND_1: &[u8] =
-    b"1 ok begin 1\n1 ok\n1 ok commit 2\n2 ok begin 2\n2 ok\n2 ok commit 3\ncommit 2 by 1 line 5\ncommit 3 by 2 line 6\n";
-
-const WRITTEN_BEHIND_2: &[u8] =
-    b"1 ok begin 2\n1 ok\n1 ok commit 3\n2 ok begin 1\n2 ok\n2 ok commit 2\ncommit 2 by 2 line 6\ncommit 3 by 1 line 5\n";
-
 #[test]
 fn two_clients_write_bytes_of_one_file(rt: HostRuntime) -> Result<(), Fail> {
-    let alloc = rt.alloc();
-    let image = made_image(
-        alloc,
-        FILES,
-        b"1 begin\n1 fnew 61\n1 fwrite 61 0 0102\n1 end\n",
-    )?;
-    let outcome = par_image(&rt, alloc, image, TWO_WRITES)?;
-    same(&rt, outcome.status, 0);
-    let found = outcome.output.as_slice();
-    let beside = found == WRITTEN_FIRST_BY_1 || found == WRITTEN_FIRST_BY_2;
-    let behind = found == WRITTEN_BEHIND_1 || found == WRITTEN_BEHIND_2;
-    assert!(rt; beside || behind);
-    let left = outcome.disk.crash(alloc, 0)?;
-    let shown = run_image(alloc, left, b"1 begin\n1 fread 61 0 9\n")?;
-    same(
-        &rt,
-        shown.output.as_slice(),
+    let made = b"1 begin\n1 fnew 61\n1 fwrite 61 0 0102\n1 end\n";
+    let image = made_image(rt.alloc(), FILES, made)?;
+    // they write different bytes; the one may begin behind the commit of the other
+    let script = b"1 begin\n2 begin\n1 fwrite 61 0 aa\n2 fwrite 61 1 bb\n1 end\n2 end\n".as_slice();
+    let ways = [
+        // client 1 is the first to commit, or client 2
+        b"1 ok begin 1\n1 ok\n1 ok commit 2\n2 ok begin 1\n2 ok\n2 ok commit 3\ncommit 2 by 1 line 5\ncommit 3 by 2 line 6\n".as_slice(),
+        b"1 ok begin 1\n1 ok\n1 ok commit 3\n2 ok begin 1\n2 ok\n2 ok commit 2\ncommit 2 by 2 line 6\ncommit 3 by 1 line 5\n",
+        // and then the other one begins behind that commit
+        b"1 ok begin 1\n1 ok\n1 ok commit 2\n2 ok begin 2\n2 ok\n2 ok commit 3\ncommit 2 by 1 line 5\ncommit 3 by 2 line 6\n",
+        b"1 ok begin 2\n1 ok\n1 ok commit 3\n2 ok begin 1\n2 ok\n2 ok commit 2\ncommit 2 by 2 line 6\ncommit 3 by 1 line 5\n",
+    ];
+    let run = (
+        b"1 begin\n1 fread 61 0 9\n".as_slice(),
         b"1 ok begin 3\n1 ok aabb\n".as_slice(),
     );
-    Ok(())
+    told_and_left(&rt, rt.alloc(), image, (script, &ways), run)
 }
 
 #[test]
 fn a_client_goes_on_with_the_file_of_another(rt: HostRuntime) -> Result<(), Fail> {
-    let alloc = rt.alloc();
-    let image = made_image(alloc, FILES, b"")?;
     // client 2 takes over the transaction in which client 1 made the file
     let script =
         b"1 begin\n1 fnew 61\n1 fread 62 0 1\n1 release a\n2 await a\n2 fwrite 61 0 0102\n2 fmove 61 62\n2 fread 62 1 9\n2 fnew 62\n2 end\n";
     let replies =
-        b"1 ok begin 0\n1 ok\n1 ok none\n1 ok\n2 ok begin 0\n2 ok\n2 ok\n2 ok 02\n2 exists\n2 ok commit 1\ncommit 1 by 2 line 10\n".as_slice();
-    let outcome = par_image(&rt, alloc, image, script)?;
-    same(&rt, outcome.status, 0);
-    same(&rt, outcome.output.as_slice(), replies);
-    Ok(())
+        b"1 ok begin 0\n1 ok\n1 ok none\n1 ok\n2 ok begin 0\n2 ok\n2 ok\n2 ok 02\n2 exists\n2 ok commit 1\ncommit 1 by 2 line 10\n";
+    let image = made_image(rt.alloc(), FILES, b"")?;
+    told(&rt, rt.alloc(), image, script, replies)
 }
