@@ -4,8 +4,9 @@ use iso_disk::{Disk, Image};
 use iso_memdisk::{CallKind, MemDisk};
 use mirror_disk::{Mirror, MirrorError};
 use std::alloc::{AllocError, Global};
+use std::process::Abort;
 use std::test::Fail;
-use top_calls::{change, no_disk};
+use top_calls::{Fault, change, faulty};
 
 /// A slot with epoch 2.
 const SECOND_EPOCH: [u8; 16] = *b"\x01\0\0\0\0\0\0\0\0\0\0\0\0\0\0\x02";
@@ -43,17 +44,28 @@ pub(crate) fn become_alike(alloc: Global, one: Vec<u8>, two: Vec<u8>) -> Result<
     Ok(error.is_none() && used == (true, true) && one.get(64..) == two.get(64..))
 }
 
+/// The images of two sides behind an adopt that refuses none of them and has these in use.
+fn adopted_images(
+    rt: &impl Abort,
+    alloc: Global,
+    first: MemDisk,
+    second: MemDisk,
+    wanted: (bool, bool),
+) -> Result<(Vec<u8>, Vec<u8>), Fail> {
+    let (error, used, one, two) = adopted(first, second);
+    same(rt, error, None);
+    same(rt, used, wanted);
+    Ok((one.crash(alloc, 0)?, two.crash(alloc, 0)?))
+}
+
 #[test]
 fn the_larger_epoch_counts(rt: HostRuntime) -> Result<(), Fail> {
     let alloc = rt.alloc();
-    let first = side_of(alloc, b"old text")?;
+    let first = MemDisk::new(alloc, side_of(alloc, b"old text")?);
     let mut second = side_of(alloc, b"new text")?;
     change(&mut second, 32, &SECOND_EPOCH);
-    let (error, used, one, two) = adopted(MemDisk::new(alloc, first), MemDisk::new(alloc, second));
-    same(&rt, error, None);
-    same(&rt, used, (true, true));
-    let one = one.crash(alloc, 0)?;
-    let two = two.crash(alloc, 0)?;
+    let second = MemDisk::new(alloc, second);
+    let (one, two) = adopted_images(&rt, alloc, first, second, (true, true))?;
     assert!(rt; one.get(64..) == Some(b"new text".as_slice()));
     assert!(rt; two.get(64..) == Some(b"new text".as_slice()));
     assert!(rt; one.get(32..48) == Some(SECOND_EPOCH.as_slice()));
@@ -63,12 +75,9 @@ fn the_larger_epoch_counts(rt: HostRuntime) -> Result<(), Fail> {
 #[test]
 fn the_first_side_counts_where_the_epochs_are_the_same(rt: HostRuntime) -> Result<(), Fail> {
     let alloc = rt.alloc();
-    let first = side_of(alloc, b"one text")?;
-    let second = side_of(alloc, b"two text")?;
-    let (error, used, _one, two) = adopted(MemDisk::new(alloc, first), MemDisk::new(alloc, second));
-    same(&rt, error, None);
-    same(&rt, used, (true, true));
-    let two = two.crash(alloc, 0)?;
+    let first = MemDisk::new(alloc, side_of(alloc, b"one text")?);
+    let second = MemDisk::new(alloc, side_of(alloc, b"two text")?);
+    let (_one, two) = adopted_images(&rt, alloc, first, second, (true, true))?;
     assert!(rt; two.get(64..) == Some(b"one text".as_slice()));
     Ok(())
 }
@@ -76,13 +85,10 @@ fn the_first_side_counts_where_the_epochs_are_the_same(rt: HostRuntime) -> Resul
 #[test]
 fn a_side_that_cannot_be_written_is_left_out(rt: HostRuntime) -> Result<(), Fail> {
     let alloc = rt.alloc();
-    let first = side_of(alloc, b"one text")?;
-    let mut second = MemDisk::new(alloc, side_of(alloc, b"two text")?);
-    second.fail_kind(CallKind::Write, 1);
-    let (error, used, one, _two) = adopted(MemDisk::new(alloc, first), second);
-    same(&rt, error, None);
-    same(&rt, used, (true, false));
-    let one = one.crash(alloc, 0)?;
+    let first = MemDisk::new(alloc, side_of(alloc, b"one text")?);
+    let fault = Fault::OfKind(CallKind::Write, 1);
+    let second = faulty(alloc, &side_of(alloc, b"two text")?, fault)?;
+    let (one, _two) = adopted_images(&rt, alloc, first, second, (true, false))?;
     assert!(rt; one.get(32..48) == Some(SECOND_EPOCH.as_slice()));
     Ok(())
 }
@@ -110,10 +116,8 @@ fn sides_of_other_lengths_are_refused(rt: HostRuntime) -> Result<(), Fail> {
 #[test]
 fn a_broken_mirror_fails_without_asking(rt: HostRuntime) -> Result<(), Fail> {
     let alloc = rt.alloc();
-    let mut first = no_disk(alloc);
-    first.fuse(3);
-    let mut second = no_disk(alloc);
-    second.fuse(3);
+    let first = faulty(alloc, b"", Fault::Behind(3))?;
+    let second = faulty(alloc, b"", Fault::Behind(3))?;
     let mut mirror = Mirror::of(first, second);
     same(&rt, mirror.bind("m+", Some(8)).is_ok(), true);
     same(&rt, mirror.sides(), (true, true));

@@ -1,13 +1,13 @@
 // A mirror of which a side fails at one call alone, or from a call on, or both sides do.
-use crate::calls::{Outcome, RUN, SMALL, call};
+use crate::calls::{RUN, SMALL, call_failing};
 use crate::steps::{
     COMMITS, COMMITS_THEN_COMPACTION, COMPACTION, COMPACTIONS, FAULT, MADE, Steps, THREE, UPGRADES,
 };
 use crate::tests_adopt::become_alike;
-use crate::tests_stops::{counts, keeps, made_sides, stopped};
-use iso_memdisk::MemDisk;
+use crate::tests_stops::{counts, holds, keeps, made_sides};
 use std::alloc::Global;
 use std::test::Fail;
+use top_calls::Fault;
 
 /// One of the sides.
 #[derive(Clone, Copy)]
@@ -24,24 +24,14 @@ impl Side {
             Side::Second => both.1,
         }
     }
-}
 
-/// A call over sides of these bytes, of which one fails at one call alone.
-fn failing(
-    alloc: Global,
-    line: &str,
-    sides: &(Vec<u8>, Vec<u8>),
-    side: Side,
-    number: u64,
-    input: &[u8],
-) -> Result<Outcome, Fail> {
-    let mut first = MemDisk::new(alloc, sides.0.to_vec(alloc)?);
-    let mut second = MemDisk::new(alloc, sides.1.to_vec(alloc)?);
-    match side {
-        Side::First => first.fail(number),
-        Side::Second => second.fail(number),
+    /// A fault of this one at one call alone.
+    fn fails_at(self, number: u64) -> (Fault, Fault) {
+        match self {
+            Side::First => (Fault::At(number), Fault::Never),
+            Side::Second => (Fault::Never, Fault::At(number)),
+        }
     }
-    Ok(call(alloc, line, first, second, input)?)
 }
 
 /// Whether a fault at each call of one side alone keeps the steps and, behind so many calls of it, does not end them.
@@ -55,7 +45,7 @@ fn are_kept(
 ) -> Result<bool, Fail> {
     let all = side.of(counts(alloc, line, sides, steps.input)?);
     for number in 1..all.saturating_add(1) {
-        let outcome = failing(alloc, line, sides, side, number, steps.input)?;
+        let outcome = call_failing(alloc, line, sides, side.fails_at(number), steps.input)?;
         let ended = number > bound && outcome.status != 0;
         if ended || !keeps(alloc, &outcome, steps)? {
             return Ok(false);
@@ -81,28 +71,24 @@ fn a_fault_at_each_call_of_a_side_in_a_formatting_and_two_commits(
     let alloc = rt.alloc();
     let none = (Vec::new(alloc), Vec::new(alloc));
     // a side is bound, its header is written and made stable: a fault of these ends the bind
-    assert!(rt; are_kept(alloc, SMALL, &none, Side::First, 3, MADE)?);
-    assert!(rt; are_kept(alloc, SMALL, &none, Side::Second, 3, MADE)?);
-    Ok(())
+    holds(&rt, are_kept(alloc, SMALL, &none, Side::First, 3, MADE))?;
+    holds(&rt, are_kept(alloc, SMALL, &none, Side::Second, 3, MADE))
 }
 
 #[test]
 fn a_fault_at_each_call_of_a_side_in_two_commits(rt: HostRuntime) -> Result<(), Fail> {
-    assert!(rt; each_fault_is_survived(rt.alloc(), b"", COMMITS)?);
-    Ok(())
+    holds(&rt, each_fault_is_survived(rt.alloc(), b"", COMMITS))
 }
 
 #[test]
 fn a_fault_at_each_call_of_a_side_in_a_compaction(rt: HostRuntime) -> Result<(), Fail> {
-    assert!(rt; each_fault_is_survived(rt.alloc(), THREE, COMPACTION)?);
-    Ok(())
+    holds(&rt, each_fault_is_survived(rt.alloc(), THREE, COMPACTION))
 }
 
 #[test]
 fn a_fault_at_each_call_of_a_side_around_a_label(rt: HostRuntime) -> Result<(), Fail> {
-    assert!(rt; each_fault_is_survived(rt.alloc(), b"", COMPACTIONS)?);
-    assert!(rt; each_fault_is_survived(rt.alloc(), b"", UPGRADES)?);
-    Ok(())
+    holds(&rt, each_fault_is_survived(rt.alloc(), b"", COMPACTIONS))?;
+    holds(&rt, each_fault_is_survived(rt.alloc(), b"", UPGRADES))
 }
 
 /// Whether a second side that fails from each call on behind its opening ends nothing, and an adopt makes both alike then.
@@ -111,7 +97,8 @@ fn each_loss_is_survived(alloc: Global, steps: Steps) -> Result<bool, Fail> {
     let opening = counts(alloc, RUN, &sides, b"")?;
     let all = counts(alloc, RUN, &sides, steps.input)?;
     for calls in opening.1..all.1 {
-        let outcome = stopped(alloc, RUN, &sides, (1_000, calls), steps.input)?;
+        let faults = (Fault::Never, Fault::Behind(calls));
+        let outcome = call_failing(alloc, RUN, &sides, faults, steps.input)?;
         if outcome.status != 0 || !keeps(alloc, &outcome, steps)? {
             return Ok(false);
         }
@@ -126,27 +113,23 @@ fn each_loss_is_survived(alloc: Global, steps: Steps) -> Result<bool, Fail> {
 
 #[test]
 fn the_second_side_fails_from_each_call_on(rt: HostRuntime) -> Result<(), Fail> {
-    assert!(rt; each_loss_is_survived(rt.alloc(), COMMITS_THEN_COMPACTION)?);
-    assert!(rt; each_loss_is_survived(rt.alloc(), UPGRADES)?);
+    for steps in [COMMITS_THEN_COMPACTION, UPGRADES] {
+        holds(&rt, each_loss_is_survived(rt.alloc(), steps))?;
+    }
     Ok(())
 }
 
 #[test]
 fn faults_of_both_sides_from_a_call_on(rt: HostRuntime) -> Result<(), Fail> {
     let alloc = rt.alloc();
+    let steps = COMMITS_THEN_COMPACTION;
     let sides = made_sides(alloc, b"")?;
-    let all = counts(alloc, RUN, &sides, COMMITS_THEN_COMPACTION.input)?;
+    let all = counts(alloc, RUN, &sides, steps.input)?;
     for calls in 0..all.0.min(all.1) {
-        let outcome = stopped(
-            alloc,
-            RUN,
-            &sides,
-            (calls, calls),
-            COMMITS_THEN_COMPACTION.input,
-        )?;
-        assert_eq!(rt; outcome.status, 5, "{calls}");
-        assert!(rt; outcome.output.ends_with(FAULT), "{calls}");
-        assert!(rt; keeps(alloc, &outcome, COMMITS_THEN_COMPACTION)?, "{calls}");
+        let faults = (Fault::Behind(calls), Fault::Behind(calls));
+        let outcome = call_failing(alloc, RUN, &sides, faults, steps.input)?;
+        let cut = outcome.status == 5 && outcome.output.ends_with(FAULT);
+        assert!(rt; cut && keeps(alloc, &outcome, steps)?, "{calls}");
     }
     Ok(())
 }

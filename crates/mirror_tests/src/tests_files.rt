@@ -1,5 +1,6 @@
 // The disk of the program: pages that are kept of a mirror of two files.
 use crate::calls::call_over;
+use crate::steps::FAULT;
 use crate::tests::same;
 use file_disk::FileDisk;
 use kept_disk::Kept;
@@ -35,7 +36,7 @@ fn over_files(rt: &HostRuntime, line: &str, script: &[u8]) -> Result<(u8, Vec<u8
 /// Whether a run of the two files is told a fault of the disk, and nothing else.
 fn is_fault(rt: &HostRuntime) -> Result<bool, Fail> {
     let (status, output) = over_files(rt, AGAIN, STAT)?;
-    Ok(status == 5 && output.as_slice() == b"! disk fault\n".as_slice())
+    Ok(status == 5 && output.as_slice() == FAULT)
 }
 
 /// Whether a run of the two files shows the one commit, and both are the same then.
@@ -83,8 +84,7 @@ fn two_files_of_zeros_are_no_mirror(rt: HostRuntime) -> Result<(), Fail> {
     fs::write(&rt, "zeros.img+0", zeros.as_slice())?;
     fs::write(&rt, "zeros.img+1", zeros.as_slice())?;
     let (status, output) = over_files(&rt, "isotope run zeros.img+", STAT)?;
-    same(&rt, status, 5);
-    same(&rt, output.as_slice(), b"! disk fault\n".as_slice());
+    same(&rt, (status, output.as_slice()), (5, FAULT));
     assert!(rt; fs::read(&rt, "zeros.img+0")?.as_slice() == zeros.as_slice());
     fs::remove_file(&rt, "zeros.img+0")?;
     fs::remove_file(&rt, "zeros.img+1")?;

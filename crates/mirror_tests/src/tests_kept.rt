@@ -2,12 +2,12 @@
 // leaves.
 use crate::calls::call_over;
 use crate::steps::{COMPACTION, COMPACTIONS, MADE, Steps, THREE, UPGRADES};
-use crate::tests_stops::left;
+use crate::tests_stops::{holds, left};
 use iso_memdisk::MemDisk;
 use kept_disk::Kept;
 use std::alloc::Global;
 use std::test::Fail;
-use top_calls::{RUN, SMALL, made_image, run_image, small_image};
+use top_calls::{Failing, RUN, SMALL, faulty, made_image, run_image, small_image};
 
 /// Whether each image that a crash leaves has the steps that were told of, and none or one behind them.
 fn keeps(alloc: Global, disk: &MemDisk, output: &[u8], steps: Steps) -> Result<bool, Fail> {
@@ -20,27 +20,6 @@ fn keeps(alloc: Global, disk: &MemDisk, output: &[u8], steps: Steps) -> Result<b
     Ok(true)
 }
 
-/// How the disk below fails: from a call on for good, or at that call alone.
-#[derive(Clone, Copy)]
-enum Failing {
-    From,
-    At,
-}
-
-fn disk_that_fails(
-    alloc: Global,
-    bytes: &[u8],
-    how: Failing,
-    number: u64,
-) -> Result<MemDisk, Fail> {
-    let mut disk = MemDisk::new(alloc, bytes.to_vec(alloc)?);
-    match how {
-        Failing::From => disk.fuse(number.saturating_sub(1)),
-        Failing::At => disk.fail(number),
-    }
-    Ok(disk)
-}
-
 /// Whether the steps are kept whichever call of the disk below fails, until it makes fewer calls and the script is done.
 fn are_kept(
     alloc: Global,
@@ -50,7 +29,7 @@ fn are_kept(
     steps: Steps,
 ) -> Result<bool, Fail> {
     for number in 1..200 {
-        let disk = disk_that_fails(alloc, bytes, how, number)?;
+        let disk = faulty(alloc, bytes, how.fault(number))?;
         let (status, output, kept) = call_over(alloc, line, Kept::new(alloc, disk), steps.input)?;
         let right = steps.is_cut_or_whole(status, &output);
         if !right || !keeps(alloc, kept.disk(), &output, steps)? {
@@ -63,36 +42,34 @@ fn are_kept(
     Ok(false)
 }
 
+/// Whether a compaction of three commits is kept.
+fn are_kept_in_a_compaction(alloc: Global, how: Failing) -> Result<bool, Fail> {
+    let image = made_image(alloc, SMALL, THREE)?;
+    are_kept(alloc, RUN, &image, how, COMPACTION)
+}
+
 #[test]
 fn a_stop_behind_each_call_of_a_formatting_and_two_commits_over_kept_pages(
     rt: HostRuntime,
 ) -> Result<(), Fail> {
-    assert!(rt; are_kept(rt.alloc(), SMALL, b"", Failing::From, MADE)?);
-    Ok(())
+    holds(&rt, are_kept(rt.alloc(), SMALL, b"", Failing::From, MADE))
 }
 
 #[test]
 fn a_stop_behind_each_call_of_a_compaction_over_kept_pages(rt: HostRuntime) -> Result<(), Fail> {
-    let alloc = rt.alloc();
-    let image = made_image(alloc, SMALL, THREE)?;
-    assert!(rt; are_kept(alloc, RUN, &image, Failing::From, COMPACTION)?);
-    Ok(())
+    holds(&rt, are_kept_in_a_compaction(rt.alloc(), Failing::From))
 }
 
 #[test]
 fn a_fault_at_each_call_of_a_formatting_and_two_commits_over_kept_pages(
     rt: HostRuntime,
 ) -> Result<(), Fail> {
-    assert!(rt; are_kept(rt.alloc(), SMALL, b"", Failing::At, MADE)?);
-    Ok(())
+    holds(&rt, are_kept(rt.alloc(), SMALL, b"", Failing::At, MADE))
 }
 
 #[test]
 fn a_fault_at_each_call_of_a_compaction_over_kept_pages(rt: HostRuntime) -> Result<(), Fail> {
-    let alloc = rt.alloc();
-    let image = made_image(alloc, SMALL, THREE)?;
-    assert!(rt; are_kept(alloc, RUN, &image, Failing::At, COMPACTION)?);
-    Ok(())
+    holds(&rt, are_kept_in_a_compaction(rt.alloc(), Failing::At))
 }
 
 /// Whether compactions and upgrades around a label are kept on a small image.
@@ -104,12 +81,10 @@ fn are_kept_around_a_label(alloc: Global, how: Failing) -> Result<bool, Fail> {
 
 #[test]
 fn a_stop_behind_each_call_around_a_label_over_kept_pages(rt: HostRuntime) -> Result<(), Fail> {
-    assert!(rt; are_kept_around_a_label(rt.alloc(), Failing::From)?);
-    Ok(())
+    holds(&rt, are_kept_around_a_label(rt.alloc(), Failing::From))
 }
 
 #[test]
 fn a_fault_at_each_call_around_a_label_over_kept_pages(rt: HostRuntime) -> Result<(), Fail> {
-    assert!(rt; are_kept_around_a_label(rt.alloc(), Failing::At)?);
-    Ok(())
+    holds(&rt, are_kept_around_a_label(rt.alloc(), Failing::At))
 }

@@ -1,12 +1,19 @@
 // A mirror whose sides stop after calls: what the two sides are opened to that a crash then leaves.
-use crate::calls::{Outcome, RUN, SMALL, call};
+use crate::calls::{Outcome, RUN, SMALL, call, call_failing};
 use crate::steps::{COMMITS, COMPACTION, COMPACTIONS, MADE, NO_IMAGE, Steps, THREE, UPGRADES};
 use crate::tests_adopt::adopted;
 use iso_memdisk::MemDisk;
 use mirror_disk::MirrorError;
 use std::alloc::Global;
+use std::process::Abort;
 use std::test::Fail;
-use top_calls::no_disk;
+use top_calls::{Fault, no_disk};
+
+// That what was asked holds.
+pub(crate) fn holds(rt: &impl Abort, found: Result<bool, Fail>) -> Result<(), Fail> {
+    assert!(rt; found?);
+    Ok(())
+}
 
 /// What a script is answered on two sides that are adopted. Sides without two headers of a mirror are no image.
 pub(crate) fn opened(
@@ -69,21 +76,6 @@ pub(crate) fn keeps(alloc: Global, outcome: &Outcome, steps: Steps) -> Result<bo
     Ok(true)
 }
 
-/// A call whose sides have these bytes, and stop behind so many calls.
-pub(crate) fn stopped(
-    alloc: Global,
-    line: &str,
-    sides: &(Vec<u8>, Vec<u8>),
-    stops: (u64, u64),
-    input: &[u8],
-) -> Result<Outcome, Fail> {
-    let mut first = MemDisk::new(alloc, sides.0.to_vec(alloc)?);
-    first.fuse(stops.0);
-    let mut second = MemDisk::new(alloc, sides.1.to_vec(alloc)?);
-    second.fuse(stops.1);
-    Ok(call(alloc, line, first, second, input)?)
-}
-
 /// How many calls each side makes where none fails.
 pub(crate) fn counts(
     alloc: Global,
@@ -91,7 +83,7 @@ pub(crate) fn counts(
     sides: &(Vec<u8>, Vec<u8>),
     input: &[u8],
 ) -> Result<(u64, u64), Fail> {
-    let whole = stopped(alloc, line, sides, (1_000, 1_000), input)?;
+    let whole = call_failing(alloc, line, sides, (Fault::Never, Fault::Never), input)?;
     Ok((whole.first.calls(), whole.second.calls()))
 }
 
@@ -115,8 +107,11 @@ fn are_kept(
     let ahead = calls.saturating_sub(others).saturating_add(2);
     for one in 0..calls.saturating_add(1) {
         for two in one.saturating_sub(ahead)..one.saturating_add(1) {
-            let stops = (one.saturating_add(from.0), two.saturating_add(from.1));
-            let outcome = stopped(alloc, line, sides, stops, steps.input)?;
+            let faults = (
+                Fault::Behind(one.saturating_add(from.0)),
+                Fault::Behind(two.saturating_add(from.1)),
+            );
+            let outcome = call_failing(alloc, line, sides, faults, steps.input)?;
             if !keeps(alloc, &outcome, steps)? {
                 return Ok(false);
             }
@@ -136,14 +131,12 @@ fn are_kept_when_open(alloc: Global, steps: Steps) -> Result<bool, Fail> {
 fn a_stop_behind_each_call_of_a_formatting_and_two_commits(rt: HostRuntime) -> Result<(), Fail> {
     let alloc = rt.alloc();
     let none = (Vec::new(alloc), Vec::new(alloc));
-    assert!(rt; are_kept(alloc, SMALL, &none, (0, 0), MADE)?);
-    Ok(())
+    holds(&rt, are_kept(alloc, SMALL, &none, (0, 0), MADE))
 }
 
 #[test]
 fn a_stop_behind_each_call_of_two_commits(rt: HostRuntime) -> Result<(), Fail> {
-    assert!(rt; are_kept_when_open(rt.alloc(), COMMITS)?);
-    Ok(())
+    holds(&rt, are_kept_when_open(rt.alloc(), COMMITS))
 }
 
 #[test]
@@ -151,18 +144,15 @@ fn a_stop_behind_each_call_of_a_compaction(rt: HostRuntime) -> Result<(), Fail> 
     let alloc = rt.alloc();
     let sides = made_sides(alloc, THREE)?;
     let opening = counts(alloc, RUN, &sides, b"")?;
-    assert!(rt; are_kept(alloc, RUN, &sides, opening, COMPACTION)?);
-    Ok(())
+    holds(&rt, are_kept(alloc, RUN, &sides, opening, COMPACTION))
 }
 
 #[test]
 fn a_stop_behind_each_call_of_compactions_around_a_label(rt: HostRuntime) -> Result<(), Fail> {
-    assert!(rt; are_kept_when_open(rt.alloc(), COMPACTIONS)?);
-    Ok(())
+    holds(&rt, are_kept_when_open(rt.alloc(), COMPACTIONS))
 }
 
 #[test]
 fn a_stop_behind_each_call_of_upgrades_around_a_label(rt: HostRuntime) -> Result<(), Fail> {
-    assert!(rt; are_kept_when_open(rt.alloc(), UPGRADES)?);
-    Ok(())
+    holds(&rt, are_kept_when_open(rt.alloc(), UPGRADES))
 }
