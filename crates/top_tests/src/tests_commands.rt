@@ -7,7 +7,7 @@ use std::process::Abort;
 use std::test::Fail;
 use top_calls::{
     Fault, Outcome, RECOVER, RUN, SMALL, answered, answers_on, call, call_on, call_over, faulty,
-    joined, no_disk, one_put_image, part, run_image, whole_sink,
+    joined, no_disk, one_put_image, part, repeated, run_image, whole_sink,
 };
 
 // Two values that are to be the same. Each test that compared them itself would prove what is printed where they differ.
@@ -17,11 +17,8 @@ pub(crate) fn same<T: PartialEq + Debug + Drop>(rt: &impl Abort, found: T, wante
 
 // That a call ended with this status and this output.
 pub(crate) fn gave(rt: &impl Abort, outcome: &Outcome, status: u8, output: &[u8]) {
-    same(
-        rt,
-        (outcome.status, outcome.output.as_slice()),
-        (status, output),
-    );
+    let found = (outcome.status, outcome.output.as_slice());
+    same(rt, found, (status, output));
 }
 
 // A script on the new image that these words make is answered so, all of it, with status 0.
@@ -33,18 +30,6 @@ pub(crate) fn told(
     replies: &[u8],
 ) -> Result<(), Fail> {
     assert!(rt; answers_on(alloc, line, script, replies)?);
-    Ok(())
-}
-
-// The same of each row: the words, a script and its replies.
-pub(crate) fn told_each(
-    rt: &impl Abort,
-    alloc: Global,
-    rows: &[(&str, &[u8], &[u8])],
-) -> Result<(), Fail> {
-    for (line, script, replies) in rows {
-        told(rt, alloc, line, script, replies)?;
-    }
     Ok(())
 }
 
@@ -81,6 +66,22 @@ pub(crate) fn told_in_turn(
 ) -> Result<(), Fail> {
     same(rt, answered(alloc, line, rows)?, rows.len());
     Ok(())
+}
+
+// Calls of a store are refused: the first outside a transaction, the next two in one on an image that has no store, and the last two
+// in one in snapshot mode on the image that these words make.
+pub(crate) fn refused(
+    rt: &impl Abort,
+    alloc: Global,
+    line: &str,
+    calls: [&[u8]; 3],
+) -> Result<(), Fail> {
+    let script = repeated(alloc, calls[0], b"1 begin\n", 1, calls[1])?;
+    let replies = b"1 not-in-tx\n1 ok begin 0\n1 no-store\n1 no-store\n";
+    told(rt, alloc, SMALL, &script, replies)?;
+    let script = joined(alloc, b"1 upgrade\n1 begin snapshot\n", calls[2])?;
+    let replies = b"1 ok upgrade 0\n1 ok begin 0\n1 store-mode\n1 store-mode\n";
+    told(rt, alloc, line, &script, replies)
 }
 
 const FAULT: &[u8] = b"! disk fault\n";
@@ -263,23 +264,19 @@ fn a_bench_whose_disk_or_sink_fails(rt: HostRuntime) -> Result<(), Fail> {
     // two commits are four writes and four syncs, behind those of the formatting
     for calls in [0, 1, 5, 6, 7, 9, 10, 13] {
         let disk = faulty(alloc, b"", Fault::Behind(calls))?;
-        gave(
-            &rt,
-            &call_alone(alloc, "isotope bench t.img 0 1", disk)?,
-            5,
-            FAULT,
-        );
+        let outcome = call_alone(alloc, "isotope bench t.img 0 1", disk)?;
+        gave(&rt, &outcome, 5, FAULT);
     }
     let sink = MemSink::new(alloc, [1].to_vec(alloc)?);
     let outcome = call_without_input(alloc, "isotope bench t.img 0 1", no_disk(alloc), sink)?;
     gave(&rt, &outcome, 7, b"");
     // all commits stand all the same
-    let again = call_on(alloc, RUN, outcome.disk, b"1 stat\n")?;
+    let stat = b"1 ok last 2 base 0 trim 0 live 0 used 58 versions 2\n";
     gave(
         &rt,
-        &again,
+        &call_on(alloc, RUN, outcome.disk, b"1 stat\n")?,
         0,
-        b"1 ok last 2 base 0 trim 0 live 0 used 58 versions 2\n",
+        stat,
     );
     Ok(())
 }

@@ -1,10 +1,10 @@
 // Scripts on images with files, alone and beside a hash store.
-use crate::tests_commands::{told, told_each, told_on};
+use crate::tests_commands::{refused, told, told_on};
 use crate::tests_limits::behind_reads;
 use std::alloc::{AllocError, Global};
 use std::process::Abort;
 use std::test::Fail;
-use top_calls::{SMALL, made_image};
+use top_calls::made_image;
 
 // Sixteen blocks of 256 bytes: four of the tree store, and twelve of the files, whose map is block 4. A file has at most 12,288 bytes.
 const FILES: &str = "isotope new t.img --block-size 256 --blocks 16 --log 8192 --tree 4";
@@ -211,30 +211,22 @@ fn a_value_that_names_no_file_block_is_refused(rt: HostRuntime) -> Result<(), Fa
 
 #[test]
 fn files_are_refused(rt: HostRuntime) -> Result<(), Fail> {
-    let rows = [
-        (
-            SMALL,
-            b"1 fnew 61\n1 begin\n1 fnew -\n1 fread 61 0 1\n".as_slice(),
-            b"1 not-in-tx\n1 ok begin 0\n1 no-store\n1 no-store\n".as_slice(),
-        ),
-        // One block behind the tree store is too few, and of two the files have one.
-        (
-            "isotope new t.img --block-size 256 --blocks 16 --log 8192 --tree 15",
-            b"1 begin\n1 fnew 61\n1 tput 61 31\n1 fdel 61\n",
-            b"1 ok begin 0\n1 no-store\n1 ok\n1 no-store\n",
-        ),
-        (
-            "isotope new t.img --block-size 256 --blocks 16 --log 8192 --tree 14",
-            b"1 begin\n1 fnew 61\n1 fnew 62\n1 fwrite 61 0 01\n1 fread 61 0 1\n",
-            b"1 ok begin 0\n1 ok\n1 no-blocks need 1 free 0\n1 no-blocks need 1 free 0\n1 ok -\n",
-        ),
-        (
-            FILES,
-            b"1 upgrade\n1 begin snapshot\n1 fnew 61\n1 fread - 0 0\n",
-            b"1 ok upgrade 0\n1 ok begin 0\n1 store-mode\n1 store-mode\n",
-        ),
+    let calls = [
+        b"1 fnew 61\n".as_slice(),
+        b"1 fnew -\n1 fread 61 0 1\n",
+        b"1 fnew 61\n1 fread - 0 0\n",
     ];
-    told_each(&rt, rt.alloc(), &rows)
+    refused(&rt, rt.alloc(), FILES, calls)?;
+    // One block behind the tree store is too few, and of two the files have one.
+    let one = "isotope new t.img --block-size 256 --blocks 16 --log 8192 --tree 15";
+    let script = b"1 begin\n1 fnew 61\n1 tput 61 31\n1 fdel 61\n";
+    let replies = b"1 ok begin 0\n1 no-store\n1 ok\n1 no-store\n";
+    told(&rt, rt.alloc(), one, script, replies)?;
+    let two = "isotope new t.img --block-size 256 --blocks 16 --log 8192 --tree 14";
+    let script = b"1 begin\n1 fnew 61\n1 fnew 62\n1 fwrite 61 0 01\n1 fread 61 0 1\n";
+    let replies =
+        b"1 ok begin 0\n1 ok\n1 no-blocks need 1 free 0\n1 no-blocks need 1 free 0\n1 ok -\n";
+    told(&rt, rt.alloc(), two, script, replies)
 }
 
 #[test]

@@ -1,29 +1,30 @@
 // The limits of an image: transactions, accesses, numbers, clients, and the largest geometries of a new image.
+use crate::talk::Talk;
 use crate::tests_commands::{gave, told, told_on};
 use std::alloc::{AllocError, Global};
 use std::process::Abort;
 use std::test::Fail;
-use top_calls::{SMALL, call, change, joined, repeated, small_image};
+use top_calls::{SMALL, call, change, joined, of_each_client, repeated, small_image};
 
 /// Transactions of client 1, 1,024 of them, each under a label of its own.
-fn all_released(alloc: Global) -> Result<Vec<u8>, AllocError> {
-    let mut script = Vec::new(alloc);
+fn all_released(alloc: Global) -> Result<Talk, AllocError> {
+    let mut talk = Talk::new(alloc);
     for first in b'a'..b'q' {
         for second in b'a'..b'q' {
             for third in b'a'..b'e' {
-                script.extend_from_slice(b"1 begin\n1 release ")?;
-                script.extend_from_slice(&[first, second, third, b'\n'])?;
+                talk.add(b"1 begin\n1 release ", b"1 ok begin 0\n1 ok\n")?;
+                talk.add(&[first, second, third, b'\n'], b"")?;
             }
         }
     }
-    Ok(script)
+    Ok(talk)
 }
 
 /// That these lines behind those transactions are answered so.
 fn behind_all(rt: &impl Abort, alloc: Global, lines: &[u8], replies: &[u8]) -> Result<(), Fail> {
-    let script = joined(alloc, &all_released(alloc)?, lines)?;
-    let expected = repeated(alloc, b"", b"1 ok begin 0\n1 ok\n", 1024, replies)?;
-    told(rt, alloc, SMALL, &script, &expected)
+    let mut talk = all_released(alloc)?;
+    talk.add(lines, replies)?;
+    told(rt, alloc, SMALL, &talk.script, &talk.replies)
 }
 
 #[test]
@@ -103,42 +104,16 @@ fn the_last_generation_is_not_passed(rt: HostRuntime) -> Result<(), Fail> {
     told_on(&rt, rt.alloc(), worn_at(rt.alloc(), 72)?, script, replies)
 }
 
-/// A line of each client with this text behind its number.
-fn of_all_clients(alloc: Global, rest: &[u8]) -> Result<Vec<u8>, AllocError> {
-    let mut all = Vec::new(alloc);
-    for tens in b'0'..b'7' {
-        for ones in b'0'..b':' {
-            let is_client = if tens == b'6' {
-                ones <= b'4'
-            } else {
-                tens > b'0' || ones > b'0'
-            };
-            if is_client {
-                if tens > b'0' {
-                    all.push(tens)?;
-                }
-                all.push(ones)?;
-                all.extend_from_slice(rest)?;
-            }
-        }
-    }
-    Ok(all)
-}
-
 #[test]
 fn each_of_64_clients_has_a_transaction(rt: HostRuntime) -> Result<(), Fail> {
     let alloc = rt.alloc();
-    let begins = of_all_clients(alloc, b" begin\n")?;
+    let begins = of_each_client(alloc, &[b" begin\n"])?;
     let script = joined(alloc, &begins, b"64 begin\n1 stat\n65 begin\n")?;
-    let begun = of_all_clients(alloc, b" ok begin 0\n")?;
+    let begun = of_each_client(alloc, &[b" ok begin 0\n"])?;
     let rest =
         b"64 in-tx\n1 ok last 0 base 0 trim 0 live 64 used 0 versions 0\n! bad line 67 cause 1\n";
-    gave(
-        &rt,
-        &call(alloc, SMALL, &script)?,
-        3,
-        &joined(alloc, &begun, rest)?,
-    );
+    let replies = joined(alloc, &begun, rest)?;
+    gave(&rt, &call(alloc, SMALL, &script)?, 3, &replies);
     Ok(())
 }
 

@@ -1,7 +1,7 @@
 // Scripts on images with a hash store.
-use crate::tests_commands::{same, told, told_each};
+use crate::tests_commands::{refused, same, told};
 use std::test::Fail;
-use top_calls::{SMALL, call};
+use top_calls::call;
 
 // Eight blocks of 256 bytes, of which the first three are a hash store: one bucket of three cells, and one overflow block.
 const STORE: &str = "isotope new t.img --block-size 256 --blocks 8 --log 4096 --hash 3";
@@ -75,17 +75,10 @@ fn a_damaged_block_is_named(rt: HostRuntime) -> Result<(), Fail> {
 
 #[test]
 fn a_store_is_refused(rt: HostRuntime) -> Result<(), Fail> {
-    let rows = [
-        (
-            SMALL,
-            b"1 hget 61\n1 begin\n1 hget 61\n1 hput - 31\n".as_slice(),
-            b"1 not-in-tx\n1 ok begin 0\n1 no-store\n1 no-store\n".as_slice(),
-        ),
-        (
-            STORE,
-            b"1 upgrade\n1 begin snapshot\n1 hget 61\n1 hdel -\n",
-            b"1 ok upgrade 0\n1 ok begin 0\n1 store-mode\n1 store-mode\n",
-        ),
+    let calls = [
+        b"1 hget 61\n".as_slice(),
+        b"1 hget 61\n1 hput - 31\n",
+        b"1 hget 61\n1 hdel -\n",
     ];
-    told_each(&rt, rt.alloc(), &rows)
+    refused(&rt, rt.alloc(), STORE, calls)
 }

@@ -1,7 +1,6 @@
 // Scripts on images with a tree store, alone and beside a hash store.
-use crate::tests_commands::{told, told_each};
+use crate::tests_commands::{refused, told};
 use std::test::Fail;
-use top_calls::SMALL;
 
 // Eight blocks of 256 bytes, of which the first three are a tree store: nodes of three cells.
 const TREE: &str = "isotope new t.img --block-size 256 --blocks 8 --log 4096 --tree 3";
@@ -94,22 +93,14 @@ fn a_damaged_node_is_named(rt: HostRuntime) -> Result<(), Fail> {
 
 #[test]
 fn a_tree_is_refused(rt: HostRuntime) -> Result<(), Fail> {
-    let rows = [
-        (
-            SMALL,
-            b"1 tget 61\n1 begin\n1 tput 61 31\n1 tdel 61\n".as_slice(),
-            b"1 not-in-tx\n1 ok begin 0\n1 no-store\n1 no-store\n".as_slice(),
-        ),
-        (
-            TREE,
-            b"1 begin\n1 tget -\n1 tscan - 62 0\n1 tscan 61 - 1\n1 tscan 61 62 0\n1 tput 61 000102030405060708090a0b0c0d0e0f101112131415161718191a1b1c1d1e1f20\n",
-            b"1 ok begin 0\n1 bad-key\n1 bad-key\n1 bad-key\n1 bad-range\n1 bad-value\n",
-        ),
-        (
-            TREE,
-            b"1 upgrade\n1 begin snapshot\n1 tget 61\n1 tscan 61 62 0\n",
-            b"1 ok upgrade 0\n1 ok begin 0\n1 store-mode\n1 store-mode\n",
-        ),
+    let calls = [
+        b"1 tget 61\n".as_slice(),
+        b"1 tput 61 31\n1 tdel 61\n",
+        b"1 tget 61\n1 tscan 61 62 0\n",
     ];
-    told_each(&rt, rt.alloc(), &rows)
+    refused(&rt, rt.alloc(), TREE, calls)?;
+    let script =
+        b"1 begin\n1 tget -\n1 tscan - 62 0\n1 tscan 61 - 1\n1 tscan 61 62 0\n1 tput 61 000102030405060708090a0b0c0d0e0f101112131415161718191a1b1c1d1e1f20\n";
+    let replies = b"1 ok begin 0\n1 bad-key\n1 bad-key\n1 bad-key\n1 bad-range\n1 bad-value\n";
+    told(&rt, rt.alloc(), TREE, script, replies)
 }
