@@ -246,9 +246,3 @@ pub fn shows(
     }
     Ok(true)
 }
-
-/// The reply to `stat` on an image of these bytes that is opened.
-pub fn stat_of(alloc: Global, image: Vec<u8>) -> Result<Vec<u8>, AllocError> {
-    let outcome = run_image(alloc, image, b"1 stat\n")?;
-    Ok(outcome.output)
-}

@@ -1,4 +1,5 @@
-//! What the tests of the top call share: calls over a disk, a source and a sink in memory, and a small image.
+//! What the tests of the top call share: calls over a disk, a source and a sink in memory, disks that fail, what is asked of an
+//! outcome, and a small image.
 #![tactic(auto)]
 
 mod calls;
@@ -10,7 +11,7 @@ mod texts;
 pub use calls::{
     PAR, RECOVER, RUN, SMALL, answered, answers_on, call, call_failing, call_from, call_on,
     call_over, call_with, gated_over, isotope_on, made_image, par_image, run_image, shows,
-    source_of, stat_of, threads_over, whole_sink,
+    source_of, threads_over, whole_sink,
 };
 pub use disks::{Failing, Fault, faulty, no_disk};
 pub use images::{RECORD, change, one_put_image, part, small_image};
