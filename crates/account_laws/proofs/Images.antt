@@ -15,7 +15,6 @@ opens_with_sum accounts A es image legal keeps shown = λ o is.
     let held : Opened = record { geometry = record V.geometry { form = shows.form }; generation = shows.generation; history = shows.held } in
     let same : held ≡ o = same_opened held o (sym (image_opens image (record V.geometry { form = shows.form }) shows.generation shows.held shows.image).opens ∙ is) in
     let ends = shows.last in
-    let some = shows.image.first in
     let at : array_at shows.held (last shows.held) ≡ array_at V.history shown.at = ap (array_at shows.held) ends ∙ shows.arrays shown.at (omega arith) (omega arith) in
     subst (λ (p : Opened). KeepsSumIn accounts p.geometry (recovered p)) same
     (subst (KeepsSumIn accounts (record V.geometry { form = shows.form })) (sym at)

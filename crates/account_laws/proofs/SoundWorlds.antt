@@ -1,18 +1,9 @@
 -- Each place of a legal list has a sound world.
-use Rattle.account_laws.proofs.Words.{◌≡◌, refl, subst, ℕ, ◌==◌, ◌&&◌, Bool, true, false, not, cond, List, [], ◌∷◌, length, Some, None, nat_le, nat_lt, arith, AllByRecursion, Access, last, Live, World, IsWorld, Entry, IsLegal, Start, State, state_at, limits, begin_leads, end_leads, group_leads, leads_on, leaves, stays, switch_leads, trim_leads, Mode, CoreReply, LAST, MAX_LIVE, same_mode, leave_all, after_begin, after_leaving, after_switch, begin_step, switch_step, Place, client, label, unattached, AreApart, IsLive, LeadsTo, ends_so, loose_is, Call, Cause, Member, AreLoose, Fits, LegalFrom, MayHaveMade, after, after_all, after_fault, after_refusal, is_live, live_of, member_numbers, members_of, opened, tx_of, txs_of, live_is}
+use Rattle.account_laws.proofs.Words.{all_apart_nowhere, ◌≡◌, refl, subst, ℕ, ◌==◌, ◌&&◌, Bool, true, false, not, cond, List, [], ◌∷◌, length, Some, None, nat_le, nat_lt, arith, AllByRecursion, Access, last, Live, World, IsWorld, Entry, IsLegal, Start, State, state_at, limits, begin_leads, end_leads, group_leads, leads_on, leaves, stays, switch_leads, trim_leads, Mode, CoreReply, LAST, MAX_LIVE, same_mode, leave_all, after_begin, after_leaving, after_switch, begin_step, switch_step, Place, client, label, unattached, AreApart, IsLive, LeadsTo, ends_so, loose_is, Call, Cause, Member, AreLoose, Fits, LegalFrom, MayHaveMade, after, after_all, after_fault, after_refusal, is_live, live_of, member_numbers, members_of, opened, tx_of, txs_of, live_is}
 use Rattle.iso_model.specs.declared.core_reply.CoreReply.TheVariants as reply
 use Rattle.iso_shared.specs.declared.entry.Call.TheVariants as call
 use Rattle.iso_shared.specs.declared.entry.Cause.TheVariants as cause
 use Rattle.iso_shared.specs.declared.entry.Entry.TheVariants as entry
-
-apart_place : (p : Place) → AreApart p unattached
-apart_place (client c) = tt
-apart_place (label text) = tt
-apart_place unattached = tt
-
-apart_all : (live : List Live) → AllByRecursion (λ u. AreApart u.place unattached) live
-apart_all [] = tt
-apart_all (t ∷ live) = (apart_place t.place, apart_all live)
 
 begun_world : (W : World) (mode : Mode) (at : ℕ) → (begin_step W unattached mode).0 ≡ reply.Began at → (begin_step W unattached mode).1 ≡ after_begin W unattached mode
 unfolding begin_step
@@ -68,7 +59,7 @@ sound_refusal S c why is = is
 
 pub sound_next : (S : State) (e : Entry) → IsWorld S.world → Fits S e → IsWorld (after S e).world
 sound_next S (entry.Begin n at mode) is fits =
-    subst IsWorld (begun_world S.world mode at fits.answers.2) (begin_leads S.world unattached mode is tt (apart_all S.world.live)).world
+    subst IsWorld (begun_world S.world mode at fits.answers.2) (begin_leads S.world unattached mode is tt (all_apart_nowhere S.world.live)).world
 sound_next S (entry.Fetch n block bytes) is fits = is
 sound_next S (entry.End n accesses r) is fits =
     subst IsWorld (ends_so S.world n accesses r fits.answers.2)

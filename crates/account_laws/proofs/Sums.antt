@@ -48,8 +48,6 @@ put_by k v e es Greater is sorted ih =
 
 put_sum : (k v : List ℕ) (es : List Pair) → T (is_sorted order es) → sum_by worth (put order k v es) + amount_in (find order k es) ≡ sum_by worth es + amount v
 put_sum k v [] sorted =
-    let a : sum_by worth ((k, v) ∷ []) ≡ amount v + sum_by worth [] = sum_by-cons worth (k, v) [] in
-    let none : sum_by worth [] ≡ 0 = refl in
     omega arith
 put_sum k v (e ∷ es) sorted = put_by k v e es (order k e.0) refl sorted (put_sum k v es (second _ _ sorted))
 

@@ -39,10 +39,7 @@ unfolding reply_text label_text
 grouped_starts [] = refl
 grouped_starts (None ∷ answers) = refl
 grouped_starts (Some (member.Committed n) ∷ answers) = refl
-grouped_starts (Some member.ReadOnly ∷ answers) = refl
-grouped_starts (Some (member.Conflict c) ∷ answers) = refl
-grouped_starts (Some (member.Full need free) ∷ answers) = refl
-grouped_starts (Some member.Worn ∷ answers) = refl
+grouped_starts (Some reply ∷ answers) = refl
 
 -- what its text begins with is the kind of a reply
 kind_by_text : (reply : Reply) → by_tests (starts (codes "ok comm") (reply_text reply)) (starts (codes "c") (reply_text reply)) ≡ kind_of reply

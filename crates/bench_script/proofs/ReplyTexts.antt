@@ -1,5 +1,5 @@
 -- The bytes of a number and of a reply.
-use Rattle.bench_script.proofs.Words.{◌≡◌, ◌≢◌, ◌∙◌, refl, ℕ, zero, suc, ◌/◌, ◌%◌, ◌<◌, Bool, true, false, cond, not, ◌==◌, List, [], ◌∷◌, ◌++◌, decimal, codes, arith, list_all, digits, digits_onto, digit_glyph, ne_eqb, list_all-append, Reply, Done, Began, Shown, Committed, ReadOnly, Conflict, Grouped, Trimmed, Compacted, Upgraded, Numbers, Found, Pairs, Missing, InTx, NotInTx, ModeFixed, NoStore, StoreMode, BadKey, BadValue, BadName, Exists, BadBlock, BadRange, NoAccess, TooManyMarks, TooManyAccesses, Broken, NoBlocks, NoHandle, LabelTaken, TooManyTx, Worn, LogFull, dashed, digit_of, hex_text, pair_text, reply_text, label_text, labels_text, Option, Some, None, GroupReply}
+use Rattle.bench_script.proofs.Words.{◌≡◌, ◌≢◌, ◌∙◌, refl, ℕ, zero, suc, ◌/◌, ◌%◌, ◌<◌, Bool, true, false, cond, not, ◌==◌, List, [], ◌∷◌, ◌++◌, decimal, codes, arith, list_all, digits, digits_onto, digit_glyph, ne_eqb, list_all-append, Reply, Began, Shown, Committed, Conflict, Grouped, Trimmed, Compacted, Upgraded, Numbers, Found, Pairs, Broken, NoBlocks, LogFull, dashed, digit_of, hex_text, pair_text, reply_text, label_text, labels_text, Option, Some, None, GroupReply}
 use Rattle.std.proofs.Common.{flat_map}
 use Rattle.iso_model.specs.declared.access.GroupReply.TheVariants as member
 
@@ -92,11 +92,9 @@ labels_bytes (answer ∷ answers) =
 -- no reply has a line feed
 pub reply_has_no_feed : (reply : Reply) → list_all (is_other 10) (reply_text reply) ≡ true
 unfolding reply_text
-reply_has_no_feed Done = refl
 reply_has_no_feed (Began n) = (numbered (codes "ok begin ") n refl).all
 reply_has_no_feed (Shown bytes) = both 10 (codes "ok ") (hex_text bytes) refl (hex_bytes bytes)
 reply_has_no_feed (Committed n) = (numbered (codes "ok commit ") n refl).all
-reply_has_no_feed ReadOnly = refl
 reply_has_no_feed (Conflict c) =
     (numbered_on (codes " at ") c.at refl (numbered_on (codes " block ") c.block refl (numbered (codes "conflict with ") c.commit refl))).all
 reply_has_no_feed (Grouped answers) = both 10 (codes "ok") (labels_text answers) refl (labels_bytes answers)
@@ -108,25 +106,7 @@ reply_has_no_feed (Numbers last base trim live used versions) =
     (numbered_on (codes " base ") base refl (numbered (codes "ok last ") last refl)))))).all
 reply_has_no_feed (Found value) = both 10 (codes "ok ") (dashed value) refl (dashed_bytes value)
 reply_has_no_feed (Pairs pairs) = both 10 (codes "ok") (flat_map pair_text pairs) refl (pair_bytes pairs)
-reply_has_no_feed Missing = refl
-reply_has_no_feed NoStore = refl
-reply_has_no_feed StoreMode = refl
-reply_has_no_feed BadKey = refl
-reply_has_no_feed BadValue = refl
-reply_has_no_feed BadName = refl
-reply_has_no_feed Exists = refl
 reply_has_no_feed (Broken block) = (numbered (codes "broken block ") block refl).all
 reply_has_no_feed (NoBlocks need free) = (numbered_on (codes " free ") free refl (numbered (codes "no-blocks need ") need refl)).all
-reply_has_no_feed InTx = refl
-reply_has_no_feed NotInTx = refl
-reply_has_no_feed ModeFixed = refl
-reply_has_no_feed BadBlock = refl
-reply_has_no_feed BadRange = refl
-reply_has_no_feed NoAccess = refl
-reply_has_no_feed TooManyMarks = refl
-reply_has_no_feed TooManyAccesses = refl
-reply_has_no_feed NoHandle = refl
-reply_has_no_feed LabelTaken = refl
-reply_has_no_feed TooManyTx = refl
-reply_has_no_feed Worn = refl
 reply_has_no_feed (LogFull need free) = (numbered_on (codes " free ") free refl (numbered (codes "log full need ") need refl)).all
+reply_has_no_feed reply = refl

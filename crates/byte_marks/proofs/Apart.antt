@@ -98,6 +98,4 @@ has-append p xs x = list_any-append (in_extent p) xs (x ∷ []) ∙ ap (λ b. ha
 
 -- a further extent that is counted to the open one in place of the rest
 pub regroup : (o e n r : Bool) → ((o || (e || n)) || r) ≡ ((o || e) || (n || r))
-regroup true e n r = refl
-regroup false true n r = refl
-regroup false false n r = refl
+regroup o e n r = grind arith

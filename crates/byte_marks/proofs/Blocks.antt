@@ -1,5 +1,5 @@
 -- Entries whose blocks rise.
-use Rattle.byte_marks.proofs.{Words.{◌≡◌, ◌≢◌, refl, ◌∙◌, sym, ap, subst, ℕ, zero, suc, ◌+◌, ◌<◌, ◌≤◌, Bool, true, false, ◌&&◌, ◌||◌, ◌==◌, inl, inr, List, [], ◌∷◌, ◌++◌, length, get_or, set, take, drop, arith, ne_eqb, and_comm, or_assoc, or_comm, and_left, and_right, cases_eq, Extent, has, entry_has, touches, RisesFrom}, Apart.leave_out}
+use Rattle.byte_marks.proofs.{Words.{◌≡◌, ◌≢◌, refl, sym, ap, subst, ℕ, zero, suc, ◌+◌, ◌<◌, ◌≤◌, Bool, true, false, ◌&&◌, ◌||◌, ◌==◌, List, [], ◌∷◌, ◌++◌, length, get_or, set, take, drop, arith, ne_eqb, or_assoc, or_comm, Extent, has, entry_has, touches, RisesFrom}, Apart.leave_out}
 
 -- they rise from any earlier block on too
 pub rises_earlier : (f g : ℕ) (es : List (ℕ × List Extent)) → f ≤ g → RisesFrom g es → RisesFrom f es
@@ -20,10 +20,7 @@ none_before_block f b p (e ∷ es) lt rises =
 
 -- an entry meets none of those of later blocks
 pub entry_meets_none : (b p : ℕ) (e : ℕ × List Extent) (es : List (ℕ × List Extent)) → RisesFrom (e.0 + 1) es → (entry_has b p e && touches es b p) ≡ false
-entry_meets_none b p e es rises = elim (cases_eq e.0 b) [
-  | inl same ↦ and_right (entry_has b p e) (touches es b p) (none_before_block (e.0 + 1) b p es (omega arith) rises)
-  | inr other ↦ and_left (entry_has b p e) (touches es b p) (other_block b p e other)
-]
+entry_meets_none b p e es rises = grind (arith, none_before_block, other_block)
 
 pub pass_entry : (b p : ℕ) (e : ℕ × List Extent) (es fs : List (ℕ × List Extent)) → RisesFrom (e.0 + 1) fs
     → (touches (e ∷ es) b p && touches fs b p) ≡ (touches es b p && touches fs b p)
@@ -31,8 +28,7 @@ pass_entry b p e es fs rises = leave_out (entry_has b p e) (touches es b p) (tou
 
 pub pass_entry_right : (b p : ℕ) (e : ℕ × List Extent) (es fs : List (ℕ × List Extent)) → RisesFrom (e.0 + 1) es
     → (touches es b p && touches (e ∷ fs) b p) ≡ (touches es b p && touches fs b p)
-pass_entry_right b p e es fs rises =
-    and_comm (touches es b p) (touches (e ∷ fs) b p) ∙ pass_entry b p e fs es rises ∙ and_comm (touches fs b p) (touches es b p)
+pass_entry_right b p e es fs rises = grind (arith, pass_entry)
 
 -- two entries of one block that do not meet may both be passed over
 pub pass_both : (b p : ℕ) (x y : ℕ × List Extent) (xs ys : List (ℕ × List Extent)) → (has x.1 p && has y.1 p) ≡ false
@@ -87,8 +83,7 @@ last_block f (suc k) (e ∷ es) x d rises lt = last_block (e.0 + 1) k es x d ris
 -- an entry in place of that of the same block
 pub rises_set : (f i : ℕ) (es : List (ℕ × List Extent)) (e : ℕ × List Extent) → RisesFrom f es → e.0 ≡ (get_or es i e).0 → RisesFrom f (set es i e)
 rises_set f i [] e rises same = tt
-rises_set f zero (x ∷ xs) e rises same =
-    (subst (λ (k : ℕ). f ≤ k) (sym same) rises.0, subst (λ (k : ℕ). RisesFrom (k + 1) xs) (sym same) rises.1)
+rises_set f zero (x ∷ xs) e rises same = grind arith
 rises_set f (suc i) (x ∷ xs) e rises same = (rises.0, rises_set (x.0 + 1) i xs e rises.1 same)
 
 pub touches_set : (b p i : ℕ) (es : List (ℕ × List Extent)) (e : ℕ × List Extent) (more : Bool) → i < length es → e.0 ≡ (get_or es i e).0

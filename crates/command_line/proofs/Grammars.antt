@@ -1,5 +1,5 @@
 -- What clap's contracts say of the program's command.
-use Rattle.command_line.proofs.Words.{◌≡◌, ◌≢◌, inl, inr, ◌∙◌, true, List, [], ◌∷◌, Option, None, ap, refl, sym, subst, App, HasKind, HasMatchesOf, IsAmong, Kinds, Row, Text, fault_of, is_simple, is_simple_and_free, kind_of, subcommand_of, subcommand_rows_of, Error, ErrorKind, OutOfMemory, ArgMatches, clap_on_literals, isotope_app, rows_found, unless_refused}
+use Rattle.command_line.{proofs.Words.{◌≡◌, ◌≢◌, inl, inr, ◌∙◌, true, List, [], ◌∷◌, Option, None, ap, refl, sym, subst, App, HasKind, HasMatchesOf, IsAmong, Kinds, Row, Text, fault_of, is_simple, is_simple_and_free, kind_of, subcommand_of, subcommand_rows_of, Error, ErrorKind, OutOfMemory, ArgMatches, clap_on_literals, is_valid, isotope_app, geometry_of, long_number_of, number_of, request_of, rows_found, task_of, unless_refused, words_of}, specs.declared.task.Task.{Task}}
 
 pub is_free : is_simple_and_free isotope_app ≡ true
 unfolding clap_on_literals
@@ -33,3 +33,8 @@ unfolding rows_found
 refused a words e is has other =
     let kinds : HasKind (fault_of isotope_app words) e = subst (λ (b : App). HasKind (fault_of b words) e) is (has (ap is_simple_and_free is ∙ is_free)) in
     refused_rows (kind_of e) (fault_of isotope_app words) (subcommand_of isotope_app words) (among_them e (fault_of isotope_app words) kinds other)
+
+-- all that the grammar of given words computes by
+unfoldable pub grammar : List Text → Option (Text × Task)
+unfolding clap_on_literals words_of request_of rows_found task_of geometry_of number_of is_valid long_number_of
+grammar = request_of

@@ -2,7 +2,7 @@
 use Rattle.std.specs.Prelude.{◌≡◌, ℕ, ◌<◌, ◌≤◌, ◌^◌, IsTrue, if◌then◌else◌, List, Option, Some, None, option_and_then, option_map, codes, bytes_eq}
 use Rattle.clap.specs.Words.{Row, Text, first_of}
 use Rattle.iso_model.specs.{declared.access.Geometry.Geometry, declared.access.Mode.Mode, Geometry.is_valid}
-use Rattle.script_model.specs.Bench.{bench_geometry}
+use Rattle.script_model.specs.{Bench.bench_geometry, Text.words_of}
 use Rattle.command_line.specs.{declared.task.Task.Task, declared.task.Task.TheVariants.{New, Run, Par, Recover, Bench}, Grammar.rows_found, Values.{count_of, long_number_of, mode_or_serial, number_or}}
 
 -- an image of the first form
@@ -61,6 +61,13 @@ request_behind command rows = option_and_then (λ image. option_map (for_image i
 -- where clap takes them and the values are spelled and bounded as they have to be.
 unfoldable pub request_of : List Text → Option (Text × Task)
 request_of words = option_and_then (λ found. request_behind found.0 found.1) (rows_found words)
+
+-- a line whose words ask for this task on the image of this name, and one whose words are outside the grammar
+abbrev pub Asks : (line image : Text) → Task → Type 0
+Asks line image task = request_of (words_of line) ≡ Some (image, task)
+
+abbrev pub IsOutside : (line : Text) → Type 0
+IsOutside line = request_of (words_of line) ≡ None
 
 -- the geometry of the image that a task makes, where it makes one
 abbrev pub made_geometry : Task → Option Geometry

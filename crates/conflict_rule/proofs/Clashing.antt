@@ -1,5 +1,5 @@
 -- Whether there is a write, and the clash in two parts: up to a commit and after it.
-use Rattle.conflict_rule.proofs.Words.{◌≡◌, ◌∙◌, refl, sym, ap, ℕ, zero, suc, ◌+◌, ◌-◌, ◌<◌, ◌≤◌, Bool, true, false, ◌&&◌, ◌||◌, nat_lt, List, [], ◌∷◌, take, drop, arith, Option, Some, None, option_map, AllByRecursion, lt-ltb, and_parts, both_ways, nat_tests, drop-drop, touches, AreTouched, Access, Clash, Commit, Geometry, Write, Mode, Span, covered, in_span, clash, clash_from, clashes, first_after, first_byte, covers, has_write, is_write, or_else, History, AreAccesses, IsSpan, covers_where, up_to, Bytes}
+use Rattle.conflict_rule.proofs.Words.{cond, subst, drop-take, up_to, Geometry, History, Mode, Access, Clash, clash, clash_from, has_write, first_after, ◌≡◌, ◌∙◌, refl, sym, ap, ℕ, zero, suc, ◌+◌, ◌-◌, ◌<◌, ◌≤◌, Bool, true, false, ◌||◌, List, [], ◌∷◌, take, drop, arith, Option, None, option_map, AllByRecursion, both_ways, nat_tests, drop-drop, touches, AreTouched, Commit, Write, Span, covered, in_span, clashes, first_byte, covers, is_write, or_else, AreAccesses, IsSpan, covers_where, Bytes}
 use Rattle.iso_model.specs.Effect as model
 
 -- a byte that an access covers
@@ -44,17 +44,12 @@ touch_writes (a ∷ accesses) b p is = by (is_write a) refl (λ more. touch_writ
     by false read later = rw read (later (rw read at is))
 
 pub has_write_where : (g : Geometry) (accesses : List Access) (writes : Bytes) (b p : ℕ) → AreTouched g.block g.blocks Write accesses writes → touches writes b p ≡ true → has_write accesses ≡ true
-has_write_where g accesses writes b p are is =
-    touch_writes accesses b p (and_parts (nat_lt b g.blocks && nat_lt p g.block) (model.touches Write accesses b p) (sym (are.is b p) ∙ is)).1
+has_write_where g accesses writes b p are is = grind (arith, touch_writes)
 
 -- where there is a write, a byte is written
 pub wrote_where : (g : Geometry) (accesses : List Access) (writes : Bytes) → 0 < g.block → AreAccesses g accesses → AreTouched g.block g.blocks Write accesses writes → has_write accesses ≡ true
     → (b : ℕ) × (p : ℕ) × (touches writes b p ≡ true)
-wrote_where g accesses writes size all are is =
-    let byte = some_write g accesses size all is in
-    let all_true : (nat_lt byte.0 g.blocks && nat_lt byte.1 g.block && model.touches Write accesses byte.0 byte.1) ≡ true =
-    rw (lt-ltb byte.0 g.blocks byte.2, lt-ltb byte.1 g.block byte.3, byte.4) refl in
-    (byte.0, byte.1, are.is byte.0 byte.1 ∙ all_true)
+wrote_where g accesses writes size all are is = grind (arith, some_write)
 
 pub no_write_where : (g : Geometry) (accesses : List Access) (writes : Bytes) → 0 < g.block → AreAccesses g accesses → AreTouched g.block g.blocks Write accesses writes
     → ((b p : ℕ) → touches writes b p ≡ false) → has_write accesses ≡ false
@@ -75,8 +70,7 @@ untouched_where g accesses writes are none b p = by (touches writes b p) refl
     by true is = absurd (both_ways (has_write accesses) none (has_write_where g accesses writes b p are is))
 
 or_assoc : (u v w : Option Clash) → or_else (or_else u v) w ≡ or_else u (or_else v w)
-or_assoc None v w = refl
-or_assoc (Some x) v w = refl
+or_assoc u v w = grind arith
 
 split_clash : (g : Geometry) (mode : Mode) (accesses : List Access) (k n : ℕ) (commits : List Commit)
     → clash_from g mode accesses k commits ≡ or_else (clash_from g mode accesses k (take n commits)) (clash_from g mode accesses (k + n) (drop n commits))
@@ -109,3 +103,15 @@ clash_parts g H mode begin upto accesses some order =
     ∙ ap (λ (l : List Commit). or_else (clash_from g mode accesses from l) (clash_from g mode accesses (from + n) (drop n (drop d H.commits)))) first
     ∙ ap (λ (l : List Commit). or_else (clash_from g mode accesses from (drop d (take (upto + 1 - H.first) H.commits))) (clash_from g mode accesses (from + n) l)) second
     ∙ ap (λ (i : ℕ). or_else (clash_from g mode accesses from (drop d (take (upto + 1 - H.first) H.commits))) (clash_from g mode accesses i (drop (upto + 1 - H.first) H.commits))) k)
+
+-- no commit above the last one clashes
+no_more : (test : Bool) (found : Option Clash) → None ≡ found → None ≡ cond test found None
+no_more true found is = is
+no_more false found is = refl
+
+drop_back : {X : Type 0} (n : ℕ) (list : List X) → drop n (take n list) ≡ []
+drop_back n list = subst (λ (k : ℕ). drop n (take k list) ≡ []) (omega arith) (drop-take n 0 list)
+
+pub none_behind : (g : Geometry) (H : History) (mode : Mode) (accesses : List Access) (begin : ℕ) → None ≡ clash g (up_to H begin) mode begin accesses
+unfolding clash
+none_behind g H mode accesses begin = grind (arith, no_more, drop_back)

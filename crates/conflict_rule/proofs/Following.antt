@@ -9,10 +9,7 @@ notes_rise g k (x ∷ notes) (c ∷ commits) are =
 
 dropped : (g : Geometry) (k d m : ℕ) (notes : List Note) (commits : List Commit) → 0 < k → m ≡ k + d → AreNotes g k notes commits
     → AreNotes g m (above (m - 1) notes) (drop d commits)
-dropped g k zero m notes commits some is are =
-    let e : k ≡ m = omega arith in
-    let all : above (m - 1) notes ≡ notes = all_above k (m - 1) notes (omega arith) (notes_rise g k notes commits are) in
-    subst (λ (l : List Note). AreNotes g m l commits) (sym all) (subst (λ (n : ℕ). AreNotes g n notes commits) e are)
+dropped g k zero m notes commits some is are = grind (arith, all_above, notes_rise)
 dropped g k (suc d) m [] [] some is are = tt
 dropped g k (suc d) m [] (c ∷ commits) some is are = absurd are
 dropped g k (suc d) m (x ∷ notes) [] some is are = absurd are

@@ -1,6 +1,5 @@
 -- The least meeting over notes is the model's least clash.
-use Rattle.conflict_rule.proofs.Words.{◌≡◌, ◌∙◌, refl, sym, ap, ℕ, zero, suc, ◌+◌, ◌<◌, ◌≤◌, Bool, true, false, ◌&&◌, nat_lt, inl, inr, List, [], ◌∷◌, arith, Option, Some, None, cases_eq, lt-ltb, and_parts, and_right, common_steps, touches, AreTouched, Access, Clash, Commit, Geometry, Kind, Read, Write, Mode, Serial, Snapshot, clashes, clash_from, first_from, first_byte, guarded, Note, guarded_bytes, AreNotes, Bytes, IsLeastMeeting}
-use Rattle.iso_model.specs.Effect as model
+use Rattle.conflict_rule.proofs.Words.{◌≡◌, ◌∙◌, refl, sym, ap, ℕ, zero, suc, ◌+◌, ◌<◌, ◌≤◌, Bool, true, false, ◌&&◌, nat_lt, inl, inr, List, [], ◌∷◌, arith, Option, Some, None, cases_eq, and_parts, and_right, common_steps, touches, AreTouched, Access, Clash, Commit, Geometry, Kind, Read, Write, Mode, clashes, clash_from, first_from, first_byte, guarded, Note, guarded_bytes, AreNotes, Bytes, IsLeastMeeting}
 
 -- no number passes
 first_none : (test : ℕ → Bool) (p n : ℕ) → ((q : ℕ) → p ≤ q → q < p + n → test q ≡ false) → first_from test p n ≡ None
@@ -43,8 +42,7 @@ byte_some test size b (suc n) block at le lt inside passes blocks bytes = elim (
 -- what the transaction may not meet
 pub guarded_are : (g : Geometry) (mode : Mode) (accesses : List Access) (reads writes : Bytes) → AreTouched g.block g.blocks Read accesses reads → AreTouched g.block g.blocks Write accesses writes
     → AreTouched g.block g.blocks (guarded mode) accesses (guarded_bytes mode reads writes)
-guarded_are g Serial accesses reads writes rs ws = rs
-guarded_are g Snapshot accesses reads writes rs ws = ws
+guarded_are g mode accesses reads writes rs ws = grind arith
 
 -- where no byte is touched, no commit is met
 pub none_met : (bytes : Bytes) (notes : List Note) → ((b p : ℕ) → touches bytes b p ≡ false) → IsLeastMeeting bytes notes None
@@ -58,16 +56,11 @@ same_test s t u v hs ht = rw (hs, ht) refl
 agree : (g : Geometry) (mode : Mode) (accesses : List Access) (c : Commit) (bytes marks : Bytes) (b p : ℕ)
     → AreTouched g.block g.blocks (guarded mode) accesses bytes → AreTouched g.block g.blocks Write c.accesses marks → b < g.blocks → p < g.block
     → (touches marks b p && touches bytes b p) ≡ clashes mode c accesses b p
-agree g mode accesses c bytes marks b p own theirs block byte =
-    rw (theirs.is b p, own.is b p)
-    (same_test (nat_lt b g.blocks) (nat_lt p g.block) (model.touches Write c.accesses b p) (model.touches (guarded mode) accesses b p) (lt-ltb b g.blocks block) (lt-ltb p g.block byte))
+agree g mode accesses c bytes marks b p own theirs block byte = grind (arith, same_test)
 
 inside_image : (g : Geometry) (kind : Kind) (accesses : List Access) (bytes : Bytes) (b p : ℕ) → AreTouched g.block g.blocks kind accesses bytes → touches bytes b p ≡ true
     → (nat_lt b g.blocks ≡ true) × (nat_lt p g.block ≡ true)
-inside_image g kind accesses bytes b p are is =
-    let all = sym (are.is b p) ∙ is in
-    let both = and_parts (nat_lt b g.blocks && nat_lt p g.block) (model.touches kind accesses b p) all in
-    and_parts (nat_lt b g.blocks) (nat_lt p g.block) both.0
+inside_image g kind accesses bytes b p are is = grind arith
 
 -- over notes and commits side by side
 pub clash_of : (g : Geometry) (mode : Mode) (accesses : List Access) (bytes : Bytes) (k : ℕ) (notes : List Note) (commits : List Commit) (found : Option Clash)

@@ -1,5 +1,5 @@
 -- Notes whose numbers rise.
-use Rattle.conflict_rule.proofs.Words.{◌≡◌, ◌≢◌, ◌∙◌, refl, sym, ap, subst, ℕ, zero, suc, ◌+◌, ◌<◌, ◌≤◌, Bool, true, false, ◌==◌, cond, nat_lt, inl, inr, List, [], ◌∷◌, ◌++◌, length, get_or, take, drop, arith, ne_eqb, Option, Some, None, cases_eq, cases_lt, lt-ltb, le-ltb, common_steps, Extent, Note, above, note_of, RisesFrom}
+use Rattle.conflict_rule.proofs.Words.{◌≡◌, ◌≢◌, ◌∙◌, refl, sym, ap, subst, ℕ, zero, suc, ◌+◌, ◌<◌, ◌≤◌, Bool, true, false, ◌==◌, cond, nat_lt, inl, inr, List, [], ◌∷◌, ◌++◌, length, get_or, drop, arith, ne_eqb, Option, Some, None, cases_eq, cases_lt, lt-ltb, le-ltb, common_steps, Extent, Note, above, note_of, RisesFrom}
 
 -- they rise from any earlier number on too
 pub rises_earlier : (f g : ℕ) (notes : List Note) → f ≤ g → RisesFrom g notes → RisesFrom f notes
@@ -101,17 +101,6 @@ note_above n number (x ∷ notes) lt = elim (cases_lt n x.0) [
 pub rises_either : (t : Bool) (xs ys zs : List Note) → zs ≡ cond t xs ys → RisesFrom 0 xs → RisesFrom 0 ys → RisesFrom 0 zs
 rises_either true xs ys zs is first second = subst (λ (l : List Note). RisesFrom 0 l) (sym is) first
 rises_either false xs ys zs is first second = subst (λ (l : List Note). RisesFrom 0 l) (sym is) second
-
--- one note more of those above a number
-pub above-more : (n i : ℕ) (notes : List Note) (d : Note) → i < length notes
-    → above n (take (i + 1) notes) ≡ above n (take i notes) ++ cond (nat_lt n (get_or notes i d).0) (get_or notes i d ∷ []) []
-above-more n i [] d lt = absurd (omega arith)
-above-more n zero (x ∷ notes) d lt = elim (nat_lt n x.0) as (λ t. cond t (x ∷ []) [] ≡ [] ++ cond t (x ∷ []) []) [ true ↦ refl | false ↦ refl ]
-above-more n (suc i) (x ∷ notes) d lt =
-    let e : suc i + 1 ≡ suc (i + 1) = omega arith in
-    let rest = above-more n i notes d (omega arith) in
-    rw (e, rest) (elim (nat_lt n x.0) as (λ t. cond t (x ∷ (above n (take i notes) ++ cond (nat_lt n (get_or notes i d).0) (get_or notes i d ∷ []) [])) (above n (take i notes) ++ cond (nat_lt n (get_or notes i d).0) (get_or notes i d ∷ []) [])
-    ≡ cond t (x ∷ above n (take i notes)) (above n (take i notes)) ++ cond (nat_lt n (get_or notes i d).0) (get_or notes i d ∷ []) []) [ true ↦ refl | false ↦ refl ])
 
 -- a note that is held above a number is held
 pub held_above : (n number : ℕ) (notes : List Note) (marks : List (ℕ × List Extent)) → RisesFrom 0 notes → note_of number (above n notes) ≡ Some marks → note_of number notes ≡ Some marks

@@ -1,5 +1,5 @@
 -- A guest after one more call on its transaction.
-use Rattle.core_blocks.proofs.Words.{◌≡◌, ◌∙◌, sym, refl, ap, subst, false, ℕ, ◌+◌, ◌≤◌, List, [], ◌∷◌, ◌++◌, length, Option, Some, None, Result, Ok, Err, OnOk, arith, IsSome, ForSome, length_push, Rose, one_more, DiskState, IsLawful, WritesNothing, joined_unwritten, Access, MarkError, Array, mark_fault, marked, World, Doing, span_at, Core, StandsFor, disk_of, up, Counts, IsGuest, IsSameWork, tx_of, AreLimits, length-marked}
+use Rattle.core_blocks.proofs.Words.{◌≡◌, ◌∙◌, sym, refl, ap, subst, false, Bool, ℕ, ◌+◌, ◌≤◌, List, [], ◌∷◌, ◌++◌, length, Option, Some, None, Result, Ok, Err, OnOk, arith, IsSome, ForSome, length_push, Rose, one_more, DiskState, IsLawful, WritesNothing, joined_unwritten, starts_unwritten, Access, MarkError, Array, mark_fault, marked, World, Doing, span_at, Core, StandsFor, disk_of, up, Counts, IsGuest, IsSameWork, tx_of, AreLimits, length-marked}
 
 same_work : (a b c : Doing) → IsSameWork a b → IsSameWork b c → IsSameWork a c
 same_work a b c first second = record {
@@ -42,23 +42,11 @@ module _ {D : Type 0} (state : D → DiskState) (stood : World → Type 0) (befo
     limits = same_limits array old doing same few is.limits;
   }
 
-  -- no call of the core
-  pub works_on : IsSameWork old doing → length doing.accesses ≤ 4096 → IsGuest state stood before begun array core tx doing failures
-  works_on same few = record {
-    world = is.world;
-    live = is.live;
-    was = is.was;
-    here = is.here;
-    size = is.size;
-    blocks = is.blocks;
-    stands = is.stands;
-    unwritten = is.unwritten;
-    counts = is.counts;
-    same = same_work begun old doing is.same same;
-    told = is.told;
-    shown = is.shown;
-    limits = same_limits array old doing same few is.limits;
-  }
+-- no call of the core
+pub works_on : {D : Type 0} (state : D → DiskState) (stood : World → Type 0) (before : DiskState) (begun : Doing) (array : Option Array) (core : Core D) (tx : ℕ) (old doing : Doing) (failures : ℕ)
+    → IsGuest state stood before begun array core tx old failures → IsLawful (state (disk_of core)) → IsSameWork old doing → length doing.accesses ≤ 4096 → IsGuest state stood before begun array core tx doing failures
+works_on state stood before begun array core tx old doing failures is laws same few =
+    goes_on state stood before begun array core core tx old doing failures failures is laws (λ W stands. stands) (starts_unwritten laws) is.counts same few
 
 -- faults after a call of the core that was Ok, and after one that failed
 pub counts_ok : (failures before mid now : ℕ) → Counts failures before mid → now ≡ mid → Counts failures before now
@@ -77,46 +65,9 @@ counts_failed failures count before mid now counts is rose later = record {
     higher : (a b c : ℕ) → a ≤ b → Rose b c → Rose a c
     higher a b c below rose = omega (arith, below, rose)
 
--- a mark, taken or refused
-pub mark_keeps : (old new : Doing) (off len : ℕ) (result : Result (Unit {0}) MarkError)
-    → OnOk result ((mark_fault old.size off len old.accesses ≡ None) × (new ≡ record old { accesses = marked (span_at off len) old.accesses; settled = false }))
-    → ((fault : MarkError) → result ≡ Err fault → (mark_fault old.size off len old.accesses ≡ Some fault) × (new ≡ old)) → IsSameWork old new × (length new.accesses ≡ length old.accesses)
-mark_keeps old new off len (Ok x) ok err = (
-  record {
-    begin = ap (λ (w : Doing). w.begin) ok.1;
-    mode = ap (λ (w : Doing). w.mode) ok.1;
-    size = ap (λ (w : Doing). w.size) ok.1;
-    blocks = ap (λ (w : Doing). w.blocks) ok.1;
-  },
-  ap (λ (w : Doing). length w.accesses) ok.1 ∙ length-marked (span_at off len) old.accesses,
-)
-mark_keeps old new off len (Err fault) ok err = let same = (err fault refl).1 in (
-  record {
-    begin = ap (λ (w : Doing). w.begin) same;
-    mode = ap (λ (w : Doing). w.mode) same;
-    size = ap (λ (w : Doing). w.size) same;
-    blocks = ap (λ (w : Doing). w.blocks) same;
-  },
-  ap (λ (w : Doing). length w.accesses) same,
-)
-
--- one more access
-pub access_keeps : (old mid new : Doing) (block : ℕ) (a : Access) → mid ≡ record old { ready = Some block } → new ≡ record mid { accesses = mid.accesses ++ a ∷ []; ready = None; settled = false }
-    → IsSameWork old new × (length new.accesses ≡ length old.accesses + 1)
-access_keeps old mid new block a prepared is =
-    let made : new ≡ record old { accesses = old.accesses ++ a ∷ []; ready = None; settled = false } =
-    is ∙ ap (λ (w : Doing). let v : Doing = record w { accesses = w.accesses ++ a ∷ []; ready = None; settled = false } in v) prepared in (
-      record {
-        begin = ap (λ (w : Doing). w.begin) made;
-        mode = ap (λ (w : Doing). w.mode) made;
-        size = ap (λ (w : Doing). w.size) made;
-        blocks = ap (λ (w : Doing). w.blocks) made;
-      },
-      ap (λ (w : Doing). length w.accesses) made ∙ length_push old.accesses a,
-    )
-
-pub ready_keeps : (old new : Doing) (block : ℕ) → new ≡ record old { ready = Some block } → IsSameWork old new × (length new.accesses ≡ length old.accesses)
-ready_keeps old new block is = (
+-- what changes the accesses alone, and what is ready and settled
+changed : (old new : Doing) (accesses : List Access) (ready : Option ℕ) (settled : Bool) → new ≡ record old { accesses = accesses; ready = ready; settled = settled } → IsSameWork old new × (length new.accesses ≡ length accesses)
+changed old new accesses ready settled is = (
   record {
     begin = ap (λ (w : Doing). w.begin) is;
     mode = ap (λ (w : Doing). w.mode) is;
@@ -125,6 +76,24 @@ ready_keeps old new block is = (
   },
   ap (λ (w : Doing). length w.accesses) is,
 )
+
+-- a mark, taken or refused
+pub mark_keeps : (old new : Doing) (off len : ℕ) (result : Result (Unit {0}) MarkError)
+    → OnOk result ((mark_fault old.size off len old.accesses ≡ None) × (new ≡ record old { accesses = marked (span_at off len) old.accesses; settled = false }))
+    → ((fault : MarkError) → result ≡ Err fault → (mark_fault old.size off len old.accesses ≡ Some fault) × (new ≡ old)) → IsSameWork old new × (length new.accesses ≡ length old.accesses)
+mark_keeps old new off len (Ok x) ok err =
+    let is = changed old new (marked (span_at off len) old.accesses) old.ready false ok.1 in (is.0, is.1 ∙ length-marked (span_at off len) old.accesses)
+mark_keeps old new off len (Err fault) ok err = changed old new old.accesses old.ready old.settled (err fault refl).1
+
+-- one more access
+pub access_keeps : (old mid new : Doing) (block : ℕ) (a : Access) → mid ≡ record old { ready = Some block } → new ≡ record mid { accesses = mid.accesses ++ a ∷ []; ready = None; settled = false }
+    → IsSameWork old new × (length new.accesses ≡ length old.accesses + 1)
+access_keeps old mid new block a prepared is =
+    let made = changed old new (old.accesses ++ a ∷ []) None false (is ∙ ap (λ (w : Doing). let v : Doing = record w { accesses = w.accesses ++ a ∷ []; ready = None; settled = false } in v) prepared) in
+    (made.0, made.1 ∙ length_push old.accesses a)
+
+pub ready_keeps : (old new : Doing) (block : ℕ) → new ≡ record old { ready = Some block } → IsSameWork old new × (length new.accesses ≡ length old.accesses)
+ready_keeps old new block is = changed old new old.accesses (Some block) old.settled is
 
 -- the disk tells its bytes still
 pub told_still : (array : Option Array) (A : Array) (before now : DiskState) → (IsSome array → IsSome before.contents) → array ≡ Some A → now.contents ≡ before.contents → IsSome now.contents

@@ -14,9 +14,4 @@ told_generation at bytes =
 
 pub current_is : (g : Geometry) (bytes : List ℕ) (first second : HalfHeader) → first ≡ half_of (take 32 (drop (header_place g 0) bytes)) → second ≡ half_of (take 32 (drop (header_place g 1) bytes))
     → chosen_half (first.gate == 1) first.generation (second.gate == 1) second.generation ≡ current_half g bytes
-current_is g bytes first second one two =
-    let gate : first.gate ≡ get_or bytes (header_place g 0) 0 = ap (λ (h : HalfHeader). h.gate) one ∙ told_gate (header_place g 0) bytes in
-    let generation : first.generation ≡ generation_at bytes (header_place g 0) = ap (λ (h : HalfHeader). h.generation) one ∙ told_generation (header_place g 0) bytes in
-    let other_gate : second.gate ≡ get_or bytes (header_place g 1) 0 = ap (λ (h : HalfHeader). h.gate) two ∙ told_gate (header_place g 1) bytes in
-    let other : second.generation ≡ generation_at bytes (header_place g 1) = ap (λ (h : HalfHeader). h.generation) two ∙ told_generation (header_place g 1) bytes in
-    λ i. chosen_half (gate i == 1) (generation i) (other_gate i == 1) (other i)
+current_is g bytes first second one two = grind (arith, told_gate, told_generation)

@@ -139,9 +139,7 @@ filled_image g form generation base used x to old c blocks log has to_is rises u
     (omega (arith, split, read.0, used_is, ap length formed)))
 
 sliced : (x c : List ℕ) (at n here m : ℕ) → x ≡ slice_range c at (at + n) → at ≡ here → n ≡ m → x ≡ take m (drop here c)
-sliced x c at n here m is there count =
-    let len : at + n - at ≡ m = omega (arith, count) in
-    is ∙ (λ i. take (len i) (drop (there i) c))
+sliced x c at n here m is there count = grind arith
 
 -- The same in words of a plan.
 pub laid_filled : (g : Geometry) (x : Half) (from to : HalfPlace) (plan : FillPlan) (blocks log d : List ℕ) (contents : Option (List ℕ))

@@ -15,12 +15,7 @@ one_half g (suc (suc a)) b first second same = absurd (omega (arith, first))
 
 -- the other half's place
 pub other_place : (g : Geometry) (x : Half) (from to : HalfPlace) (plan : FillPlan) → x.at ≤ 1 → IsFrom g x from plan → AreHalves plan.geometry from to → to ≡ place_of g (1 - x.at)
-other_place g x from to plan le is halves =
-    let here : place_of g x.at ≡ place_of g halves.half = sym is.place ∙ halves.from_is ∙ ap (λ (h : Geometry). place_of h halves.half) is.geometry in
-    let both : halves.half + halves.other ≡ 1 = halves.both in
-    let same : x.at ≡ halves.half = one_half g x.at halves.half le (omega (arith, both)) (ap (λ (p : HalfPlace). p.header) here) in
-    let other : halves.other ≡ 1 - x.at = omega (arith, both, same) in
-    halves.to_is ∙ ap (λ (h : Geometry). place_of h halves.other) is.geometry ∙ ap (place_of g) other
+other_place g x from to plan le is halves = grind (arith, one_half)
 
 pub kept_held : (g : Geometry) (x : Half) (from to : HalfPlace) (plan : FillPlan) (old new : List ℕ) → IsFrom g x from plan → AreHalves plan.geometry from to → IsHeld g x old → IsClosed to.header old
     → Torn (to.header + 1) (half_size plan.geometry - 1) old new → IsHeld g x new

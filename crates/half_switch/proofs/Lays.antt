@@ -1,5 +1,5 @@
 -- Runs laid over the bytes of a base are the writes of their commits.
-use Rattle.half_switch.proofs.Words.{◌≡◌, ◌≢◌, ◌⊎◌, inl, inr, ◌<◌, ◌≤◌, ◌+◌, ◌-◌, ◌*◌, ◌==◌, ◌&&◌, ℕ, zero, suc, List, [], ◌∷◌, length, take, drop, get_or, Bool, true, false, cond, nat_le, nat_lt, Option, Some, None, unwrap_or, refl, sym, ◌∙◌, ap, arith, eq-eqb, ne_eqb, mul-le-mul_right, length-drop, AllByRecursion, and_parts, cases_eq, leb-true, le-leb, ltb-true, lt-ltb, get_or-take, get_or-drop, length-take-le, Commit, Geometry, Run, Array, byte_at, in_span, or_else, own, all_own, AreRuns, IsRecord, IsRun, Written, blocks_of, commit_of, commits_of, recorded, HasBytes, block_at, value_in, value_of, own_at, HasSize, effect_recorded, length-recorded, own_size, same_arrays, spliced, get_or-spliced, get_or-torn, length-spliced, spliced_torn, all_laid, laid, one_laid, run_place}
+use Rattle.half_switch.proofs.Words.{head_is, tail_are, ◌≡◌, ◌≢◌, ◌⊎◌, inl, inr, ◌<◌, ◌≤◌, ◌+◌, ◌-◌, ◌*◌, ◌==◌, ◌&&◌, ℕ, zero, suc, List, [], ◌∷◌, length, take, drop, get_or, Bool, true, false, cond, nat_le, nat_lt, Option, Some, None, unwrap_or, refl, sym, ◌∙◌, ap, arith, eq-eqb, ne_eqb, mul-le-mul_right, length-drop, AllByRecursion, and_parts, cases_eq, leb-true, le-leb, ltb-true, lt-ltb, get_or-take, get_or-drop, length-take-le, Commit, Geometry, Run, Array, byte_at, in_span, or_else, own, all_own, AreRuns, IsRecord, IsRun, Written, blocks_of, commit_of, commits_of, recorded, HasBytes, block_at, value_in, value_of, own_at, HasSize, effect_recorded, length-recorded, own_size, same_arrays, spliced, get_or-spliced, get_or-torn, length-spliced, spliced_torn, all_laid, laid, one_laid, run_place}
 
 -- the byte at p of block b, among the bytes of the blocks
 pub byte_of : (size n : ℕ) (c : List ℕ) (b p : ℕ) → b < n → p < size → byte_at (blocks_of size n c) b p ≡ get_or c (b * size + p) 0
@@ -28,9 +28,7 @@ writes_have_bytes g (x ∷ y ∷ more) all = (λ write. length-recorded g.block 
 
 -- a run stands inside its block
 run_fits : (g : Geometry) (run : Run) → IsRun g run → run_place g.block run + length run.bytes ≤ g.blocks * g.block
-run_fits g run is =
-    let rows : suc run.block * g.block ≤ g.blocks * g.block = mul-le-mul_right g.block (omega (arith, is.block)) in
-    omega (arith, rows, is.fits)
+run_fits g run is = grind arith
 
 fits_test : (size : ℕ) (run : Run) (c : List ℕ) → run_place size run + length run.bytes ≤ length c → one_laid size run c ≡ spliced c (run_place size run) run.bytes
 fits_test size run c fits = ap (λ (t : Bool). cond t (spliced c (run_place size run) run.bytes) c) (le-leb _ _ fits)
@@ -94,17 +92,8 @@ one_byte size run c b p short fits inside = elim (cases_eq run.block b) [
         (elim (span_outside p run.off (length run.bytes) is) [ inl below ↦ inl (omega (arith, place, below)) | inr behind ↦ inr (omega (arith, place, behind)) ])
         ∙ (λ i. unwrap_or (cond (sym t i && sym is i) (Some (get_or run.bytes (p - run.off) 0)) None) (get_or c (b * size + p) 0))
 
-first_run : (g : Geometry) (run : Run) (runs : List Run) → AreRuns g (run ∷ runs) → IsRun g run
-first_run g run [] all = all
-first_run g run (x ∷ runs) all = all.0
-
-more_runs : (g : Geometry) (run : Run) (runs : List Run) → AreRuns g (run ∷ runs) → AreRuns g runs
-more_runs g run [] all = tt
-more_runs g run (x ∷ runs) all = all.2
-
 or_value : (o : Option ℕ) (first : Option ℕ) (d : ℕ) → unwrap_or o (unwrap_or first d) ≡ unwrap_or (or_else o first) d
-or_value (Some x) first d = refl
-or_value None first d = refl
+or_value o first d = grind arith
 
 pub length-laid : (size : ℕ) (runs : List Run) (c : List ℕ) → length (laid size runs c) ≡ length c
 length-laid size [] c = refl
@@ -119,10 +108,10 @@ laid_byte : (g : Geometry) (runs : List Run) (c : List ℕ) (b p : ℕ) → AreR
     → get_or (laid g.block runs c) (b * g.block + p) 0 ≡ unwrap_or (value_in runs b p) (get_or c (b * g.block + p) 0)
 laid_byte g [] c b p all long inside = refl
 laid_byte g (run ∷ runs) c b p all long inside =
-    let is = first_run g run runs all in
+    let is = head_is g run runs all in
     let fits : run_place g.block run + length run.bytes ≤ length c = omega (arith, run_fits g run is, long) in
     ap (λ (d : List ℕ). get_or (laid g.block runs d) (b * g.block + p) 0) (fits_test g.block run c fits)
-    ∙ laid_byte g runs (spliced c (run_place g.block run) run.bytes) b p (more_runs g run runs all) (length-spliced c (run_place g.block run) run.bytes fits ∙ long) inside
+    ∙ laid_byte g runs (spliced c (run_place g.block run) run.bytes) b p (tail_are g run runs all) (length-spliced c (run_place g.block run) run.bytes fits ∙ long) inside
     ∙ ap (unwrap_or (value_in runs b p)) (one_byte g.block run c b p is.fits fits inside)
     ∙ or_value (value_in runs b p) (value_of run b p) (get_or c (b * g.block + p) 0)
 

@@ -1,5 +1,5 @@
 -- The records in the bytes of a log, one by one.
-use Rattle.half_switch.proofs.Words.{◌≡◌, ◌≢◌, ◌<◌, ◌≤◌, ◌+◌, ◌-◌, ◌^◌, ℕ, zero, suc, List, [], ◌∷◌, ◌++◌, length, take, drop, Bool, true, false, cond, IsTrue, refl, sym, ◌∙◌, ap, arith, subst, eq-eqb, length-append, true≢false, append_assoc, Result, Ok, Err, set, take-append-drop, AllByRecursion, from_be_bytes, to_be_bytes, w32, from_be_bytes-to_be_bytes_4, drop_at, drop-drop, length-take-le, Geometry, Mode, Serial, Snapshot, Run, LAST, is_valid, same_mode, AreRuns, IsRecord, Written, body_length, half_header, kind_of, records, spell, limits, length-spell, number_at, BeginsWith, Recorded, is_kind, record_window, body_bound, records-append, AreBytesOf, all_laid, laid}
+use Rattle.half_switch.proofs.Words.{◌≡◌, ◌≢◌, ◌<◌, ◌≤◌, ◌+◌, ◌-◌, ℕ, zero, suc, List, [], ◌∷◌, ◌++◌, length, take, drop, Bool, true, false, cond, IsTrue, refl, sym, ◌∙◌, ap, arith, subst, eq-eqb, length-append, true≢false, append_assoc, Result, Ok, Err, set, take-append-drop, AllByRecursion, to_be_bytes, w32, from_be_bytes-to_be_bytes_4, drop_at, drop-drop, length-take-le, Geometry, Mode, Run, LAST, is_valid, same_mode, AreRuns, IsRecord, Written, body_length, half_header, kind_of, records, spell, limits, length-spell, BeginsWith, Recorded, is_kind, record_window, body_bound, records-append, AreBytesOf, all_laid, laid}
 
 cons_of : (xs : List ℕ) (gate : ℕ) (rest : List ℕ) → (next : ℕ) × (more : List ℕ) × (xs ++ gate ∷ rest ≡ next ∷ more)
 cons_of [] gate rest = (gate, rest, refl)
@@ -23,7 +23,6 @@ behind g n zero told bytes le has = let e : n + 0 ≡ n = omega arith in rw e ha
 behind g n (suc i) [] bytes le has = absurd (omega arith)
 behind g n (suc i) (w ∷ told) bytes le has =
     let e : n + suc i ≡ n + 1 + i = omega arith in
-    let S : ℕ = length (spell 1 (kind_of g w.mode) n w.parts) in
     let sum : length (spell 1 (kind_of g w.mode) n w.parts ++ records g (n + 1) (take i told)) ≡ length (spell 1 (kind_of g w.mode) n w.parts) + length (records g (n + 1) (take i told)) =
     length-append (spell 1 (kind_of g w.mode) n w.parts) (records g (n + 1) (take i told)) in
     let rest = behind g (n + 1) i told (drop (length (spell 1 (kind_of g w.mode) n w.parts)) bytes) (omega arith) (behind_first g n w told bytes has) in
@@ -48,8 +47,7 @@ here g (w ∷ told) (suc i) below each =
     record { w = next.w; more = next.more; rest = next.rest; front = (rw e (ap (λ (l : List Written). w ∷ l) next.front)); is = next.is }
 
 same_self : (m : Mode) → same_mode m m ≡ true
-same_self Serial = refl
-same_self Snapshot = refl
+same_self m = grind arith
 
 kind_allowed : (g : Geometry) (w : Written) → IsTrue (is_valid g) → IsRecord g w → IsTrue (is_kind g (kind_of g w.mode))
 kind_allowed g w valid is = go (same_mode w.mode g.mode) refl
@@ -68,11 +66,7 @@ spell_body gate kind n parts rest = refl
 -- the window of a record that is spelled
 window_is : (g : Geometry) (gate kind n : ℕ) (parts : List Run) (next : ℕ) (rest : List ℕ) → IsTrue (is_valid g) → AreRuns g parts
     → record_window (spell gate kind n parts ++ next ∷ rest) ≡ length (spell gate kind n parts) + 1
-window_is g gate kind n parts next rest valid all =
-    let bound : body_length parts < 2 ^ 30 = body_bound parts (g, valid, all) in
-    let body : number_at w32 8 (spell gate kind n parts ++ next ∷ rest) ≡ body_length parts =
-    ap (from_be_bytes w32) (spell_body gate kind n parts (next ∷ rest)) ∙ from_be_bytes-to_be_bytes_4 (body_length parts) (omega (arith, bound)) in
-    omega (arith, body, length-spell gate kind n parts)
+window_is g gate kind n parts next rest valid all = grind (arith, body_bound, spell_body, from_be_bytes-to_be_bytes_4, length-spell)
 
 -- what is read of the first record
 pub record NextIs (g : Geometry) (n : ℕ) (w : Written) (bytes : List ℕ) : Type 0 where
@@ -147,10 +141,7 @@ window_inside g n r bytes valid has =
 -- the length so far, and with one record more
 pub length-more : (g : Geometry) (n i at size : ℕ) (told : List Written) (h : Here g told i) → at ≡ length (records g n (take i told)) → size ≡ length (spell 1 (kind_of g h.w.mode) (n + i) h.w.parts)
     → at + size ≡ length (records g n (take (i + 1) told))
-length-more g n i at size told h place size_is =
-    let more : length (records g n (take (i + 1) told)) ≡ length (records g n (take i told)) + length (spell 1 (kind_of g h.w.mode) (n + length (take i told)) h.w.parts) =
-    ap (λ (l : List Written). length (records g n l)) h.front ∙ length-push g n (take i told) h.w in
-    omega (arith, place, size_is, more, length-spell 1 (kind_of g h.w.mode) (n + i) h.w.parts, length-spell 1 (kind_of g h.w.mode) (n + length (take i told)) h.w.parts)
+length-more g n i at size told h place size_is = grind (arith, length-push, length-spell)
 
 -- the parts of what was read
 parts_of : {E : Type 0} → Result Recorded E → List Run
@@ -182,7 +173,6 @@ pub rest_is : (g : Geometry) (old_base base used gate : ℕ) (told : List Writte
     → log ≡ records g (old_base + 1) told ++ gate ∷ [] → used ≡ length (records g (old_base + 1) told) → at ≡ length (records g (old_base + 1) (take (base - old_base) told))
     → drop at (set log used 0) ≡ records g (base + 1) (drop (base - old_base) told) ++ 0 ∷ []
 rest_is g old_base base used gate told log at rises enough is used_is at_is =
-    let k : ℕ = base - old_base in
     let number : old_base + 1 + (base - old_base) ≡ base + 1 = omega arith in
     let all : set log used 0 ≡ records g (old_base + 1) (take (base - old_base) told) ++ (records g (old_base + 1 + (base - old_base)) (drop (base - old_base) told) ++ 0 ∷ []) =
     ap (λ (l : List ℕ). set l used 0) is ∙ set_gate (records g (old_base + 1) told) used gate 0 used_is

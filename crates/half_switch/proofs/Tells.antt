@@ -11,13 +11,7 @@ tells_same from len old new same = record { told = λ c is. (c, same ∙ is, tor
 
 -- one run more, in a part of the range
 pub tells_more : (from len at n : ℕ) → from ≤ at → at + n ≤ from + len → (old mid new : DiskState) → TellsTorn from len old mid → TellsTorn at n mid new → TellsTorn from len old new
-tells_more from len at n starts ends old mid new first second = record {
-  told = λ c is.
-      let (m, there, torn) = first.told c is in
-      let (d, here, more) = second.told m there in
-      (d, here, torn_twice torn (torn_wider more from len starts ends));
-  untold = λ is. second.untold (first.untold is);
-}
+tells_more from len at n starts ends old mid new first second = search (arith, torn_twice, torn_wider)
 
 -- one write more that is done
 pub tells_written : (from len at : ℕ) (bytes : List ℕ) → from ≤ at → at + length bytes ≤ from + len → (old mid new : DiskState) → IsLawful mid → at + length bytes ≤ mid.size
@@ -28,10 +22,7 @@ tells_written from len at bytes starts ends old mid new laws fits first written 
 
 -- one call more that leaves the contents
 pub tells_still : (from len : ℕ) (old mid new : DiskState) → TellsTorn from len old mid → new.contents ≡ mid.contents → TellsTorn from len old new
-tells_still from len old mid new first same = record {
-  told = λ c is. let (m, there, torn) = first.told c is in (m, same ∙ there, torn);
-  untold = λ is. same ∙ first.untold is;
-}
+tells_still from len old mid new first same = grind arith
 
 -- what the disk reads as after three writes and a sync
 pub put_whole : (to : HalfPlace) (header base log : List ℕ) (old one two three new : DiskState) → Splices to.base base old one → Splices (to.header + 1) (take (length header - 1) (drop 1 header)) one two → Splices to.log log two three

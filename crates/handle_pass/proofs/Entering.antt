@@ -1,5 +1,5 @@
 -- What an entry of a session changes, by how port and transaction stand before and after it.
-use Rattle.handle_pass.proofs.Words.{port_view, tx_view, ◌≡◌, ℕ, ◌+◌, ◌<◌, ◌≤◌, Bool, true, false, nat_lt, List, [], ◌∷◌, ◌++◌, Option, Some, None, IfSome, length, refl, sym, ap, ◌∙◌, subst, arith, is_some, nat_tests, Doing, View, hit, times, AllBelow, view, IsAlike, prefix_length, prefix_self, prefix_trans, times_above, times_append, CoreError, array_at, block_at, Entry, Port, Shared, Tx, IsLegal, IsSameTx, IsTxOf, MadeBoth, Start, opened, state_at, cause_of, posting_of_tx, own_on, legal_last, loose_is, Session, Own, count, count_of, own_in, own_of, seen, units, units_of, IsSession, Made, Rested, left_by, IsPrefix, PassMade}
+use Rattle.handle_pass.proofs.Words.{◌≡◌, ℕ, ◌+◌, ◌<◌, ◌≤◌, Bool, true, false, nat_lt, List, [], ◌∷◌, ◌++◌, Option, Some, None, IfSome, length, refl, sym, ap, ◌∙◌, subst, arith, is_some, nat_tests, Doing, View, hit, times, AllBelow, view, IsAlike, prefix_length, prefix_self, prefix_trans, times_above, times_append, CoreError, array_at, block_at, Entry, Port, Shared, Tx, IsLegal, IsSameTx, IsTxOf, MadeBoth, Start, opened, state_at, cause_of, posting_of_tx, own_on, legal_last, loose_is, Session, Own, count, count_of, own_in, seen, units, units_of, IsSession, Made, Rested, left_by, IsPrefix, PassMade}
 use Rattle.iso_model.specs.declared.core_error.CoreError.TheVariants as error
 use Rattle.iso_shared.specs.declared.entry.Call.TheVariants as call
 use Rattle.iso_shared.specs.declared.entry.Entry.TheVariants as entry
@@ -43,14 +43,6 @@ module _ {D O : Type 0} where
 
   pub own_below : (A : Start) (s : Session D O) → IsSession A s → (p : ℕ) → 0 < count s p → p < length (seen s)
   own_below A s is p some = own_by s.shared.now A (view s.port.pass) s.tx is.port.1.2.1 is.tx p some
-
-  -- the port has all units but one of the transaction
-  pub port_units : (A : Start) (s : Session D O) → IsSession A s → units s ≤ (port_view s.port).units + 1
-  port_units A s is = by s.tx is.one
-    where
-      by : (tx : Option (Tx D O)) → IfSome tx (λ t. (tx_view t).units ≡ 1) → units_of (port_view s.port) tx ≤ (port_view s.port).units + 1
-      by None one = omega arith
-      by (Some t) one = omega (arith, one)
 
   abbrev pub made_at : (A : Start) (s : Session D O) (q : Port D O) (tx : Option (Tx D O)) (e : Entry) (before : List Entry) → IsSession A s → IsPrefix (seen s) before
       → IsPrefix (before ++ e ∷ []) (view q.pass).seen → IsLegal A (before ++ e ∷ []) → ((p : ℕ) → count_of (view q.pass) tx p ≡ count s p + hit (length before) p)
@@ -160,9 +152,6 @@ module _ {D O : Type 0} where
   -- what its holder sees of one transaction
   pub own_same : (t u : Tx D O) → IsSameTx t u → own_in u ≡ own_in t
   own_same t u same = λ i. posting_of_tx (same.number i) (same.work i)
-
-  pub own_kept : (tx : Option (Tx D O)) (t : Tx D O) → tx ≡ Some t → own_of tx ≡ Some (own_in t)
-  own_kept tx t is = ap own_of is
 
   pub is_none : (tx : Option (Tx D O)) → is_some tx ≡ false → tx ≡ None
   is_none None e = refl

@@ -1,5 +1,5 @@
 -- How one call on a session's transaction answers a store.
-use Rattle.handle_pass.proofs.{Words.{◌≡◌, ◌≢◌, ℕ, ◌<◌, ◌≤◌, Bool, true, false, not, if◌then◌else◌, List, [], ◌∷◌, ◌++◌, Option, Some, None, Result, Ok, Err, length, nat_le, inl, inr, refl, sym, ap, ◌∙◌, subst, arith, is_some, nat_tests, append-nil, length_push, Rose, Access, TxError, marked, block_at, read_access, write_access, length-marked, Cause, Start, span_at, Device, IsArrayOf, IsFree, IsLater, IsRefused, IsTx, access_refusal, with_accesses, Passed, Session, HasMarked, HasRead, HasWritten, IsReadCause, IsWriteCause, access_answer, accesses_of, mark_answer, tx_on, with_access, Looked, Marked, Unlooked, Wrote, down_in, failed_in, failures_in, Own, own, IsSession, Made, Rested, Failed, IsVisit, Seen, Visited, base_of, blocks_read, seen_by}, Visiting.{blocks_append, blocks_marked, none_refused, told_by, visit_fetched, visit_refused, visit_rested}}
+use Rattle.handle_pass.proofs.{Words.{◌≡◌, ◌≢◌, ℕ, ◌<◌, ◌≤◌, Bool, true, false, not, if◌then◌else◌, List, [], ◌∷◌, ◌++◌, Option, Some, None, Result, Ok, Err, length, nat_le, inl, inr, refl, sym, ap, ◌∙◌, subst, arith, is_some, nat_tests, append-nil, length_push, Rose, Access, TxError, marked, block_at, read_access, write_access, length-marked, Cause, Start, span_at, Device, IsArrayOf, IsFree, IsLater, IsRefused, IsTx, access_refusal, with_accesses, Session, HasMarked, HasRead, HasWritten, IsReadCause, IsWriteCause, access_answer, accesses_of, mark_answer, tx_on, with_access, Looked, Marked, Wrote, down_in, failed_in, failures_in, Own, own, IsSession, Made, Rested, Failed, IsVisit, Seen, Visited, base_of, blocks_read, seen_by}, Visiting.{blocks_append, blocks_marked, none_refused, told_by, visit_fetched, visit_refused, visit_rested}}
 use Rattle.store_model.specs.declared.stores.TxError.TheVariants as error
 use Rattle.iso_model.specs.Effect as effect
 use Rattle.iso_shared.specs.declared.entry.Call.TheVariants as call
@@ -299,24 +299,3 @@ module _ {D O : Type 0} (A : Start) (before : Option (Session D O)) where
     failed = raised is.refused failures count is_down (ap (λ (v : Seen). failed_in v.device) view ∙ fell) up rose later is.failed;
     limits = is.limits;
   }
-
--- reads that are refused, where a fetch was
-refusing : (v w : Seen) (block : ℕ) (e : TxError) → w.tx ≡ v.tx → IsLater v.device w.device → IsTx v.tx → IsRefused {T = Unit {0}} (access_refusal v.tx block) (IsFree v.device w.device) (Err e)
-    → (◌≢◌ {A = Result (Unit {0}) TxError} (Err e) (Err error.Disk) → Passed v.device w.device) → Unlooked v w block (Err e)
-refusing v w block e same later limits because passed = record {
-  fails = λ into. record { bytes = tt; read = tt; kept = same; cause = because; later = later; passed = passed; limits = subst IsTx (sym same) limits };
-}
-
-itself_later : (d : Device) → IsLater d d
-itself_later d = record { faults = omega arith; down = λ is. is }
-
-pub refused_again : (v : Seen) (block : ℕ) (e : TxError) → IsTx v.tx → access_refusal v.tx block ≡ Some e → Unlooked v v block (Err e)
-refused_again v block e limits is = refusing v v block e refl (itself_later v.device) limits (subst (λ o. IsRefused {T = Unit {0}} o (IsFree v.device v.device) (Err e)) (sym is) refl) (λ other. refl)
-
-pub down_again : (v : Seen) (block : ℕ) → IsTx v.tx → access_refusal v.tx block ≡ None → v.device.is_down ≡ true → Unlooked v v block (Err error.Down)
-down_again v block limits is down = refusing v v block error.Down refl (itself_later v.device) limits (subst (λ o. IsRefused {T = Unit {0}} o (IsFree v.device v.device) (Err error.Down)) (sym is) down) (λ other. refl)
-
-pub disk_again : (v w : Seen) (block : ℕ) → IsTx v.tx → access_refusal v.tx block ≡ None → w.tx ≡ v.tx → w.device.is_down ≡ v.device.is_down → v.device.faults ≤ w.device.faults → Rose v.device.faults w.device.faults
-    → Unlooked v w block (Err error.Disk)
-disk_again v w block limits is same down later rose =
-    refusing v w block error.Disk same (record { faults = later; down = λ d. down ∙ d }) limits (subst (λ o. IsRefused {T = Unit {0}} o (IsFree v.device w.device) (Err error.Disk)) (sym is) rose) (λ other. absurd (other refl))

@@ -6,7 +6,7 @@ ghost use Rattle.iso_model.specs.Geometry.{is_valid};
 ghost use Rattle.iso_shared.specs.TestImage.{small, MayStart};
 ghost use Rattle.handle_pass.specs.{Handles.IsHandle, Sessions.{device, own, units, IsSession}};
 
-use crate::small_image::{new_core, small};
+use crate::small_image::new_core;
 use handle_pass::{EndError, Handle, Left, PostTxError, Session, Visit};
 use iso_core::{Core, Stat};
 use iso_memdisk::MemDisk;
@@ -19,6 +19,7 @@ use std::sync::ledger::{Blank, Ledger};
 use std::test::Fail;
 use std::thread::{Threads, join_mut};
 use step_count::Steps;
+use test_images::with_long_logs;
 use tx_blocks::TxBlocks;
 
 /// The end of a session's transaction.
@@ -329,7 +330,7 @@ fn run_through<O: Origin, R: Wait>(rt: &R, alloc: Global, core: Core<MemDisk>) -
 /// The same over a new core.
 #[tactic(auto, unfolding(iso_model::specs::Geometry::is_valid))]
 fn through_blocks<R: Wait>(rt: &R, alloc: Global) -> Option<(u8, u8)> {
-    let _ = small();
+    let _ = with_long_logs();
     let core = new_core(alloc).ok()?;
     run_through::<Brand, R>(rt, alloc, core)
 }

@@ -1,19 +1,20 @@
 // What no clause says: that calls succeed with ample memory, and which reads they make. The disk has 512 bytes, each of them
 // its place modulo 251.
-ghost use Rattle.std.specs.Prelude.{◌≡◌, ◌^◌, ◌<◌, true, length, IfOk, IsTrue};
-ghost use Rattle.iso_model.specs.{Geometry.is_valid, Image.AreRuns};
+ghost use Rattle.std.specs.Prelude.{◌≡◌, ◌^◌, ◌<◌, true, length, IfOk};
+ghost use Rattle.iso_model.specs.Image.{AreRuns};
 ghost use Rattle.iso_memdisk.specs.MemDisk.{state_of};
 ghost use Rattle.mv_index.specs.Shown.{AllLie};
-ghost use Rattle.index_tests.specs.Small.{small};
+ghost use Rattle.test_images.specs.Small.{small};
 
 use crate::marks_tests::same;
 use iso_disk::DiskFault;
 use iso_format::{RecordView, read_record};
 use iso_memdisk::MemDisk;
-use iso_model::{Geometry, Memory, Mode};
+use iso_model::Memory;
 use mv_index::{MvIndex, Version};
 use std::alloc::{AllocError, Global};
 use std::test::Fail;
+use test_images::small;
 use version_read::{read_block, read_pieces, take_parts};
 
 fn numbers(alloc: Global) -> Result<Vec<u8>, AllocError>
@@ -150,22 +151,6 @@ fn a_read_that_fails_is_told(rt: HostRuntime) -> Result<(), Fail> {
         same(&rt, disk.calls(), number);
     }
     Ok(())
-}
-
-#[tactic(auto, unfolding(iso_model::specs::Geometry::is_valid))]
-fn small() -> Geometry
-    ensures same { result ≡ small }
-    ensures valid { IsTrue (is_valid result) }
-{
-    Geometry {
-        block: 64,
-        blocks: 4,
-        log: 256,
-        mode: Mode::Serial,
-        hash: 0,
-        tree: 0,
-        form: 1,
-    }
 }
 
 // The index of one record whose gate stands at this place.

@@ -42,24 +42,22 @@ count_on map i n c d total below so here =
     let step : free_count map i (n - i) ≡ cond (map_bit map i) 0 1 + free_count map (i + 1) (n - (i + 1)) = rw e refl in
     omega arith
 
+-- what is found where the first number passes
+first_here : (test : ℕ → Bool) (i n j : ℕ) → test i ≡ true → first_from test i (suc n) ≡ Some j → i ≡ j
+first_here test i n j pass e = let here : Some i ≡ Some j = sym (rw pass refl) ∙ e in cc
+
 -- what is found passes the test, and is not below the first number that was tried
 pub first_passes : (test : ℕ → Bool) (i n j : ℕ) → first_from test i n ≡ Some j → test j ≡ true
 first_passes test i zero j e = cc
 first_passes test i (suc n) j e = elim (cases_Bool (test i)) [
-  | inl pass ↦
-      (let here : Some i ≡ Some j = sym (rw pass refl) ∙ e in
-      let same : i ≡ j = cc in
-      ap test (sym same) ∙ pass)
+  | inl pass ↦ ap test (sym (first_here test i n j pass e)) ∙ pass
   | inr fail ↦ first_passes test (i + 1) n j (sym (rw fail refl) ∙ e)
 ]
 
 pub first_low : (test : ℕ → Bool) (i n j : ℕ) → first_from test i n ≡ Some j → i ≤ j
 first_low test i zero j e = cc
 first_low test i (suc n) j e = elim (cases_Bool (test i)) [
-  | inl pass ↦
-      (let here : Some i ≡ Some j = sym (rw pass refl) ∙ e in
-      let equal : i ≡ j = cc in
-      omega arith)
+  | inl pass ↦ omega (arith, first_here test i n j pass e)
   | inr fail ↦ (let ih = first_low test (i + 1) n j (sym (rw fail refl) ∙ e) in omega arith)
 ]
 

@@ -1,8 +1,30 @@
 // The free map of a region.
 ghost use Rattle.std.specs.Prelude.{◌≡◌, ◌+◌, ◌-◌, ◌<◌, ◌≤◌, ◌==◌, ◌||◌, ◌&&◌, not, ℕ, length, IfNone, IfSome};
-ghost use Rattle.store_model.specs.FreeMap.{bit_place, free_count, lowest_free, map_bit, map_bytes, with_bit, without_bit};
+ghost use Rattle.store_model.specs.FreeMap.{bit_place, free_count, lowest_free, map_bit, map_bytes, map_mark, with_bit, without_bit};
 
-use store_model::Region;
+use iso_model::Span;
+use store_model::{Area, Region};
+
+/// The region of an area.
+pub fn region_of(area: Area) -> Region
+    ensures { result ≡ record { start = area.start; size = area.blocks } }
+{
+    Region {
+        start: area.start,
+        size: area.blocks,
+    }
+}
+
+/// The mark over head and map of a region of so many blocks.
+pub fn map_span(blocks: u32) -> Span
+    requires { 64 + map_bytes blocks ≤ 4096 }
+    ensures { result ≡ map_mark blocks }
+{
+    Span {
+        off: 0,
+        len: (64 + (blocks + 7) / 8) as u16,
+    }
+}
 
 // Whether the bit of a block is set.
 fn is_taken(map: &[u8], block: u32) -> bool

@@ -11,7 +11,7 @@ mod tests;
 
 pub use buffers::{buffer, is_key, is_value, spelled};
 pub use cells::Cells;
-pub use free_map::{free_blocks, give_back, take_lowest};
+pub use free_map::{free_blocks, give_back, map_span, region_of, take_lowest};
 pub use parts::{
     are_zero, cell_count, clear, is_part, key_part, lay, lay_alone, piece, spell, text_of,
     value_part, word_at,

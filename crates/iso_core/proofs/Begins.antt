@@ -1,16 +1,6 @@
 -- A core with one more live transaction.
-use Rattle.iso_core.proofs.{Words.{◌≡◌, ◌∙◌, sym, refl, ap, ℕ, ◌+◌, ◌<◌, ◌≤◌, Bool, true, false, ◌&&◌, ◌==◌, not, List, [], ◌∷◌, ◌++◌, length, map, arith, le-leb, lt-leb, le-ltb, lt-ltb, map-append, AllByRecursion, Mode, LAST, MAX_LIVE, last, same_mode, after_begin, begin_step, World, Live, Place, client, label, unattached, floor, AreApart, IsWorld, MayHave, floor_above, floor_below, all_push, all_weaker, begins, floor_between, at_work, Begun, Kept, bare, IsOf, NotesSince}, Standings.kept_live, Numbers.log_last}
+use Rattle.iso_core.proofs.{Words.{all_apart_nowhere, ◌≡◌, ◌∙◌, sym, refl, ap, ℕ, ◌+◌, ◌<◌, ◌≤◌, Bool, true, false, ◌&&◌, ◌==◌, not, List, [], ◌∷◌, ◌++◌, length, map, arith, le-leb, lt-leb, le-ltb, lt-ltb, map-append, Mode, LAST, MAX_LIVE, last, same_mode, after_begin, begin_step, World, Live, unattached, floor, IsWorld, MayHave, floor_above, floor_below, all_push, all_weaker, begins, floor_between, at_work, Begun, Kept, bare, IsOf, NotesSince}, Standings.kept_live, Numbers.log_last}
 use Rattle.iso_model.specs.declared.core_reply.CoreReply.TheVariants as reply
-
--- a place that is none is no other's
-apart : (place : Place) → AreApart place unattached
-apart (client c) = tt
-apart (label text) = tt
-apart unattached = tt
-
-all_apart : (live : List Live) → AllByRecursion (λ u. AreApart u.place unattached) live
-all_apart [] = tt
-all_apart (u ∷ live) = (apart u.place, all_apart live)
 
 -- the transaction that begins
 abbrev pub begun : World → Mode → Live
@@ -36,7 +26,7 @@ pub begins_so : (kept : Kept) (W : World) (mode : Mode) (live : List (ℕ × Beg
 begins_so kept W mode live of may few fresh entered =
     let number : kept.next ≡ W.next = of.keeps.next in
     let at : kept.log.last ≡ last W.history = log_last kept W of.world of.keeps in
-    kept_live kept W live (kept.next + 1) (W.next + 1) (W.live ++ begun W mode ∷ []) of (begins W unattached mode of.world may few fresh tt (all_apart W.live)).world
+    kept_live kept W live (kept.next + 1) (W.next + 1) (W.live ++ begun W mode ∷ []) of (begins W unattached mode of.world may few fresh tt (all_apart_nowhere W.live)).world
     (notes_on W mode kept of.world of.keeps.notes) (ap (λ (n : ℕ). n + 1) number)
     (ap (λ (l : List (ℕ × Begun)). map at_work l) entered ∙ map-append at_work kept.live _
     ∙ (λ i. of.keeps.live i ++ record { number = number i; begin = at i; mode = mode; accesses = []; place = unattached } ∷ [])

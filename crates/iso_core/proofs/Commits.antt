@@ -11,9 +11,7 @@ pub numbers_from : (g : Geometry) (m : ℕ) (notes : List Note) (commits : List 
 numbers_from g m [] commits are k d below = absurd (omega arith)
 numbers_from g m (note ∷ notes) [] are k d below = absurd are
 numbers_from g m (note ∷ notes) (c ∷ commits) are zero d below = omega (arith, are.0)
-numbers_from g m (note ∷ notes) (c ∷ commits) are (suc k) d below =
-    let low = numbers_from g (m + 1) notes commits are.2 k d (omega arith) in
-    omega (arith, low)
+numbers_from g m (note ∷ notes) (c ∷ commits) are (suc k) d below = omega (arith, numbers_from g (m + 1) notes commits are.2 k d (omega arith))
 
 -- the records that a half of the world tells
 pub held_records : (W : World) (at : ℕ) → IsWorld W → AllByRecursion (IsRecord W.geometry) (half_of_world W at).told
@@ -22,15 +20,11 @@ held_records W at is = subst (AllByRecursion (IsRecord W.geometry)) (drop-map (w
 -- numbers of notes are not above the last commit
 numbers_below : (g : Geometry) (H : History) (n : ℕ) (notes : List Note) → 0 < H.first → n ≤ last H → AreNotesAfter g H n notes → (k : ℕ) (d : Note) → k < length notes → (slice_index_or notes k d).0 ≤ last H
 numbers_below g H n notes first until are k d below =
-    let rest = length-drop (n + 1 - H.first) H.commits in
-    let low = numbers_from g _ notes (drop (n + 1 - H.first) H.commits) are k d below in
-    omega (arith, rest, low)
+    omega (arith, length-drop (n + 1 - H.first) H.commits, numbers_from g _ notes (drop (n + 1 - H.first) H.commits) are k d below)
 
 -- the half of a world with the commit
 pub next_half : (W : World) (t : Live) (at : ℕ) → IsWorld W → half_of_world (after_commit W t) at ≡ with_records (written_of W t ∷ []) (half_of_world W at)
 next_half W t at is =
-    let base : W.base ≤ W.trim = is.base in
-    let trim : W.trim ≤ last W.history = is.trim in
     half_after W t at is.since (omega arith) is.history.first
 
 module _ (W : World) (tx : ℕ) (t : Live) (kept : Kept) (gate : ℕ) (writes : List (ℕ × List Extent)) (grown : IsGrownBy W tx t kept gate writes) where
@@ -38,10 +32,7 @@ module _ (W : World) (tx : ℕ) (t : Live) (kept : Kept) (gate : ℕ) (writes : 
   told_number = last_is W kept.half grown.was.world
 
   pub number_is : kept.log.last ≡ last W.history + 1
-  number_is =
-      let last_of : kept.log.last ≡ last_told (with_records (written_of W t ∷ []) (half_of_world W kept.half)) = ap (λ (e : LogExtent). e.last) grown.log in
-      let count = length_push (half_of_world W kept.half).told (written_of W t) in
-      omega (arith, last_of, count, told_number)
+  number_is = omega (arith, ap (λ (e : LogExtent). e.last) grown.log, length_push (half_of_world W kept.half).told (written_of W t), told_number)
 
   -- its versions may be taken in
   pub may_take_in : (number : ℕ) (parts : List PartSpan) → number ≡ kept.log.last → parts ≡ kept.parts.items → MayTake number gate parts kept.index
@@ -59,15 +50,10 @@ module _ (W : World) (tx : ℕ) (t : Live) (kept : Kept) (gate : ℕ) (writes : 
       omega (arith, low, number_of, number_is)
 
   left_floor : (live : List (ℕ × Begun)) → live ≡ remove_entry (nat_eq tx) kept.live → map at_work live ≡ map bare (without t.number W.live)
-  left_floor live left =
-      ap (λ (l : List (ℕ × Begun)). map at_work l) left ∙ kept_without tx kept.live W.live grown.was.keeps.live grown.was.world.distinct
-      ∙ ap (λ (n : ℕ). map bare (without n W.live)) (sym grown.here.number)
+  left_floor live left = grind (arith, kept_without)
 
   next_last : last (after_commit W t).history ≡ last W.history + 1
-  next_last =
-      let count = length_push W.history.commits (commit_from t) in
-      let first : 0 < W.history.first = grown.was.world.history.first in
-      omega (arith, count)
+  next_last = omega (arith, length_push W.history.commits (commit_from t))
 
   pub next_floor : (number : ℕ) (live : List (ℕ × Begun)) → number ≡ kept.log.last → live ≡ remove_entry (nat_eq tx) kept.live → floor_of number (map at_work live) ≡ floor (after_commit W t)
   next_floor number live number_of left =
@@ -77,8 +63,7 @@ module _ (W : World) (tx : ℕ) (t : Live) (kept : Kept) (gate : ℕ) (writes : 
   -- the floor does not fall
   floor_rises : floor W ≤ floor (after_commit W t)
   floor_rises =
-      let to : floor W ≤ last W.history = (floor_between W grown.was.world).1 in
-      floor_above (floor W) (last (after_commit W t).history) (without t.number W.live) (omega (arith, to, next_last))
+      floor_above (floor W) (last (after_commit W t).history) (without t.number W.live) (omega (arith, (floor_between W grown.was.world).1, next_last))
       (all_filter (λ u. floor W ≤ u.begin) (λ u. not (u.number == t.number)) W.live (floor_below (last W.history) W.live))
 
   next_notes : (number to : ℕ) (notes : List Note) → number ≡ kept.log.last → to ≡ floor (after_commit W t) → notes ≡ above to (kept.notes.notes ++ (number, writes) ∷ [])
@@ -92,8 +77,7 @@ module _ (W : World) (tx : ℕ) (t : Live) (kept : Kept) (gate : ℕ) (writes : 
       let n : number ≡ W.history.first + length W.history.commits = omega (arith, number_of, number_is, first) in
       let all = added_after W.geometry W.history from kept.notes.notes (commit_from t) writes (omega (arith, low, high, first)) grown.was.keeps.notes.notes grown.prepared.touched in
       let kept_notes = dropped_after W.geometry (after_commit W t).history from (floor (after_commit W t)) (kept.notes.notes ++ (W.history.first + length W.history.commits, writes) ∷ []) (omega (arith, low, rises)) all in
-      subst (λ (l : List Note). AreNotesAfter W.geometry (after_commit W t).history (floor (after_commit W t)) l)
-      (sym (is ∙ (λ i. above (to_is i) (kept.notes.notes ++ (n i, writes) ∷ [])))) kept_notes
+      grind arith
 
   next_index : (number : ℕ) (parts : List PartSpan) (index : List BlockVersions) → number ≡ kept.log.last → parts ≡ kept.parts.items → HasTaken number gate parts kept.index index
       → IsIndexOf W.geometry (W.base + 1) (log_place W.geometry kept.half) W.trim (half_of_world (after_commit W t) kept.half).told index

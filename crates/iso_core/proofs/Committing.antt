@@ -1,20 +1,18 @@
 -- The steps of a commit: what is kept, and the disk, between two of them.
-use Rattle.iso_core.proofs.{Words.{◌≡◌, ◌≢◌, ◌∙◌, sym, refl, ap, ℕ, ◌+◌, ◌-◌, ◌≤◌, Bool, true, List, [], ◌∷◌, ◌++◌, length, arith, subst, length_push, Extent, DiskState, IsLawful, IsSettled, LeavesOnly, at_end, Half, IsHeld, MayFollow, half_of_world, next_gate, with_records, extent_of, LAST, image_size, last, after_commit, after_leaving, need, commit_from, World, Live, unattached, used, IsWorld, commits, Doing, Kept, AreOf, IsGrownBy, IsPrepared, IsSpelled, MayCommit, written_of, IsOf, up, down, ShowsEither}, Commits.next_half, Leaves.has_begun, Moments.record_needs, Numbers.{log_room, log_used}, Standings.{kept_with, stands_on}}
+use Rattle.iso_core.proofs.{Words.{◌≡◌, ◌≢◌, ◌∙◌, sym, ap, ℕ, ◌+◌, ◌-◌, ◌≤◌, Bool, true, List, [], ◌∷◌, ◌++◌, length, arith, subst, length_push, Extent, DiskState, IsLawful, IsSettled, LeavesOnly, at_end, Half, IsHeld, MayFollow, half_of_world, next_gate, with_records, extent_of, LAST, image_size, last, after_commit, after_leaving, need, commit_from, World, Live, unattached, used, IsWorld, commits, Doing, Kept, AreOf, IsGrownBy, IsPrepared, IsSpelled, MayCommit, written_of, IsOf, up, down, ShowsEither}, Commits.next_half, Leaves.has_begun, Moments.record_needs, Numbers.{log_room, log_used}, Standings.{kept_with, stands_on}}
 
 -- other things that are kept change, and the core stands as before
 pub keeps_stand : (d : DiskState) (kept new : Kept) (W : World) → AreOf d kept W up → IsOf new W → new.half ≡ kept.half → new.down ≡ kept.down → AreOf d new W up
 keeps_stand d kept new W of is half down_is = stands_on d kept new W up W.live W.next W.trim of half down_is is
 
 pub buffer_on : (kept : Kept) (W : World) (new : Kept) → IsOf kept W → new ≡ record kept { buffer = new.buffer; parts = new.parts } → IsOf new W
-buffer_on kept W new of is =
-    subst (λ (k : Kept). IsOf k W) (sym is) (kept_with kept (record kept { buffer = new.buffer; parts = new.parts }) W of of.keeps.index of.keeps.notes)
+buffer_on kept W new of is = grind (arith, kept_with)
 
 pub down_on : (kept : Kept) (W : World) (b : Bool) → IsOf kept W → IsOf (record kept { down = b }) W
 down_on kept W b of = kept_with kept (record kept { down = b }) W of of.keeps.index of.keeps.notes
 
 pub spelled_stage : (d : DiskState) (kept new : Kept) (W : World) → AreOf d kept W up → new ≡ record kept { buffer = new.buffer; parts = new.parts } → AreOf d new W up
-spelled_stage d kept new W of is =
-    keeps_stand d kept new W of (buffer_on kept W new of.kept_of is) (ap (λ (k : Kept). k.half) is) (ap (λ (k : Kept). k.down) is)
+spelled_stage d kept new W of is = grind (arith, keeps_stand, buffer_on)
 
 pub prepared_stage : (d : DiskState) (kept new : Kept) (W : World) → AreOf d kept W up → IsOf new W → new ≡ record kept { index = new.index; notes = new.notes } → AreOf d new W up
 prepared_stage d kept new W of same is = keeps_stand d kept new W of same (ap (λ (k : Kept). k.half) is) (ap (λ (k : Kept). k.down) is)
@@ -22,9 +20,7 @@ prepared_stage d kept new W of same is = keeps_stand d kept new W of same (ap (�
 -- the free bytes hold the record and the gate behind it
 pub fits_log : (kept : Kept) (bytes : List ℕ) (free : ℕ) → bytes ≡ kept.buffer.records ++ 0 ∷ [] → free ≡ kept.log.room - kept.log.used → length bytes ≤ free
     → kept.log.used + length kept.buffer.records + 1 ≤ kept.log.room
-fits_log kept bytes free is free_is le =
-    let same : length bytes ≡ length kept.buffer.records + 1 = ap (λ (l : List ℕ). length l) is ∙ length_push kept.buffer.records 0 in
-    omega (arith, same, free_is, le)
+fits_log kept bytes free is free_is le = omega (arith, ap (λ (l : List ℕ). length l) is ∙ length_push kept.buffer.records 0, free_is, le)
 
 pub full_log : (kept : Kept) (W : World) (t : Live) (bytes : List ℕ) (free : ℕ) → IsOf kept W → IsSpelled W t kept → bytes ≡ kept.buffer.records ++ 0 ∷ [] → free ≡ kept.log.room - kept.log.used
     → (length bytes ≡ need W t) × (free ≡ W.geometry.log - used W)
@@ -53,17 +49,7 @@ pub grown_by : (W : World) (tx : ℕ) (t : Live) (kept new : Kept) (gate : ℕ) 
     → new ≡ record kept { log = extent_of W.geometry (with_records (written_of W t ∷ []) (half_of_world W kept.half)) }
     → (work : Doing) → MayCommit W tx t work → IsWorld (after_commit W t) → IsPrepared W t kept writes → MayFollow W.geometry (half_of_world W kept.half) (written_of W t ∷ [])
     → gate ≡ next_gate W.geometry (half_of_world W kept.half) → IsGrownBy W tx t new gate writes
-grown_by W tx t kept new gate writes of is work may next prepared may_follow gate_is =
-    subst (λ (k : Kept). IsGrownBy W tx t k gate writes) (sym is) (record {
-      old_log = kept.log;
-      was = of;
-      here = may.here;
-      next = next;
-      prepared = record { spelled = record { next = prepared.spelled.next; parts = prepared.spelled.parts }; room = prepared.room; note_room = prepared.note_room; touched = prepared.touched };
-      follows = may_follow;
-      log = refl;
-      gate_is = gate_is;
-    })
+grown_by W tx t kept new gate writes of is work may next prepared may_follow gate_is = grind arith
 
 -- a core that committed
 pub committed_core : (old new : DiskState) (kept mid fin : Kept) (W : World) (t : Live) → AreOf old kept W up → IsWorld (after_commit W t) → IsOf fin (after_commit W t) → new.size ≡ old.size → IsSettled new

@@ -17,8 +17,7 @@ module _ (kept : Kept) (W : World) (of : IsOf kept W) where
   block_is t tx b n versions image block here begin held below long chosen over =
       let begun = has_begun W tx t of.world here in
       let trim : W.trim ≤ t.begin = begun.since in
-      let base : W.base ≤ W.trim = of.world.base in
-      let from : W.base ≤ n = omega (arith, trim, base, begin) in
+      let from : W.base ≤ n = omega (arith, trim, of.world.base, begin) in
       let late : W.trim ≤ n = omega (arith, trim, begin) in
       elim chosen [
         | inl same ↦

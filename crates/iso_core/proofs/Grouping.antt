@@ -1,5 +1,5 @@
 -- A core that ends a group.
-use Rattle.iso_core.proofs.{Words.{◌≡◌, ◌≢◌, ◌∙◌, ◌⊎◌, inl, inr, sym, refl, ap, ℕ, ◌+◌, ◌<◌, ◌≤◌, true, List, [], ◌∷◌, ◌++◌, length, map, arith, subst, AllByRecursion, length-append, length-map, length_push, DiskState, IsLawful, IsSettled, LeavesOnly, at_end, Half, IsHeld, half_of_world, next_gate, with_records, extent_of, Commit, Geometry, LAST, record_length, image_size, History, last, with_commits, IsRecord, Written, records, written, after_leaving, with_live, World, Live, used, IsWorld, length-records, sum_by-map, GroupReply, AreNotes, Note, GroupEnd, Kept, Staged, Plan, AreOf, AreNextRecords, ahead, decided, group, leave_all, IsOf, AreEach, AreStaged, HasPlanned, HasStaged, IsAhead, IsReady, IsGrownWith, IsPlannedFor, IsReserved, ShowsWith, up, down, ShowsEither, ShowsLast, group_is, nothing_ahead}, Judging.{last_ahead, settled_ahead, staged_count, used_ahead}, Moments.shows_world, Nexts.may_follow, Numbers.{log_room, log_used}, Staging.half_ahead, Standings.stands_on}
+use Rattle.iso_core.proofs.{Words.{◌≡◌, ◌≢◌, ◌∙◌, ◌⊎◌, inl, inr, sym, refl, ap, ℕ, ◌+◌, ◌<◌, ◌≤◌, true, List, [], ◌∷◌, ◌++◌, length, map, arith, subst, AllByRecursion, length-append, length-map, length_push, DiskState, IsLawful, IsSettled, LeavesOnly, at_end, Half, IsHeld, half_of_world, next_gate, with_records, extent_of, Commit, Geometry, image_size, History, last, with_commits, IsRecord, records, written, after_leaving, with_live, World, Live, used, IsWorld, length-records, sum_by-map, GroupReply, GroupEnd, Kept, Plan, AreOf, AreNextRecords, ahead, decided, group, leave_all, IsOf, AreEach, HasPlanned, HasStaged, IsAhead, IsReady, IsGrownWith, IsPlannedFor, IsReserved, ShowsWith, up, down, ShowsEither, ShowsLast, group_is, nothing_ahead}, Judging.{last_ahead, settled_ahead, staged_count, used_ahead}, Moments.shows_world, Nexts.may_follow, Numbers.{log_room, log_used}, Staging.half_ahead, Standings.stands_on}
 
 -- a world that some have left differs in what is live alone
 pub leave_all_is : (members : List Live) (W : World) → leave_all members W ≡ with_live W (leave_all members W).live
@@ -28,28 +28,20 @@ module _ (W : World) (all : List Commit) (plan : Plan) (is : IsWorld W) (has : H
   pub next_records : 0 < length plan.staged.items → AreNextRecords W (map (written W.geometry) all) (records W.geometry (last W.history + 1) (map (written W.geometry) all))
   next_records some =
       let count = length-map all (written W.geometry) in
-      let later = last_ahead W all is in
-      let most : last (ahead W all).history ≤ LAST = has.world.numbers in
       record {
         some = omega (arith, some, many, count);
         each = records_behind W.geometry W.history.commits all has.world.records;
-        numbers = omega (arith, count, later, most);
+        numbers = omega (arith, count, last_ahead W all is, has.world.numbers);
         bytes_are = refl;
       }
 
   pub bytes_fit : used W + length (records W.geometry (last W.history + 1) (map (written W.geometry) all)) + 1 ≤ W.geometry.log
-  bytes_fit =
-      let bytes = length-records W.geometry (last W.history + 1) (map (written W.geometry) all) ∙ sum_by-map (λ (w : Written). record_length w.parts) (written W.geometry) all in
-      let more = used_ahead W all is in
-      let room : used (ahead W all) + 1 ≤ W.geometry.log = has.world.room in
-      omega (arith, bytes, more, room)
+  bytes_fit = grind (arith, length-records, sum_by-map, used_ahead)
 
   pub fits_kept : (kept : Kept) (bytes : List ℕ) → IsOf kept W → bytes ≡ records W.geometry (last W.history + 1) (map (written W.geometry) all) ++ 0 ∷ [] → kept.log.used + length bytes ≤ kept.log.room
   fits_kept kept bytes of bytes_are =
       let count = ap (λ (l : List ℕ). length l) bytes_are ∙ length_push (records W.geometry (last W.history + 1) (map (written W.geometry) all)) 0 in
-      let taken = log_used kept W of.world of.keeps in
-      let room = log_room kept W of.world of.keeps in
-      omega (arith, count, taken, room, bytes_fit)
+      omega (arith, count, log_used kept W of.world of.keeps, log_room kept W of.world of.keeps, bytes_fit)
 
   -- no commit, no change
   pub none_ahead : length plan.staged.items ≡ 0 → ahead W all ≡ W
@@ -136,33 +128,12 @@ ready_ahead W more (m ∷ ms) (t ∷ ts) each = (
 -- a plan with a commit leads to another history
 pub other_history : (W : World) (members : List Live) (all : List Commit) (replies : List GroupReply) → decided W members ≡ (replies, ahead W all) → 0 < length all → (group W members).1.history ≢ W.history
 other_history W members all replies decides some same =
-    let e = ap (λ (H : History). length H.commits) (sym (history_so W members all replies decides) ∙ same) in
-    let count = length-append W.history.commits all in
-    absurd (omega (arith, e, count, some))
+    absurd (omega (arith, ap (λ (H : History). length H.commits) (sym (history_so W members all replies decides) ∙ same), length-append W.history.commits all, some))
 
 -- before the first member nothing is planned
 pub ahead_none : (W : World) (plan : Plan) → IsWorld W → plan.bytes.items ≡ [] → plan.staged.items ≡ [] → plan.parts.items ≡ [] → plan.notes.notes ≡ [] → IsAhead W [] plan
-ahead_none W plan is bytes staged parts notes = record {
-  world = subst IsWorld (nothing_ahead W) is;
-  bytes = bytes;
-  notes = subst (λ (l : List Note). AreNotes W.geometry (last W.history + 1) l []) (sym notes) tt;
-  staged = subst (λ (l : List Staged). AreStaged W.geometry 0 l []) (sym staged) tt;
-  parts = parts;
-}
+ahead_none W plan is bytes staged parts notes = grind (arith, nothing_ahead)
 
 pub planned_for : (W : World) (members : List Live) (mid plan : Plan) (kept : Kept) (old new : List GroupReply) (h : HasPlanned W [] members mid old new) → old ≡ []
     → plan.notes.notes ≡ mid.notes.notes → plan.staged.items ≡ mid.staged.items → plan.parts.items ≡ mid.parts.items → plan.bytes.items ≡ mid.bytes.items ++ 0 ∷ [] → IsReserved plan kept → IsPlannedFor W members plan kept new
-planned_for W members mid plan kept old new h none notes staged parts bytes reserved =
-    let told : new ≡ h.told = h.replies ∙ ap (λ (l : List GroupReply). l ++ h.told) none in
-    record {
-      all = h.all;
-      has = record {
-        world = h.is.world;
-        notes = subst (λ (l : List Note). AreNotes W.geometry (last W.history + 1) l h.all) (sym notes) h.is.notes;
-        staged = subst (λ (l : List Staged). AreStaged W.geometry 0 l h.all) (sym staged) h.is.staged;
-        parts = parts ∙ h.is.parts;
-      };
-      bytes = bytes ∙ ap (λ (l : List ℕ). l ++ 0 ∷ []) h.is.bytes;
-      reserved = reserved;
-      decides = ap (λ (V : World). decided V members) (nothing_ahead W) ∙ h.decides ∙ (let e = sym told in λ i. (e i, ahead W h.all));
-    }
+planned_for W members mid plan kept old new h none notes staged parts bytes reserved = grind (arith, nothing_ahead)

@@ -1,21 +1,7 @@
 -- A member of a group, after those before it.
-use Rattle.iso_core.proofs.{Words.{◌≡◌, ◌≢◌, ◌∙◌, sym, refl, ap, ℕ, suc, ◌+◌, ◌-◌, ◌<◌, ◌≤◌, Bool, true, false, cond, List, [], ◌∷◌, ◌++◌, length, map, take, drop, arith, subst, None, Option, sum_by, append-nil, transport, AllByRecursion, append_assoc, length-append, take-append-le, take_all, drop-append-le, drop_all, drop-take, map-append, length-map, sum_by-append, sum_by-cons, AreTouched, AreNotes, AreNotesAfter, Bytes, IsAsked, up_to, Note, above, notes_appended, notes_rise, all_above, LieInAnImage, records-append, Access, Clash, Commit, Geometry, Read, Write, Mode, Run, LAST, CoreReply, clash, clash_from, first_after, has_write, record_length, runs, History, last, Written, kind_of, records, spell, written, AreAccesses, commit_step, end_step, need, commit_from, World, Live, logged_commits, used, IsWorld, limits, are_runs, length-records, sum_by-map, commit_is_record, runs_where_write, Doing, PartSpan, GroupReply, GroupEnd, Kept, Plan, Staged, IsCheckedOf, IsTx, AreNextRecords, IsSettledOf, MayCommit, written_of, ahead, decided, made_by, member_reply, with_first, IsOf, AreEach, AreStaged, HasPlanned, IfCommits, IsAhead, IsNextStaged, IsReady, all_parts, is_commit, parts_of, stays_ahead}, Decides.asked, Endings.ends_by, Leaves.has_begun, Moments.{is_committed, is_full, is_worn}, Numbers.{log_last, log_used, log_room}}
+use Rattle.iso_core.proofs.{Words.{none_behind, ◌≡◌, ◌≢◌, ◌∙◌, sym, refl, ap, ℕ, suc, ◌+◌, ◌-◌, ◌<◌, ◌≤◌, true, false, List, [], ◌∷◌, ◌++◌, length, map, drop, arith, subst, None, Option, sum_by, append-nil, transport, AllByRecursion, append_assoc, length-append, take-append-le, take_all, drop-append-le, drop_all, map-append, length-map, sum_by-append, sum_by-cons, AreTouched, AreNotes, AreNotesAfter, Bytes, IsAsked, up_to, Note, above, notes_appended, notes_rise, all_above, LieInAnImage, records-append, Access, Clash, Commit, Geometry, Read, Write, Mode, Run, LAST, CoreReply, clash, first_after, has_write, record_length, runs, last, kind_of, records, spell, written, AreAccesses, commit_step, end_step, need, commit_from, World, Live, logged_commits, used, IsWorld, limits, are_runs, length-records, sum_by-map, commit_is_record, runs_where_write, Doing, PartSpan, GroupReply, GroupEnd, Kept, Plan, Staged, IsCheckedOf, IsTx, AreNextRecords, IsSettledOf, MayCommit, written_of, ahead, decided, made_by, member_reply, with_first, IsOf, AreEach, AreStaged, HasPlanned, IfCommits, IsAhead, IsNextStaged, IsReady, all_parts, is_commit, parts_of, stays_ahead}, Decides.asked, Endings.ends_by, Leaves.has_begun, Moments.{is_committed, is_full, is_worn}, Numbers.{log_last, log_used, log_room}}
 use Rattle.iso_model.specs.declared.core_reply.CoreReply.TheVariants as reply
 use Rattle.iso_model.specs.declared.access.GroupReply.TheVariants as member
-
--- nothing was checked of a member
-no_more : (test : Bool) (found : Option Clash) → None ≡ found → None ≡ cond test found None
-no_more true found is = is
-no_more false found is = refl
-
-drop_back : {X : Type 0} (n : ℕ) (list : List X) → drop n (take n list) ≡ []
-drop_back n list = subst (λ (k : ℕ). drop n (take k list) ≡ []) (omega arith) (drop-take n 0 list)
-
-no_clash : (g : Geometry) (H : History) (mode : Mode) (accesses : List Access) (begin : ℕ) → None ≡ clash g (up_to H begin) mode begin accesses
-unfolding clash
-no_clash g H mode accesses begin =
-    no_more (has_write accesses) (clash_from g mode accesses (first_after H begin) (drop (begin + 1 - H.first) (take (begin + 1 - H.first) H.commits)))
-    (ap (clash_from g mode accesses (first_after H begin)) (sym (drop_back (begin + 1 - H.first) H.commits)))
 
 pub staged_count : (g : Geometry) (at : ℕ) (staged : List Staged) (commits : List Commit) → AreStaged g at staged commits → length staged ≡ length commits
 staged_count g at [] [] are = refl
@@ -31,8 +17,7 @@ staged_push g at [] (d ∷ commits) s c are here count = absurd are
 staged_push g at (r ∷ staged) [] s c are here count = absurd are
 staged_push g at (r ∷ staged) (d ∷ commits) s c are here count =
     let f = λ (e : Commit). record_length (written g e).parts in
-    let split = sum_by-cons f d commits in
-    (are.0, are.1, staged_push g (at + record_length (written g d).parts) staged commits s c are.2 (omega (arith, here, split)) count)
+    (are.0, are.1, staged_push g (at + record_length (written g d).parts) staged commits s c are.2 (omega (arith, here, sum_by-cons f d commits)) count)
 
 parts_push : (g : Geometry) (commits : List Commit) (c : Commit) → all_parts g (commits ++ c ∷ []) ≡ all_parts g commits ++ parts_of g c
 parts_push g [] c = append-nil (parts_of g c)
@@ -40,15 +25,10 @@ parts_push g (d ∷ commits) c = ap (λ (l : List PartSpan). parts_of g d ++ l) 
 
 module _ (W : World) (more : List Commit) (base : IsWorld W) where
   pub last_ahead : last (ahead W more).history ≡ last W.history + length more
-  last_ahead =
-      let first : 0 < W.history.first = base.history.first in
-      let count = length-append W.history.commits more in
-      omega (arith, count, first)
+  last_ahead = omega (arith, length-append W.history.commits more, base.history.first)
 
   pub used_ahead : used (ahead W more) ≡ used W + sum_by (λ (c : Commit). record_length (runs W.geometry c.accesses)) more
   used_ahead =
-      let from : W.base ≤ W.trim = base.base in
-      let trim : W.trim ≤ last W.history = base.trim in
       let first : 0 < W.history.first = base.history.first in
       ap (sum_by (λ (c : Commit). record_length (runs W.geometry c.accesses))) (drop-append-le (W.base + 1 - W.history.first) W.history.commits more (omega arith))
       ∙ sum_by-append (λ (c : Commit). record_length (runs W.geometry c.accesses)) (logged_commits W) more
@@ -56,23 +36,20 @@ module _ (W : World) (more : List Commit) (base : IsWorld W) where
   -- the history so far is that of the world
   so_far : up_to (ahead W more).history (last W.history) ≡ W.history
   so_far =
-      let first : 0 < W.history.first = base.history.first in
-      let all : last W.history + 1 - W.history.first ≡ length W.history.commits = omega (arith, first) in
+      let all : last W.history + 1 - W.history.first ≡ length W.history.commits = omega (arith, base.history.first) in
       let front = take-append-le (last W.history + 1 - W.history.first) W.history.commits more (omega (arith, all)) ∙ take_all (last W.history + 1 - W.history.first) W.history.commits (omega (arith, all)) in
       λ i. record W.history { commits = front i }
 
   rest_of : drop (last W.history + 1 - W.history.first) (W.history.commits ++ more) ≡ more
   rest_of =
-      let first : 0 < W.history.first = base.history.first in
-      let all : last W.history + 1 - W.history.first ≡ length W.history.commits = omega (arith, first) in
+      let all : last W.history + 1 - W.history.first ≡ length W.history.commits = omega (arith, base.history.first) in
       drop-append-le (last W.history + 1 - W.history.first) W.history.commits more (omega (arith, all))
       ∙ ap (λ (l : List Commit). l ++ more) (drop_all (last W.history + 1 - W.history.first) W.history.commits (omega (arith, all)))
 
   -- the notes of the commits ahead are those after the last commit of the world
   pub ahead_notes : (notes : List Note) → AreNotes W.geometry (last W.history + 1) notes more → AreNotesAfter W.geometry (ahead W more).history (last W.history) (above (last W.history) notes)
   ahead_notes notes are =
-      let first : 0 < W.history.first = base.history.first in
-      let k : last W.history + 1 ≡ first_after W.history (last W.history) = omega (arith, first) in
+      let k : last W.history + 1 ≡ first_after W.history (last W.history) = omega (arith, base.history.first) in
       let same = all_above (last W.history + 1) (last W.history) notes (omega arith) (notes_rise W.geometry (last W.history + 1) notes more are) in
       subst (λ (l : List Note). AreNotesAfter W.geometry (ahead W more).history (last W.history) l) (sym same)
       (subst (λ (l : List Commit). AreNotes W.geometry (first_after W.history (last W.history)) notes l) (sym rest_of)
@@ -80,27 +57,16 @@ module _ (W : World) (more : List Commit) (base : IsWorld W) where
 
 module _ (kept : Kept) (W : World) (more : List Commit) (plan : Plan) (of : IsOf kept W) (is : IsAhead W more plan) where
   pub number_ahead : (last_number count : ℕ) → last_number ≡ kept.log.last → count ≡ length plan.staged.items → last_number + count ≡ last (ahead W more).history
-  number_ahead last_number count last_is count_is =
-      let one = last_is ∙ log_last kept W of.world of.keeps in
-      let two = staged_count W.geometry 0 plan.staged.items more is.staged in
-      let all = last_ahead W more of.world in
-      omega (arith, one, two, all, count_is)
+  number_ahead last_number count last_is count_is = grind (arith, log_last, staged_count, last_ahead)
 
   pub bytes_ahead : length plan.bytes.items ≡ sum_by (λ (c : Commit). record_length (written W.geometry c).parts) more
-  bytes_ahead =
-      ap (λ (l : List ℕ). length l) is.bytes ∙ length-records W.geometry (last W.history + 1) (map (written W.geometry) more) ∙ sum_by-map (λ (w : Written). record_length w.parts) (written W.geometry) more
+  bytes_ahead = grind (arith, length-records, sum_by-map)
 
   pub room_ahead : used (ahead W more) ≡ kept.log.used + length plan.bytes.items
-  room_ahead =
-      let one = log_used kept W of.world of.keeps in
-      let two = used_ahead W more of.world in
-      omega (arith, one, two, bytes_ahead)
+  room_ahead = grind (arith, log_used, used_ahead, bytes_ahead)
 
   pub fits_ahead : kept.log.used + length plan.bytes.items + 1 ≤ kept.log.room
-  fits_ahead =
-      let room = log_room kept W of.world of.keeps in
-      let most : used (ahead W more) + 1 ≤ W.geometry.log = is.world.room in
-      omega (arith, room, most, room_ahead)
+  fits_ahead = grind (arith, log_room, room_ahead)
 
   -- what the first decision is asked
   pub asked_first : (tx : ℕ) (t : Live) (work : Doing) → IsTx W tx t → IsSettledOf W t work → (upto : ℕ) → upto ≡ work.begin → (reads writes : Bytes)
@@ -112,11 +78,10 @@ module _ (kept : Kept) (W : World) (more : List Commit) (plan : Plan) (of : IsOf
       let begin = sym w.begin in
       let accesses = sym w.accesses in
       let same = upto_is ∙ w.begin in
-      let until : t.begin ≤ last W.history = (has_begun W tx t of.world here).begin in
       let checked : IsCheckedOf W t (record { upto = upto; clash = None }) = record {
         from = omega (arith, same);
-        to = omega (arith, same, until);
-        clash = subst (λ (n : ℕ). None ≡ clash W.geometry (up_to W.history n) t.mode t.begin t.accesses) (sym same) (no_clash W.geometry W.history t.mode t.accesses t.begin);
+        to = omega (arith, same, (has_begun W tx t of.world here).begin);
+        clash = subst (λ (n : ℕ). None ≡ clash W.geometry (up_to W.history n) t.mode t.begin t.accesses) (sym same) (none_behind W.geometry W.history t.mode t.accesses t.begin);
       } in
       transport (λ i. IsAsked W.geometry W.history (mode i) (begin i) (accesses i) upto None reads writes kept.notes.notes)
       (asked kept W tx t (record { upto = upto; clash = None }) of here checked settled.accesses work w reads writes read written)
@@ -130,11 +95,10 @@ module _ (kept : Kept) (W : World) (more : List Commit) (plan : Plan) (of : IsOf
       let w = settled.is_work in
       let size : 64 ≤ W.geometry.block = (limits W.geometry of.world.valid).least_block in
       let number = upto_is ∙ log_last kept W of.world of.keeps in
-      let until : t.begin ≤ last W.history = (has_begun W tx t of.world here).begin in
       record {
         size = omega arith;
         well_formed = subst (λ (l : List Access). AreAccesses W.geometry l) (sym w.accesses) settled.accesses;
-        order = omega (arith, number, until, w.begin);
+        order = omega (arith, number, (has_begun W tx t of.world here).begin, w.begin);
         reads = transport (λ i. AreTouched (w.size i) (w.blocks i) Read work.accesses reads) read;
         writes = transport (λ i. AreTouched (w.size i) (w.blocks i) Write work.accesses writes) written;
         ahead = found_is ∙ (let e = sym (so_far W more of.world) in λ i. clash W.geometry (e i) work.mode work.begin work.accesses)
@@ -158,12 +122,11 @@ module _ (U : World) (tx : ℕ) (t : Live) (work : Doing) (is : IsWorld U) (may 
   pub spelled_so : (g : Geometry) (number kind : ℕ) (mode : Mode) (bytes : List ℕ) → g ≡ U.geometry → number ≡ last U.history + 1 → last U.history < LAST → mode ≡ work.mode → kind ≡ kind_of g mode
       → bytes ≡ [] ++ spell 1 kind number (runs U.geometry work.accesses) → AreNextRecords U (written_of U t ∷ []) bytes
   spelled_so g number kind mode bytes same number_is fresh mode_is kind_is bytes_is =
-      let size : 64 ≤ U.geometry.block = (limits U.geometry is.valid).least_block in
       let kinds : kind ≡ kind_of U.geometry t.mode = kind_is ∙ (λ i. kind_of (same i) ((mode_is ∙ may.settled.is_work.mode) i)) in
       let begun = has_begun U tx t is may.here in
       record {
         some = omega arith;
-        each = (commit_is_record U.geometry (commit_from t) (omega (arith, size)) may.settled.accesses may.write begun.mode, tt);
+        each = (commit_is_record U.geometry (commit_from t) (omega (arith, (limits U.geometry is.valid).least_block)) may.settled.accesses may.write begun.mode, tt);
         numbers = omega (arith, fresh);
         bytes_are = bytes_is ∙ (λ i. spell 1 (kinds i) (number_is i) (same_runs i)) ∙ sym (append-nil (spell 1 (kind_of U.geometry t.mode) (last U.history + 1) (runs U.geometry t.accesses)));
       }
@@ -175,9 +138,7 @@ module _ (U : World) (tx : ℕ) (t : Live) (work : Doing) (is : IsWorld U) (may 
   worn_so worn = ap member_reply (sym (ap (λ (x : CoreReply × World). x.0) ends_as ∙ is_worn U t worn))
 
   pub full_so : (needs free : ℕ) → last U.history ≢ LAST → needs ≡ need U t → free ≡ U.geometry.log - used U → free < needs → member.Full needs free ≡ member_reply (end_step U t).0
-  full_so needs free fresh need_is free_is less =
-      (λ i. member.Full (need_is i) (free_is i))
-      ∙ ap member_reply (sym (ap (λ (x : CoreReply × World). x.0) ends_as ∙ is_full U t fresh (omega (arith, need_is, free_is, less))))
+  full_so needs free fresh need_is free_is less = grind (arith, ends_as, is_full)
 
   pub commits_as : last U.history ≢ LAST → need U t ≤ U.geometry.log - used U → (end_step U t).0 ≡ reply.Committed (last U.history + 1)
   commits_as fresh fits = ap (λ (x : CoreReply × World). x.0) (ends_as ∙ is_committed U t fresh fits)
@@ -214,28 +175,15 @@ module _ (kept : Kept) (W : World) (more : List Commit) (plan : Plan) (of : IsOf
 
 -- a work of a member is one of the world with the commits ahead
 pub settled_ahead : (W : World) (more : List Commit) (t : Live) (work : Doing) → IsSettledOf W t work → IsSettledOf (ahead W more) t work
-settled_ahead W more t work s = record {
-  is_work = record { begin = s.is_work.begin; mode = s.is_work.mode; size = s.is_work.size; blocks = s.is_work.blocks; accesses = s.is_work.accesses };
-  accesses = s.accesses;
-  count = s.count;
-  settled = s.settled;
-}
+settled_ahead W more t work s = grind arith
 
 pub may_ahead : (W : World) (more : List Commit) (tx : ℕ) (t : Live) (work : Doing) → IsTx W tx t → IsSettledOf W t work → has_write t.accesses ≡ true
     → clash W.geometry (ahead W more).history t.mode t.begin t.accesses ≡ None → MayCommit (ahead W more) tx t work
-may_ahead W more tx t work here s write none = record {
-  here = record { number = here.number; among = here.among };
-  settled = settled_ahead W more t work s;
-  write = write;
-  none = none;
-}
+may_ahead W more tx t work here s write none = grind (arith, settled_ahead)
 
 -- how many bytes are free ahead
 pub free_ahead : (kept : Kept) (W : World) (more : List Commit) (plan : Plan) → IsOf kept W → IsAhead W more plan → (kept.log.room - kept.log.used) - length plan.bytes.items ≡ (ahead W more).geometry.log - used (ahead W more)
-free_ahead kept W more plan of is =
-    let room = log_room kept W of.world of.keeps in
-    let all = room_ahead kept W more plan of is in
-    omega (arith, room, all)
+free_ahead kept W more plan of is = grind (arith, log_room, room_ahead)
 
 -- what a reply says of the commit
 pub commits_then : (r : GroupReply) (P : Type 0) → is_commit r ≡ true → IfCommits r P → P

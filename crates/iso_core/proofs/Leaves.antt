@@ -37,10 +37,9 @@ module _ (kept : Kept) (W : World) (tx : ℕ) (t : Live) (of : IsOf kept W) (her
   notes_left =
       let since = of.keeps.notes in
       let from : since.from ≤ floor W = since.before in
-      let to : floor W ≤ last W.history = (floor_between W of.world).1 in
       record {
         from = since.from;
-        before = floor_above since.from (last W.history) (without t.number W.live) (omega (arith, from, to))
+        before = floor_above since.from (last W.history) (without t.number W.live) (omega (arith, from, (floor_between W of.world).1))
             (all_filter (λ u. since.from ≤ u.begin) (λ u. not (u.number == t.number)) W.live
             (all_weaker (λ u. floor W ≤ u.begin) (λ u. since.from ≤ u.begin) (λ u le. omega (arith, from, le)) W.live (floor_below (last W.history) W.live)));
         notes = since.notes;

@@ -4,10 +4,7 @@ use Rattle.iso_model.specs.declared.core_reply.CoreReply.TheVariants as reply
 
 -- an image that holds the half of a world shows its history
 pub shows_world : (W : World) (at : ℕ) → IsWorld W → (c : List ℕ) → IsHeld W.geometry (half_of_world W at) c → ShowsLast W c
-shows_world W at is c held =
-    let base : W.base ≤ W.trim = is.base in
-    let trim : W.trim ≤ last W.history = is.trim in
-    half_shows W.geometry W.geometry.form at W.generation W.base W.history c is.history is.since (omega arith) held
+shows_world W at is c held = half_shows W.geometry W.geometry.form at W.generation W.base W.history c is.history is.since (omega (arith, is.base)) held
 
 module _ (d : DiskState) (laws : IsLawful d) (kept : Kept) (W V : World) (of : AreOf d kept W up) where
   -- where nothing is written
@@ -22,10 +19,7 @@ module _ (W : World) (t : Live) (at : ℕ) (is : IsWorld W) (next : IsWorld (aft
 
 -- the bytes of the next record are what the commit needs, but for the gate behind it
 pub record_needs : (W : World) (t : Live) (bytes : List ℕ) → AreNextRecords W (written_of W t ∷ []) bytes → length bytes + 1 ≡ need W t
-record_needs W t bytes next =
-    let S = length-records W.geometry (last W.history + 1) (written_of W t ∷ []) in
-    let same = ap (λ (l : List ℕ). length l) next.bytes_are in
-    omega (arith, S, same)
+record_needs W t bytes next = omega (arith, length-records W.geometry (last W.history + 1) (written_of W t ∷ []), ap (λ (l : List ℕ). length l) next.bytes_are)
 
 -- how a commit ends
 module _ (W : World) (t : Live) where

@@ -4,36 +4,25 @@ use Rattle.std.proofs.Common.{length-append}
 
 -- records that follow what is kept, with a closed gate behind them
 pub next_all : (kept : Kept) (W : World) (more : List Written) (all : List ℕ) → IsOf kept W → AreNextRecords W more all → (bytes : List ℕ) → bytes ≡ all ++ 0 ∷ [] → IsNext kept.log W.geometry more bytes
-next_all kept W more all of next bytes is =
-    let number : kept.log.last ≡ last W.history = log_last kept W of.world of.keeps in
-    record {
-      some = next.some;
-      each = next.each;
-      numbers = subst (λ (n : ℕ). n + length more ≤ LAST) (sym number) next.numbers;
-      bytes_are = is ∙ (λ i. next.bytes_are i ++ 0 ∷ []) ∙ ap (λ (n : ℕ). records W.geometry (n + 1) more ++ 0 ∷ []) (sym number);
-    }
+next_all kept W more all of next bytes is = grind (arith, log_last)
 
 -- with them the records take so many bytes
 pub more_bytes : (W : World) (at : ℕ) (more : List Written) (bytes : List ℕ) → IsWorld W → AreNextRecords W more bytes
     → length (told_bytes W.geometry (with_records more (half_of_world W at))) ≡ used W + length bytes
 more_bytes W at more bytes is next =
     let x : Half = half_of_world W at in
-    let number : last_told x ≡ last W.history = last_is W at is in
-    let first : W.base + 1 + length x.told ≡ last W.history + 1 = omega (arith, number) in
-    let taken : length (records W.geometry (W.base + 1) x.told) ≡ used W = world_bytes W at in
+    let first : W.base + 1 + length x.told ≡ last W.history + 1 = omega (arith, last_is W at is) in
     let whole : length (records W.geometry (W.base + 1) (x.told ++ more)) ≡ length (records W.geometry (W.base + 1) x.told) + length (records W.geometry (W.base + 1 + length x.told) more) =
     ap (λ (l : List ℕ). length l) (records-append W.geometry (W.base + 1) x.told more) ∙ length-append (records W.geometry (W.base + 1) x.told) (records W.geometry (W.base + 1 + length x.told) more) in
-    let rest : length (records W.geometry (W.base + 1 + length x.told) more) ≡ length bytes = (λ i. length (records W.geometry (first i) more)) ∙ ap (λ (l : List ℕ). length l) (sym next.bytes_are) in
-    omega (arith, whole, taken, rest)
+    omega (arith, whole, world_bytes W at, (λ i. length (records W.geometry (first i) more)) ∙ ap (λ (l : List ℕ). length l) (sym next.bytes_are))
 
 -- so they may follow where they fit
 pub may_follow : (W : World) (at : ℕ) (more : List Written) (bytes : List ℕ) → IsWorld W → AreNextRecords W more bytes → used W + length bytes + 1 ≤ W.geometry.log
     → MayFollow W.geometry (half_of_world W at) more
 may_follow W at more bytes is next fits =
     let number : last_told (half_of_world W at) ≡ last W.history = last_is W at is in
-    let all = more_bytes W at more bytes is next in
     record {
       each = next.each;
       numbers = subst (λ (n : ℕ). n + length more ≤ LAST) (sym number) next.numbers;
-      room = omega (arith, all, fits);
+      room = omega (arith, more_bytes W at more bytes is next, fits);
     }

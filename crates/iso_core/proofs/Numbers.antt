@@ -1,16 +1,12 @@
 -- The numbers of a core's log are those of its world.
-use Rattle.iso_core.proofs.Words.{◌≡◌, ◌∙◌, ap, ℕ, ◌+◌, ◌-◌, ◌<◌, ◌≤◌, length, drop, arith, length-drop, length-map, half_of_world, last_told, world_bytes, last, written, World, used, IsWorld, Kept, Keeps}
+use Rattle.iso_core.proofs.Words.{◌≡◌, ◌∙◌, ap, ℕ, ◌+◌, ◌-◌, ◌<◌, ◌≤◌, drop, arith, length-drop, length-map, half_of_world, last_told, world_bytes, last, written, World, used, IsWorld, Kept, Keeps}
 use Rattle.iso_log.specs.Extent.{Extent}
 
 pub last_is : (W : World) (at : ℕ) → IsWorld W → last_told (half_of_world W at) ≡ last W.history
 last_is W at is =
     let first : 0 < W.history.first = is.history.first in
-    let since : W.history.first ≤ W.base + 1 = is.since in
     let base : W.base ≤ W.trim = is.base in
-    let trim : W.trim ≤ last W.history = is.trim in
-    let told : length (half_of_world W at).told ≡ length (drop (W.base + 1 - W.history.first) W.history.commits) = length-map (drop (W.base + 1 - W.history.first) W.history.commits) (written W.geometry) in
-    let rest : length (drop (W.base + 1 - W.history.first) W.history.commits) ≡ length W.history.commits - (W.base + 1 - W.history.first) = length-drop (W.base + 1 - W.history.first) W.history.commits in
-    omega (arith, told, rest)
+    omega (arith, length-map (drop (W.base + 1 - W.history.first) W.history.commits) (written W.geometry), length-drop (W.base + 1 - W.history.first) W.history.commits)
 
 module _ (kept : Kept) (W : World) (is : IsWorld W) (keeps : Keeps kept W) where
   pub log_last : kept.log.last ≡ last W.history

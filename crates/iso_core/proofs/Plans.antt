@@ -21,9 +21,7 @@ module _ (kept : Kept) (W : World) (form : ℕ) (of : IsOf kept W) (fits : IsFor
   both = omega (arith, of.keeps.half)
 
   pub valid_form : kept.generation < LAST → IsTrue (is_valid (record kept.geometry { form = form }))
-  valid_form low =
-      subst (λ (h : Geometry). IsTrue (is_valid (record h { form = form }))) (sym of.keeps.geometry)
-      (next_world W form of.world fits (λ e. absurd (omega (arith, low, of.keeps.generation, e)))).valid
+  valid_form low = grind (arith, next_world)
 
   -- the plan copies the half of the world
   pub copies : (plan : FillPlan) (from : HalfPlace) → plan.geometry ≡ record kept.geometry { form = form } → plan.generation ≡ kept.generation + 1 → kept.generation < LAST
@@ -31,13 +29,12 @@ module _ (kept : Kept) (W : World) (form : ℕ) (of : IsOf kept W) (fits : IsFor
   copies plan from geometry generation fresh old_base base used_is from_is =
       let same : plan.geometry ≡ in_form form W.geometry = geometry ∙ (λ i. record (of.keeps.geometry i) { form = form }) in
       let form_is : plan.geometry.form ≡ form = ap (λ (h : Geometry). h.form) same in
-      let least : 1 ≤ W.geometry.form = (limits W.geometry of.world.valid).least_form in
       record {
         is_from = record {
           geometry = same ∙ (λ i. in_form (sym form_is i) W.geometry);
           place = from_is ∙ (λ i. place_of (same i) kept.half);
         };
-        form = λ one. omega (arith, one, form_is, fits.rises, least);
+        form = λ one. omega (arith, one, form_is, fits.rises, (limits W.geometry of.world.valid).least_form);
         old_base = old_base ∙ of.keeps.base;
         until = omega (arith, base, (floor_between W of.world).1, last_is W kept.half of.world);
         used = used_is ∙ log_used kept W of.world of.keeps ∙ sym (world_bytes W kept.half);

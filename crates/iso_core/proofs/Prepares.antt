@@ -1,16 +1,10 @@
 -- A commit before the first call of the disk.
-use Rattle.iso_core.proofs.{Words.{◌≡◌, ◌∙◌, sym, ap, ℕ, ◌+◌, ◌^◌, ◌<◌, ◌≤◌, List, [], ◌∷◌, ◌++◌, length, map, arith, subst, append-nil, AllByRecursion, AreNotesAfter, Held, Note, LieInAnImage, MayFollow, half_of_world, Mode, Run, LAST, runs, last, kind_of, spell, World, Live, limits, are_runs, commit_is_record, runs_where_write, BlockVersions, versions_in, Doing, PartSpan, BlocksRise, part_of, parts_below, parts_few, parts_rise, Kept, AreNextRecords, IsSpelled, MayCommit, written_of, commit_from, IsOf}, Leaves.has_begun, Nexts.may_follow, Numbers.{log_last, log_used, log_room}, Standings.kept_with}
+use Rattle.iso_core.proofs.{Words.{◌≡◌, ◌∙◌, sym, ap, ℕ, ◌+◌, ◌^◌, ◌<◌, ◌≤◌, List, [], ◌∷◌, ◌++◌, length, map, arith, subst, append-nil, AllByRecursion, Held, LieInAnImage, MayFollow, half_of_world, Mode, Run, LAST, runs, last, kind_of, spell, World, Live, limits, are_runs, commit_is_record, runs_where_write, BlockVersions, versions_in, Doing, PartSpan, BlocksRise, part_of, parts_below, parts_few, parts_rise, Kept, AreNextRecords, IsSpelled, MayCommit, written_of, commit_from, IsOf}, Leaves.has_begun, Nexts.may_follow, Numbers.{log_last, log_used, log_room}, Standings.kept_with}
 
 -- what is kept besides the index and the notes, which show the same
 pub keeps_on : (kept : Kept) (W : World) (index : List BlockVersions) (notes : Held) → IsOf kept W → length index ≡ length kept.index
     → ((b : ℕ) → versions_in index b ≡ versions_in kept.index b) → notes.notes ≡ kept.notes.notes → IsOf (record kept { index = index; notes = notes }) W
-keeps_on kept W index notes of blocks same noted =
-    let old = of.keeps.index in
-    kept_with kept (record kept { index = index; notes = notes }) W of (record { blocks = blocks ∙ old.blocks; each = λ b below. same b ∙ old.each b below }) (record {
-      from = of.keeps.notes.from;
-      before = of.keeps.notes.before;
-      notes = subst (λ (l : List Note). AreNotesAfter W.geometry W.history of.keeps.notes.from l) (sym noted) of.keeps.notes.notes;
-    })
+keeps_on kept W index notes of blocks same noted = grind (arith, kept_with)
 
 module _ (kept : Kept) (W : World) (tx : ℕ) (t : Live) (work : Doing) (of : IsOf kept W) (may : MayCommit W tx t work) where
   -- the runs of the work are those of the transaction
@@ -44,8 +38,7 @@ module _ (kept : Kept) (W : World) (tx : ℕ) (t : Live) (work : Doing) (of : Is
   pub follows : IsSpelled W t kept → kept.log.used + length kept.buffer.records + 1 ≤ kept.log.room → MayFollow W.geometry (half_of_world W kept.half) (written_of W t ∷ [])
   follows spelled fits =
       let taken = log_used kept W of.world of.keeps in
-      let room = log_room kept W of.world of.keeps in
-      may_follow W kept.half (written_of W t ∷ []) kept.buffer.records of.world spelled.next (omega (arith, fits, taken, room))
+      may_follow W kept.half (written_of W t ∷ []) kept.buffer.records of.world spelled.next (omega (arith, fits, taken, log_room kept W of.world of.keeps))
 
   pub parts_lie : (parts : List PartSpan) → parts ≡ map part_of (written_of W t).parts → AllByRecursion (λ part. part.block < length kept.index) parts
   parts_lie parts is =

@@ -1,12 +1,10 @@
 -- Memory for the commits of a plan.
-use Rattle.iso_core.proofs.{Words.{◌≡◌, ◌∙◌, inl, inr, nat_lt, sym, refl, ap, ℕ, ◌+◌, ◌^◌, ◌<◌, ◌≤◌, ◌==◌, cond, List, [], ◌∷◌, length, sum_by, arith, AllByRecursion, cases_lt, le-ltb, lt-ltb, length-append, length-map, sum_by-IsPermutation, sum_by-cons, Commit, Geometry, Run, record_length, runs, written, limits, are_runs, World, used, IsWorld, BlockVersions, PartSpan, HasRoom, part_of, parts_in, parts_below, Plan, ahead, IsAhead, all_parts, parts_of, all_append}, Judging.used_ahead}
+use Rattle.iso_core.proofs.{Words.{◌≡◌, ◌∙◌, inl, inr, nat_lt, sym, refl, ap, ℕ, ◌+◌, ◌^◌, ◌<◌, ◌≤◌, cond, List, [], ◌∷◌, length, sum_by, arith, AllByRecursion, cases_lt, le-ltb, lt-ltb, length-append, length-map, sum_by-IsPermutation, sum_by-cons, Commit, Geometry, Run, record_length, runs, written, limits, are_runs, World, IsWorld, BlockVersions, PartSpan, HasRoom, part_of, parts_below, Plan, IsAhead, all_parts, parts_of, all_append}, Judging.used_ahead}
 use Rattle.std.specs.List.Sorted.{IsPermutation}
 
 -- room for the sorted parts is room for the parts in order
 pub room_sorted : (xs ys : List PartSpan) (index : List BlockVersions) → IsPermutation xs ys → HasRoom ys index → HasRoom xs index
-room_sorted xs ys index same room b =
-    let count : parts_in b ys ≡ parts_in b xs = sum_by-IsPermutation (λ (part : PartSpan). cond (part.block == b) 1 0) xs ys same in
-    omega (arith, count, room b)
+room_sorted xs ys index same room b = grind (arith, sum_by-IsPermutation)
 
 -- the parts of all records lie in the array
 pub all_below : (g : Geometry) (commits : List Commit) → AllByRecursion (λ (part : PartSpan). part.block < g.blocks) (all_parts g commits)
@@ -15,9 +13,7 @@ all_below g (c ∷ commits) = all_append (λ (part : PartSpan). part.block < g.b
 
 few_runs : (rs : List Run) → length rs ≤ sum_by (λ (run : Run). 8 + length run.bytes) rs
 few_runs [] = omega arith
-few_runs (r ∷ rs) =
-    let all = sum_by-cons (λ (run : Run). 8 + length run.bytes) r rs in
-    omega (arith, all, few_runs rs)
+few_runs (r ∷ rs) = omega (arith, sum_by-cons (λ (run : Run). 8 + length run.bytes) r rs, few_runs rs)
 
 -- there are not more of them than bytes in their records
 pub all_few : (g : Geometry) (commits : List Commit) → length (all_parts g commits) ≤ sum_by (λ (c : Commit). record_length (written g c).parts) commits
@@ -25,10 +21,7 @@ all_few g [] = omega arith
 all_few g (c ∷ commits) =
     let both = length-append (parts_of g c) (all_parts g commits) in
     let one : length (parts_of g c) ≡ length (runs g c.accesses) = length-map (runs g c.accesses) part_of in
-    let few = few_runs (runs g c.accesses) in
-    let rest = all_few g commits in
-    let sum = sum_by-cons (λ (d : Commit). record_length (written g d).parts) c commits in
-    omega (arith, both, one, few, rest, sum)
+    omega (arith, both, one, few_runs (runs g c.accesses), all_few g commits, sum_by-cons (λ (d : Commit). record_length (written g d).parts) c commits)
 
 abbrev high : ℕ → PartSpan → ℕ
 high n part = cond (nat_lt part.block n) 0 1
@@ -36,9 +29,8 @@ high n part = cond (nat_lt part.block n) 0 1
 none_high : (n : ℕ) (ps : List PartSpan) → AllByRecursion (λ (part : PartSpan). part.block < n) ps → sum_by (high n) ps ≡ 0
 none_high n [] all = refl
 none_high n (p ∷ ps) all =
-    let e = sum_by-cons (high n) p ps in
     let one : high n p ≡ 0 = rw (lt-ltb p.block n all.0) refl in
-    omega (arith, e, one, none_high n ps all.1)
+    omega (arith, sum_by-cons (high n) p ps, one, none_high n ps all.1)
 
 all_low : (n : ℕ) (ps : List PartSpan) → sum_by (high n) ps ≡ 0 → AllByRecursion (λ (part : PartSpan). part.block < n) ps
 all_low n [] e = tt
@@ -62,10 +54,5 @@ sorted_many xs ys same = sym (ones ys) ∙ sum_by-IsPermutation (λ (part : Part
 
 pub few_staged : (W : World) (more : List Commit) (plan : Plan) (ys : List PartSpan) → IsWorld W → IsAhead W more plan → IsPermutation plan.parts.items ys → length ys < 2 ^ 32
 few_staged W more plan ys base is same =
-    let count = sorted_many plan.parts.items ys same in
     let parts = ap (λ (l : List PartSpan). length l) is.parts in
-    let few = all_few W.geometry more in
-    let all = used_ahead W more base in
-    let room : used (ahead W more) + 1 ≤ W.geometry.log = is.world.room in
-    let most = (limits W.geometry base.valid).largest_log in
-    omega (arith, count, parts, few, all, room, most)
+    omega (arith, sorted_many plan.parts.items ys same, parts, all_few W.geometry more, used_ahead W more base, is.world.room, (limits W.geometry base.valid).largest_log)

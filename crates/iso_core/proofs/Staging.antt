@@ -1,5 +1,5 @@
 -- The commits of a plan are taken in, and their transactions leave.
-use Rattle.iso_core.proofs.{Words.{Bool, true, false, IsSome, nat_eq, remove_entry, begin_of, Begun, leave_all, ◌≡◌, ◌≢◌, ◌∙◌, inl, inr, sym, refl, ap, ℕ, ◌+◌, ◌-◌, ◌<◌, ◌≤◌, ◌==◌, cond, List, [], ◌∷◌, ◌++◌, length, map, take, drop, arith, subst, eq-eqb, ne_eqb, Result, OnOk, transport, AllByRecursion, cases_eq, append_assoc, length-append, length_push, take-append-le, take_all, drop-append-le, drop_all, map-append, length-map, sum_by-append, AreNotes, AreNotesAfter, Held, Note, RisesFrom, above, dropped_after, notes_rise, HasLog, Half, MayFollow, half_of_world, last_told, next_gate, told_bytes, with_records, Commit, Geometry, first_after, record_length, log_place, all_own, array_at, last, IsRecord, Written, written, after_leaving, World, Live, floor, without, IsWorld, floor_above, floor_below, length-records, floor_between, IsIndexOf, BlockVersions, PartSpan, HasRoom, HasTaken, MayTake, parts_in, index_more, may_take, GroupEnd, Kept, Plan, Staged, IsAmong, ahead, IsOf, IsMember, AreEach, IsGrownWith, IsReady, MayTakeAll, all_parts, parts_of, HasTold, DiskState, held_log, AreOf, up, LogExtent, extent_of, on_ok_weaker}, Commits.held_records, Leaves.{is_live, leaves_so}, Judging.staged_count, Numbers.last_is, Standings.kept_with}
+use Rattle.iso_core.proofs.{Words.{Bool, true, false, IsSome, nat_eq, remove_entry, begin_of, Begun, leave_all, ◌≡◌, ◌≢◌, ◌∙◌, inl, inr, sym, refl, ap, ℕ, ◌+◌, ◌-◌, ◌<◌, ◌≤◌, ◌==◌, cond, List, [], ◌∷◌, ◌++◌, length, map, take, drop, arith, subst, eq-eqb, ne_eqb, Result, OnOk, transport, AllByRecursion, cases_eq, append_assoc, length-append, length_push, take-append-le, take_all, drop-append-le, drop_all, map-append, length-map, sum_by-append, AreNotes, AreNotesAfter, Held, Note, RisesFrom, above, dropped_after, notes_rise, Half, MayFollow, half_of_world, last_told, next_gate, told_bytes, with_records, Commit, Geometry, first_after, record_length, log_place, all_own, array_at, last, IsRecord, Written, written, after_leaving, World, Live, floor, without, IsWorld, floor_above, floor_below, length-records, floor_between, IsIndexOf, BlockVersions, PartSpan, HasRoom, HasTaken, MayTake, parts_in, index_more, may_take, GroupEnd, Kept, Plan, Staged, IsAmong, ahead, IsOf, IsMember, AreEach, IsGrownWith, IsReady, MayTakeAll, all_parts, parts_of, HasTold, DiskState, held_log, AreOf, up, LogExtent, extent_of, on_ok_weaker}, Commits.held_records, Leaves.{is_live, leaves_so}, Judging.staged_count, Numbers.last_is, Standings.kept_with}
 use Rattle.std.proofs.lemmas.List.{length-drop}
 
 -- parts of both lists
@@ -14,11 +14,7 @@ room_rest xs ys number gate old new room taken b = let both = parts_both b xs ys
 
 -- the bytes with one record more
 pub bytes_one : (g : Geometry) (x : Half) (w : Written) → length (told_bytes g (with_records (w ∷ []) x)) ≡ length (told_bytes g x) + record_length w.parts
-bytes_one g x w =
-    let first = length-records g (x.base + 1) (x.told ++ w ∷ []) in
-    let before = length-records g (x.base + 1) x.told in
-    let both = sum_by-append (λ (v : Written). record_length v.parts) x.told (w ∷ []) in
-    omega (arith, first, before, both)
+bytes_one g x w = grind (arith, length-records, sum_by-append)
 
 pub gate_one : (g : Geometry) (x : Half) (w : Written) → next_gate g (with_records (w ∷ []) x) ≡ next_gate g x + record_length w.parts
 gate_one g x w = let all = bytes_one g x w in omega (arith, all)
@@ -39,11 +35,10 @@ follow_first g x w ws may =
 
 pub follow_rest : (g : Geometry) (x : Half) (w : Written) (ws : List Written) → MayFollow g x (w ∷ ws) → MayFollow g (with_records (w ∷ []) x) ws
 follow_rest g x w ws may =
-    let count = length_push x.told w in
     let numbers = may.numbers in
     record {
       each = may.each.1;
-      numbers = omega (arith, count, numbers);
+      numbers = omega (arith, length_push x.told w, numbers);
       room = subst (λ (h : Half). length (told_bytes g h) + 1 ≤ g.log) (sym (with_both x w ws)) may.room;
     }
 
@@ -66,10 +61,7 @@ module _ (g : Geometry) (x : Half) (t at : ℕ) (c : Commit) (commits : List Com
   both = parted_at s.count parts (parts_of g c) (all_parts g commits) may.parts_are may.are.1
 
   pub enough : s.count ≤ length parts
-  enough =
-      let all = ap (λ (l : List PartSpan). length l) may.parts_are in
-      let two = length-append (parts_of g c) (all_parts g commits) in
-      omega (arith, all, two, may.are.1)
+  enough = omega (arith, ap (λ (l : List PartSpan). length l) may.parts_are, length-append (parts_of g c) (all_parts g commits), may.are.1)
 
   pub takes_first : (own : List PartSpan) → own ≡ take s.count parts → MayTake number (gate + s.at) own index
   takes_first own own_is =
@@ -85,9 +77,7 @@ module _ (g : Geometry) (x : Half) (t at : ℕ) (c : Commit) (commits : List Com
       let number_is = may.number_is in
       let count = length_push x.told (written g c) in
       let trim : t ≤ last_told x = may.trim in
-      let gate_next = gate_one g x (written g c) in
       let first : number ≡ x.base + 1 + length x.told = omega (arith, number_is) in
-      let place = here in
       let is = own_is ∙ both.0 in
       record {
         valid = may.valid;
@@ -96,18 +86,17 @@ module _ (g : Geometry) (x : Half) (t at : ℕ) (c : Commit) (commits : List Com
         follow = follow_rest g x (written g c) (map (written g) commits) may.follow;
         trim = omega (arith, trim, count);
         is = index_more g (x.base + 1) (log_place g x.at) t x.told (written g c) index new may.is (omega (arith, trim))
-            (transport (λ i. HasTaken (first i) (place i) (is i) index new) taken);
+            (transport (λ i. HasTaken (first i) (here i) (is i) index new) taken);
         are = may.are.2;
         parts_are = others_are ∙ both.1;
         number_is = omega (arith, number_is, count);
-        gate_is = omega (arith, may.gate_is, gate_next);
+        gate_is = omega (arith, may.gate_is, gate_one g x (written g c));
       }
 
 -- the half of a world with commits ahead
 pub half_ahead : (W : World) (more : List Commit) (at : ℕ) → IsWorld W → half_of_world (ahead W more) at ≡ with_records (map (written W.geometry) more) (half_of_world W at)
 half_ahead W more at is =
     let base : W.base ≤ W.trim = is.base in
-    let trim : W.trim ≤ last W.history = is.trim in
     let first : 0 < W.history.first = is.history.first in
     let n : W.base + 1 - W.history.first ≤ length W.history.commits = omega arith in
     let array : array_at (ahead W more).history W.base ≡ array_at W.history W.base = ap (all_own W.history.base) (take-append-le (W.base + 1 - W.history.first) W.history.commits more n) in
@@ -136,15 +125,12 @@ notes_ahead W more from notes others is low are next =
 pub floor_ahead : (W : World) (more : List Commit) → IsWorld W → floor W ≤ floor (ahead W more)
 floor_ahead W more is =
     let count = length-append W.history.commits more in
-    let to : floor W ≤ last W.history = (floor_between W is).1 in
-    floor_above (floor W) (last (ahead W more).history) W.live (omega (arith, to, count)) (floor_below (last W.history) W.live)
+    floor_above (floor W) (last (ahead W more).history) W.live (omega (arith, (floor_between W is).1, count)) (floor_below (last W.history) W.live)
 
 -- a transaction is among the others still, once one with another number has left
 among_left : (n : ℕ) (u : Live) (live : List Live) → u.number ≢ n → IsAmong u live → IsAmong u (without n live)
 among_left n u [] other there = absurd there
-among_left n u (v ∷ live) other (inl same) =
-    let number : v.number ≡ u.number = ap (λ (w : Live). w.number) same in
-    rw (ne_eqb v.number n (λ e. other (sym number ∙ e))) (inl same)
+among_left n u (v ∷ live) other (inl same) = grind arith
 among_left n u (v ∷ live) other (inr there) = elim (cases_eq v.number n) [
   | inl e ↦ rw (eq-eqb v.number n e) (among_left n u live other there)
   | inr e ↦ rw (ne_eqb v.number n e) (inr (among_left n u live other there))
@@ -157,12 +143,7 @@ ready_left W t (m ∷ members) [] other each = absurd each
 ready_left W t (m ∷ members) (u ∷ ts) other each = (
   record {
     here = record { number = each.0.here.number; among = among_left t.number u W.live other.0 each.0.here.among };
-    settled = record {
-      is_work = record { begin = each.0.settled.is_work.begin; mode = each.0.settled.is_work.mode; size = each.0.settled.is_work.size; blocks = each.0.settled.is_work.blocks; accesses = each.0.settled.is_work.accesses };
-      accesses = each.0.settled.accesses;
-      count = each.0.settled.count;
-      settled = each.0.settled.settled;
-    };
+    settled = grind arith;
     none = each.0.none;
   },
   each.1,
@@ -203,30 +184,25 @@ module _ (W : World) (more : List Commit) (plan : Plan) (kept : Kept) (gate : �
   number_first first count count_is first_is =
       let all : kept.log.last ≡ last_told (with_records (map (written W.geometry) more) (half_of_world W kept.half)) = ap (λ (e : LogExtent). e.last) grown.log in
       let told = length-append (half_of_world W kept.half).told (map (written W.geometry) more) in
-      let count_more = length-map more (written W.geometry) in
-      let staged = staged_count W.geometry 0 plan.staged.items more grown.ahead_of.staged in
-      omega (arith, all, told, count_more, staged, count_is, first_is)
+      omega (arith, all, told, length-map more (written W.geometry), staged_count W.geometry 0 plan.staged.items more grown.ahead_of.staged, count_is, first_is)
 
   pub few_first : (count : ℕ) → count ≡ length plan.staged.items → count ≤ kept.log.last
   few_first count count_is =
       let all : kept.log.last ≡ last_told (with_records (map (written W.geometry) more) (half_of_world W kept.half)) = ap (λ (e : LogExtent). e.last) grown.log in
       let told = length-append (half_of_world W kept.half).told (map (written W.geometry) more) in
-      let count_more = length-map more (written W.geometry) in
-      let staged = staged_count W.geometry 0 plan.staged.items more grown.ahead_of.staged in
-      omega (arith, all, told, count_more, staged, count_is)
+      omega (arith, all, told, length-map more (written W.geometry), staged_count W.geometry 0 plan.staged.items more grown.ahead_of.staged, count_is)
 
   pub takes_all : (first : ℕ) → first ≡ last_told (half_of_world W kept.half) + 1
       → MayTakeAll W.geometry (half_of_world W kept.half) W.trim 0 more first gate plan.staged.items plan.parts.items kept.index
   takes_all first first_is =
       let of = grown.was.keeps in
       let trim : W.trim ≤ last W.history = grown.was.world.trim in
-      let number = last_is W kept.half grown.was.world in
       record {
         valid = grown.was.world.valid;
         half = of.half;
         each = held_records W kept.half grown.was.world;
         follow = grown.follows;
-        trim = omega (arith, trim, number);
+        trim = omega (arith, trim, last_is W kept.half grown.was.world);
         is = of.index;
         are = grown.ahead_of.staged;
         parts_are = grown.ahead_of.parts;
@@ -235,18 +211,13 @@ module _ (W : World) (more : List Commit) (plan : Plan) (kept : Kept) (gate : �
       }
 
   pub rising_notes : RisesFrom 0 (kept.notes.notes ++ plan.notes.notes)
-  rising_notes =
-      let since = grown.was.keeps.notes in
-      let low : floor W ≤ last W.history = (floor_between W grown.was.world).1 in
-      rises_low 0 (first_after (ahead W more).history since.from) (kept.notes.notes ++ plan.notes.notes) (omega arith)
-      (notes_rise W.geometry _ (kept.notes.notes ++ plan.notes.notes) _ (notes_ahead W more since.from kept.notes.notes plan.notes.notes grown.was.world (omega (arith, low, since.before)) since.notes grown.ahead_of.notes))
+  rising_notes = grind (arith, floor_between, rises_low, notes_rise, notes_ahead)
 
   pub taken_in : (index : List BlockVersions) (notes : Held) → IsIndexOf W.geometry (W.base + 1) (log_place W.geometry kept.half) W.trim ((half_of_world W kept.half).told ++ map (written W.geometry) more) index
       → notes.notes ≡ kept.notes.notes ++ plan.notes.notes → IsOf (record kept { index = index; notes = notes }) (ahead W more)
   taken_in index notes index_is notes_are =
       let of = grown.was.keeps in
       let low : floor W ≤ last W.history = (floor_between W grown.was.world).1 in
-      let rises = floor_ahead W more grown.was.world in
       record {
         world = grown.ahead_of.world;
         keeps = record {
@@ -261,7 +232,7 @@ module _ (W : World) (more : List Commit) (plan : Plan) (kept : Kept) (gate : �
               (sym (ap (λ (h : Half). h.told) (half_ahead W more kept.half grown.was.world))) index_is;
           notes = record {
             from = of.notes.from;
-            before = omega (arith, of.notes.before, rises);
+            before = omega (arith, of.notes.before, floor_ahead W more grown.was.world);
             notes = subst (λ (l : List Note). AreNotesAfter W.geometry (ahead W more).history of.notes.from l) (sym notes_are)
                 (notes_ahead W more of.notes.from kept.notes.notes plan.notes.notes grown.was.world (omega (arith, low, of.notes.before)) of.notes.notes grown.ahead_of.notes);
           };
@@ -290,14 +261,7 @@ none_staged g x t at (c ∷ commits) number gate parts index may = absurd may.ar
 
 -- the log of the images of a core
 pub told_so : (d : DiskState) (kept : Kept) (W : World) → AreOf d kept W up → HasTold kept.log W.geometry (W.base + 1) (half_of_world W kept.half).told d.now
-told_so d kept W of =
-    let log = of.kept_of.keeps.log in
-    let last_of : kept.log.last ≡ last_told (half_of_world W kept.half) = ap (λ (e : LogExtent). e.last) log in
-    record {
-      used = ap (λ (e : LogExtent). e.used) log;
-      last = omega (arith, last_of);
-      each = λ c image. subst (λ (e : LogExtent). HasLog e.place e.room W.geometry (W.base + 1) (half_of_world W kept.half).told c) (sym log) (held_log W.geometry (half_of_world W kept.half) c (of.images.each c image));
-    }
+told_so d kept W of = grind (arith, held_log)
 
 -- the notes above the floor are all that is needed
 pub notes_dropped : (kept : Kept) (W : World) (notes : Held) (to : ℕ) → IsOf kept W → to ≡ floor W → notes.notes ≡ above to kept.notes.notes → IsOf (record kept { notes = notes }) W

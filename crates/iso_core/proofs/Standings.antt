@@ -1,5 +1,5 @@
 -- A core whose images stay, while what it keeps in memory changes.
-use Rattle.iso_core.proofs.Words.{◌≡◌, ◌∙◌, sym, ℕ, ◌+◌, IsIndexOf, NotesSince, Begun, IsWorld, at_work, bare, map, half_of_world, log_place, List, false, Result, Ok, Err, IfOk, subst, DiskState, IsLawful, WritesNothing, at_end, stays, stays_settled, World, Live, Kept, AreImages, AreOf, IsOf, Standing, up, down}
+use Rattle.iso_core.proofs.Words.{arith, ◌≡◌, ◌∙◌, ℕ, ◌+◌, IsIndexOf, NotesSince, Begun, IsWorld, at_work, bare, map, half_of_world, log_place, List, false, Result, Ok, Err, IfOk, DiskState, IsLawful, WritesNothing, at_end, stays, stays_settled, World, Live, Kept, AreImages, AreOf, IsOf, Standing, up, down}
 
 pub if_ok : {A E : Type 0} {P Q : A → Type 0} (result : Result A E) → ((x : A) → P x → Q x) → IfOk result P → IfOk result Q
 if_ok (Ok x) more is = more x is
@@ -14,12 +14,7 @@ images_stay (down lost) d half W live next trim images = images
 pub stands_on : (d : DiskState) (kept new : Kept) (W : World) (standing : Standing) (live : List Live) (next trim : ℕ) → AreOf d kept W standing
     → new.half ≡ kept.half → new.down ≡ kept.down → IsOf new (record W { live = live; next = next; trim = trim })
     → AreOf d new (record W { live = live; next = next; trim = trim }) standing
-stands_on d kept new W standing live next trim of half down_is is = record {
-  kept_of = is;
-  is_down = down_is ∙ of.is_down;
-  size = of.size;
-  images = subst (λ (n : ℕ). AreImages standing d n (record W { live = live; next = next; trim = trim })) (sym half) (images_stay standing d kept.half W live next trim of.images);
-}
+stands_on d kept new W standing live next trim of half down_is is = grind (arith, images_stay)
 
 -- while nothing is written the core stands as before
 pub stands_still : (old new : DiskState) (kept : Kept) (W : World) (standing : Standing) → IsLawful new → AreOf old kept W standing → WritesNothing old new → AreOf new kept W standing
@@ -42,37 +37,9 @@ up_of d kept W (down lost) of is = cc (of.is_down, is)
 -- what is kept with another index and other notes, and with whatever a world does not tell
 pub kept_with : (kept other : Kept) (W : World) → IsOf kept W → IsIndexOf W.geometry (W.base + 1) (log_place W.geometry kept.half) W.trim (half_of_world W kept.half).told other.index → NotesSince W other.notes
     → IsOf (record kept { index = other.index; notes = other.notes; buffer = other.buffer; parts = other.parts; down = other.down }) W
-kept_with kept other W of index notes = record {
-  world = of.world;
-  keeps = record {
-    geometry = of.keeps.geometry;
-    half = of.keeps.half;
-    generation = of.keeps.generation;
-    base = of.keeps.base;
-    trim = of.keeps.trim;
-    next = of.keeps.next;
-    log = of.keeps.log;
-    index = index;
-    notes = notes;
-    live = of.keeps.live;
-  };
-}
+kept_with kept other W of index notes = grind arith
 
 -- what is kept where others are live, and the next number is another
 pub kept_live : (kept : Kept) (W : World) (entered : List (ℕ × Begun)) (number next : ℕ) (live : List Live) → IsOf kept W → IsWorld (record W { live = live; next = next })
     → NotesSince (record W { live = live; next = next }) kept.notes → number ≡ next → map at_work entered ≡ map bare live → IsOf (record kept { live = entered; next = number }) (record W { live = live; next = next })
-kept_live kept W entered number next live of is notes next_is live_is = record {
-  world = is;
-  keeps = record {
-    geometry = of.keeps.geometry;
-    half = of.keeps.half;
-    generation = of.keeps.generation;
-    base = of.keeps.base;
-    trim = of.keeps.trim;
-    next = next_is;
-    log = of.keeps.log;
-    index = of.keeps.index;
-    notes = notes;
-    live = live_is;
-  };
-}
+kept_live kept W entered number next live of is notes next_is live_is = grind arith

@@ -15,10 +15,9 @@ module _ (kept : Kept) (W : World) (of : IsOf kept W) where
 
   pub counts : (W.base ≤ floor W) × (floor W ≤ last W.history) × (W.base + length here.told ≡ last W.history) × (W.trim ≤ floor W)
   counts =
-      let base : W.base ≤ W.trim = of.world.base in
       let between = floor_between W of.world in
       let told = last_is W kept.half of.world in
-      (omega (arith, base, between.0), between.1, told, between.0)
+      (omega (arith, of.world.base, between.0), between.1, told, between.0)
 
   pub weight : bytes_above (floor W) kept.index + 20 * (last W.history - floor W) ≡ above_floor
   weight =
@@ -37,9 +36,7 @@ module _ (kept : Kept) (W : World) (of : IsOf kept W) where
       let whole = ap (λ (l : List ℕ). length l) (records-append W.geometry (W.base + 1) (take left here.told) (drop left here.told))
       ∙ length-append (records W.geometry (W.base + 1) (take left here.told)) (records W.geometry (W.base + 1 + length (take left here.told)) (drop left here.told)) in
       let parts = ap (λ (l : List Written). length (records W.geometry (W.base + 1) l)) (take-append-drop left here.told) in
-      let second = ap (λ (k : ℕ). length (records W.geometry k (drop left here.told))) n in
-      let taken = world_bytes W kept.half in
-      omega (arith, whole, parts, second, taken)
+      omega (arith, whole, parts, ap (λ (k : ℕ). length (records W.geometry k (drop left here.told))) n, world_bytes W kept.half)
 
   -- the bytes above the floor, as they are counted
   pub weighs : (n to w : ℕ) → n ≡ kept.log.last → to ≡ floor W → w ≡ bytes_above to kept.index → w + 20 * (n - to) ≡ above_floor
@@ -66,12 +63,11 @@ module _ (kept : Kept) (W : World) (of : IsOf kept W) where
 
   pub room_there : (new_log : ℕ) → new_log ≡ log_place W.geometry (1 - kept.half) → (block : ℕ) × (area : ℕ) × ((b : ℕ) → AllLie block area (versions_in kept.index b)) × (new_log + area < 2 ^ 64)
   room_there new_log place =
-      let inside = log_inside W.geometry (1 - kept.half) (omega arith) in
       let most = (limits W.geometry of.world.valid).image in (
         W.geometry.block,
         image_size W.geometry,
         (λ b. all_at (Lies W.geometry.block (image_size W.geometry)) no_version (versions_in kept.index b) (versions_lie kept W of b)),
-        omega (arith, place, inside, most),
+        omega (arith, place, log_inside W.geometry (1 - kept.half) (omega arith), most),
       )
 
   pub places : (log_place W.geometry kept.half + W.geometry.log ≤ image_size W.geometry) × (image_size W.geometry ≤ 268435584)

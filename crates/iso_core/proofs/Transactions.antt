@@ -98,6 +98,4 @@ kept_before tx at (e ∷ live) [] same below = cc same
 kept_before tx at (e ∷ live) (u ∷ all) same below =
     let head : at_work e ≡ bare u = cc same in
     let rest : map at_work live ≡ map bare all = cc same in
-    let number : e.0 ≡ u.number = ap (λ (v : Live). v.number) head in
-    let begin : e.1.at ≡ u.begin = ap (λ (v : Live). v.begin) head in
-    ((omega (arith, number, below.0.0), omega (arith, begin, below.0.1)), kept_before tx at live all rest below.1)
+    ((omega (arith, ap (λ (v : Live). v.number) head, below.0.0), omega (arith, ap (λ (v : Live). v.begin) head, below.0.1)), kept_before tx at live all rest below.1)

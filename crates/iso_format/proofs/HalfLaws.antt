@@ -4,8 +4,7 @@ use Rattle.iso_format.proofs.{Words.{◌≡◌, ℕ, ◌+◌, ◌^◌, ◌<◌, 
 pub half_again : (gate form generation base : ℕ) → generation < 2 ^ 64 → base < 2 ^ 64 →
     half_of (half_header gate form generation base) ≡ record { gate = gate; form = form; generation = generation; base = base; clean = true }
 unfolding half_of half_header
-half_again gate form generation base g b =
-    rw (from_be_bytes-to_be_bytes_8 generation g, from_be_bytes-to_be_bytes_8 base b) refl
+half_again gate form generation base g b = grind (arith, from_be_bytes-to_be_bytes_8)
 
 pub half_spelled : (bytes : List ℕ) → AreBytes bytes → length bytes ≡ 32 → IsTrue (half_of bytes).clean →
     bytes ≡ half_header (half_of bytes).gate (half_of bytes).form (half_of bytes).generation (half_of bytes).base

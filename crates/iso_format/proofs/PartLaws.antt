@@ -1,5 +1,5 @@
 -- The parts of a record are read exactly as they are written.
-use Rattle.iso_format.proofs.{Words.{◌≡◌, ℕ, zero, suc, ◌+◌, ◌-◌, ◌*◌, ◌<◌, ◌≤◌, Bool, true, false, ◌&&◌, ◌||◌, ◌==◌, nat_lt, nat_le, cond, not, inl, inr, List, [], ◌∷◌, ◌++◌, Option, Some, None, length, take, drop, IsTrue, flat_map, refl, sym, ap, ◌∙◌, arith, leb-true, le-leb, ltb-true, ltb-false, lt-ltb, le-ltb, eqb-true, eq-eqb, not-false, or_cases, and_parts, and_from, or_right, take_at, drop_at, take-append-drop, length-append, length-take, length-drop, flat_map-cons, sum_by-cons, from_be_bytes-to_be_bytes_2, from_be_bytes-to_be_bytes_4, w16, w32, to_be_bytes, AllByRecursion, Geometry, Run, or_else, IsRun, AreRuns, ComesAfter, part, body_length, FormatError, Order, Range, Length, number_at, IsSmall, run_of, runs_of, part_size, part_end, HasParts, follows, lies_in, part_fault, parts_fault, bytes_drop, AreBytes}, Parts.IsBounded, Pieces.{grow, spelled_16, spelled_32}}
+use Rattle.iso_format.proofs.{Words.{Limits, ◌≡◌, ℕ, zero, suc, ◌+◌, ◌-◌, ◌*◌, ◌<◌, ◌≤◌, Bool, true, false, ◌&&◌, ◌||◌, ◌==◌, nat_lt, cond, not, inl, inr, List, [], ◌∷◌, ◌++◌, Option, Some, None, length, take, drop, IsTrue, flat_map, refl, sym, ap, ◌∙◌, arith, le-leb, ltb-true, ltb-false, lt-ltb, le-ltb, eqb-true, eq-eqb, not-false, or_cases, and_parts, and_from, or_right, take_at, drop_at, take-append-drop, length-append, length-take, length-drop, flat_map-cons, sum_by-cons, from_be_bytes-to_be_bytes_2, from_be_bytes-to_be_bytes_4, w16, w32, to_be_bytes, AllByRecursion, Geometry, Run, or_else, IsRun, AreRuns, ComesAfter, part, body_length, FormatError, Order, Range, Length, number_at, IsSmall, run_of, runs_of, part_size, part_end, HasParts, follows, lies_in, part_fault, parts_fault, bytes_drop, AreBytes}, Pieces.{grow, spelled_16, spelled_32}}
 
 -- none of two tests failed
 pub neither : {A : Type 0} (x y : Option A) → or_else x y ≡ None → (x ≡ None) × (y ≡ None)
@@ -30,9 +30,7 @@ good g before at body e =
 pub passed : (g : Geometry) (before : Option (ℕ × ℕ)) (at n : ℕ) (body : List ℕ) → parts_fault g before at (suc n) body ≡ None →
     IsGood g before body × (parts_fault g (Some (part_end body)) (at + part_size body) n (drop (part_size body) body) ≡ None)
 unfolding parts_fault
-passed g before at n body e =
-    let both_none = neither (part_fault g before at body) (parts_fault g (Some (part_end body)) (at + part_size body) n (drop (part_size body) body)) e in
-    (good g before at body both_none.0, both_none.1)
+passed g before at n body e = search (arith, neither)
 
 pub ended : (g : Geometry) (before : Option (ℕ × ℕ)) (at : ℕ) (body : List ℕ) → parts_fault g before at 0 body ≡ None → body ≡ []
 unfolding parts_fault
@@ -47,16 +45,10 @@ has_parts g before at (suc n) body e =
 
 -- the first of some parts, and the others
 pub first_part : (n : ℕ) (body : List ℕ) → 0 < n → HasParts n body → (part_size body ≤ length body) × HasParts (n - 1) (drop (part_size body) body)
-first_part zero body lt h = absurd (omega arith)
-first_part (suc n) body lt h =
-    let k : suc n - 1 ≡ n = omega arith in
-    (h.0, rw k h.1)
+first_part n body lt h = grind arith
 
 pub first_run : (n : ℕ) (body : List ℕ) → 0 < n → runs_of n body ≡ run_of body ∷ runs_of (n - 1) (drop (part_size body) body)
-first_run zero body lt = absurd (omega arith)
-first_run (suc n) body lt =
-    let k : suc n - 1 ≡ n = omega arith in
-    rw k refl
+first_run n body lt = grind arith
 
 pub length-runs_of : (n : ℕ) (body : List ℕ) → length (runs_of n body) ≡ n
 length-runs_of zero body = refl
@@ -88,13 +80,7 @@ parts_spelled g before at (suc n) body fits e =
     ∙ sym (flat_map-cons part (run_of body) (runs_of n (drop size body)))
 
 is_run : (g : Geometry) (before : Option (ℕ × ℕ)) (body : List ℕ) → IsGood g before body → IsRun g (run_of body)
-is_run g before body p =
-    let fits = and_parts (nat_lt (number_at w32 0 body) g.blocks && nat_le 1 (number_at w16 6 body)) (nat_le (number_at w16 4 body + number_at w16 6 body) g.block) p.lies in
-    let some = and_parts (nat_lt (number_at w32 0 body) g.blocks) (nat_le 1 (number_at w16 6 body)) fits.0 in
-    let len = run_length body p.long in
-    let least : 1 ≤ number_at w16 6 body = leb-true _ _ some.1 in
-    let most : number_at w16 4 body + number_at w16 6 body ≤ g.block = leb-true _ _ fits.1 in
-    record { block = ltb-true _ _ some.0; some = omega (arith, len, least); fits = omega (arith, len, most) }
+is_run g before body p = search (arith, run_length)
 
 comes_after : (body next : List ℕ) → part_size body ≤ length body → IsTrue (follows (Some (part_end body)) next) → ComesAfter (run_of body) (run_of next)
 comes_after body next long h =
@@ -123,8 +109,8 @@ parts_run g before at (suc (suc n)) body e =
 
 -- ---- parts that were written are read again
 
-pub small_run : (g : Geometry) (x : Run) → IsBounded g → IsRun g x → IsSmall x
-small_run g x b r = record { block = omega (arith, r.block, b.blocks); off = omega (arith, r.fits, b.block); len = omega (arith, r.fits, b.block) }
+pub small_run : (g : Geometry) (x : Run) → Limits g → IsRun g x → IsSmall x
+small_run g x b r = record { block = omega (arith, r.block, b.most_blocks); off = omega (arith, r.fits, b.largest_block); len = omega (arith, r.fits, b.largest_block) }
 
 -- what the fields of a part say
 record Says (x : Run) (body rest : List ℕ) : Type 0 where
@@ -193,7 +179,7 @@ done : (g : Geometry) (before : Option (ℕ × ℕ)) (at : ℕ) → parts_fault 
 unfolding parts_fault
 done g before at = refl
 
-pub parts_again : (g : Geometry) (before : Option (ℕ × ℕ)) (at : ℕ) (x : Run) (more : List Run) → IsBounded g → AreRuns g (x ∷ more) → IsTrue (run_follows before x) →
+pub parts_again : (g : Geometry) (before : Option (ℕ × ℕ)) (at : ℕ) (x : Run) (more : List Run) → Limits g → AreRuns g (x ∷ more) → IsTrue (run_follows before x) →
     parts_fault g before at (length (x ∷ more)) (flat_map part (x ∷ more)) ≡ None
 parts_again g before at x [] b r f =
     step_again g before at 0 x (part x ++ []) [] (says x [] (small_run g x b r)) r f ∙ done g (Some (run_end x)) (at + (8 + length x.bytes))
@@ -203,11 +189,7 @@ parts_again g before at x (y ∷ more) b r f =
     ∙ parts_again g (Some (run_end x)) (at + (8 + length x.bytes)) y more b r.2 (follows_after x y r.1)
 
 run_again : (n : ℕ) (x : Run) (body rest : List ℕ) → Says x body rest → runs_of (suc n) body ≡ x ∷ runs_of n rest
-run_again n x body rest s =
-    let size : part_size body ≡ 8 + length x.bytes = ap (λ (k : ℕ). 8 + k) s.len in
-    ap (λ (z : Run). z ∷ runs_of n (drop (part_size body) body)) s.run
-    ∙ ap (λ (k : ℕ). x ∷ runs_of n (drop k body)) size
-    ∙ ap (λ (z : List ℕ). x ∷ runs_of n z) s.behind
+run_again n x body rest s = grind arith
 
 pub small_again : (parts : List Run) → AllByRecursion IsSmall parts → runs_of (length parts) (flat_map part parts) ≡ parts
 small_again [] s = refl
@@ -216,12 +198,12 @@ small_again (x ∷ y ∷ more) s =
     let rest = flat_map part (y ∷ more) in
     run_again (length (y ∷ more)) x (part x ++ rest) rest (says x rest s.0) ∙ ap (λ (z : List Run). x ∷ z) (small_again (y ∷ more) s.1)
 
-pub are_small : (g : Geometry) (parts : List Run) → IsBounded g → AreRuns g parts → AllByRecursion IsSmall parts
+pub are_small : (g : Geometry) (parts : List Run) → Limits g → AreRuns g parts → AllByRecursion IsSmall parts
 are_small g [] b r = tt
 are_small g (x ∷ []) b r = (small_run g x b r, tt)
 are_small g (x ∷ y ∷ more) b r = (small_run g x b r.0, are_small g (y ∷ more) b r.2)
 
-pub runs_again : (g : Geometry) (parts : List Run) → IsBounded g → AreRuns g parts → runs_of (length parts) (flat_map part parts) ≡ parts
+pub runs_again : (g : Geometry) (parts : List Run) → Limits g → AreRuns g parts → runs_of (length parts) (flat_map part parts) ≡ parts
 runs_again g parts b r = small_again parts (are_small g parts b r)
 
 -- each part has a byte at least

@@ -1,5 +1,5 @@
 -- A record is read exactly as it is written.
-use Rattle.iso_format.proofs.{Words.{◌≡◌, ◌≢◌, ℕ, suc, ◌+◌, ◌*◌, ◌^◌, ◌<◌, ◌≤◌, Bool, true, false, ◌&&◌, ◌||◌, ◌==◌, nat_lt, nat_le, cond, not, List, [], ◌∷◌, ◌++◌, Option, Some, None, Result, Ok, Err, IfOk, IfErr, length, get_or, take, drop, IsTrue, flat_map, refl, sym, ap, subst, ◌∙◌, arith, drop-cons, leb-true, le-leb, ltb-false, le-ltb, eqb-true, eqb-false, eq-eqb, ne_eqb, not-false, and_from, take_at, take-append-drop, length-append, length-take, length-drop, from_be_bytes-to_be_bytes_4, from_be_bytes-to_be_bytes_8, w32, w64, to_be_bytes, Geometry, Run, LAST, or_else, is_valid, AreRuns, body_length, part, spell, FormatError, Short, Kind, NotZero, Count, Number, number_at, Recorded, BeginsWith, is_kind, head_fault, parts_fault, number_fault, body_of, fault_of, recorded, runs_of, bytes_drop, bytes_take, AreBytes}, PartLaws.{neither, unless, length-runs_of, parts_spelled, parts_run, parts_again, runs_again, nine_each}, Parts.{bounded, body_bound, count_bound, length-flat_map-part, length-spell}, Pieces.{grow, spelled_32, spelled_64, one_at}}
+use Rattle.iso_format.proofs.{Words.{limits, ◌≡◌, ◌≢◌, ℕ, suc, ◌+◌, ◌*◌, ◌^◌, ◌<◌, ◌≤◌, Bool, true, false, ◌&&◌, ◌||◌, ◌==◌, nat_lt, nat_le, cond, not, List, [], ◌∷◌, ◌++◌, Option, Some, None, Result, Ok, Err, IfOk, IfErr, length, get_or, take, drop, IsTrue, flat_map, refl, sym, ap, subst, ◌∙◌, arith, drop-cons, le-leb, ltb-false, le-ltb, eqb-true, eqb-false, eq-eqb, ne_eqb, not-false, and_from, take_at, take-append-drop, length-append, length-take, length-drop, from_be_bytes-to_be_bytes_4, from_be_bytes-to_be_bytes_8, w32, w64, to_be_bytes, Geometry, Run, LAST, or_else, is_valid, AreRuns, body_length, part, spell, FormatError, Short, Kind, NotZero, Count, Number, number_at, Recorded, BeginsWith, is_kind, head_fault, parts_fault, number_fault, body_of, fault_of, recorded, runs_of, bytes_drop, bytes_take, AreBytes}, PartLaws.{neither, unless, length-runs_of, parts_spelled, parts_run, parts_again, runs_again, nine_each}, Parts.{body_bound, count_bound, length-flat_map-part, length-spell}, Pieces.{grow, spelled_32, spelled_64, one_at}}
 
 -- each test passed
 pub record IsFree (g : Geometry) (n : ℕ) (bytes : List ℕ) : Type 0 where
@@ -9,11 +9,7 @@ pub record IsFree (g : Geometry) (n : ℕ) (bytes : List ℕ) : Type 0 where
 
 pub no_fault : (g : Geometry) (n : ℕ) (bytes : List ℕ) → fault_of g n bytes ≡ None → IsFree g n bytes
 unfolding fault_of
-no_fault g n bytes e =
-    let parts = parts_fault g None 20 (number_at w32 4 bytes) (body_of bytes) in
-    let a = neither (head_fault g bytes) (or_else parts (number_fault n bytes)) e in
-    let b = neither parts (number_fault n bytes) a.1 in
-    record { head = a.0; parts = b.0; number = b.1 }
+no_fault g n bytes e = grind (arith, neither)
 
 or_false : (a b : Bool) → (a || b) ≡ false → (a ≡ false) × (b ≡ false)
 or_false true b e = absurd cc
@@ -53,9 +49,7 @@ head_is g bytes e =
     }
 
 number_is : (n : ℕ) (bytes : List ℕ) → number_fault n bytes ≡ None → (number_at w64 12 bytes ≡ n) × (n ≤ LAST)
-number_is n bytes e =
-    let a = passes_both (number_at w64 12 bytes == n) (nat_le n LAST) (Number 12) e in
-    (eqb-true _ _ a.0, leb-true _ _ a.1)
+number_is n bytes e = grind (arith, passes_both)
 
 -- the bytes before the parts
 head_spelled : (g : Geometry) (bytes : List ℕ) → AreBytes bytes → IsHead g bytes →
@@ -83,11 +77,7 @@ pieces gate kind count len n body = gate ∷ kind ∷ 0 ∷ 0 ∷ [] ++ to_be_by
 pieces_spelled : (gate kind n : ℕ) (parts : List Run) (count len m : ℕ) (body : List ℕ) → length parts ≡ count → body_length parts ≡ len → m ≡ n → body ≡ flat_map part parts →
     pieces gate kind count len m body ≡ spell gate kind n parts
 unfolding spell
-pieces_spelled gate kind n parts count len m body many long number spelled =
-    ap (λ (k : ℕ). pieces gate kind k len m body) (sym many)
-    ∙ ap (λ (k : ℕ). pieces gate kind (length parts) k m body) (sym long)
-    ∙ ap (λ (k : ℕ). pieces gate kind (length parts) (body_length parts) k body) number
-    ∙ ap (λ (x : List ℕ). pieces gate kind (length parts) (body_length parts) n x) spelled
+pieces_spelled gate kind n parts count len m body many long number spelled = grind arith
 
 -- they are as many as they ask for
 pub window_fits : (g : Geometry) (n : ℕ) (bytes : List ℕ) → fault_of g n bytes ≡ None → 21 + number_at w32 8 bytes ≤ length bytes
@@ -176,7 +166,7 @@ told_free g kind n (x ∷ more) bytes t valid last known some runs =
     let f : ((count == 0) || nat_lt len (9 * count)) ≡ false = rw (ne_eqb count 0 many) (le-ltb len (9 * count) (omega (arith, t.count, t.body, nine))) in
     let head : head_fault g bytes ≡ None = six_pass _ _ _ _ _ _ (Short 0) (Short 8) (Kind 1) (NotZero 2) (NotZero 3) (Count 4) a b c d e f in
     let body : parts_fault g None 20 count (body_of bytes) ≡ None =
-    ap (λ (k : ℕ). parts_fault g None 20 k (body_of bytes)) t.count ∙ ap (parts_fault g None 20 (length parts)) t.parts ∙ parts_again g None 20 x more (bounded g valid) runs refl in
+    ap (λ (k : ℕ). parts_fault g None 20 k (body_of bytes)) t.count ∙ ap (parts_fault g None 20 (length parts)) t.parts ∙ parts_again g None 20 x more (limits g valid) runs refl in
     let both : ((number_at w64 12 bytes == n) && nat_le n LAST) ≡ true = and_from _ _ (eq-eqb _ _ t.number) (le-leb n LAST last) in
     let number : number_fault n bytes ≡ None = ap (λ (z : Bool). cond z None (Some (Number 12))) both in
     ap (λ (o : Option FormatError). or_else o (or_else (parts_fault g None 20 count (body_of bytes)) (number_fault n bytes))) head
@@ -186,7 +176,7 @@ told_recorded : (g : Geometry) (kind n : ℕ) (parts : List Run) (bytes : List �
     recorded bytes ≡ record { number = n; kind = kind; parts = parts }
 told_recorded g kind n parts bytes t valid runs =
     let again : runs_of (number_at w32 4 bytes) (body_of bytes) ≡ parts =
-    ap (λ (k : ℕ). runs_of k (body_of bytes)) t.count ∙ ap (runs_of (length parts)) t.parts ∙ runs_again g parts (bounded g valid) runs in
+    ap (λ (k : ℕ). runs_of k (body_of bytes)) t.count ∙ ap (runs_of (length parts)) t.parts ∙ runs_again g parts (limits g valid) runs in
     rw (t.number, t.kind, again) refl
 
 -- what the bytes begin with is read

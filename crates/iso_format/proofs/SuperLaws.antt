@@ -1,5 +1,5 @@
 -- A superblock is read exactly as it is written.
-use Rattle.iso_format.proofs.{Words.{◌≡◌, ℕ, zero, suc, ◌+◌, ◌^◌, ◌<◌, ◌≤◌, Bool, true, false, ◌&&◌, ◌==◌, cond, not, nat_eq, nat_le, List, [], ◌∷◌, ◌++◌, Option, Some, None, Result, Ok, Err, IfOk, length, get_or, take, drop, replicate, IsTrue, codes, refl, ap, ◌∙◌, sym, subst, arith, eqb-true, leb-true, and_parts, and_from, take_all, from_be_bytes-to_be_bytes_4, w32, to_be_bytes, position_from, starts_with, Geometry, Mode, Serial, Snapshot, is_valid, is_block_size, is_region, superblock, mode_byte, SuperError, NotIsotope, number_at, are_zero, mode_of, geometry_of, has_regions, wrong_field, unless_wrong, super_of, AreBytes}, Parts.block_fits, Pieces.{grow, spelled_32, one_at, zeros_at, same_bytes}}
+use Rattle.iso_format.proofs.{Words.{limits, tests_passed, ◌≡◌, ℕ, ◌^◌, ◌<◌, ◌≤◌, Bool, true, false, ◌&&◌, ◌==◌, cond, not, nat_eq, nat_le, List, [], ◌∷◌, ◌++◌, Option, Some, None, Result, Ok, Err, IfOk, length, get_or, take, drop, replicate, IsTrue, codes, refl, ap, ◌∙◌, sym, subst, arith, eqb-true, leb-true, and_parts, and_from, take_all, from_be_bytes-to_be_bytes_4, w32, to_be_bytes, position_from, starts_with, Geometry, Mode, is_valid, is_block_size, superblock, mode_byte, SuperError, NotIsotope, number_at, are_zero, mode_of, geometry_of, has_regions, wrong_field, unless_wrong, super_of, AreBytes}, Pieces.{grow, spelled_32, one_at, zeros_at, same_bytes}}
 
 -- the limits of a valid geometry, as a superblock is tested for them
 pub record IsWithin (g : Geometry) : Type 0 where
@@ -9,45 +9,27 @@ pub record IsWithin (g : Geometry) : Type 0 where
   pub regions : IsTrue (has_regions g)
 
 pub within : (g : Geometry) → IsTrue (is_valid g) → IsWithin g
-unfolding is_valid
 within g h =
-    let form = and_parts _ _ h in
-    let some_form = and_parts _ _ form.0 in
-    let sum = and_parts _ _ some_form.0 in
-    let tree = and_parts _ _ sum.0 in
-    let hash = and_parts _ _ tree.0 in
-    let log = and_parts _ _ hash.0 in
-    let some_log = and_parts _ _ log.0 in
-    let blocks = and_parts _ _ some_log.0 in
-    let some = and_parts _ _ blocks.0 in
+    let passed = tests_passed g h in
     record {
-      block = some.0;
-      blocks = and_from _ _ some.1 blocks.1;
-      log = and_from _ _ some_log.1 log.1;
-      regions = and_from _ _ (and_from _ _ hash.1 tree.1) sum.1;
+      block = passed.block;
+      blocks = and_from _ _ passed.some_blocks passed.most_blocks;
+      log = and_from _ _ passed.least_log passed.largest_log;
+      regions = and_from _ _ (and_from _ _ passed.hash passed.tree) passed.regions;
     }
 
 pub is_within : (g : Geometry) → IsWithin g → g.form ≡ 1 → IsTrue (is_valid g)
 unfolding is_valid
-is_within g w form =
-    let blocks = and_parts (nat_le 1 g.blocks) (nat_le g.blocks 16384) w.blocks in
-    let log = and_parts (nat_le 64 g.log) (nat_le g.log 67108864) w.log in
-    let regions = and_parts (is_region g 3 g.hash && is_region g 2 g.tree) (nat_le (g.hash + g.tree) g.blocks) w.regions in
-    let stores = and_parts (is_region g 3 g.hash) (is_region g 2 g.tree) regions.0 in
-    and_from _ _ (and_from _ _ (and_from _ _ (and_from _ _ (and_from _ _ (and_from _ _ (and_from _ _ (and_from _ _ (and_from _ _ w.block blocks.0) blocks.1) log.0) log.1) stores.0) stores.1) regions.1)
-    (rw form refl)) (rw form refl)
+is_within g w form = grind arith
 
 mode_of-mode_byte : (m : Mode) → mode_of (mode_byte m) ≡ m
-mode_of-mode_byte Serial = refl
-mode_of-mode_byte Snapshot = refl
+mode_of-mode_byte m = grind arith
 
 mode_byte-le : (m : Mode) → IsTrue (nat_le (mode_byte m) 1)
-mode_byte-le Serial = refl
-mode_byte-le Snapshot = refl
+mode_byte-le m = grind arith
 
 mode_byte-mode_of : (b : ℕ) → b ≤ 1 → mode_byte (mode_of b) ≡ b
-mode_byte-mode_of zero h = refl
-mode_byte-mode_of (suc b) h = omega arith
+mode_byte-mode_of b h = grind arith
 
 none_wrong : (a b c d e f h : Bool) → IsTrue a → IsTrue b → IsTrue c → IsTrue d → IsTrue e → IsTrue f → IsTrue h →
     position_from not 1 (a ∷ b ∷ c ∷ d ∷ e ∷ f ∷ h ∷ []) ≡ None
@@ -69,23 +51,16 @@ all_right false b c d e f h n = absurd cc
 told_again : (g : Geometry) → g.block < 2 ^ 32 → g.blocks < 2 ^ 32 → g.log < 2 ^ 32 → g.hash < 2 ^ 32 → g.tree < 2 ^ 32 →
     geometry_of (superblock 1 g) ≡ record g { form = 1 }
 unfolding superblock
-told_again g block blocks log hash tree =
-    rw (from_be_bytes-to_be_bytes_4 g.block block, from_be_bytes-to_be_bytes_4 g.blocks blocks, from_be_bytes-to_be_bytes_4 g.log log, from_be_bytes-to_be_bytes_4 g.hash hash, from_be_bytes-to_be_bytes_4 g.tree tree, mode_of-mode_byte g.mode) refl
+told_again g block blocks log hash tree = grind (arith, from_be_bytes-to_be_bytes_4, mode_of-mode_byte)
 
 -- what spells a valid geometry is read, but for its form
 pub super_again : (g : Geometry) → IsTrue (is_valid g) → super_of (superblock 1 g) ≡ Ok (record g { form = 1 })
 unfolding super_of superblock
 super_again g valid =
     let w = within g valid in
-    let size = block_fits g.block w.block in
-    let blocks = and_parts (nat_le 1 g.blocks) (nat_le g.blocks 16384) w.blocks in
-    let log = and_parts (nat_le 64 g.log) (nat_le g.log 67108864) w.log in
-    let most_blocks : g.blocks ≤ 16384 = leb-true g.blocks 16384 blocks.1 in
-    let most_log : g.log ≤ 67108864 = leb-true g.log 67108864 log.1 in
-    let sum = and_parts (is_region g 3 g.hash && is_region g 2 g.tree) (nat_le (g.hash + g.tree) g.blocks) w.regions in
-    let most : g.hash + g.tree ≤ g.blocks = leb-true (g.hash + g.tree) g.blocks sum.1 in
+    let l = limits g valid in
     let made : Geometry = record g { form = 1 } in
-    let told : geometry_of (superblock 1 g) ≡ made = told_again g (omega arith) (omega arith) (omega arith) (omega arith) (omega arith) in
+    let told : geometry_of (superblock 1 g) ≡ made = told_again g (omega (arith, l.largest_block)) (omega (arith, l.most_blocks)) (omega (arith, l.largest_log)) (omega (arith, l.regions, l.most_blocks)) (omega (arith, l.regions, l.most_blocks)) in
     let right : wrong_field (superblock 1 g) made ≡ None =
     none_wrong true (is_block_size g.block) (nat_le 1 g.blocks && nat_le g.blocks 16384) (nat_le 64 g.log && nat_le g.log 67108864) (nat_le (mode_byte g.mode) 1) true (has_regions g)
     refl w.block w.blocks w.log (mode_byte-le g.mode) refl w.regions in

@@ -1,5 +1,5 @@
 -- A record says the same on its own bytes and one more as on all that follow.
-use Rattle.iso_format.proofs.Words.{◌≡◌, ◌<◌, ◌≤◌, ◌+◌, ◌-◌, ◌*◌, ◌==◌, ◌||◌, ◌&&◌, not, cond, ℕ, List, length, take, drop, get_or, Some, None, nat_lt, nat_le, refl, sym, ◌∙◌, ap, arith, from_be_bytes, w32, w64, lt-ltb, le-ltb, drop-take, take-take, get_or-take, length-take-le, Geometry, LAST, or_else, Short, Kind, NotZero, Count, Number, number_at, fault_of, parts_fault, body_of, is_kind, record_window, recorded, runs_of}
+use Rattle.iso_format.proofs.Words.{◌≡◌, ◌<◌, ◌≤◌, ◌+◌, ◌-◌, ◌*◌, ◌==◌, ◌||◌, ◌&&◌, not, cond, ℕ, List, length, take, drop, get_or, Some, None, nat_lt, nat_le, refl, sym, ◌∙◌, ap, arith, from_be_bytes, w32, w64, lt-ltb, le-ltb, drop-take, take-take, get_or-take, length-take-le, Geometry, LAST, or_else, Short, Kind, NotZero, Count, Number, number_at, fault_of, parts_fault, body_of, is_kind, record_window, recorded}
 
 -- a slice of the front
 slice_front : (k at n : ℕ) (bytes : List ℕ) → at + n ≤ k → take n (drop at (take k bytes)) ≡ take n (drop at bytes)
@@ -48,9 +48,7 @@ fault_front g n bytes k is inside =
     (or_else (parts_fault g None 20 (same.count i) (same.body i)) (cond ((same.number i == n) && nat_le n LAST) None (Some (Number 12))))
 
 pub recorded_front : (bytes : List ℕ) (k : ℕ) → record_window bytes ≤ k → recorded (take k bytes) ≡ recorded bytes
-recorded_front bytes k is =
-    let same = same_fields k bytes is in
-    λ i. record { number = same.number i; kind = same.kind i; parts = runs_of (same.count i) (same.body i) }
+recorded_front bytes k is = grind (arith, same_fields)
 
 pub short_head : (g : Geometry) (n : ℕ) (bytes : List ℕ) → length bytes < 20 → fault_of g n bytes ≡ Some (Short 0)
 unfolding fault_of

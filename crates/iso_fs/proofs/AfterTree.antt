@@ -1,5 +1,5 @@
 -- What a call of the file store does behind a call of the tree store, and behind the read of a file block.
-use Rattle.iso_fs.proofs.Words.{◌≡◌, ◌∙◌, sym, refl, ap, subst, ℕ, ◌+◌, true, cond, List, ◌++◌, Option, Some, None, Result, Ok, Err, get, Access, Area, StoreError, Array, own, is_key, AreReads, LookWhole, Program, accesses_of, answer_of, then_do, get_program, IsTreeRegion, tree_map, AreWhole, accesses_then, answer_then, own_reads, reads_append, whole_reads, own_append, whole_append, get_answers, get_reads, cond_reads, FileAreas, is_file, is_number, number_of, Call, at_file, broken, goes_on, in_tree, with_file, AreFileRegions, file_at}
+use Rattle.iso_fs.proofs.Words.{arith, ◌≡◌, ◌∙◌, ap, ℕ, true, List, ◌++◌, Option, Some, None, Result, get, Access, Area, StoreError, Array, own, is_key, AreReads, Program, accesses_of, answer_of, then_do, get_program, IsTreeRegion, tree_map, AreWhole, accesses_then, answer_then, own_reads, reads_append, whole_reads, own_append, whole_append, get_answers, get_reads, cond_reads, FileAreas, is_file, is_number, number_of, Call, at_file, goes_on, in_tree, with_file, AreFileRegions, file_at}
 
 -- what a program leaves, and then what follows it
 pub own_then : {R S : Type 0} (p : Program R) (f : R → Program S) (A : Array)
@@ -38,14 +38,10 @@ module _ {Y : Type 0} (a : Area) (A : Array) (name : List ℕ) (next : Option (L
   accesses_any = accesses_then (get_program a name) (goes_on next) A ∙ ap (λ (B : Array). gets ++ accesses_of (goes_on next result) B) (own_reads A gets (get_reads a name A))
 
   pub reads_behind_get : ((o : Option (List ℕ)) → AreReads (accesses_of (next o) A)) → AreReads (accesses_of (in_tree (get_program a name) next) A)
-  reads_behind_get each =
-      subst AreReads (sym accesses_any) (reads_append gets (accesses_of (goes_on next result) A) (get_reads a name A)
-      (elim result as (λ r. AreReads (accesses_of (goes_on next r) A)) [ Ok o ↦ each o | Err e ↦ tt ]))
+  reads_behind_get each = grind (arith, accesses_any, reads_append, get_reads) steps 100000
 
   pub whole_behind_get : ((o : Option (List ℕ)) → AreWhole A (accesses_of (next o) A)) → AreWhole A (accesses_of (in_tree (get_program a name) next) A)
-  whole_behind_get each =
-      subst (AreWhole A) (sym accesses_any) (whole_append A gets (accesses_of (goes_on next result) A) (whole_reads A gets (get_reads a name A))
-      (elim result as (λ r. AreWhole A (accesses_of (goes_on next r) A)) [ Ok o ↦ each o | Err e ↦ tt ]))
+  whole_behind_get each = grind (arith, accesses_any, whole_append, whole_reads, get_reads) steps 100000
 
 -- behind the read of a file block, where the regions are well formed
 module _ {Y : Type 0} (a : FileAreas) (A : Array) (regions : AreFileRegions a A) (name value : List ℕ) (named : get (tree_map a.tree A) name ≡ Some value) (next : ℕ → List ℕ → Call Y) where
@@ -62,16 +58,13 @@ module _ {Y : Type 0} (a : FileAreas) (A : Array) (regions : AreFileRegions a A)
   good_file = regions.files name number (ap (Rattle.std.proofs.Common.option_map number_of) named)
 
   pub answer_at_file : answer_of (with_file a next value) A ≡ answer_of (next number file) A
-  answer_at_file = (λ i. answer_of (cond (good_number i) (LookWhole (a.files.start + number) (λ bytes. cond (is_file a.files bytes) (next number bytes) (broken (a.files.start + number)))) (broken a.tree.start)) A)
-      ∙ (λ i. answer_of (cond (good_file i) (next number file) (broken (a.files.start + number))) A)
+  answer_at_file = grind (arith, good_number, good_file) steps 100000
 
   pub own_at_file : own A (accesses_of (with_file a next value) A) ≡ own A (accesses_of (next number file) A)
-  own_at_file = (λ i. own A (accesses_of (cond (good_number i) (LookWhole (a.files.start + number) (λ bytes. cond (is_file a.files bytes) (next number bytes) (broken (a.files.start + number)))) (broken a.tree.start)) A))
-      ∙ (λ i. own A (accesses_of (cond (good_file i) (next number file) (broken (a.files.start + number))) A))
+  own_at_file = grind (arith, good_number, good_file) steps 100000
 
 -- the same of reads, on whatever array
 pub reads_behind_file : {Y : Type 0} (a : FileAreas) (A : Array) (none : Y) (next : ℕ → List ℕ → Call Y) → ((number : ℕ) (file : List ℕ) → AreReads (accesses_of (next number file) A))
     → (o : Option (List ℕ)) → AreReads (accesses_of (at_file a none next o) A)
 reads_behind_file a A none next each None = tt
-reads_behind_file a A none next each (Some value) =
-    cond_reads (is_number a.files value) _ _ A (refl, cond_reads (is_file a.files (file_at a A (number_of value))) _ _ A (each (number_of value) (file_at a A (number_of value))) tt) tt
+reads_behind_file a A none next each (Some value) = grind (arith, cond_reads) steps 100000

@@ -77,10 +77,9 @@ module _ (a : FileAreas) (areas : AreFileAreas a) (A : Array) (shape : HaveBlock
   at_whole (Some k) is =
       let p = put_program a.tree name (to_be_bytes w32 k) in
       let bytes = bytes_in (map_mark a.files.blocks) (block_at A a.files.start) in
-      let high = (is_free a.files (block_at A a.files.start) k areas.least is).high in
       subst (AreWhole A) (sym (accesses_then p (goes_on (writes a bytes k)) A))
       (whole_append A (accesses_of p A) (accesses_of (goes_on (writes a bytes k) (answer_of p A)) (own A (accesses_of p A))) (put_whole a.tree areas.tree A shape.tree name (to_be_bytes w32 k) key refl)
-      (writes_whole k high bytes (answer_of p A) (own A (accesses_of p A))))
+      (writes_whole k ((is_free a.files (block_at A a.files.start) k areas.least is).high) bytes (answer_of p A) (own A (accesses_of p A))))
 
   new_whole : (o : Option (List ℕ)) → AreWhole A (accesses_of (create_new a name o) A)
   new_whole (Some value) = tt

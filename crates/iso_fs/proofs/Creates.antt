@@ -70,9 +70,7 @@ module _ (a : FileAreas) (areas : AreFileAreas a) (A : Array) (regions : AreFile
   first_B = ap (block_at B) (sym zero_start) ∙ file_B 0 ∙ ap (block_at A) zero_start
 
   tree_C : (b : ℕ) → in_area a.tree b ≡ true → block_at C b ≡ block_at B b
-  tree_C b inside =
-      other_block (put B w1) w2 b (λ e. both_ways (in_area a.tree b) (ap (in_area a.tree) e ∙ file_out k) inside)
-      ∙ other_block B w1 b (λ e. both_ways (in_area a.tree b) (ap (in_area a.tree) e ∙ start_out) inside)
+  tree_C b inside = grind (arith, other_block, file_out, start_out) steps 100000
 
   region_C : IsTreeRegion a.tree C
   region_C = region_new a.tree B C areas.tree tree_C region_B
@@ -86,24 +84,19 @@ module _ (a : FileAreas) (areas : AreFileAreas a) (A : Array) (regions : AreFile
 
   new_C : file_at a C k ≡ empty_file size
   new_C =
-      let high = free.high in
       written_block (put B w1) w2
       ∙ laid_whole (block_at (put B w1) (start + k)) (empty_file size)
       (length-empty_file size (let s = size_some in omega arith)
-      ∙ sym (length-block_put B w1 (start + k) ∙ length-block_own A (accesses_of (put_program a.tree name value) A) (start + k) ∙ regions.shape k high))
+      ∙ sym (length-block_put B w1 (start + k) ∙ length-block_own A (accesses_of (put_program a.tree name value) A) (start + k) ∙ regions.shape k free.high))
 
   other_C : (j : ℕ) → 1 ≤ j → j ≢ k → file_at a C j ≡ file_at a A j
-  other_C j some other =
-      other_block (put B w1) w2 (start + j) (λ e. other (omega arith))
-      ∙ other_block B w1 (start + j) (λ e. absurd (omega arith))
-      ∙ file_B j
+  other_C j some other = grind (arith, other_block, file_B) steps 100000
 
   first_long : length F ≡ size
   first_long = ap (λ (b : ℕ). length (block_at A b)) (sym zero_start) ∙ regions.shape 0 (let l = areas.least in omega arith)
 
   first_C : block_at C start ≡ merged (bit_mark k ∷ []) 0 F (block_with (length F) (bit_place k) (x ∷ []))
   first_C =
-      let low = free.low in
       other_block (put B w1) w2 start (λ e. absurd (omega arith))
       ∙ written_block B w1
       ∙ (λ i. merged (bit_mark k ∷ []) 0 (first_B i) (block_with (sym first_long i) (bit_place k) (x ∷ [])))
@@ -143,8 +136,7 @@ module _ (a : FileAreas) (areas : AreFileAreas a) (A : Array) (regions : AreFile
   new_uses : (q : List ℕ) (place block : ℕ) → q ≡ name → Uses a C q place block → IsNew q place block
   new_uses q place block same uses =
       let number : uses.number ≡ k = same_some uses.number k (sym uses.named ∙ ap (number_at a C) same ∙ number_same) in
-      let file : file_at a C uses.number ≡ empty_file size = ap (file_at a C) number ∙ new_C in
-      let none : data_count size (file_at a C uses.number) ≡ 0 = ap (data_count size) file ∙ no_data_of size (let s = size_some in omega arith) in
+      let none : data_count size (file_at a C uses.number) ≡ 0 = ap (data_count size) (ap (file_at a C) number ∙ new_C) ∙ no_data_of size (let s = size_some in omega arith) in
       let at : place ≡ 0 = (let inside = uses.inside in omega arith) in
       record { at_name = same; at_place = at; at_block = sym uses.is ∙ ap (block_in uses.number (file_at a C uses.number)) at ∙ number }
 
@@ -176,8 +168,6 @@ module _ (a : FileAreas) (areas : AreFileAreas a) (A : Array) (regions : AreFile
   named_C q v e = elim (cases_Bool (same_name q name)) [
     | inl same ↦
         (let is : v ≡ value = same_value v value (sym e ∙ ap (get (tree_map a.tree C)) (name_is q name same) ∙ get_same) in
-        let low = free.low in
-        let high = free.high in
         ap (is_number a.files) is ∙ ap (λ (n : ℕ). Rattle.store_model.specs.FileNodes.is_handed a.files.blocks n) number_is ∙ grind (arith, nat_tests))
     | inr other ↦ regions.named q v (sym (get_other q other) ∙ e)
   ]
@@ -205,13 +195,7 @@ module _ (a : FileAreas) (areas : AreFileAreas a) (A : Array) (regions : AreFile
   ]
 
   bits_are : (j : ℕ) → map_bit (block_at C start) j ≡ ((j == k) || map_bit F j)
-  bits_are j =
-      let high = free.high in
-      let most = areas.most in
-      let fits : bit_place k + 1 ≤ length F = omega (arith, first_long) in
-      ap (λ (m : List ℕ). map_bit m j) first_C
-      ∙ bits_with F (merged (bit_mark k ∷ []) 0 F (block_with (length F) (bit_place k) (x ∷ []))) k
-      (byte_here F k x fits ∙ ap (λ (n : ℕ). set_bit n k) (map_byte a.files F k high)) (byte_far F k x fits) j
+  bits_are j = grind (arith, first_long, first_C, bits_with, byte_here, map_byte, byte_far) steps 100000
 
   used_C : (j : ℕ) → j < 8 * map_bytes a.files.blocks → map_bit (block_at C start) j ≡ true → IsUsed a C j
   used_C j below set = elim (cases_eq j k) [
@@ -238,7 +222,6 @@ module _ (a : FileAreas) (areas : AreFileAreas a) (A : Array) (regions : AreFile
     bits = λ j below. (used_C j below, set_C j below);
     head =
         (let high = free.high in
-        let most = areas.most in
         ap (λ (m : List ℕ). list_all is_zero (take 64 m)) first_C ∙ ap (list_all is_zero) (head_far F k x (omega (arith, first_long))) ∙ regions.head);
   }
 

@@ -25,8 +25,7 @@ run_as p q t u result e run = subst (λ (r : Call _). HasRun r t u result) (sym 
 pub has_then : {R S : Type 0} (p : Program R) (f : R → Program S) → HasAccess p → HasAccess (then_do p f)
 has_then p f has = λ A.
     let rest = accesses_of (f (answer_of p A)) (own A (accesses_of p A)) in
-    let long : length (accesses_of (then_do p f) A) ≡ length (accesses_of p A) + length rest = ap (λ xs. length xs) (accesses_then p f A) ∙ length-append (accesses_of p A) rest in
-    omega (arith, long, has A)
+    omega (arith, (ap (λ xs. length xs) (accesses_then p f A) ∙ length-append (accesses_of p A) rest), has A)
 
 module _ {X Y : Type 0} (whole : Call Y) (p : Program (Result X StoreError)) (next : X → Call Y) (t u v : Tx) (now : IsAt whole (in_tree p next) t u) where
   -- a call of the tree store was answered
@@ -75,13 +74,7 @@ behaves_after t u v writes before mid now (Err e) read later passed is = record 
 pub behaves_behind : {R : Type 0} {late : Bool} (t u v : Tx) (writes : ℕ) (before mid now : Device) (result : Result R FsError) → IfErr result (λ e. may_follow late e ≡ true) → IsLater before mid → mid.faults ≡ before.faults
     → FsBehaves late u v writes mid now result → FsBehaves late t v writes before now result
 behaves_behind t u v writes before mid now (Ok x) follows later passed is = record { cause = tt; unwritten = tt; known = tt; later = later_than before mid now later is.later; passed = is.passed ∙ passed }
-behaves_behind t u v writes before mid now (Err e) follows later passed is = record {
-  cause = fs_since v writes writes before mid now e (omega arith) passed is.cause;
-  unwritten = λ other. absurd (false≢true (sym other ∙ follows));
-  known = is.known;
-  later = later_than before mid now later is.later;
-  passed = tt;
-}
+behaves_behind t u v writes before mid now (Err e) follows later passed is = grind (arith, fs_since, later_than) steps 100000
 
 -- a refusal of an access
 pub refused_access : {R : Type 0} {late : Bool} (t v : Tx) (writes : ℕ) (before now : Device) (e : TxError) → 1 ≤ writes → IsCause v 1 before now e → IsLater before now → FsBehaves {R = R} late t v writes before now (Err (fs.Store (store.Tx e)))

@@ -1,5 +1,5 @@
 -- Where a file call answers that a file exists.
-use Rattle.iso_fs.proofs.{Words.{◌≡◌, ◌∙◌, ◌↔◌, sym, refl, ap, ℕ, ◌-◌, Bool, true, false, ◌&&◌, cond, IsTrue, List, Option, Some, None, option_map, Result, Ok, Err, is_some, get, w32, to_be_bytes, and_parts, Array, own, StoreError, FsError, FileAreas, bit_place, lowest_free, map_mark, set_bit, is_key, block_at, Done, accesses_of, answer_of, bytes_in, del_program, get_program, put_program, tree_map, number_of, Call, create_at, create_new, create_program, empty_writes, goes_on, in_tree, refuse, rename_found, rename_free, rename_program, AreFileRegions, content, files, Tx, room_of, outcome_whole, answer_then, ExistsWhere, HasAnswered, HasRun}, AfterTree.answer_got, Lookups.files_get}
+use Rattle.iso_fs.proofs.{Words.{arith, ◌≡◌, ◌∙◌, ◌↔◌, sym, refl, ap, ℕ, Bool, true, false, ◌&&◌, cond, IsTrue, List, Option, Some, None, option_map, Result, Ok, Err, is_some, get, and_parts, Array, own, StoreError, FsError, FileAreas, is_key, Done, answer_of, del_program, get_program, tree_map, number_of, Call, create_at, create_new, create_program, empty_writes, goes_on, in_tree, refuse, rename_found, rename_free, rename_program, AreFileRegions, content, files, Tx, room_of, outcome_whole, answer_then, ExistsWhere, HasAnswered, HasRun}, AfterTree.answer_got, Lookups.files_get}
 use Rattle.store_model.specs.declared.stores.StoreError.TheVariants as store
 use Rattle.store_model.specs.declared.files.FsError.TheVariants as fs
 
@@ -40,17 +40,11 @@ made_tells a k byte B (Err e) = ((λ is. cc), λ is. cc)
 
 at_tells : (a : FileAreas) (name first : List ℕ) (A : Array) (o : Option ℕ) → Tells (answer_of (create_at a name first o) A) false
 at_tells a name first A None = ((λ is. cc), λ is. cc)
-at_tells a name first A (Some k) =
-    let p = put_program a.tree name (to_be_bytes w32 k) in
-    let byte = set_bit (Rattle.std.specs.Prelude.slice_index first (bit_place k)) k in
-    let told = made_tells a k byte (own A (accesses_of p A)) (answer_of p A) in
-    ((λ is. told.0 (sym (answer_then p (goes_on (λ put. empty_writes a k byte)) A) ∙ is)), λ is. cc)
+at_tells a name first A (Some k) = grind (arith, made_tells, answer_then) steps 100000
 
 new_tells : (a : FileAreas) (name : List ℕ) (A : Array) (o : Option (List ℕ)) → Tells (answer_of (create_new a name o) A) (is_some o)
 new_tells a name A (Some value) = exists_so
-new_tells a name A None =
-    let first = bytes_in (map_mark a.files.blocks) (block_at A a.files.start) in
-    at_tells a name first A (lowest_free first 1 (a.files.blocks - 1))
+new_tells a name A None = grind (arith, at_tells) steps 100000
 
 create_tells : (a : FileAreas) (name : List ℕ) (A : Array) → AreFileRegions a A → is_key name ≡ true → Tells (answer_of (create_program a name) A) (is_some (get (files a A) name))
 unfolding create_program
@@ -82,17 +76,11 @@ moved a old put = in_tree (del_program a.tree old) last
 
 put_tells : (a : FileAreas) (old : List ℕ) (B : Array) (result : Result (Unit {0}) StoreError) → Tells (answer_of (goes_on (moved a old) result) B) false
 put_tells a old B (Err e) = ((λ is. cc), λ is. cc)
-put_tells a old B (Ok u) =
-    let p = del_program a.tree old in
-    let told = del_tells (own B (accesses_of p B)) (answer_of p B) in
-    ((λ is. told.0 (sym (answer_then p (goes_on last) B) ∙ is)), λ is. cc)
+put_tells a old B (Ok u) = grind (arith, del_tells, answer_then) steps 100000
 
 free_tells : (a : FileAreas) (old new value : List ℕ) (A : Array) (o : Option (List ℕ)) → Tells (answer_of (rename_free a old new value o) A) (is_some o)
 free_tells a old new value A (Some other) = exists_so
-free_tells a old new value A None =
-    let p = put_program a.tree new value in
-    let told = put_tells a old (own A (accesses_of p A)) (answer_of p A) in
-    ((λ is. told.0 (sym (answer_then p (goes_on (moved a old)) A) ∙ is)), λ is. cc)
+free_tells a old new value A None = grind (arith, put_tells, answer_then) steps 100000
 
 module _ (a : FileAreas) (old new : List ℕ) (A : Array) (regions : AreFileRegions a A) (old_key : is_key old ≡ true) (new_key : is_key new ≡ true) where
   found_tells : (o : Option (List ℕ)) → Tells (answer_of (rename_found a old new o) A) (is_some o && is_some (get (tree_map a.tree A) new))
@@ -109,9 +97,7 @@ module _ (a : FileAreas) (old new : List ℕ) (A : Array) (regions : AreFileRegi
       let o = get (tree_map a.tree A) old in
       let answer : answer_of (call (is_key old && is_key new)) A ≡ answer_of (rename_found a old new o) A =
       (λ i. answer_of (call (keys i)) A) ∙ answer_got a.tree A regions.tree old old_key (rename_found a old new) in
-      let one = there_is a A old o refl in
-      let two = there_is a A new (get (tree_map a.tree A) new) refl in
-      let there : (is_some (get (files a A) old) && is_some (get (files a A) new)) ≡ (is_some o && is_some (get (tree_map a.tree A) new)) = λ i. one i && two i in
+      let there : (is_some (get (files a A) old) && is_some (get (files a A) new)) ≡ (is_some o && is_some (get (tree_map a.tree A) new)) = λ i. (there_is a A old o refl) i && (there_is a A new (get (tree_map a.tree A) new) refl) i in
       let told = found_tells o in
       ((λ is. there ∙ told.0 (sym answer ∙ is)), λ is. answer ∙ told.1 (sym there ∙ is))
 

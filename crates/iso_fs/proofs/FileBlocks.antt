@@ -1,5 +1,5 @@
 -- The bytes of a file block, and the numbers of a list by their places.
-use Rattle.iso_fs.proofs.Words.{◌≡◌, ◌∙◌, sym, refl, ap, subst, ℕ, zero, suc, ◌+◌, ◌-◌, ◌*◌, ◌^◌, ◌<◌, ◌≤◌, ◌&&◌, Bool, true, List, [], ◌∷◌, ◌++◌, length, get_or, take, drop, replicate, nat_le, arith, inl, inr, list_all, flat_map, w32, to_be_bytes, from_be_bytes, and_from, nat_tests, drop-drop, drop_at, length-replicate, length-append, from_be_bytes-to_be_bytes_4, Area, all_from, is_zero, IsIn, IsApart, zeros_are, are_entries, blocks_for, bytes_of, data_count, entry_at, file_block, has_zeros, is_file, is_handed, most_bytes}
+use Rattle.iso_fs.proofs.Words.{◌≡◌, ◌∙◌, sym, refl, ap, subst, ℕ, zero, suc, ◌+◌, ◌-◌, ◌*◌, ◌^◌, ◌<◌, ◌≤◌, Bool, true, List, [], ◌∷◌, ◌++◌, length, get_or, take, drop, replicate, arith, inl, inr, list_all, flat_map, w32, to_be_bytes, from_be_bytes, and_from, drop-drop, drop_at, length-replicate, length-append, from_be_bytes-to_be_bytes_4, Area, all_from, is_zero, IsIn, IsApart, zeros_are, blocks_for, bytes_of, data_count, entry_at, file_block, has_zeros, is_file, is_handed, most_bytes}
 
 four : (e : ℕ) → length (to_be_bytes w32 e) ≡ 4
 four e = refl
@@ -54,13 +54,7 @@ module _ (size bytes : ℕ) (es : List ℕ) (fits : 64 + 4 * length es ≤ size)
 
   pub block_is_file : (a : Area) → a.size ≡ size → bytes ≤ most_bytes size → blocks_for size bytes ≡ length es → ((i : ℕ) → i < length es → (get_or es i 0 < 2 ^ 32) × (is_handed a.blocks (get_or es i 0) ≡ true)) → is_file a (file_block size bytes es) ≡ true
   unfolding is_file
-  block_is_file a same few count each =
-      let low : nat_le (bytes_of block) (most_bytes a.size) ≡ true = (λ i. nat_le (block_bytes i) (most_bytes (same i))) ∙ (let t : nat_le bytes (most_bytes size) ≡ true = grind (arith, nat_tests) in t) in
-      let counted : data_count a.size block ≡ length es = ap (λ (n : ℕ). data_count n block) same ∙ block_count count in
-      let entries : are_entries a.blocks block (length es) ≡ true = all_pass (λ i. is_handed a.blocks (entry_at block i)) 0 (length es)
-      (λ i from to. let e = each i (omega arith) in ap (is_handed a.blocks) (block_entry i (omega arith) e.0) ∙ e.1) in
-      and_from _ _ (and_from _ _ refl low)
-      ((λ i. are_entries a.blocks block (counted i) && has_zeros block (counted i)) ∙ and_from (are_entries a.blocks block (length es)) (has_zeros block (length es)) entries block_zeros)
+  block_is_file a same few count each = grind (arith, block_bytes, block_count, all_pass, block_entry, block_zeros) steps 100000
 
 -- NUMBERS BY THEIR PLACES
 pub at_place : (xs : List ℕ) (k : ℕ) → IsIn k xs → (i : ℕ) × (i < length xs) × (get_or xs i 0 ≡ k)

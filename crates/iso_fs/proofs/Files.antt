@@ -1,5 +1,5 @@
 -- What the test of a file block says, and the blocks that a file uses.
-use Rattle.iso_fs.proofs.{Words.{◌≡◌, ◌⊎◌, ◌∙◌, sym, ap, ℕ, zero, suc, ◌+◌, ◌-◌, ◌*◌, ◌/◌, ◌<◌, ◌≤◌, ◌==◌, ◌&&◌, Bool, true, false, cond, List, nat_le, arith, inl, inr, nat_lt, slice_index, get, and_parts, cases_lt, leb-true, ltb-true, nat_tests, div-lt_iff_lt-mul, div-mul-le_self, le-div, Area, Array, tree_map, all_at, FileAreas, are_entries, blocks_for, bytes_of, data_count, entry_at, has_zeros, is_file, is_handed, most_bytes, AreFileRegions, Uses, file_at}, Lookups.names_by}
+use Rattle.iso_fs.proofs.{Words.{◌≡◌, ◌⊎◌, ◌∙◌, sym, ap, ℕ, zero, suc, ◌+◌, ◌-◌, ◌*◌, ◌/◌, ◌<◌, ◌≤◌, ◌==◌, ◌&&◌, true, false, List, nat_le, arith, nat_lt, slice_index, get, and_parts, leb-true, ltb-true, le-div, Area, Array, tree_map, all_at, FileAreas, are_entries, blocks_for, bytes_of, data_count, entry_at, has_zeros, is_file, is_handed, most_bytes, AreFileRegions, Uses, file_at}, Lookups.names_by}
 
 pub record FileParts (a : Area) (file : List ℕ) : Type 0 where
   pub few : bytes_of file ≤ most_bytes a.size
@@ -29,11 +29,7 @@ more_blocks q size = grind arith
 
 -- byte p of a file stands in one of its blocks
 pub place_below : (size bytes p : ℕ) → 0 < size → p < bytes → p / size < blocks_for size bytes
-place_below size bytes p some below =
-    let low = div-mul-le_self p size in
-    let sum : (p / size + 1) * size ≡ p / size * size + size = more_blocks (p / size) size in
-    let next : p / size + 1 ≤ blocks_for size bytes = le-div (p / size + 1) (bytes + (size - 1)) size some (omega (arith, low, sum)) in
-    omega arith
+place_below size bytes p some below = grind (arith, more_blocks, le-div) steps 100000
 
 pub entry_inside : (a : Area) (file : List ℕ) → FileParts a file → 0 < a.size → (p : ℕ) → p < bytes_of file → IsHanded a.blocks (entry_at file (p / a.size))
 entry_inside a file parts some p below = entry_handed a file parts (p / a.size) (place_below a.size (bytes_of file) p some below)
@@ -42,12 +38,9 @@ entry_inside a file parts some p below = entry_handed a file parts (p / a.size) 
 pub uses_handed : (a : FileAreas) (A : Array) → AreFileRegions a A → (name : List ℕ) (place block : ℕ) → Uses a A name place block → IsHanded a.files.blocks block
 uses_handed a A regions name zero block uses =
     let by = names_by (get (tree_map a.tree A) name) uses.number uses.named in
-    let is = (and_parts _ _ (regions.named name by.value by.is)).1 in
-    handed_is a.files.blocks block (ap (is_handed a.files.blocks) (sym uses.is ∙ sym by.number_is) ∙ is)
+    handed_is a.files.blocks block (ap (is_handed a.files.blocks) (sym uses.is ∙ sym by.number_is) ∙ ((and_parts _ _ (regions.named name by.value by.is)).1))
 uses_handed a A regions name (suc i) block uses =
-    let parts = file_parts a.files (file_at a A uses.number) (regions.files name uses.number uses.named) in
-    let inside = uses.inside in
-    let is = entry_handed a.files (file_at a A uses.number) parts i (omega arith) in
+    let is = entry_handed a.files (file_at a A uses.number) (file_parts a.files (file_at a A uses.number) (regions.files name uses.number uses.named)) i (omega arith) in
     record { some = Rattle.std.proofs.Common.subst (λ (k : ℕ). 1 ≤ k) uses.is is.some; below = Rattle.std.proofs.Common.subst (λ (k : ℕ). k < a.files.blocks) uses.is is.below }
 
 -- the lesser of two numbers
@@ -57,12 +50,7 @@ pub record IsLeast (m n k : ℕ) : Type 0 where
   pub either : (k ≡ m) ⊎ (k ≡ n)
 
 pub least_is : (m n : ℕ) → IsLeast m n (Rattle.store_model.specs.FileCalls.least m n)
-least_is m n = elim (cases_lt m n) [
-  | inl less ↦ (let test : nat_lt m n ≡ true = grind (arith, nat_tests) in
-      let is : Rattle.store_model.specs.FileCalls.least m n ≡ m = ap (λ (t : Bool). cond t m n) test in record { first = omega arith; second = omega arith; either = inl is })
-  | inr more ↦ (let test : nat_lt m n ≡ false = grind (arith, nat_tests) in
-      let is : Rattle.store_model.specs.FileCalls.least m n ≡ n = ap (λ (t : Bool). cond t m n) test in record { first = omega arith; second = omega arith; either = inr is })
-]
+least_is m n = grind arith steps 100000
 
 -- THE TEST, STEP BY STEP
 pub file_is : (a : Area) (file : List ℕ) → (slice_index file 0 == 3) ≡ true → nat_le (bytes_of file) (most_bytes a.size) ≡ true
@@ -80,28 +68,14 @@ file_not_small a file kind large = λ i. (kind i && large i) && (are_entries a.b
 
 -- the numbers of a file have room in its block
 pub count_fits : (size bytes : ℕ) → 256 ≤ size → bytes ≤ most_bytes size → 64 + 4 * ((bytes + (size - 1)) / size) ≤ size
-count_fits size bytes least few =
-    let m = (size - 64) / 4 in
-    let sum : (m + 1) * size ≡ m * size + size = more_blocks m size in
-    let less : (bytes + (size - 1)) / size < m + 1 = (div-lt_iff_lt-mul {k = size} {x = bytes + (size - 1)} {y = m + 1} (omega arith)).1 (omega (arith, sum, few)) in
-    omega arith
+count_fits size bytes least few = grind (arith, more_blocks) steps 100000
 
 -- so many blocks have room for the bytes
 pub count_covers : (size bytes : ℕ) → 0 < size → bytes ≤ (bytes + (size - 1)) / size * size
-count_covers size bytes some =
-    let e = Rattle.std.proofs.lemmas.Nat.div-add-mod' (bytes + (size - 1)) size in
-    let m = Rattle.std.proofs.Math.Nat.mod-lt (bytes + (size - 1)) {m = size} some in
-    omega arith
+count_covers size bytes some = grind arith steps 100000
 
 pub count_mono : (size m n : ℕ) → 0 < size → m ≤ n → (m + (size - 1)) / size ≤ (n + (size - 1)) / size
-count_mono size m n some le =
-    let x = m + (size - 1) in
-    let y = n + (size - 1) in
-    let e = Rattle.std.proofs.lemmas.Nat.div-add-mod' y size in
-    let r = Rattle.std.proofs.Math.Nat.mod-lt y {m = size} some in
-    let sum = more_blocks (y / size) size in
-    let low : x / size < y / size + 1 = (div-lt_iff_lt-mul {k = size} {x = x} {y = y / size + 1} some).1 (omega arith) in
-    omega arith
+count_mono size m n some le = grind (arith, more_blocks) steps 100000
 
 pub data_fits : (a : Area) (file : List ℕ) → is_file a file ≡ true → 256 ≤ a.size → 64 + 4 * data_count a.size file ≤ a.size
 data_fits a file good least = count_fits a.size (bytes_of file) least (file_parts a file good).few

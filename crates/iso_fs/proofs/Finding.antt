@@ -72,11 +72,10 @@ module _ {Y : Type 0} (a : FileAreas) (name : List ℕ) (none : Y) (next : ℕ �
       → IsPart late writes (on_found none next (Ok x)) u v mid now result → IsPart late writes (in_tree (get_program a.tree name) (at_file a none next)) t v before now result
   found_part {writes = writes} {t = t} {u = u} {v = v} {before = before} {mid = mid} {now = now} {x = x} {result = result} found read part =
       let whole = then_do (find_program a name) (on_found none next) in
-      let b = found.behaves in
       record {
         run = run_as whole call t v result (sym find_then)
             (run_from whole (on_found none next (Ok x)) t u v result (at_then whole (find_program a name) (on_found none next) t t u (Ok x) (at_start whole t) found.run) part.run);
-        behaves = behaves_after t u v writes before mid now result read b.later b.passed part.behaves;
+        behaves = behaves_after t u v writes before mid now result read found.behaves.later found.behaves.passed part.behaves;
       }
 
   -- the look-up was refused

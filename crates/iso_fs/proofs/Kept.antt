@@ -1,5 +1,5 @@
 -- A file whose blocks stay has the same bytes.
-use Rattle.iso_fs.proofs.{Words.{◌≡◌, ◌∙◌, sym, refl, ap, subst, ℕ, zero, suc, ◌+◌, ◌/◌, ◌%◌, ◌<◌, ◌≤◌, List, ◌∷◌, get_or, map, Some, arith, range_with_len, Array, FileAreas, bytes_of, data_count, entry_at, Uses, block_in, content, file_at, file_byte, number_at}, Files.place_below, Lookups.same_some}
+use Rattle.iso_fs.proofs.{Words.{◌≡◌, ◌∙◌, refl, ap, ℕ, zero, suc, ◌+◌, ◌/◌, ◌%◌, ◌<◌, List, ◌∷◌, get_or, map, Some, arith, range_with_len, Array, FileAreas, bytes_of, entry_at, Uses, content, file_at, file_byte, number_at}, Files.place_below}
 
 pub same_bytes_by : (f g : ℕ → ℕ) (from n : ℕ) → ((p : ℕ) → p < from + n → f p ≡ g p) → map f (range_with_len from n) ≡ map g (range_with_len from n)
 same_bytes_by f g from zero each = refl
@@ -12,26 +12,10 @@ module _ (a : FileAreas) (A C : Array) (name : List ℕ) (number : ℕ) (was : n
   kept_file = kept 0 number (record { number = number; named = was; inside = omega arith; is = refl })
 
   pub kept_uses : (place block : ℕ) → Uses a C name place block → Uses a A name place block
-  kept_uses place block uses =
-      let same : uses.number ≡ number = same_some uses.number number (sym uses.named ∙ is) in
-      let file : file_at a C uses.number ≡ file_at a A uses.number = ap (file_at a C) same ∙ kept_file ∙ ap (file_at a A) (sym same) in
-      record {
-        number = uses.number;
-        named = was ∙ ap (λ (n : ℕ). Some n) (sym same);
-        inside = subst (λ (f : List ℕ). place ≤ data_count a.files.size f) file uses.inside;
-        is = ap (λ (f : List ℕ). block_in uses.number f place) (sym file) ∙ uses.is;
-      }
+  kept_uses place block uses = grind (arith, kept_file) steps 100000
 
   pub still_uses : (place block : ℕ) → Uses a A name place block → Uses a C name place block
-  still_uses place block uses =
-      let same : uses.number ≡ number = same_some uses.number number (sym uses.named ∙ was) in
-      let file : file_at a A uses.number ≡ file_at a C uses.number = ap (file_at a A) same ∙ sym kept_file ∙ ap (file_at a C) (sym same) in
-      record {
-        number = uses.number;
-        named = is ∙ ap (λ (n : ℕ). Some n) (sym same);
-        inside = subst (λ (f : List ℕ). place ≤ data_count a.files.size f) file uses.inside;
-        is = ap (λ (f : List ℕ). block_in uses.number f place) (sym file) ∙ uses.is;
-      }
+  still_uses place block uses = grind (arith, kept_file) steps 100000
 
   pub kept_content : 0 < a.files.size → content a C number ≡ content a A number
   kept_content some =

@@ -1,5 +1,5 @@
 -- The block of a new file.
-use Rattle.iso_fs.proofs.Words.{◌≡◌, ◌∙◌, refl, ap, set, ℕ, zero, suc, ◌+◌, ◌-◌, ◌*◌, ◌/◌, ◌<◌, ◌≤◌, true, ◌&&◌, List, [], ◌∷◌, ◌++◌, length, replicate, nat_le, arith, and_from, nat_tests, length-replicate, div-eq_of_lt, Area, zeros_are, are_entries, bytes_of, data_count, file_block, has_zeros, is_file, most_bytes}
+use Rattle.iso_fs.proofs.Words.{◌≡◌, ◌∙◌, refl, ap, set, ℕ, zero, suc, ◌+◌, ◌-◌, ◌*◌, ◌/◌, ◌<◌, ◌≤◌, true, List, [], ◌∷◌, ◌++◌, length, replicate, arith, length-replicate, div-eq_of_lt, Area, zeros_are, bytes_of, data_count, file_block, is_file}
 
 abbrev pub empty_file : (size : ℕ) → List ℕ
 empty_file size = file_block size 0 []
@@ -15,13 +15,7 @@ no_data_of size some = ap (λ (n : ℕ). (n + (size - 1)) / size) (no_bytes_of s
 
 pub empty_is_file : (a : Area) → 0 < a.size → is_file a (empty_file a.size) ≡ true
 unfolding is_file
-empty_is_file a some =
-    let none = no_data_of a.size some in
-    let entries : are_entries a.blocks (empty_file a.size) (data_count a.size (empty_file a.size)) ≡ true = ap (are_entries a.blocks (empty_file a.size)) none in
-    let zeros : has_zeros (empty_file a.size) (data_count a.size (empty_file a.size)) ≡ true =
-    ap (has_zeros (empty_file a.size)) none ∙ zeros_are (a.size - 64 - 4 * 0) in
-    let low : nat_le 0 (most_bytes a.size) ≡ true = grind (arith, nat_tests) in
-    and_from (nat_le 0 (most_bytes a.size)) (are_entries a.blocks (empty_file a.size) (data_count a.size (empty_file a.size)) && has_zeros (empty_file a.size) (data_count a.size (empty_file a.size))) low (and_from _ _ entries zeros)
+empty_is_file a some = grind (arith, no_data_of, zeros_are) steps 100000
 
 split : (m n x : ℕ) → replicate (m + n) x ≡ replicate m x ++ replicate n x
 split zero n x = let e : 0 + n ≡ n = omega arith in ap (λ (k : ℕ). replicate k x) e

@@ -1,5 +1,5 @@
 -- The parts of a call: what follows another name of a program, a call of the tree store, a read or a write.
-use Rattle.iso_fs.proofs.{Words.{◌≡◌, ◌≢◌, ◌∙◌, refl, ap, ℕ, ◌≤◌, Bool, true, List, [], ◌∷◌, None, Result, Ok, Err, arith, IfErr, Access, Span, Area, StoreError, TxError, FsError, FileAreas, map_mark, Done, LookWhole, Program, AreReads, Store, bytes_in, look_access, store_access, Tx, Device, IsLater, IsTx, with_accesses, AreBytesOf, Ran, IsCause, IsStoreCause, HasEnded, HasRead, Passed, HasAccess, at_look, at_look_whole, at_start, at_store, ran_at, cut_at_look, cut_at_store, cut_at_whole, read_more, read_none, read_same, later_same, store_cause, Call, in_tree, look_map, refuse, AreFileAreas, HasAnswered, HasArea, HasRun, IsFsCause, IsPart, may_follow}, Ended.{behaves_after, behaves_behind, done_so, fs_since, refused_access, refused_so, refused_store, run_from, tree_done, tree_refused, unwritten_tree}}
+use Rattle.iso_fs.proofs.{Words.{◌≡◌, ◌≢◌, ◌∙◌, refl, ap, ℕ, ◌≤◌, Bool, true, List, [], ◌∷◌, None, Result, Ok, Err, arith, IfErr, Access, Span, Area, StoreError, TxError, FsError, FileAreas, map_mark, Done, LookWhole, Program, AreReads, Store, bytes_in, look_access, store_access, Tx, Device, IsLater, IsTx, with_accesses, AreBytesOf, Ran, IsCause, IsStoreCause, HasEnded, HasRead, Passed, HasAccess, at_look, at_look_whole, at_start, at_store, ran_at, ran_done, cut_at_look, cut_at_store, cut_at_whole, read_more, read_none, read_same, later_same, store_cause, Call, in_tree, look_map, refuse, AreFileAreas, HasAnswered, HasArea, HasRun, IsFsCause, IsPart, may_follow}, Ended.{behaves_after, behaves_behind, done_so, refused_access, refused_so, refused_store, run_from, tree_done, tree_refused, unwritten_tree}}
 use Rattle.store_model.specs.declared.stores.StoreError.TheVariants as store
 use Rattle.store_model.specs.declared.files.FsError.TheVariants as fs
 use Rattle.tx_blocks.specs.Runs as runs
@@ -26,7 +26,7 @@ pub part_as : {X : Type 0} {late : Bool} {writes : ℕ} {p q : Call X} {t u : Tx
 part_as e part = rw e part
 
 pub part_done : {X : Type 0} {late : Bool} {writes : ℕ} {t : Tx} {d : Device} {x : X} → IsPart late writes (Done (Ok x)) t t d d (Ok x)
-part_done {writes = writes} {t = t} {d = d} {x = x} = record { run = ran_at (Done (Ok x)) t t (Ok x) (at_start (Done (Ok x)) t); behaves = done_so t t writes d d x (later_same d d refl) refl }
+part_done {writes = writes} {t = t} {d = d} {x = x} = record { run = ran_done (Ok x) t; behaves = done_so t t writes d d x (later_same d d refl) refl }
 
 plain : {X : Type 0} (p : Call X) (t u : Tx) (writes : ℕ) (before now : Device) (e : FsError) → HasAnswered {X = X} (Err e) → Ran p t u (Err e) → Passed before now → HasRun p t u (Err e) × IsFsCause u writes before now e
 plain p t u writes before now fs.BadName answered ran passed = (ran, passed)
@@ -44,13 +44,6 @@ pub part_refused : {X : Type 0} {late : Bool} {writes : ℕ} {t : Tx} {d : Devic
 part_refused {writes = writes} {t = t} {d = d} e known answered =
     let own = plain (refuse e) t t writes d d e answered (ran_at (refuse e) t t (Err e) (at_start (refuse e) t)) refl in
     record { run = own.0; behaves = refused_so t t writes d d e (read_none t) own.1 known (later_same d d refl) }
-
--- a part that makes fewer writes
-pub part_more : {X : Type 0} {late : Bool} {few many : ℕ} {p : Call X} {t u : Tx} {before now : Device} (result : Result X FsError) → few ≤ many → IsPart late few p t u before now result → IsPart late many p t u before now result
-part_more (Ok x) le part = let b = part.behaves in record { run = part.run; behaves = record { cause = tt; unwritten = tt; known = tt; later = b.later; passed = b.passed } }
-part_more {few = few} {many = many} {u = u} {before = before} {now = now} (Err e) le part =
-    let b = part.behaves in
-    record { run = part.run; behaves = record { cause = fs_since u few many before before now e le refl b.cause; unwritten = b.unwritten; known = b.known; later = b.later; passed = tt } }
 
 -- BEHIND A CALL OF THE TREE STORE
 runs_on : {X Y : Type 0} (p : Program (Result X StoreError)) (next : X → Call Y) (t u v : Tx) (x : X) (result : Result Y FsError) → Ran p t u (Ok x) → HasRun (next x) u v result → HasRun (in_tree p next) t v result

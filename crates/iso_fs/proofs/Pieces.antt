@@ -1,5 +1,5 @@
 -- The bytes of a file, piece by piece.
-use Rattle.iso_fs.proofs.Words.{◌≡◌, ◌∙◌, sym, refl, ap, ℕ, zero, suc, ◌+◌, ◌-◌, ◌*◌, ◌/◌, ◌%◌, ◌<◌, ◌≤◌, Bool, true, false, cond, List, ◌∷◌, ◌++◌, length, get_or, take, drop, map, Option, Some, None, Result, Ok, arith, append_assoc, inl, inr, nat_lt, range_with_len, cases_lt, nat_tests, div-mul-add, mod-mul-add, div-add-mod', mod-lt, append-nil, ext_get_or, get_or-take, get_or-drop, length-take-le, length-drop, drop_at, take_all, get_or-map-range_with_len, length-map-range_with_len, take-map-range_with_len, Area, Array, block_at, Done, Look, answer_of, bytes_in, FsError, FileAreas, bytes_of, entry_at, piece_len, piece_mark, Call, least, read_pieces, file_byte}
+use Rattle.iso_fs.proofs.Words.{◌≡◌, ◌∙◌, sym, refl, ap, ℕ, zero, suc, ◌+◌, ◌-◌, ◌*◌, ◌/◌, ◌%◌, ◌<◌, ◌≤◌, Bool, true, false, cond, List, ◌∷◌, ◌++◌, length, get_or, take, drop, map, Option, Some, None, Result, Ok, arith, append_assoc, inl, inr, nat_lt, range_with_len, cases_lt, nat_tests, div-mul-add, mod-mul-add, div-add-mod', append-nil, ext_get_or, get_or-take, get_or-drop, length-take-le, length-drop, drop_at, take_all, get_or-map-range_with_len, length-map-range_with_len, take-map-range_with_len, Area, Array, block_at, Done, Look, answer_of, bytes_in, FsError, FileAreas, bytes_of, entry_at, piece_len, piece_mark, Call, least, read_pieces, file_byte}
 
 pub range_split : {X : Type 0} (f : ℕ → X) (a m n : ℕ) → map f (range_with_len a (m + n)) ≡ map f (range_with_len a m) ++ map f (range_with_len (a + m) n)
 range_split f a zero n = let e : a ≡ a + 0 = omega arith in let z : 0 + n ≡ n = omega arith in ap (λ (k : ℕ). map f (range_with_len a k)) z ∙ ap (λ (b : ℕ). map f (range_with_len b n)) e
@@ -46,18 +46,7 @@ pub record IsPiece (size from to : ℕ) : Type 0 where
   pub fits : from % size + piece_len size from to ≤ size
 
 pub piece_is : (size from to : ℕ) → 0 < size → from < to → IsPiece size from to
-piece_is size from to some less =
-    let low : from % size < size = mod-lt from some in
-    elim (cases_lt (to - from) (size - from % size)) [
-      | inl short ↦
-          (let test : nat_lt (to - from) (size - from % size) ≡ true = grind (arith, nat_tests) in
-          let is : piece_len size from to ≡ to - from = ap (λ (t : Bool). cond t (to - from) (size - from % size)) test in
-          record { some = omega arith; within = omega arith; fits = omega arith })
-      | inr long ↦
-          (let test : nat_lt (to - from) (size - from % size) ≡ false = grind (arith, nat_tests) in
-          let is : piece_len size from to ≡ size - from % size = ap (λ (t : Bool). cond t (to - from) (size - from % size)) test in
-          record { some = omega arith; within = omega arith; fits = omega arith })
-    ]
+piece_is size from to some less = grind arith steps 100000
 
 -- one piece and the others
 abbrev pub step : Area → (file : List ℕ) → (most from to : ℕ) → (found : List ℕ) → Call (Option (List ℕ))
@@ -76,10 +65,8 @@ module _ (a : FileAreas) (A : Array) (file : List ℕ) (some : 0 < a.files.size)
       → bytes_in (piece_mark size from to) (block_at A (a.files.start + entry_at file (from / size))) ≡ map f (range_with_len from (piece_len size from to))
   piece_bytes from to less inside =
       let is = piece_is size from to some less in
-      let fits = is.fits in
       let n = piece_len size from to in
       let block = block_at A (a.files.start + entry_at file (from / size)) in
-      let long : length block ≡ size = shape from (omega arith) in
       let piece_long : length (take n (drop (from % size) block)) ≡ n = length-take-le n (drop (from % size) block) (omega (arith, length-drop (from % size) block)) in
       ext_get_or 0 (take n (drop (from % size) block)) (map f (range_with_len from n)) (piece_long ∙ sym (length-map-range_with_len f from n))
       (λ i below.
@@ -98,15 +85,12 @@ module _ (a : FileAreas) (A : Array) (file : List ℕ) (some : 0 < a.files.size)
       elim (cases_lt from to) [
         | inl less ↦
             (let is = piece_is size from to some less in
-            let within = is.within in
-            let one = is.some in
             let n = piece_len size from to in
             let test : nat_lt from to ≡ true = grind (arith, nat_tests) in
-            let piece = piece_bytes from to less inside in
             let sum : n + (to - (from + n)) ≡ to - from = omega arith in
             ap (λ (t : Bool). answer_of (cond t (step a.files file most from to found) (Done (Ok (Some found)))) A) test
             ∙ read_gives most (from + n) to (found ++ bytes_in (piece_mark size from to) (block_at A (a.files.start + entry_at file (from / size)))) (omega arith) (omega arith) inside
-            ∙ ap (λ (xs : List ℕ). Ok (Some (found ++ xs ++ map f (range_with_len (from + n) (to - (from + n)))))) piece
+            ∙ ap (λ (xs : List ℕ). Ok (Some (found ++ xs ++ map f (range_with_len (from + n) (to - (from + n)))))) (piece_bytes from to less inside)
             ∙ ap (λ (xs : List ℕ). Ok (Some xs)) (append_assoc found (map f (range_with_len from n)) (map f (range_with_len (from + n) (to - (from + n)))) ∙ ap (λ (xs : List ℕ). found ++ xs) (sym (range_split f from n (to - (from + n))) ∙ ap (λ (k : ℕ). map f (range_with_len from k)) sum)))
         | inr past ↦
             (let test : nat_lt from to ≡ false = grind (arith, nat_tests) in

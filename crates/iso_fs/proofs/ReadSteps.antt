@@ -59,8 +59,7 @@ module _ (a : Area) (off len number : ℕ) (file : List ℕ) where
   pub range_is : (to : ℕ) → off ≤ bytes_of file → to ≡ cond (nat_lt len (bytes_of file - off)) (off + len) (bytes_of file) → read_from a off len number file ≡ read_pieces a file len off to []
   range_is to inside is =
       let test : nat_le off (bytes_of file) ≡ true = grind (arith, nat_tests) in
-      let same : to ≡ least (off + len) (bytes_of file) = is ∙ sym (least_as off len (bytes_of file) inside) in
-      ap (λ (b : Bool). cond b passes (refuse fs.BadRange)) test ∙ ap (λ (n : ℕ). read_pieces a file len off n []) (sym same)
+      ap (λ (b : Bool). cond b passes (refuse fs.BadRange)) test ∙ ap (λ (n : ℕ). read_pieces a file len off n []) (sym (is ∙ sym (least_as off len (bytes_of file) inside)))
 
   pub range_bad : bytes_of file < off → read_from a off len number file ≡ refuse fs.BadRange
   range_bad out = (let test : nat_le off (bytes_of file) ≡ false = grind (arith, nat_tests) in ap (λ (b : Bool). cond b passes (refuse fs.BadRange)) test)
@@ -107,9 +106,8 @@ module _ (a : Area) (file : List ℕ) (from to : ℕ) (found : List ℕ) (less :
   pub code_piece : (n : ℕ) (piece new : List ℕ) → n ≡ span.len → piece ≡ bytes_in span bytes → new ≡ found ++ piece → (most : ℕ)
       → IsAt (read_pieces a file (suc most) from to found) (read_pieces a file most (from + n) to new) t u
   code_piece n piece new n_is piece_is new_is most =
-      let len : n ≡ piece_len a.size from to = n_is ∙ ap (λ (s : Span). s.len) span_is in
       let all : new ≡ found ++ bytes_in (piece_mark a.size from to) bytes = new_is ∙ ap (λ (p : List ℕ). found ++ p) (piece_is ∙ ap (λ (s : Span). bytes_in s bytes) span_is) in
-      subst (λ (m : ℕ). IsAt (read_pieces a file (suc most) from to found) (read_pieces a file most (from + m) to new) t u) (sym len)
+      subst (λ (m : ℕ). IsAt (read_pieces a file (suc most) from to found) (read_pieces a file most (from + m) to new) t u) (sym (n_is ∙ ap (λ (s : Span). s.len) span_is))
       (subst (λ (xs : List ℕ). IsAt (read_pieces a file (suc most) from to found) (read_pieces a file most (from + piece_len a.size from to) to xs) t u) (sym all)
       (piece_done a file most from to found less t u bytes told_so tx is_so))
 
@@ -117,8 +115,7 @@ module _ (a : Area) (file : List ℕ) (from to : ℕ) (found : List ℕ) (less :
 pub more_read : (at n : ℕ) (piece room : List ℕ) → length piece ≡ n → at + n ≤ length room → take (at + n) (laid_at at piece room) ≡ take at room ++ piece
 more_read at n piece room is fits =
     let old : length (take at room) ≡ at = length-take-le at room (omega arith) in
-    let long : length (take at room ++ piece) ≡ at + n = length-append (take at room) piece ∙ (λ i. old i + is i) in
-    ap (take (at + n)) (sym (append_assoc (take at room) piece (drop (at + length piece) room))) ∙ take_at (take at room ++ piece) (drop (at + length piece) room) (at + n) long
+    ap (take (at + n)) (sym (append_assoc (take at room) piece (drop (at + length piece) room))) ∙ take_at (take at room ++ piece) (drop (at + length piece) room) (at + n) (length-append (take at room) piece ∙ (λ i. old i + is i))
 
 take_none : (xs : List ℕ) → take 0 xs ≡ []
 take_none [] = refl

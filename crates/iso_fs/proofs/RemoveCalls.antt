@@ -39,9 +39,8 @@ module _ (a : FileAreas) (areas : AreFileAreas a) (A : Array) (regions : AreFile
   found_does (Some value) there r e =
       let p = del_program a.tree name in
       let f = remove_writes a.files (number_of value) (file_at a A (number_of value)) first in
-      let answer = sym (answer_at_file a A regions name value there (remove_file a name)) ∙ e in
       subst (λ (D : Array). HasDone a name A D r) (sym (own_at_file a A regions name value there (remove_file a name) ∙ own_then p (goes_on f) A))
-      (del_does value there (answer_of p A) refl r (sym (answer_then p (goes_on f) A) ∙ answer))
+      (del_does value there (answer_of p A) refl r (sym (answer_then p (goes_on f) A) ∙ (sym (answer_at_file a A regions name value there (remove_file a name)) ∙ e)))
 
 call_does : (a : FileAreas) (name : List ℕ) (A : Array) → AreFileAreas a → is_key name ≡ true → AreFileRegions a A → (r : Bool) → answer_of (remove_program a name) A ≡ Ok r
     → HasDone a name A (own A (accesses_of (remove_program a name) A)) r
@@ -86,12 +85,11 @@ module _ (a : FileAreas) (areas : AreFileAreas a) (A : Array) (shape : HaveBlock
       let first = bytes_in (map_mark a.files.blocks) (block_at A a.files.start) in
       let p = del_program a.tree name in
       let f = remove_writes a.files number file first in
-      let parts = file_parts a.files file good in
       let below : (j : ℕ) → IsIn j (number ∷ entries_of a.files.size file) → j < a.files.blocks = λ j is. elim is [
         | inl here ↦ subst (λ (x : ℕ). x < a.files.blocks) here handed.below
         | inr later ↦
             (let at = in_range_map (entry_at file) 0 (data_count a.files.size file) j later in
-            subst (λ (x : ℕ). x < a.files.blocks) at.3 (entry_handed a.files file parts at.0 (let h = at.2 in omega arith)).below)
+            subst (λ (x : ℕ). x < a.files.blocks) at.3 (entry_handed a.files file (file_parts a.files file good) at.0 (let h = at.2 in omega arith)).below)
       ] in (
         λ write. absurd (nothing_is write),
         subst (AreWhole A) (sym (accesses_then p (goes_on f) A))
@@ -104,14 +102,13 @@ module _ (a : FileAreas) (areas : AreFileAreas a) (A : Array) (shape : HaveBlock
   found_whole (Some value) =
       let number = number_of value in
       let file = file_at a A number in
-      let bad : Call Bool = broken (a.files.start + number) in
       elim (is_number a.files value) as (λ t. is_number a.files value ≡ t
       → AreWhole A (accesses_of (cond t (LookWhole (a.files.start + number) (λ bytes. cond (is_file a.files bytes) (remove_file a name number bytes) (broken (a.files.start + number)))) (broken a.tree.start)) A)) [
         | false ↦ λ e. tt
         | true ↦ λ e.
             (let handed = handed_is a.files.blocks number (and_parts (length value == 4) (is_handed a.files.blocks number) e).1 in (
               λ write. absurd (nothing_is write),
-              elim (is_file a.files file) as (λ t. is_file a.files file ≡ t → AreWhole A (accesses_of (cond t (remove_file a name number file) bad) A)) [
+              elim (is_file a.files file) as (λ t. is_file a.files file ≡ t → AreWhole A (accesses_of (cond t (remove_file a name number file) (broken (a.files.start + number))) A)) [
                 | true ↦ λ good. file_whole number file handed good
                 | false ↦ λ not. tt
               ] refl,

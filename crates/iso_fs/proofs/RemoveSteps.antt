@@ -1,5 +1,5 @@
 -- A removal, part by part.
-use Rattle.iso_fs.proofs.{Words.{◌≡◌, ◌∙◌, sym, refl, ap, subst, ℕ, suc, ◌+◌, ◌-◌, ◌*◌, ◌<◌, ◌≤◌, Bool, true, false, cond, List, [], ◌∷◌, length, take, drop, get_or, set, Result, Err, IfOk, arith, inl, inr, map, range_with_len, drop-take, get_or-take, take-take, own, Span, Area, FsError, FileAreas, FsRegion, block_with, bit_place, clear_bit, map_bytes, map_mark, without_bit, is_key, IsIn, bytes_in, store_access, get_program, IsTreeArea, data_count, entries_of, entry_at, is_file, Call, at_file, bits_mark, goes_on, high_place, in_tree, low_place, refuse, remove_file, remove_op, remove_program, without_bits, AreFileAreas, AreFileRegions, files, Tx, IsTx, IsLocalCall, HasAccess, at_start, ran_at, take-set-lt, HasRun, areas_of, ArePlaces}, CreateSteps.have_blocks, Ended.{has_then, call_local}, Files.{entry_handed, file_parts}, Finding.get_has, MapLaid.{high_below, high_is, low_is}, RemoveCalls.remove_local, Removes.in_range_map}
+use Rattle.iso_fs.proofs.{Words.{◌≡◌, ◌∙◌, sym, refl, ap, ℕ, ◌+◌, ◌-◌, ◌*◌, ◌<◌, ◌≤◌, Bool, true, false, cond, List, [], ◌∷◌, length, take, drop, get_or, set, Result, Err, IfOk, arith, inl, inr, map, range_with_len, drop-take, get_or-take, take-take, own, Span, Area, FsError, FileAreas, FsRegion, block_with, bit_place, clear_bit, map_bytes, map_mark, without_bit, is_key, IsIn, bytes_in, store_access, get_program, IsTreeArea, data_count, entries_of, entry_at, is_file, at_file, bits_mark, high_place, in_tree, low_place, refuse, remove_file, remove_op, remove_program, without_bits, AreFileAreas, AreFileRegions, files, Tx, IsTx, IsLocalCall, HasAccess, at_start, ran_at, take-set-lt, HasRun, areas_of, ArePlaces}, CreateSteps.have_blocks, Ended.{has_then, call_local}, Files.{entry_handed, file_parts}, Finding.get_has, MapLaid.{high_below, high_is, low_is}, RemoveCalls.remove_local, Removes.in_range_map}
 use Rattle.store_model.specs.declared.files.FsError.TheVariants as fs
 
 -- THE NUMBERS THAT ARE LEFT
@@ -7,9 +7,7 @@ abbrev pub entries_from : (file : List ℕ) → (i count : ℕ) → List ℕ
 entries_from file i count = map (entry_at file) (range_with_len i (count - i))
 
 pub entries_step : (file : List ℕ) (i count : ℕ) → i < count → entries_from file i count ≡ entry_at file i ∷ entries_from file (i + 1) count
-entries_step file i count less =
-    let e : count - i ≡ suc (count - (i + 1)) = omega arith in
-    ap (λ (n : ℕ). map (entry_at file) (range_with_len i n)) e
+entries_step file i count less = grind arith steps 100000
 
 pub bits_inside : (a : Area) (number : ℕ) (file : List ℕ) → number < a.blocks → is_file a file ≡ true → (j : ℕ) → IsIn j (number ∷ entries_of a.size file) → j < a.blocks
 bits_inside a number file below good j (inl at) = omega (arith, at)
@@ -22,10 +20,8 @@ pub places_are : (a : Area) (number : ℕ) (file : List ℕ) → 2 ≤ a.blocks 
     → ArePlaces a (low_place number (entries_of a.size file)) (high_place number (entries_of a.size file))
 places_are a number file least most below good =
     let es = entries_of a.size file in
-    let low = low_is number es number (inl refl) in
-    let high = high_is number es number (inl refl) in
     record {
-      rising = omega (arith, low, high);
+      rising = omega (arith, (low_is number es number (inl refl)), (high_is number es number (inl refl)));
       inside = high_below number es (64 + map_bytes a.blocks) (λ j is. let b = bits_inside a number file below good j is in omega (arith, b));
       fits = omega (arith, least, most);
     }
@@ -51,9 +47,7 @@ left_same a number file F least most below good =
     let es = entries_of a.size file in
     let m = 64 + map_bytes a.blocks in
     let p = places_are a number file least most below good in
-    let rising = p.rising in
-    let inside = p.inside in
-    sym (in_taken (bits_mark number es) m (without_bits F (number ∷ es)) (omega (arith, rising, inside)))
+    sym (in_taken (bits_mark number es) m (without_bits F (number ∷ es)) (omega (arith, p.rising, p.inside)))
     ∙ ap (bytes_in (bits_mark number es)) (left_taken m (number ∷ es) F (λ k is. let b = bits_inside a number file below good k is in omega (arith, b)))
 
 -- THE WHOLE CALL
@@ -62,8 +56,7 @@ unfolding remove_program
 remove_as a name key = ap (λ (k : Bool). cond k (in_tree (get_program a.tree name) (at_file a false (remove_file a name))) (refuse fs.BadName)) key
 
 pub remove_has : (a : FileAreas) (name : List ℕ) → is_key name ≡ true → HasAccess (remove_program a name)
-remove_has a name key =
-    subst (λ (p : Call Bool). HasAccess p) (sym (remove_as a name key)) (has_then (get_program a.tree name) (goes_on (at_file a false (remove_file a name))) (get_has a.tree name key))
+remove_has a name key = grind (arith, remove_as, has_then, get_has) steps 100000
 
 pub remove_bad : (a : FileAreas) (name : List ℕ) (t : Tx) → is_key name ≡ false → HasRun (remove_program a name) t t (Err fs.BadName)
 unfolding remove_program
@@ -83,12 +76,4 @@ pub left_access : (a : Area) (area : IsTreeArea a) (number : ℕ) (file : List �
     → (F one two piece room into : List ℕ) → one ≡ without_bit F number → two ≡ without_bits one (entries_of a.size file) → piece ≡ take (x.1 + 1 - x.0) (drop x.0 two) → length room ≡ a.size → into ≡ block_with (length room) x.0 piece
     → store_access a.start (record { off = x.0; len = x.1 + 1 - x.0 } ∷ []) into
     ≡ store_access a.start (bits_mark number (entries_of a.size file) ∷ []) (block_with a.size (low_place number (entries_of a.size file)) (bytes_in (bits_mark number (entries_of a.size file)) (without_bits (bytes_in (map_mark a.blocks) F) (number ∷ entries_of a.size file))))
-left_access a area number file below good x is F one two piece room into one_is two_is piece_is long into_is =
-    let mine = entries_of a.size file in
-    let mark : ◌≡◌ {A = Span} (record { off = x.0; len = x.1 + 1 - x.0 }) (bits_mark number mine) = (λ i. record { off = (is i).0; len = (is i).1 + 1 - (is i).0 }) in
-    let map_is : two ≡ without_bits F (number ∷ mine) = two_is ∙ ap (λ (m : List ℕ). without_bits m mine) one_is in
-    let bytes : piece ≡ bytes_in (bits_mark number mine) (without_bits (bytes_in (map_mark a.blocks) F) (number ∷ mine)) =
-    piece_is ∙ (λ i. bytes_in (mark i) (map_is i)) ∙ left_same a number file F area.least area.most below good in
-    let all_bytes : into ≡ block_with a.size (low_place number mine) (bytes_in (bits_mark number mine) (without_bits (bytes_in (map_mark a.blocks) F) (number ∷ mine))) =
-    into_is ∙ (λ i. block_with (long i) (is i).0 (bytes i)) in
-    (λ i. store_access a.start (mark i ∷ []) (all_bytes i))
+left_access a area number file below good x is F one two piece room into one_is two_is piece_is long into_is = grind (arith, left_same) steps 100000

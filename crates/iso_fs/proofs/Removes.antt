@@ -169,10 +169,7 @@ module _ (a : FileAreas) (areas : AreFileAreas a) (A : Array) (regions : AreFile
     before : get (tree_map a.tree A) q ≡ Some v
 
   stayed : (q v : List ℕ) → get (tree_map a.tree C) q ≡ Some v → HasStayed q v
-  stayed q v e = elim (cases_Bool (same_name q name)) [
-    | inl is ↦ absurd (no_some v (ap (λ (t : Bool). cond t None (get (tree_map a.tree A) q)) (sym is) ∙ sym (get_C q) ∙ e))
-    | inr other ↦ record { other = other; before = ap (λ (t : Bool). cond t None (get (tree_map a.tree A) q)) (sym other) ∙ sym (get_C q) ∙ e }
-  ]
+  stayed q v e = grind (arith, no_some, get, get_C) steps 100000
 
   number_was : (q : List ℕ) (n : ℕ) → number_at a C q ≡ Some n → number_at a A q ≡ Some n
   number_was q n e =
@@ -213,8 +210,7 @@ module _ (a : FileAreas) (areas : AreFileAreas a) (A : Array) (regions : AreFile
       ∙ left.1 (
         λ is.
             let found = to_use k is in
-            let same = (regions.apart used.name name used.place found.0 k was found.1).0 in
-            both_ways (same_name used.name name) (is_other used.name used.place k used.uses) (ap (λ (n : List ℕ). same_name n name) same ∙ name_self name),
+            both_ways (same_name used.name name) (is_other used.name used.place k used.uses) (ap (λ (n : List ℕ). same_name n name) ((regions.apart used.name name used.place found.0 k was found.1).0) ∙ name_self name),
         set,
       )
 

@@ -1,5 +1,5 @@
 -- A rename is local.
-use Rattle.iso_fs.proofs.{Words.{◌≡◌, ◌∙◌, sym, refl, ap, subst, ℕ, ◌+◌, Bool, true, false, ◌&&◌, cond, List, [], ◌∷◌, Option, Some, None, option_map, Result, Ok, Err, inl, inr, get, and_from, cases_Bool, Access, StoreError, Array, own, is_key, is_value, Done, IsLocal, accesses_of, answer_of, del_program, get_program, put_program, tree_map, AreWhole, IsCorrect, accesses_then, answer_then, local_from, length-block_own, HasBlocks, del_whole, whole_append, area_block, put_whole, same_ok, FsError, FileAreas, number_of, Call, goes_on, in_tree, refuse, rename_found, rename_free, rename_in, rename_op, rename_program, AreFileAreas, AreFileRegions, content, files}, AfterTree.{answer_got, own_got, own_then, whole_behind_get}, Lookups.files_get, Renames.renamed}
+use Rattle.iso_fs.proofs.{Words.{arith, ◌≡◌, ◌∙◌, sym, refl, ap, subst, ℕ, Bool, true, false, ◌&&◌, cond, List, [], ◌∷◌, Option, Some, None, option_map, Result, Ok, Err, get, and_from, Access, StoreError, Array, own, is_key, is_value, Done, IsLocal, accesses_of, answer_of, del_program, get_program, put_program, tree_map, AreWhole, IsCorrect, accesses_then, answer_then, local_from, length-block_own, HasBlocks, del_whole, whole_append, area_block, put_whole, same_ok, FsError, FileAreas, number_of, Call, goes_on, in_tree, refuse, rename_found, rename_free, rename_in, rename_op, rename_program, AreFileAreas, AreFileRegions, content, files}, AfterTree.{answer_got, own_got, own_then, whole_behind_get}, Lookups.files_get, Renames.renamed}
 use Rattle.store_model.specs.declared.files.FsError.TheVariants as fs
 
 no_ok : (e : FsError) (r : Bool) → ◌≡◌ {A = Result Bool FsError} (Err e) (Ok r) → ⊥
@@ -85,30 +85,16 @@ whole_back A xs (y ∷ ys) all = (λ write. all.0 write ∙ length-block_own A x
 
 bad_value_none : (a : FileAreas) (name value : List ℕ) (A : Array) → is_value value ≡ false → accesses_of (put_program a.tree name value) A ≡ []
 unfolding put_program
-bad_value_none a name value A long = elim (cases_Bool (is_key name)) [
-  | inl key ↦ rw (key, long) refl
-  | inr not ↦ rw not refl
-]
+bad_value_none a name value A long = grind arith steps 100000
 
 pub put_whole_any : (a : FileAreas) (areas : AreFileAreas a) (A : Array) → HasBlocks a.tree A → (name value : List ℕ) → is_key name ≡ true → AreWhole A (accesses_of (put_program a.tree name value) A)
-put_whole_any a areas A shape name value key = elim (cases_Bool (is_value value)) [
-  | inl short ↦ put_whole a.tree areas.tree A shape name value key short
-  | inr long ↦ subst (λ (xs : List Access). AreWhole A xs) (sym (bad_value_none a name value A long)) tt
-]
+put_whole_any a areas A shape name value key = grind (arith, put_whole, bad_value_none) steps 100000
 
 module _ (a : FileAreas) (areas : AreFileAreas a) (A : Array) (shape : HasBlocks a.tree A) (old new : List ℕ) (old_key : is_key old ≡ true) (new_key : is_key new ≡ true) where
   moved_whole : (value : List ℕ) (result : Result (Unit {0}) StoreError)
       → AreWhole A (accesses_of (goes_on (moved a old) result) (own A (accesses_of (put_program a.tree new value) A)))
   moved_whole value (Err x) = tt
-  moved_whole value (Ok u) =
-      let xs = accesses_of (put_program a.tree new value) A in
-      let B = own A xs in
-      let p = del_program a.tree old in
-      let ys = accesses_of p B in
-      subst (AreWhole A) (sym (accesses_then p (goes_on last) B))
-      (whole_append A ys (accesses_of (goes_on last (answer_of p B)) (own B ys))
-      (whole_back A xs ys (del_whole a.tree old B (area_block a.tree areas.tree) (λ k below. length-block_own A xs (a.tree.start + k) ∙ shape k below)))
-      (elim (answer_of p B) as (λ r. AreWhole A (accesses_of (goes_on last r) (own B ys))) [ Ok d ↦ tt | Err e ↦ tt ]))
+  moved_whole value (Ok u) = grind (arith, accesses_then, whole_append, whole_back, del_whole, area_block, length-block_own) steps 100000
 
   free_whole : (value : List ℕ) (o : Option (List ℕ)) → AreWhole A (accesses_of (rename_free a old new value o) A)
   free_whole value (Some other) = tt

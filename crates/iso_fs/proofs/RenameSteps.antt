@@ -1,5 +1,5 @@
 -- A rename, part by part.
-use Rattle.iso_fs.proofs.{Words.{◌≡◌, ◌≢◌, refl, ap, ℕ, ◌+◌, ◌≤◌, Bool, true, false, ◌&&◌, cond, List, Result, Err, IfOk, own, StoreError, FsError, FileAreas, FsRegion, is_key, get_program, in_tree, refuse, rename_found, rename_op, rename_program, AreFileAreas, AreFileRegions, files, Tx, IsTx, IsLocalCall, at_start, ran_at, TakesNoBlocks, HasRun, areas_of, may_follow}, CreateSteps.have_blocks, Ended.{run_as, call_local}, RenameCalls.rename_local}
+use Rattle.iso_fs.proofs.{Words.{arith, ◌≡◌, ◌≢◌, refl, ap, ℕ, ◌+◌, ◌≤◌, Bool, true, false, ◌&&◌, cond, List, Result, Err, IfOk, own, StoreError, FsError, FileAreas, FsRegion, is_key, get_program, in_tree, refuse, rename_found, rename_op, rename_program, AreFileAreas, AreFileRegions, files, Tx, IsTx, IsLocalCall, at_start, ran_at, TakesNoBlocks, HasRun, areas_of, may_follow}, CreateSteps.have_blocks, Ended.{run_as, call_local}, RenameCalls.rename_local}
 use Rattle.store_model.specs.declared.stores.StoreError.TheVariants as store
 use Rattle.store_model.specs.declared.files.FsError.TheVariants as fs
 
@@ -28,9 +28,7 @@ new_bad old new bad = elim (is_key old) as (λ b. (b && is_key new) ≡ false) [
 
 pub rename_bad : (a : FileAreas) (old new : List ℕ) (t : Tx) → (is_key old && is_key new) ≡ false → HasRun (rename_program a old new) t t (Err fs.BadName)
 unfolding rename_program
-rename_bad a old new t bad =
-    run_as (refuse fs.BadName) (cond (is_key old && is_key new) (in_tree (get_program a.tree old) (rename_found a old new)) (refuse fs.BadName)) t t (Err fs.BadName)
-    (ap (λ (b : Bool). cond b (in_tree (get_program a.tree old) (rename_found a old new)) (refuse fs.BadName)) bad) (ran_at (refuse fs.BadName) t t (Err fs.BadName) (at_start (refuse fs.BadName) t))
+rename_bad a old new t bad = grind (arith, run_as, ran_at, at_start) steps 100000
 
 pub rename_call : (t u : Tx) (at : FsRegion) (old new : List ℕ) (result : Result Bool FsError) → IsTx t → AreFileAreas (areas_of t at) → at.files.start + at.files.size ≤ t.blocks → is_key old ≡ true → is_key new ≡ true
     → HasRun (rename_program (areas_of t at) old new) t u result → IfOk result (IsLocalCall (AreFileRegions (areas_of t at)) (files (areas_of t at)) (rename_op old new) t u)

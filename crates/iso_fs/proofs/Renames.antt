@@ -1,5 +1,5 @@
 -- A file under another name.
-use Rattle.iso_fs.proofs.{Words.{◌≡◌, ◌≢◌, ◌∙◌, sym, refl, ap, subst, ℕ, ◌+◌, ◌/◌, ◌%◌, ◌≤◌, ◌==◌, Bool, true, false, cond, List, length, get_or, take, map, Option, Some, None, option_map, Ok, arith, inl, inr, list_all, range_with_len, get, get-remove, insert, remove, same_map, slice_cmp-IsAntisymmetric, nat_cmp-IsAntisymmetric, nat_list_cmp_total, and_parts, both_ways, cases_Bool, nat_tests, Array, own, is_zero, map_bit, is_key, is_value, Pairs, block_at, accesses_of, answer_of, del_program, put_program, IsTreeRegion, tree_map, del_correct, put_correct, FileAreas, bytes_of, entry_at, is_file, is_number, number_of, AreFileAreas, AreFileRegions, Uses, block_in, content, file_at, file_byte, files, number_at, in_area, kept_outside, del_program_stores, put_program_stores}, Kept.same_bytes_by, Lookups.{files_get, insert_get, name_is, name_other, name_self, names_by, same_name, no_some}}
+use Rattle.iso_fs.proofs.{Words.{◌≡◌, ◌≢◌, ◌∙◌, sym, refl, ap, subst, ℕ, ◌+◌, ◌≤◌, ◌==◌, Bool, true, false, cond, List, length, take, Option, Some, None, option_map, Ok, arith, inl, inr, list_all, get, get-remove, insert, remove, same_map, slice_cmp-IsAntisymmetric, nat_cmp-IsAntisymmetric, nat_list_cmp_total, and_parts, cases_Bool, nat_tests, Array, own, is_zero, map_bit, is_key, is_value, Pairs, block_at, accesses_of, answer_of, del_program, put_program, IsTreeRegion, tree_map, del_correct, put_correct, FileAreas, is_file, is_number, number_of, AreFileAreas, AreFileRegions, Uses, block_in, content, file_at, files, number_at, in_area, kept_outside, del_program_stores, put_program_stores}, Kept.same_bytes_by, Lookups.{files_get, insert_get, name_is, name_other, name_self, names_by, same_name, no_some}}
 
 pub remove_get : (m : Pairs) (name q : List ℕ) → get (remove m name) q ≡ cond (same_name q name) None (get m q)
 remove_get m name q = get-remove nat_list_cmp_total m name q
@@ -50,9 +50,7 @@ module _ (a : FileAreas) (areas : AreFileAreas a) (A : Array) (regions : AreFile
   file_out j = let f = areas.follows in grind (arith, nat_tests)
 
   file_C : (j : ℕ) → file_at a C j ≡ file_at a A j
-  file_C j =
-      kept_outside (in_area a.tree) (del_program a.tree old) B (start + j) (del_program_stores a.tree old) (file_out j)
-      ∙ kept_outside (in_area a.tree) (put_program a.tree new value) A (start + j) (put_program_stores a.tree new value areas.tree) (file_out j)
+  file_C j = grind (arith, kept_outside, del_program_stores, file_out, put_program_stores) steps 100000
 
   first_C : block_at C start ≡ block_at A start
   first_C = ap (block_at C) (sym zero_start) ∙ file_C 0 ∙ ap (block_at A) zero_start
@@ -73,18 +71,7 @@ module _ (a : FileAreas) (areas : AreFileAreas a) (A : Array) (regions : AreFile
     before : get (tree_map a.tree A) (was q) ≡ Some v
 
   come : (q v : List ℕ) → get (tree_map a.tree C) q ≡ Some v → HasCome q v
-  come q v e = elim (cases_Bool (same_name q old)) [
-    | inl is ↦ absurd (no_some v (ap (λ (t : Bool). cond t None (cond (same_name q new) (Some value) (get (tree_map a.tree A) q))) (sym is) ∙ sym (get_C q) ∙ e))
-    | inr other ↦ record {
-      other = other;
-      before = elim (cases_Bool (same_name q new)) [
-        | inl is ↦ ap (λ (t : Bool). get (tree_map a.tree A) (cond t old q)) is ∙ there
-            ∙ (λ i. cond (sym other i) None (cond (sym is i) (Some value) (get (tree_map a.tree A) q))) ∙ sym (get_C q) ∙ e
-        | inr same ↦ ap (λ (t : Bool). get (tree_map a.tree A) (cond t old q)) same
-            ∙ (λ i. cond (sym other i) None (cond (sym same i) (Some value) (get (tree_map a.tree A) q))) ∙ sym (get_C q) ∙ e
-      ];
-    }
-  ]
+  come q v e = grind (arith, no_some, get, get_C) steps 100000
 
   -- and a name that had it still does, perhaps under the new one
   abbrev now : List ℕ → List ℕ
@@ -130,9 +117,7 @@ module _ (a : FileAreas) (areas : AreFileAreas a) (A : Array) (regions : AreFile
   }
 
   not_old : (q : List ℕ) (place block : ℕ) → Uses a C q place block → q ≢ old
-  not_old q place block uses is =
-      let by = names_by (get (tree_map a.tree C) q) uses.number uses.named in
-      both_ways (same_name q old) (come q by.value by.is).other (ap (same_name q) (sym is) ∙ name_self q)
+  not_old q place block uses is = grind (arith, names_by, get, come, name_self) steps 100000
 
   -- two names that were one are one
   were_one : (p q : List ℕ) → p ≢ old → q ≢ old → was p ≡ was q → p ≡ q
@@ -169,10 +154,7 @@ module _ (a : FileAreas) (areas : AreFileAreas a) (A : Array) (regions : AreFile
 
   -- THE FILES
   same_content : (n : ℕ) → content a C n ≡ content a A n
-  same_content n =
-      ap (λ (f : List ℕ). map (file_byte a C f) (range_with_len 0 (bytes_of f))) (file_C n)
-      ∙ same_bytes_by (file_byte a C (file_at a A n)) (file_byte a A (file_at a A n)) 0 (bytes_of (file_at a A n))
-      (λ p below. ap (λ (b : List ℕ). get_or b (p % a.files.size) 0) (file_C (entry_at (file_at a A n) (p / a.files.size))))
+  same_content n = grind (arith, file_C, same_bytes_by) steps 100000
 
   same_found : (o : Option (List ℕ)) → option_map (λ v. content a C (number_of v)) o ≡ option_map (λ v. content a A (number_of v)) o
   same_found None = refl

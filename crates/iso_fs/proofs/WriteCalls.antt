@@ -1,11 +1,9 @@
 -- A write is that of the files.
-use Rattle.iso_fs.proofs.{Words.{map_byte, ◌≡◌, ◌∙◌, sym, refl, ap, subst, ℕ, zero, suc, ◌+◌, ◌-◌, ◌*◌, ◌/◌, ◌%◌, ◌^◌, ◌<◌, ◌≤◌, ◌==◌, ◌&&◌, Bool, true, false, cond, List, [], ◌∷◌, ◌++◌, length, get_or, take, nat_le, Option, Some, None, option_map, Result, Ok, Err, arith, inl, inr, nat_lt, list_all, get, and_parts, cases_Bool, leb-true, nat_tests, mul-le-mul_right, append-nil, Access, NoBlocks, Array, put, own, is_zero, free_count, map_bit, map_bytes, map_mark, is_key, block_at, Done, Store, accesses_of, answer_of, bytes_in, store_access, changed_map, changed_mark, first_write, free_list, get_program, tree_map, length-block_put, other_block, written_block, IsCorrect, kept_1, laid_whole, bits_after, sizes_of, same_ok, AreTaken, taken_are, up_apart, FsError, FileAreas, blocks_for, bytes_of, data_count, entries_of, entry_at, file_block, is_file, is_handed, most_bytes, number_of, Call, at_file, in_tree, is_many, refuse, with_new, write_in, write_op, write_pieces, write_program, write_sized, write_to, written, AreFileAreas, AreFileRegions, Uses, content, file_at, files}, AfterTree.{answer_at_file, answer_got, own_at_file, own_got}, FileBlocks.{block_bytes, block_count, block_entry, block_is_file, length-file_block}, Files.{IsHanded, count_fits, count_mono, uses_handed}, Lookups.files_get, Writes.{E_handed, E_long, HasBlock, HasTaken, HasWritten, has_written, old_entry}}
+use Rattle.iso_fs.proofs.{Words.{map_byte, ◌≡◌, ◌∙◌, sym, refl, ap, subst, ℕ, zero, suc, ◌+◌, ◌-◌, ◌*◌, ◌/◌, ◌%◌, ◌^◌, ◌<◌, ◌≤◌, ◌==◌, ◌&&◌, Bool, true, false, cond, List, [], ◌∷◌, ◌++◌, length, get_or, take, nat_le, Option, Some, None, option_map, Result, Ok, Err, arith, inl, inr, nat_lt, list_all, get, and_parts, cases_Bool, leb-true, nat_tests, append-nil, Access, NoBlocks, Array, put, own, is_zero, free_count, map_bit, map_bytes, map_mark, is_key, block_at, Done, Store, accesses_of, answer_of, bytes_in, store_access, changed_map, changed_mark, first_write, free_list, get_program, tree_map, length-block_put, other_block, written_block, IsCorrect, kept_1, laid_whole, bits_after, sizes_of, same_ok, AreTaken, taken_are, up_apart, FsError, FileAreas, blocks_for, bytes_of, data_count, entries_of, entry_at, file_block, is_file, is_handed, most_bytes, number_of, Call, at_file, in_tree, is_many, refuse, with_new, write_in, write_op, write_pieces, write_program, write_sized, write_to, written, AreFileAreas, AreFileRegions, Uses, content, file_at, files}, AfterTree.{answer_at_file, answer_got, own_at_file, own_got}, FileBlocks.{block_bytes, block_count, block_entry, block_is_file, length-file_block}, Files.{IsHanded, count_fits, count_mono, uses_handed}, Lookups.files_get, Writes.{E_handed, E_long, HasBlock, HasTaken, HasWritten, has_written, old_entry}}
 use Rattle.store_model.specs.declared.files.FsError.TheVariants as fs
 
 pub most_is : (size : ℕ) → size ≤ 4096 → most_bytes size ≤ 1008 * 4096
-most_is size m =
-    let one : (size - 64) / 4 * size ≤ 1008 * size = mul-le-mul_right size (let e : (size - 64) / 4 ≤ 1008 = omega arith in e) in
-    omega arith
+most_is size m = grind arith steps 100000
 
 no_news : (xs : List ℕ) → length xs ≡ 0 → xs ≡ []
 no_news [] none = refl
@@ -128,10 +126,7 @@ module _ (a : FileAreas) (areas : AreFileAreas a) (A : Array) (regions : AreFile
     most_size = let s = areas.size in let b = sizes_of a.tree areas.tree in let m = b.sized.most in omega arith
 
     small_end : end < 2 ^ 32
-    small_end =
-        let m = most_size in
-        let product : most_bytes size ≤ 1008 * 4096 = most_is size m in
-        omega arith
+    small_end = grind (arith, most_size, most_is) steps 100000
 
     uses_it : Uses a A name 0 number
     uses_it = record { number = number; named = ap (option_map number_of) there; inside = omega arith; is = refl }
@@ -210,13 +205,7 @@ module _ (a : FileAreas) (areas : AreFileAreas a) (A : Array) (regions : AreFile
       ]
 
   sized_true : (number : ℕ) (file news : List ℕ) (X : Array) → answer_of (write_sized a.files off bytes number file news) X ≡ Ok true
-  sized_true number file news X = elim (nat_lt (bytes_of file) (off + length bytes)) as (λ t. answer_of (cond t
-      (Store (a.files.start + number) [] (file_block a.files.size (off + length bytes) (entries_of a.files.size file ++ news))
-      (write_pieces a.files (entries_of a.files.size file ++ news) (data_count a.files.size file) (length bytes) off (off + length bytes) bytes))
-      (write_pieces a.files (entries_of a.files.size file) (data_count a.files.size file) (length bytes) off (off + length bytes) bytes)) X ≡ Ok true) [
-        | true ↦ pieces_true (entries_of a.files.size file ++ news) (data_count a.files.size file) (length bytes) off (off + length bytes) bytes (put X _)
-        | false ↦ pieces_true (entries_of a.files.size file) (data_count a.files.size file) (length bytes) off (off + length bytes) bytes X
-      ]
+  sized_true number file news X = grind (arith, pieces_true) steps 100000
 
   file_does : (value : List ℕ) → get (tree_map a.tree A) name ≡ Some value → (r : Bool) → answer_of (write_to a.files off bytes (number_of value) (file_at a A (number_of value))) A ≡ Ok r
       → HasDone a name off bytes A (own A (accesses_of (write_to a.files off bytes (number_of value) (file_at a A (number_of value))) A)) r

@@ -38,10 +38,7 @@ module _ (a : Area) (E : List ℕ) (old to : ℕ) (some : 0 < a.size) (inside : 
   place_inside p less = (div-lt_iff_lt-mul {k = size} {x = p} {y = length E} some).1 (omega arith)
 
   div_less : (p q : ℕ) → p ≤ q → p / size ≤ q / size
-  div_less p q le =
-      let low : p / size < q / size + 1 = (div-lt_iff_lt-mul {k = size} {x = p} {y = q / size + 1} some).1
-      (let e = div-add-mod' q size in let m = mod-lt q {m = size} some in let s = Rattle.std.proofs.Math.Nat.add-mul (q / size) 1 size in let o = Rattle.std.proofs.Math.Nat.one-mul size in omega arith) in
-      omega arith
+  div_less p q le = grind arith steps 100000
 
   -- a block that none of the pieces has
   pub others_stay : (most from : ℕ) (bytes : List ℕ) (X : Array) (b : ℕ) → ((i : ℕ) → from / size ≤ i → i < length E → at i ≢ b) → block_at (after most from bytes X) b ≡ block_at X b
@@ -77,10 +74,7 @@ module _ (a : Area) (E : List ℕ) (old to : ℕ) (some : 0 < a.size) (inside : 
       new_long = length-block_with size off (take n bytes) (let f = is.fits in omega (arith, piece_long)) ∙ sym (shape (from / size) (place_inside from less))
 
       mark_has : (pos : ℕ) → off ≤ pos → pos < off + n → covered (marks a old from to) pos ≡ true
-      mark_has pos low high = elim (nat_lt (from / size) old) as (λ t. covered (cond t (piece_mark size from to ∷ []) []) pos ≡ true) [
-        | true ↦ or_left _ false (grind (arith, nat_tests))
-        | false ↦ refl
-      ]
+      mark_has pos low high = grind (arith, or_left) steps 100000
 
       laid : (j : ℕ) → j < n → get_or (block_with size off (take n bytes)) (off + j) 0 ≡ get_or bytes j 0
       laid j below =
@@ -112,14 +106,9 @@ module _ (a : Area) (E : List ℕ) (old to : ℕ) (some : 0 < a.size) (inside : 
         | inl same ↦
             (let young : from / size < old = elim how [ inl is_old ↦ omega arith | inr far ↦ absurd (omega arith) ] in
             let test : nat_lt (from / size) old ≡ true = grind (arith, nat_tests) in
-            let e = div-add-mod' p size in
-            let d = div-add-mod' from size in
-            let product : p / size * size ≡ from / size * size = ap (λ (k : ℕ). k * size) same in
-            let low : p % size < off = omega (arith, e, d, product) in
             let far : Rattle.iso_model.specs.Array.in_span (p % size) (piece_mark size from to) ≡ false = grind (arith, nat_tests) in
             let out : covered (marks a old from to) (p % size) ≡ false =
             ap (λ (t : Bool). covered (cond t (piece_mark size from to ∷ []) []) (p % size)) test ∙ ap (λ (t : Bool). Rattle.std.proofs.Common.◌||◌ t false) far in
-            let m = mod-lt p {m = size} some in
             ap (λ (k : ℕ). byte_at (put X w) (at k) (p % size)) same
             ∙ put_here X w (p % size) new_long (omega (arith, shape (from / size) (place_inside from less)))
             ∙ ap (λ (t : Bool). cond t (get_or w.bytes (p % size) 0) (byte_at X w.block (p % size))) out
@@ -151,9 +140,7 @@ module _ (a : Area) (E : List ℕ) (old to : ℕ) (some : 0 < a.size) (inside : 
     pub bytes_written : (most from : ℕ) (bytes : List ℕ) (X : Array) → to - from ≤ most → from ≤ to → length bytes ≡ to - from → ((i : ℕ) → i < length E → length (block_at X (at i)) ≡ size)
         → (p : ℕ) → p < to → (from ≤ p) ⊎ ((p / size < old) ⊎ (p / size < from / size))
         → byte_at (after most from bytes X) (at (p / size)) (p % size) ≡ cond (nat_le from p) (get_or bytes (p - from) 0) (byte_at X (at (p / size)) (p % size))
-    bytes_written zero from bytes X few up whole shape p low how =
-        let test : nat_le from p ≡ false = grind (arith, nat_tests) in
-        ap (λ (t : Bool). cond t (get_or bytes (p - from) 0) (byte_at X (at (p / size)) (p % size))) (sym test)
+    bytes_written zero from bytes X few up whole shape p low how = grind arith steps 100000
     bytes_written (suc most) from bytes X few up whole shape p low how = elim (cases_lt from to) [
       | inr past ↦
           (let test : nat_le from p ≡ false = grind (arith, nat_tests) in
@@ -162,12 +149,9 @@ module _ (a : Area) (E : List ℕ) (old to : ℕ) (some : 0 < a.size) (inside : 
       | inl less ↦
           (let n = piece_len size from to in
           let is = piece_is size from to some less in
-          let within = is.within in
-          let first = is.some in
           let X1 = put X (one a E old from to bytes) in
           let more = drop n bytes in
-          let shape1 : (i : ℕ) → i < length E → length (block_at X1 (at i)) ≡ size = λ i below. length-block_put X (one a E old from to bytes) (at i) ∙ shape i below in
-          let ih = bytes_written most (from + n) more X1 (omega arith) (omega arith) (omega (arith, length-drop n bytes)) shape1 p low in
+          let ih = bytes_written most (from + n) more X1 (omega arith) (omega arith) (omega (arith, length-drop n bytes)) (λ i below. length-block_put X (one a E old from to bytes) (at i) ∙ shape i below) p low in
           ap (λ (Y : Array). byte_at Y (at (p / size)) (p % size)) (goes most from bytes X less)
           ∙ elim (cases_lt p (from + n)) [
             | inr later ↦
@@ -208,16 +192,10 @@ module _ (a : Area) (E : List ℕ) (old to : ℕ) (some : 0 < a.size) (inside : 
               (λ e. other (apart (p / size) (from / size) below (place_inside from less) (omega arith))))
           | inl same ↦
               (let is = piece_is size from to some less in
-              let within = is.within in
               let test : nat_lt (from / size) old ≡ true = grind (arith, nat_tests) in
-              let e = div-add-mod' p size in
-              let d = div-add-mod' from size in
-              let product : p / size * size ≡ from / size * size = ap (λ (k : ℕ). k * size) same in
-              let far_off : from % size + piece_len size from to ≤ p % size = omega (arith, e, d, product) in
               let far : Rattle.iso_model.specs.Array.in_span (p % size) (piece_mark size from to) ≡ false = grind (arith, nat_tests) in
               let out : covered (marks a old from to) (p % size) ≡ false =
               ap (λ (t : Bool). covered (cond t (piece_mark size from to ∷ []) []) (p % size)) test ∙ ap (λ (t : Bool). Rattle.std.proofs.Common.◌||◌ t false) far in
-              let m = mod-lt p {m = size} some in
               ap (λ (k : ℕ). byte_at (put X w) (at k) (p % size)) same
               ∙ put_here X w (p % size) (new_long from bytes X less whole shape) (omega (arith, shape (from / size) (place_inside from less)))
               ∙ ap (λ (t : Bool). cond t (get_or w.bytes (p % size) 0) (byte_at X w.block (p % size))) out
@@ -232,7 +210,6 @@ module _ (a : Area) (E : List ℕ) (old to : ℕ) (some : 0 < a.size) (inside : 
       | inl less ↦
           (let n = piece_len size from to in
           let is = piece_is size from to some less in
-          let within = is.within in
           let X1 = put X (one a E old from to bytes) in
           ap (λ (Y : Array). byte_at Y (at (p / size)) (p % size)) (goes most from bytes X less)
           ∙ bytes_behind most (from + n) (drop n bytes) X1 (omega arith) (omega (arith, length-drop n bytes)) (λ i inside. length-block_put X (one a E old from to bytes) (at i) ∙ shape i inside) p past young below

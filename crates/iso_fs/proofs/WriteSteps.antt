@@ -151,9 +151,8 @@ covered_by size end count some is = subst (λ (n : ℕ). end ≤ n * size) (sym 
 
 pub covered_old : (size end bytes old more : ℕ) → 0 < size → old ≡ blocks_for size bytes → end ≤ bytes → end ≤ (old + more) * size
 covered_old size end bytes old more some is past =
-    let one = covered_by size bytes old some is in
     let two : old * size ≤ (old + more) * size = mul-le-mul_right size (omega arith) in
-    omega (arith, one, two, past)
+    omega (arith, (covered_by size bytes old some is), two, past)
 
 -- NEW BLOCKS
 -- the blocks that were taken, and what is done with them

@@ -29,8 +29,6 @@ module _ (a : FileAreas) (areas : AreFileAreas a) (A : Array) (shape : HaveBlock
         (let test : nat_lt from to ≡ true = grind (arith, nat_tests) in
         let some : 0 < size = (let l = size_least in omega arith) in
         let is = piece_is size from to some less in
-        let within = is.within in
-        let fits = is.fits in
         let place : from / size < length E = (div-lt_iff_lt-mul {k = size} {x = from} {y = length E} some).1 (omega arith) in
         let n = piece_len size from to in
         let piece_long : length (take n bytes) ≡ n = length-take-le n bytes (omega arith) in
@@ -119,9 +117,8 @@ module _ (a : FileAreas) (areas : AreFileAreas a) (A : Array) (shape : HaveBlock
   to_whole : (number : ℕ) → number < a.files.blocks → (file : List ℕ) → is_file a.files file ≡ true → (off : ℕ) (bytes : List ℕ) → AreWhole A (accesses_of (write_to a.files off bytes number file) A)
   to_whole number inside file good off bytes =
       let end = off + length bytes in
-      let tests = nat_le off (bytes_of file) && nat_le end (most_bytes size) in
       let go = with_new a.files (blocks_for size end - data_count size file) (write_sized a.files off bytes number file) in
-      elim (cases_Bool tests) [
+      elim (cases_Bool (nat_le off (bytes_of file) && nat_le end (most_bytes size))) [
         | inr out ↦ subst (λ (t : Bool). AreWhole A (accesses_of (cond t go (refuse fs.BadRange)) A)) (sym out) tt
         | inl both_good ↦
             (let two = and_parts (nat_le off (bytes_of file)) (nat_le end (most_bytes size)) both_good in
@@ -134,14 +131,13 @@ module _ (a : FileAreas) (areas : AreFileAreas a) (A : Array) (shape : HaveBlock
   found_whole off bytes (Some value) =
       let number = number_of value in
       let file = file_at a A number in
-      let bad : Call Bool = broken (start + number) in
       elim (is_number a.files value) as (λ t. is_number a.files value ≡ t
       → AreWhole A (accesses_of (cond t (LookWhole (start + number) (λ xs. cond (is_file a.files xs) (write_to a.files off bytes number xs) (broken (start + number)))) (broken a.tree.start)) A)) [
         | false ↦ λ e. tt
         | true ↦ λ e.
             (let handed = handed_is a.files.blocks number (and_parts (length value == 4) (is_handed a.files.blocks number) e).1 in (
               λ write. absurd (nothing_is write),
-              elim (is_file a.files file) as (λ t. is_file a.files file ≡ t → AreWhole A (accesses_of (cond t (write_to a.files off bytes number file) bad) A)) [
+              elim (is_file a.files file) as (λ t. is_file a.files file ≡ t → AreWhole A (accesses_of (cond t (write_to a.files off bytes number file) (broken (start + number))) A)) [
                 | true ↦ λ good. to_whole number handed.below file good off bytes
                 | false ↦ λ not. tt
               ] refl,

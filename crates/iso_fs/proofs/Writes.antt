@@ -132,8 +132,7 @@ module _ (a : FileAreas) (areas : AreFileAreas a) (A : Array) (regions : AreFile
 
   other_number : (q : List ℕ) (place k : ℕ) → same_name q name ≡ false → Uses a A q place k → k ≢ number
   other_number q place k other uses e =
-      let same = (regions.apart q name place 0 number (subst (Uses a A q place) e uses) head_uses).0 in
-      both_ways (same_name q name) other (ap (λ (n : List ℕ). same_name n name) same ∙ name_self name)
+      both_ways (same_name q name) other (ap (λ (n : List ℕ). same_name n name) ((regions.apart q name place 0 number (subst (Uses a A q place) e uses) head_uses).0) ∙ name_self name)
 
   module _ (off : ℕ) (bytes : List ℕ) (low : off ≤ bytes_of (file_at a A (number_of value)))
       (after : ℕ) (X2 : Array) (made : HasBlock a X1 X2 (number_of value) after (entries_of a.files.size (file_at a A (number_of value)) ++ news))
@@ -146,11 +145,7 @@ module _ (a : FileAreas) (areas : AreFileAreas a) (A : Array) (regions : AreFile
 
     -- THE BLOCKS
     end_inside : end ≤ length E * size
-    end_inside =
-        let count = sym made.count ∙ ap (λ (n : ℕ). Rattle.store_model.specs.FileNodes.blocks_for size n) made.bytes in
-        let top = count_covers size after size_some in
-        let product : length E * size ≡ Rattle.store_model.specs.FileNodes.blocks_for size after * size = ap (λ (n : ℕ). n * size) count in
-        omega arith
+    end_inside = grind (arith, count_covers, size_some) steps 100000
 
     shape_E : (i : ℕ) → i < length E → length (block_at X2 (start + get_or E i 0)) ≡ size
     shape_E i below = made.long (start + get_or E i 0) ∙ taken.long (start + get_or E i 0) ∙ regions.shape (get_or E i 0) (E_handed i below).below
@@ -368,8 +363,7 @@ module _ (a : FileAreas) (areas : AreFileAreas a) (A : Array) (regions : AreFile
 
     content_C : content a C number ≡ written off bytes old
     content_C =
-        let size_C : bytes_of (file_at a C number) ≡ after = ap bytes_of file_C ∙ made.bytes in
-        ap (λ (n : ℕ). map (file_byte a C (file_at a C number)) (range_with_len 0 n)) size_C
+        ap (λ (n : ℕ). map (file_byte a C (file_at a C number)) (range_with_len 0 n)) (ap bytes_of file_C ∙ made.bytes)
         ∙ ext_get_or 0 (map (file_byte a C (file_at a C number)) (range_with_len 0 after)) (written off bytes old) (length-map-range_with_len (file_byte a C (file_at a C number)) 0 after ∙ sym now_long)
         (λ p low_p.
         let below : p < after = omega (arith, length-map-range_with_len (file_byte a C (file_at a C number)) 0 after) in

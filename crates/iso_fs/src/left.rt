@@ -5,8 +5,7 @@ ghost use Rattle.tx_blocks.specs.{Tx.with_accesses, Runs.IsCause};
 ghost use Rattle.iso_fs.specs.{Ends.HasFile, Finds.ArePlaces};
 
 use crate::file::{data_count, entry_at};
-use crate::names::region_of;
-use iso_alloc::{give_back, lay_alone, piece};
+use iso_alloc::{give_back, lay_alone, piece, region_of};
 use iso_model::Span;
 use store_model::{Area, TxError};
 use tx_blocks::{TxBlocks, store};

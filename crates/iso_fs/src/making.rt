@@ -1,44 +1,16 @@
 // A new file.
-ghost use Rattle.std.specs.{Prelude.{false, ◌≡◌, ◌↔◌, ◌+◌, ◌-◌, ◌<◌, ◌≤◌, Err, IsFalse, IsTrue, is_some, true, IfOk, IfErr, OnOk, OnErr, length, [], ◌∷◌, Ok, None}, FinMap.get};
-ghost use Rattle.store_model.specs.{Cells.block_with, FreeMap.{bit_mark, bit_place}, HashCalls.is_key, Stores.store_access, FileCalls.{create_op, create_program, name_file}, FileNodes.file_block, FileRegion.{files, AreFileAreas, AreFileRegions}};
+ghost use Rattle.std.specs.{Prelude.{false, ◌≡◌, ◌↔◌, ◌+◌, ◌-◌, ◌<◌, ◌≤◌, Err, IsFalse, IsTrue, is_some, true, IfOk, IfErr, OnOk, OnErr, length, slice_index, [], ◌∷◌, Ok, None}, FinMap.get};
+ghost use Rattle.store_model.specs.{FreeMap.bit_place, HashCalls.is_key, Stores.store_access, FileCalls.{create_op, create_program, name_file}, FileNodes.file_block, FileRegion.{files, AreFileAreas, AreFileRegions}};
 ghost use Rattle.tx_blocks.specs.{Tx.{with_accesses, IsLater}, Runs.{IsCause, IsLocalCall}};
 ghost use Rattle.iso_fs.specs.Ends.{areas_of, ExistsWhere, HasArea, HasRun, IsFsCause, IsNamed, IsPart, IsUnwritten};
 
 use crate::buffers::{lay_empty, named_areas, spelled};
-use crate::names::{put_value, region_of, value_of};
-use iso_alloc::{buffer, lay_alone, take_lowest};
-use iso_model::Span;
+use crate::names::{put_value, value_of};
+use iso_alloc::{buffer, region_of, take_lowest};
 use iso_tree::map_mark;
 use std::alloc::Global;
 use store_model::{FileAreas, FsError, FsRegion, StoreError, TxError};
-use tx_blocks::{TxBlocks, look, store};
-
-// Writes the byte of the map with the bit of a block.
-fn store_bit<T: TxBlocks>(
-    tx: &mut T,
-    a: FileAreas,
-    block: u32,
-    byte: u8,
-    buffer: &mut [u8],
-) -> Result<(), TxError>
-    requires areas { AreFileAreas a }
-    requires holds { HasArea (T.state tx.old) a.files }
-    requires buffer { length buffer.old ≡ a.files.size }
-    requires block { block < a.files.blocks }
-    ensures stored { OnOk result (T.state tx.new ≡ with_accesses (T.state tx.old) (store_access a.files.start (bit_mark block ∷ []) (block_with a.files.size (bit_place block) (byte ∷ [])) ∷ [])) }
-    ensures kept { OnErr result (T.state tx.new ≡ T.state tx.old) }
-    ensures cause { IfErr result (IsCause (T.state tx.new) 1 (T.device tx.old) (T.device tx.new)) }
-    ensures device { T.device tx.new ≡ T.device tx.old }
-    ensures size { length buffer.new ≡ a.files.size }
-{
-    let at = 64 + (block / 8) as usize;
-    lay_alone(buffer, at, &[byte]);
-    let span = Span {
-        off: at as u16,
-        len: 1,
-    };
-    store(tx, a.files.start, &[span], buffer)
-}
+use tx_blocks::{TxBlocks, look, store, store_bit};
 
 // Writes an empty file into a block.
 fn store_empty<T: TxBlocks>(
@@ -66,18 +38,17 @@ fn name_file<T: TxBlocks>(
     a: FileAreas,
     name: &[u8],
     block: u32,
-    byte: u8,
     buffer: &mut [u8],
 ) -> Result<(), FsError>
     requires named { IsNamed (T.state tx.old) a name.now }
     requires block { block < a.files.blocks }
     requires buffer { length buffer.old ≡ a.files.size }
-    ensures { IsPart false 66 (name_file a name.now block byte) (T.state tx.old) (T.state tx.new) (T.device tx.old) (T.device tx.new) result }
+    ensures { IsPart false 66 (name_file a name.now block (slice_index buffer.old (bit_place block))) (T.state tx.old) (T.state tx.new) (T.device tx.old) (T.device tx.new) result }
 {
     if let Err(e) = put_value(alloc, tx, a.tree, name, &spelled(block)) {
         return Err(FsError::Store(e));
     }
-    if let Err(e) = store_bit(tx, a, block, byte, buffer) {
+    if let Err(e) = store_bit(tx, a.files, block, buffer) {
         return Err(FsError::Store(StoreError::Tx(e)));
     }
     match store_empty(tx, a, block, buffer) {
@@ -107,10 +78,7 @@ fn create_with<T: TxBlocks>(
         return Err(FsError::Store(StoreError::Tx(e)));
     }
     match take_lowest(buffer, region_of(a.files), 1) {
-        Some(block) => {
-            let byte = buffer[64 + (block / 8) as usize];
-            name_file(alloc, tx, a, name, block, byte, buffer)
-        }
+        Some(block) => name_file(alloc, tx, a, name, block, buffer),
         None => Err(FsError::Store(StoreError::NoBlocks { need: 1, free: 0 })),
     }
 }

@@ -5,21 +5,12 @@ ghost use Rattle.tx_blocks.specs.{Tx.IsLater, Runs.{HasEnded, HasRead, IsStoreCa
 ghost use Rattle.iso_tree.specs.Walks.{TakesNoBlocks};
 ghost use Rattle.iso_fs.specs.Ends.{HasArea};
 
+use iso_alloc::region_of;
 use iso_model::Bytes;
 use iso_tree::{del, get, put};
 use std::alloc::Global;
-use store_model::{Area, Region, StoreError};
+use store_model::{Area, StoreError};
 use tx_blocks::TxBlocks;
-
-/// The region of an area.
-pub fn region_of(area: Area) -> Region
-    ensures { result ≡ record { start = area.start; size = area.blocks } }
-{
-    Region {
-        start: area.start,
-        size: area.blocks,
-    }
-}
 
 /// The value of a name.
 pub fn value_of<T: TxBlocks>(

@@ -8,10 +8,9 @@ ghost use Rattle.iso_fs.specs.{Ends.{areas_of, HasArea, HasRun, IsFsCause, IsNam
 use crate::buffers::{areas_of, buffers, is_many};
 use crate::file::{bytes_of, data_count};
 use crate::find::find;
-use crate::names::region_of;
 use crate::sized::lay_sized;
 use crate::storing::write_pieces;
-use iso_alloc::{free_blocks, is_key};
+use iso_alloc::{free_blocks, is_key, region_of};
 use iso_tree::{map_mark, store_first, take_blocks};
 use std::alloc::Global;
 use store_model::{Area, FileAreas, FsError, FsRegion, StoreError};

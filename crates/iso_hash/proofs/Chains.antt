@@ -1,5 +1,5 @@
 -- The blocks of chains: where they stand, and what the chain is.
-use Rattle.iso_hash.proofs.Words.{◌≡◌, ◌≢◌, ◌∙◌, sym, refl, ap, subst, ℕ, zero, suc, ◌+◌, ◌<◌, ◌≤◌, Bool, true, false, ◌==◌, cond, nat_eq, List, [], ◌∷◌, ◌++◌, length, arith, inl, inr, eq-eqb, ne_eqb, AllByRecursion, IsDistinct, cases_eq, and_parts, or_cases, eqb-true, leb-true, ltb-true, Area, word_at, are_key_parts, buckets, last_position, next_of, is_next, is_linked, chain_from, chain, IsIn, AreLinked, IsHashArea, in_back}
+use Rattle.iso_hash.proofs.Words.{◌≡◌, ◌≢◌, ◌∙◌, sym, refl, ap, subst, ℕ, zero, suc, ◌+◌, ◌<◌, ◌≤◌, true, false, ◌==◌, cond, nat_eq, List, [], ◌∷◌, ◌++◌, length, arith, inl, inr, eq-eqb, ne_eqb, AllByRecursion, IsDistinct, cases_eq, and_parts, eqb-true, Area, word_at, are_key_parts, buckets, last_position, next_of, is_next, is_linked, chain_from, chain, IsIn, AreLinked, IsHashArea, in_back}
 
 -- what the head of a linked block says
 pub record IsHead (a : Area) (bucket position : ℕ) (x : List ℕ) : Type 0 where
@@ -24,14 +24,7 @@ pub record IsNextIn (a : Area) (position next : ℕ) : Type 0 where
   pub more : position ≢ last_position a
 
 pub next_in : (a : Area) (position next : ℕ) → is_next a position next ≡ true → next ≢ 0 → IsNextIn a position next
-next_in a position next is some = elim (or_cases _ _ is) [
-  | inl none ↦ absurd (some (eqb-true _ _ none))
-  | inr there ↦
-      (let parts = and_parts _ _ there in
-      let range = and_parts _ _ parts.0 in
-      let low : buckets a + 1 ≤ next = leb-true _ _ range.0 in
-      record { past = omega arith; inside = ltb-true _ _ range.1; more = λ e. Rattle.std.proofs.lemmas.Bool.false≢true (sym (ap (λ (t : Bool). Rattle.std.specs.Prelude.not t) (eq-eqb _ _ e)) ∙ parts.1) })
-]
+next_in a position next is some = grind arith steps 100000
 
 -- where a block of the list stands
 pub record Placed (a : Area) (keys : ℕ → List ℕ) (bucket position first k : ℕ) : Type 0 where
@@ -44,15 +37,7 @@ pub record Placed (a : Area) (keys : ℕ → List ℕ) (bucket position first k 
 
 pub placed : (a : Area) (keys : ℕ → List ℕ) (bucket position : ℕ) (blocks : List ℕ) (first end k : ℕ) → AreLinked a keys bucket position blocks first end → IsIn k blocks → Placed a keys bucket position first k
 placed a keys bucket position [] first end k linked has = absurd has
-placed a keys bucket position (m ∷ blocks) first end k linked (inl same) =
-    record {
-      place = position;
-      low = omega arith;
-      linked = subst (λ (n : ℕ). is_linked a bucket position (keys n) ≡ true) same linked.2;
-      some = subst (λ (n : ℕ). 0 < n) same linked.1;
-      head = λ e. linked.0 ∙ same;
-      past = λ less. absurd (omega arith);
-    }
+placed a keys bucket position (m ∷ blocks) first end k linked (inl same) = grind arith steps 100000
 placed a keys bucket position (m ∷ blocks) first end k linked (inr rest) =
     let ih = placed a keys bucket (position + 1) blocks (next_of (keys m)) end k linked.3 rest in
     record {
@@ -101,9 +86,7 @@ one_bucket a keys b c k first second has_b has_c =
 -- a list that is followed by another
 pub linked_split : (a : Area) (keys : ℕ → List ℕ) (bucket position : ℕ) (xs ys : List ℕ) (first end : ℕ) → AreLinked a keys bucket position (xs ++ ys) first end
     → (mid : ℕ) × (AreLinked a keys bucket position xs first mid × AreLinked a keys bucket (position + length xs) ys mid end)
-linked_split a keys bucket position [] ys first end linked =
-    let e : position + 0 ≡ position = omega arith in
-    (first, (refl, subst (λ (n : ℕ). AreLinked a keys bucket n ys first end) (sym e) linked))
+linked_split a keys bucket position [] ys first end linked = grind arith
 linked_split a keys bucket position (k ∷ xs) ys first end linked =
     let ih = linked_split a keys bucket (position + 1) xs ys (next_of (keys k)) end linked.3 in
     let e : position + 1 + length xs ≡ position + suc (length xs) = omega arith in
@@ -111,9 +94,7 @@ linked_split a keys bucket position (k ∷ xs) ys first end linked =
 
 pub linked_join : (a : Area) (keys : ℕ → List ℕ) (bucket position : ℕ) (xs ys : List ℕ) (first mid end : ℕ) → AreLinked a keys bucket position xs first mid → AreLinked a keys bucket (position + length xs) ys mid end
     → AreLinked a keys bucket position (xs ++ ys) first end
-linked_join a keys bucket position [] ys first mid end one two =
-    let e : position + 0 ≡ position = omega arith in
-    subst (λ (m : ℕ). AreLinked a keys bucket position ys m end) (sym one) (subst (λ (n : ℕ). AreLinked a keys bucket n ys mid end) e two)
+linked_join a keys bucket position [] ys first mid end one two = grind arith steps 100000
 linked_join a keys bucket position (k ∷ xs) ys first mid end one two =
     let e : position + suc (length xs) ≡ position + 1 + length xs = omega arith in
     (one.0, one.1, one.2, linked_join a keys bucket (position + 1) xs ys (next_of (keys k)) mid end one.3 (subst (λ (n : ℕ). AreLinked a keys bucket n ys mid end) e two))

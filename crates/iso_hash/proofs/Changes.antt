@@ -1,5 +1,5 @@
 -- Puts and removals are what the operations on the map of the region are.
-use Rattle.iso_hash.proofs.{Words.{◌≡◌, ◌⊎◌, ◌∙◌, sym, refl, ap, subst, ℕ, zero, suc, ◌+◌, ◌*◌, ◌%◌, ◌<◌, Bool, true, false, ◌==◌, not, cond, List, [], ◌∷◌, ◌++◌, length, get_or, replicate, Option, Some, None, Result, Ok, IfSome, arith, inl, inr, is_some, w32, to_be_bytes, nat_cmp, eq_by_cmp, slice_cmp, nat_list_cmp_total, get, remove, get-remove, same_map, slice_cmp-IsAntisymmetric, nat_cmp-IsAntisymmetric, and_parts, eqb-true, ltb-true, leb-true, length-replicate, bytes_eq-Decides, Access, Area, Spot, StoreError, Broken, NoBlocks, Array, put, own, block_at, Program, Done, Look, Reserve, Store, bytes_in, store_access, accesses_of, answer_of, then_do, IsLocal, cell_count, keys_end, key_mark, value_mark, next_mark, value_part, block_with, map_mark, bit_place, bit_mark, map_bit, set_bit, clear_bit, lowest_free, Pairs, view_of, buckets, bucket_of, last_position, next_of, chain, hash_map, AreLinked, Stands, IsHashRegion, IsHashArea, put_op, del_op, Walked, AtCell, AtEnd, AtBroken, walk, spot_in, spare_in, put_new, put_at, put_program, is_spent, is_alone, del_at, del_program, is_key, is_value, AreWhole, accesses_then, answer_then, own_reads, whole_reads, IsCorrect, local_from, own_append, first_below, length-part, length-block_with, no_ok, same_ok, first_low, map_byte, HasBlocks, first_passes, whole_append}, Chains.{linked_split, next_in, head_of}, Dels.{del_cell, del_block}, Finding.{ties, cases_key}, Gets.{bucket_below, key_some, key_short, walk_is_reads, walk_found, walk_missed, found_stands, missed_nowhere, get_found, get_none}, Grown.put_grown, NewBlocks.{size_most, length-new_block}, Puts.{HasPut, put_found, put_spare, length-with_cell, cells_fit}, Ways.{Way, way, cell_below, Found, IsSpare}}
+use Rattle.iso_hash.proofs.{Words.{◌≡◌, ◌⊎◌, ◌∙◌, sym, refl, ap, subst, ℕ, zero, suc, ◌+◌, ◌*◌, ◌%◌, ◌<◌, Bool, true, false, ◌==◌, not, cond, List, [], ◌∷◌, ◌++◌, length, get_or, replicate, Option, Some, None, Result, Ok, IfSome, arith, inl, inr, is_some, w32, to_be_bytes, nat_cmp, eq_by_cmp, slice_cmp, nat_list_cmp_total, get, remove, get-remove, same_map, slice_cmp-IsAntisymmetric, nat_cmp-IsAntisymmetric, and_parts, eqb-true, ltb-true, leb-true, length-replicate, bytes_eq-Decides, Access, Area, Spot, StoreError, Broken, NoBlocks, Array, put, own, block_at, Program, Done, Look, Reserve, Store, bytes_in, store_access, accesses_of, answer_of, then_do, IsLocal, cell_count, keys_end, key_mark, value_mark, next_mark, value_part, block_with, map_mark, bit_place, bit_mark, map_bit, set_bit, clear_bit, lowest_free, Pairs, view_of, buckets, bucket_of, last_position, next_of, chain, hash_map, AreLinked, Stands, IsHashRegion, IsHashArea, put_op, del_op, Walked, AtCell, AtEnd, AtBroken, walk, spare_in, put_new, put_at, put_program, is_spent, is_alone, del_at, del_program, is_key, is_value, AreWhole, accesses_then, answer_then, own_reads, whole_reads, IsCorrect, local_from, own_append, first_below, length-part, length-block_with, no_ok, same_ok, first_low, map_byte, HasBlocks, first_passes, whole_append}, Chains.{linked_split, next_in, head_of}, Dels.{del_cell, del_block}, Finding.{ties, cases_key}, Gets.{bucket_below, key_some, key_short, walk_is_reads, walk_found, walk_missed, found_stands, missed_nowhere, get_found, get_none}, Grown.put_grown, NewBlocks.{size_most, length-new_block}, Puts.{HasPut, put_found, put_spare, length-with_cell, cells_fit}, Ways.{Way, way, cell_below, Found, IsSpare}}
 
 -- what is done after a walk is done on the same array
 module _ {X : Type 0} (a : Area) (key : List ℕ) (f : Walked → Program X) (A : Array) where
@@ -102,20 +102,14 @@ IsWithin a end (AtBroken block) = Unit {0}
 spare_within : (a : Area) (free : Option Spot) (block : ℕ) (keys : List ℕ) → block < a.blocks → IfSome free (λ s. (s.block < a.blocks) × (s.cell < cell_count a.size))
     → IfSome (spare_in a free block keys) (λ s. (s.block < a.blocks) × (s.cell < cell_count a.size))
 spare_within a (Some s) block keys inside is = is
-spare_within a None block keys inside is =
-    elim (Rattle.store_model.specs.Cells.unused_cell a.size keys) as (λ o. Rattle.store_model.specs.Cells.unused_cell a.size keys ≡ o → IfSome (spot_in block o) (λ s. (s.block < a.blocks) × (s.cell < cell_count a.size))) [
-      | None ↦ λ e. tt
-      | Some i ↦ λ e. (inside, (let below = first_below (λ j. Rattle.store_model.specs.Cells.is_unused keys j) 0 (cell_count a.size) i e in omega arith))
-    ] refl
+spare_within a None block keys inside is = grind (arith, first_below)
 
 way_within : (a : Area) (key : List ℕ) (bucket : ℕ) (with_value : Bool) (A : Array) (left position before block : ℕ) (free : Option Spot) (w : Walked) → before < a.blocks → block < a.blocks
     → IfSome free (λ s. (s.block < a.blocks) × (s.cell < cell_count a.size)) → Way a key bucket with_value A left position before block free w → IsWithin a (position + left) w
 way_within a key bucket with_value A zero position before block free w before_in inside spare e = subst (IsWithin a (position + 0)) (sym e) tt
 way_within a key bucket with_value A (suc left) position before block free w before_in inside spare (inl e) = subst (IsWithin a (position + suc left)) (sym e) tt
-way_within a key bucket with_value A (suc left) position before block free w before_in inside spare (inr (inl found)) =
-    subst (IsWithin a (position + suc left)) (sym found.1.1) (inside, cell_below a key ((view_of a A).keys block) found.0 found.1.0, before_in)
-way_within a key bucket with_value A (suc left) position before block free w before_in inside spare (inr (inr (none, linked, inl end))) =
-    subst (IsWithin a (position + suc left)) (sym end.1) (spare_within a free block ((view_of a A).keys block) inside spare, inside, omega arith)
+way_within a key bucket with_value A (suc left) position before block free w before_in inside spare (inr (inl found)) = grind (arith, cell_below)
+way_within a key bucket with_value A (suc left) position before block free w before_in inside spare (inr (inr (none, linked, inl end))) = grind (arith, spare_within)
 way_within a key bucket with_value A (suc left) position before block free w before_in inside spare (inr (inr (none, linked, inr on))) =
     let keys = (view_of a A).keys block in
     let next = next_in a position (next_of keys) (head_of a bucket position keys linked).next_is on.0 in
@@ -157,14 +151,11 @@ put_whole_at a key value A (AtCell s before ks v) area is short shape within =
     (λ w. length-block_with a.size (keys_end a.size + 33 * s.cell) (value_part value) (let fits = cells_fit a s.cell area within.1 in omega (arith, length-part 32 value (leb-true _ _ short))) ∙ sym (shape s.block within.0), tt)
 put_whole_at a key value A (AtEnd (Some s) last place) area is short shape within =
     (λ w. length-with_cell a.size s.cell key value (replicate a.size 0) (zeros_long a) (let few = key_short key is in omega arith) (leb-true _ _ short) (cells_fit a s.cell area within.0.1) within.0.1 ∙ sym (shape s.block within.0.0), tt)
-put_whole_at a key value A (AtEnd None last place) area is short shape within =
-    (λ w. absurd (Rattle.std.proofs.lemmas.Bool.false≢true w), put_whole_new a key value A last place (lowest_free (bytes_in (map_mark a.blocks) (block_at A a.start)) (buckets a + 1) (last_position a)) area is short shape within.1 within.2 refl)
+put_whole_at a key value A (AtEnd None last place) area is short shape within = grind (arith, put_whole_new)
 put_whole_at a key value A (AtBroken block) area is short shape within = tt
 
 put_whole : (a : Area) (key value : List ℕ) (A : Array) → IsHashArea a → is_key key ≡ true → is_value value ≡ true → HasBlocks a A → AreWhole A (accesses_of (put_program a key value) A)
-put_whole a key value A area is short shape =
-    subst (λ (p : Program (Result (Unit {0}) StoreError)). AreWhole A (accesses_of p A)) (sym (put_is a key value is short))
-    (whole_after a key (put_at a key value) A (put_whole_at a key value A (answer_of (walk a key false) A) area is short shape (walk_within a key A (answer_of (walk a key false) A) area refl)))
+put_whole a key value A area is short shape = grind (arith, put_is, whole_after, put_whole_at, walk_within)
 
 -- A put is local.
 pub put_local : (a : Area) (key value : List ℕ) (A : Array) (r : Unit {0}) → IsHashArea a → is_key key ≡ true → is_value value ≡ true → HasBlocks a A → answer_of (put_program a key value) A ≡ Ok r
@@ -193,10 +184,7 @@ remove_missing m key none = same_map nat_list_cmp_total (slice_cmp-IsAntisymmetr
 -- the last block of a chain has none behind it
 no_more : (a : Area) (keys : ℕ → List ℕ) (b : ℕ) (xs : List ℕ) (before k : ℕ) (ys : List ℕ) → AreLinked a keys b 0 (xs ++ (before ∷ k ∷ ys)) (1 + b) 0 → next_of (keys k) ≡ 0 → ys ≡ []
 no_more a keys b xs before k [] linked last = refl
-no_more a keys b xs before k (y ∷ ys) linked last =
-    let tail = (linked_split a keys b 0 xs (before ∷ k ∷ y ∷ ys) (1 + b) 0 linked).1.1 in
-    let next = tail.3.3 in
-    absurd (omega (arith, next.0, next.1))
+no_more a keys b xs before k (y ∷ ys) linked last = grind (arith, linked_split)
 
 -- an overflow block is not the first of its chain
 module _ (a : Area) (key : List ℕ) (A : Array) (s : Spot) (before : ℕ) (ks v : List ℕ) (area : IsHashArea a) (region : IsHashRegion a A) (some : 0 < length key)

@@ -116,9 +116,7 @@ module _ (a : Area) (key : List ℕ) (A : Array) (s : Spot) (before x : ℕ) (fr
 
   -- the blocks after the writes
   far : (k : ℕ) → 0 < k → k ≢ before → block_at B (a.start + k) ≡ block_at A (a.start + k)
-  far k low other =
-      other_block A1 (store_access (a.start + before) (next_mark ∷ []) blank) (a.start + k) (λ e. absurd (other (omega arith)))
-      ∙ other_block A (store_access a.start (bit_mark s.block ∷ []) bytes1) (a.start + k) (λ e. absurd (omega arith))
+  far k low other = grind (arith, other_block) steps 100000
 
   at_first : block_at B a.start ≡ merged (bit_mark s.block ∷ []) 0 (block_at A a.start) (block_with (length (block_at A a.start)) (bit_place s.block) (x ∷ []))
   at_first =
@@ -207,10 +205,7 @@ module _ (a : Area) (key : List ℕ) (A : Array) (s : Spot) (before x : ℕ) (fr
       was.1 (region.keyed.apart b k i b0 s.block s.cell was.0.stands stands (was.0.key_is ∙ e ∙ sym key_is)).0
 
   new_bits : (k : ℕ) → map_bit (view_of a B).first k ≡ (not (k == s.block) && map_bit (view_of a A).first k)
-  new_bits k =
-      ap (λ (m : List ℕ). map_bit m k) at_first
-      ∙ bits_without (view_of a A).first (merged (bit_mark s.block ∷ []) 0 (block_at A a.start) (block_with (length (block_at A a.start)) (bit_place s.block) (x ∷ []))) s.block
-      (byte_here (block_at A a.start) s.block x bit_fits ∙ x_is) (byte_far (block_at A a.start) s.block x bit_fits) k
+  new_bits k = grind (arith, at_first, bits_without, byte_here, bit_fits, byte_far) steps 100000
 
   not_block : (k : ℕ) → not (k == s.block) ≡ true → k ≢ s.block
   not_block k is e = both_ways (not (k == s.block)) (ap not (eq-eqb k s.block e)) is

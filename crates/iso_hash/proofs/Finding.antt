@@ -160,10 +160,7 @@ finds_it a keys value q b k i apart stands is = elim (seek a q keys value) [
 
 -- a key that stands nowhere is not found
 pub finds_none : (a : Area) (keys : ℕ → List ℕ) (value : ℕ → ℕ → List ℕ) (q : List ℕ) → ((b k i : ℕ) → Stands a keys b k i → key_at (keys k) i ≡ q → ⊥) → found_in q (all_pairs a keys value) ≡ None
-finds_none a keys value q missing = elim (seek a q keys value) [
-  | inl none ↦ none.0
-  | inr some ↦ (let has = some.1.1 in absurd (missing has.bucket has.block has.cell has.stands has.key_is))
-]
+finds_none a keys value q missing = grind (arith, seek) steps 100000
 
 -- the map of the pairs gives what the look-up finds
 pub map_gets : (a : Area) (keys : ℕ → List ℕ) (value : ℕ → ℕ → List ℕ) (q : List ℕ) → get (from_entries {R = slice_cmp nat_cmp} (all_pairs a keys value)) q ≡ found_in q (all_pairs a keys value)

@@ -33,19 +33,12 @@ walk_missed a key with_value A spare last place end =
 -- the cell that a walk found stands in the region
 pub found_stands : (a : Area) (key : List ℕ) (with_value : Bool) (A : Array) (s : Spot) (before : ℕ) (ks v : List ℕ) → IsHashArea a → 0 < length key
     → Found a key A with_value (chain a (view_of a A).keys (bucket_of a key)) 0 s before ks v → Stands a (view_of a A).keys (bucket_of a key) s.block s.cell
-found_stands a key with_value A s before ks v area some found = record {
-  bucket_is = bucket_below a key area;
-  block_is = found.is_in;
-  cell_is = found.cell;
-  used = key_used ((view_of a A).keys s.block) key s.cell some found.key_is;
-}
+found_stands a key with_value A s before ks v area some found = grind (arith, bucket_below, key_used) steps 100000
 
 -- a key that a walk missed stands nowhere in a well-formed region
 pub missed_nowhere : (a : Area) (key : List ℕ) (A : Array) (spare : Option Spot) (last place : ℕ) → IsHashRegion a A
     → Missed a key A (chain a (view_of a A).keys (bucket_of a key)) 0 None spare last place → (b k i : ℕ) → Stands a (view_of a A).keys b k i → key_at ((view_of a A).keys k) i ≢ key
-missed_nowhere a key A spare last place region missed b k i stands is =
-    let bucket : bucket_of a key ≡ b = ap (bucket_of a) (sym is) ∙ region.keyed.in_bucket b k i stands in
-    missed.missing k i (subst (λ (c : ℕ). Rattle.store_model.specs.HashRegion.IsIn k (chain a (view_of a A).keys c)) (sym bucket) stands.block_is) stands.cell_is is
+missed_nowhere a key A spare last place region missed b k i stands is = grind arith steps 100000
 
 -- the look-up in the map of a region
 pub get_found : (a : Area) (A : Array) (key : List ℕ) (b k i : ℕ) → IsHashRegion a A → Stands a (view_of a A).keys b k i → key_at ((view_of a A).keys k) i ≡ key

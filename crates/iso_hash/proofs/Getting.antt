@@ -1,5 +1,5 @@
 -- What a get answers where its walk ends.
-use Rattle.iso_hash.proofs.{Words.{◌≡◌, ◌≢◌, ◌∙◌, refl, ap, subst, ℕ, ◌+◌, ◌*◌, ◌≤◌, Bool, true, false, cond, List, [], take, drop, Option, Some, None, Result, Ok, Err, Area, Spot, StoreError, own, value_mark, keys_end, is_part, text_of, get_program, got, walk, is_key, IsHashArea, IsHashRegion, hash_map, get_op, Done, then_do, bytes_in, Tx, Device, IsLater, HasRead, IsStoreCause, Behaves, refused_so, store_cause, Ran, HasEnded, IsLocalCall, ran_at, at_start, at_then, run_local, cut_then, HasWalked, HasRun, Program, IsAt, ended_from, sym}, Gets.get_local}
+use Rattle.iso_hash.proofs.{Words.{◌≡◌, ◌≢◌, ◌∙◌, refl, ap, subst, ℕ, ◌+◌, ◌*◌, ◌≤◌, Bool, true, false, cond, List, [], take, drop, Option, Some, None, Result, Ok, Err, Area, Spot, StoreError, own, value_mark, keys_end, is_part, text_of, get_program, got, walk, is_key, IsHashArea, IsHashRegion, hash_map, get_op, Done, then_do, bytes_in, Tx, Device, IsLater, HasRead, IsStoreCause, Behaves, refused_so, store_cause, Ran, HasEnded, IsLocalCall, ran_at, ran_done, at_start, at_then, run_local, cut_then, HasWalked, HasRun, Program, IsAt, ended_from, sym}, Gets.get_local}
 use Rattle.store_model.specs.declared.stores.StoreError.TheVariants as store
 use Rattle.store_model.specs.HashCalls as hash
 use Rattle.iso_hash.specs.declared.walk.Walked as code
@@ -12,7 +12,7 @@ get_ran a key t u w is ran =
 
 pub bad_key : (a : Area) (key : List ℕ) (t : Tx) → is_key key ≡ false → Ran (get_program a key) t t (Err store.BadKey)
 unfolding get_program
-bad_key a key t not = rw not (ran_at (Done (Err store.BadKey)) t t (Err store.BadKey) (at_start (Done (Err store.BadKey)) t))
+bad_key a key t not = rw not (ran_done (Err store.BadKey) t)
 
 -- the walk's end is a variable of the code's
 walked_as : (a : Area) (key : List ℕ) (with_value : Bool) (t u : Tx) (buffer : List ℕ) (w x : code.Walked) → HasWalked a key with_value t u buffer (Ok w) → w ≡ x → HasWalked a key with_value t u buffer (Ok x)

@@ -59,9 +59,7 @@ module _ (a : Area) (key value : List ℕ) (A : Array) (last place new x : ℕ) 
   last_in = block_inside a (view_of a A).keys b0 last area b0_below (region.keyed.linked b0 b0_below) has_last
 
   not_new : (b k : ℕ) → b < buckets a → IsIn k (chain a (view_of a A).keys b) → k ≢ new
-  not_new b k below has e =
-      let bit = (region.keyed.bits new (omega arith)).1 (record { bucket = b; below = below; linked = subst (λ (m : ℕ). IsIn m (chain a (view_of a A).keys b)) e has; past = low }) in
-      both_ways (map_bit (view_of a A).first new) clear bit
+  not_new b k below has e = grind arith steps 100000
 
   last_new : last ≢ new
   last_new = not_new b0 last b0_below has_last
@@ -74,10 +72,7 @@ module _ (a : Area) (key value : List ℕ) (A : Array) (last place new x : ℕ) 
 
   -- the blocks after the writes
   far : (k : ℕ) → 0 < k → k ≢ new → k ≢ last → block_at B (a.start + k) ≡ block_at A (a.start + k)
-  far k some other past =
-      other_block A2 (store_access (a.start + last) (next_mark ∷ []) bytes3) (a.start + k) (λ e. absurd (past (omega arith)))
-      ∙ other_block A1 (store_access (a.start + new) [] bytes2) (a.start + k) (λ e. absurd (other (omega arith)))
-      ∙ other_block A (store_access a.start (bit_mark new ∷ []) bytes1) (a.start + k) (λ e. absurd (omega arith))
+  far k some other past = grind (arith, other_block) steps 100000
 
   at_first : block_at B a.start ≡ merged (bit_mark new ∷ []) 0 (block_at A a.start) (block_with (length (block_at A a.start)) (bit_place new) (x ∷ []))
   at_first =
@@ -233,10 +228,7 @@ module _ (a : Area) (key value : List ℕ) (A : Array) (last place new x : ℕ) 
   }
 
   new_bits : (k : ℕ) → map_bit (view_of a B).first k ≡ ((k == new) || map_bit (view_of a A).first k)
-  new_bits k =
-      ap (λ (m : List ℕ). map_bit m k) at_first
-      ∙ bits_with (view_of a A).first (merged (bit_mark new ∷ []) 0 (block_at A a.start) (block_with (length (block_at A a.start)) (bit_place new) (x ∷ []))) new
-      (byte_here (block_at A a.start) new x bit_fits ∙ x_is) (byte_far (block_at A a.start) new x bit_fits) k
+  new_bits k = grind (arith, at_first, bits_with, byte_here, bit_fits, byte_far)
 
   bits : (k : ℕ) → k < 8 * map_bytes a.blocks → IsTrue (map_bit (view_of a B).first k) ↔ IsOverflow a (view_of a B).keys k
   bits k below =

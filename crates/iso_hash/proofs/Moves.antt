@@ -1,5 +1,5 @@
 -- A change of the cells of a region: its keys stay apart, and its map has one key changed.
-use Rattle.iso_hash.proofs.{Words.{◌≡◌, ◌≢◌, ◌∙◌, sym, refl, ap, ℕ, true, false, cond, List, Some, None, inl, inr, nat_cmp, eq_by_cmp, slice_cmp, nat_list_cmp_total, from_entries, get, insert, remove, get-insert, get-remove, same_map, slice_cmp-IsAntisymmetric, nat_cmp-IsAntisymmetric, bytes_eq-Decides, Area, Spot, text_of, key_at, Pairs, bucket_of, all_pairs, Stands}, Finding.{ties, bytes_other, cases_key, found_in, seek, AreApart, finds_it, finds_none, map_gets}}
+use Rattle.iso_hash.proofs.{Words.{arith, ◌≡◌, ◌≢◌, ◌∙◌, sym, refl, ap, ℕ, true, false, cond, List, Some, None, inl, inr, nat_cmp, eq_by_cmp, slice_cmp, nat_list_cmp_total, from_entries, get, insert, remove, get-insert, get-remove, same_map, slice_cmp-IsAntisymmetric, nat_cmp-IsAntisymmetric, bytes_eq-Decides, Area, Spot, text_of, key_at, Pairs, bucket_of, all_pairs, Stands}, Finding.{ties, bytes_other, cases_key, found_in, seek, AreApart, finds_it, finds_none, map_gets}}
 
 -- the cell stands in another region too, with the same key and value
 pub record IsSame (a : Area) (keys new : ℕ → List ℕ) (value given : ℕ → ℕ → List ℕ) (b k i : ℕ) : Type 0 where
@@ -31,10 +31,7 @@ module _ (a : Area) (keys new : ℕ → List ℕ) (value given : ℕ → ℕ →
   bucket_kept b k i stands other = let is = moves.old b k i stands other in ap (bucket_of a) (sym is.key_is) ∙ in_bucket b k i is.stands
 
   apart_kept : (b k i c l j : ℕ) → Stands a new b k i → Stands a new c l j → key_at (new k) i ≡ key_at (new l) j → key_at (new k) i ≢ key → (k ≡ l) × (i ≡ j)
-  apart_kept b k i c l j one two same other =
-      let first = moves.old b k i one other in
-      let second = moves.old c l j two (λ e. other (same ∙ e)) in
-      apart b k i c l j first.stands second.stands (first.key_is ∙ same ∙ sym second.key_is)
+  apart_kept b k i c l j one two same other = grind arith steps 100000
 
   -- other keys are found as before
   found_alike : AreApart a new → (q : List ℕ) → q ≢ key → found_in q (all_pairs a new given) ≡ found_in q (all_pairs a keys value)
@@ -50,10 +47,7 @@ module _ (a : Area) (keys new : ℕ → List ℕ) (value given : ℕ → ℕ →
   ]
 
   pub buckets_at : (at : Spot) → StandsAt a new key at → InBuckets a new
-  buckets_at at stands_at b k i stands = elim (cases_key (key_at (new k) i) key) [
-    | inl is ↦ ap (bucket_of a) is ∙ sym (stands_at.only b k i stands is).0
-    | inr other ↦ bucket_kept b k i stands other
-  ]
+  buckets_at at stands_at b k i stands = grind (arith, cases_key, bucket_kept)
 
   pub apart_at : (at : Spot) → StandsAt a new key at → AreApart a new
   apart_at at stands_at b k i c l j one two same = elim (cases_key (key_at (new k) i) key) [

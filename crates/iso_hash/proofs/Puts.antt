@@ -1,5 +1,5 @@
 -- A put into a cell that has the key, and one into an unused cell: the region stays well formed, and its map gets the value.
-use Rattle.iso_hash.proofs.{Words.{◌≡◌, ◌≢◌, ◌∙◌, sym, refl, ap, subst, ℕ, ◌+◌, ◌*◌, ◌<◌, ◌≤◌, true, false, ◌==◌, List, [], ◌∷◌, length, get_or, replicate, arith, inl, inr, ne_eqb, list_all, insert, cases_eq, both_ways, or_left, length-replicate, Access, Area, Spot, Array, put, block_at, bytes_in, store_access, cell_count, keys_end, keys_mark, key_mark, value_mark, is_zero, is_part, text_of, key_part, value_part, is_unused, key_at, laid_at, block_with, view_of, buckets, bucket_of, chain, all_pairs, hash_map, IsIn, Stands, IsKeyed, HaveValues, IsHashRegion, IsHashArea, with_cell, length-block_put, written_block, other_block, laid_here, length-laid_at, kept_1, laid_all, laid_kept, length-part, part_is_part, part_text}, Chains.{one_bucket, block_inside, placed}, Gets.bucket_below, Moves.{Moves, StandsAt, map_put, buckets_at, apart_at}, Rewritten.{IsRewritten, rewrites, is_spot, chain_same, linked_kept, bits_kept, same_there, same_before, values_kept}, Ways.IsSpare}
+use Rattle.iso_hash.proofs.{Words.{◌≡◌, ◌≢◌, ◌∙◌, sym, ap, subst, ℕ, ◌+◌, ◌*◌, ◌<◌, ◌≤◌, true, false, ◌==◌, List, [], ◌∷◌, length, get_or, replicate, arith, inl, inr, ne_eqb, list_all, insert, cases_eq, both_ways, or_left, length-replicate, Access, Area, Spot, Array, put, block_at, bytes_in, store_access, cell_count, keys_end, keys_mark, key_mark, value_mark, is_zero, is_part, text_of, key_part, value_part, is_unused, key_at, laid_at, block_with, view_of, buckets, bucket_of, chain, all_pairs, hash_map, IsIn, Stands, IsKeyed, HaveValues, IsHashRegion, IsHashArea, with_cell, length-block_put, written_block, other_block, laid_here, length-laid_at, kept_1, laid_all, laid_kept, length-part, part_is_part, part_text}, Chains.{one_bucket, block_inside, placed}, Gets.bucket_below, Moves.{Moves, StandsAt, map_put, buckets_at, apart_at}, Rewritten.{IsRewritten, rewrites, is_spot, chain_same, linked_kept, bits_kept, same_there, same_before, values_kept}, Ways.IsSpare}
 
 -- what a put leaves
 pub record HasPut (a : Area) (key value : List ℕ) (A B : Array) : Type 0 where
@@ -73,19 +73,10 @@ module _ (a : Area) (key value : List ℕ) (A : Array) (s : Spot) (area : IsHash
   ]
 
   stands_at : StandsAt a (view_of a A).keys key s
-  stands_at = record {
-    here = stands;
-    key_is = key_is;
-    only = λ b k i there e.
-        let bucket : bucket_of a key ≡ b = ap (bucket_of a) (sym e) ∙ region.keyed.in_bucket b k i there in
-        (sym bucket, region.keyed.apart b k i (bucket_of a key) s.block s.cell there stands (e ∙ sym key_is));
-  }
+  stands_at = grind arith steps 100000
 
   moves : Moves a (view_of a A).keys (view_of a A).keys (view_of a A).value (view_of a B).value key
-  moves = record {
-    kept = λ b k i there other. record { stands = there; key_is = refl; value_is = value_far k i (λ e. other (ap (λ (m : ℕ). key_at ((view_of a A).keys m) i) e.0 ∙ ap (λ (j : ℕ). key_at ((view_of a A).keys s.block) j) e.1 ∙ key_is)) };
-    old = λ b k i there other. record { stands = there; key_is = refl; value_is = sym (value_far k i (λ e. other (ap (λ (m : ℕ). key_at ((view_of a A).keys m) i) e.0 ∙ ap (λ (j : ℕ). key_at ((view_of a A).keys s.block) j) e.1 ∙ key_is))) };
-  }
+  moves = grind (arith, value_far) steps 100000
 
   values : HaveValues a (view_of a A).keys (view_of a B).value
   values b k i below has cell = elim (is_spot k i s) [
@@ -177,8 +168,7 @@ module _ (a : Area) (key value : List ℕ) (A : Array) (s : Spot) (area : IsHash
   is_key_at = new_key ((view_of a C).keys s.block) key s.cell is.here
 
   not_there : (b k i : ℕ) → Stands a (view_of a A).keys b k i → (k ≡ s.block) × (i ≡ s.cell) → ⊥
-  not_there b k i stands e =
-      both_ways (is_unused ((view_of a A).keys s.block) s.cell) (sym (ap (λ (m : ℕ). is_unused ((view_of a A).keys m) i) e.0 ∙ ap (λ (j : ℕ). is_unused ((view_of a A).keys s.block) j) e.1) ∙ stands.used) spare.unused
+  not_there b k i stands e = grind arith steps 100000
 
   has_key : (k i : ℕ) → (k ≡ s.block) × (i ≡ s.cell) → key_at ((view_of a C).keys k) i ≡ key
   has_key k i e = ap (λ (m : ℕ). key_at ((view_of a C).keys m) i) e.0 ∙ ap (λ (j : ℕ). key_at ((view_of a C).keys s.block) j) e.1 ∙ is_key_at

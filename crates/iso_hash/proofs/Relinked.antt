@@ -1,5 +1,5 @@
 -- One block of a chain gets another next number, and the other linked blocks stay: what stays of the region.
-use Rattle.iso_hash.proofs.{Words.{◌≡◌, ◌≢◌, ◌∙◌, sym, refl, ap, subst, ℕ, ◌+◌, ◌<◌, true, ◌==◌, IsTrue, List, [], ◌∷◌, ◌++◌, length, get_or, arith, inl, inr, list_all, cases_eq, Area, Array, merged, block_at, bytes_in, cell_count, keys_mark, key_mark, value_mark, next_mark, word_at, is_zero, is_part, text_of, is_unused, view_of, buckets, last_position, next_of, is_next, is_linked, chain, IsIn, AreLinked, Stands, IsHashRegion, IsHashArea, in_front}, Chains.{placed, one_bucket, linked_split, linked_join, linked_alike, LinkedAlike, length-chain_from, not_twice}, Linking.{chain_of, piece_far, key_far, next_here, relinked}, Moves.IsSame}
+use Rattle.iso_hash.proofs.{Words.{◌≡◌, ◌≢◌, ◌∙◌, sym, refl, ap, subst, ℕ, ◌+◌, ◌<◌, true, IsTrue, List, [], ◌∷◌, ◌++◌, length, arith, inl, inr, list_all, cases_eq, Area, Array, merged, block_at, bytes_in, cell_count, keys_mark, key_mark, value_mark, next_mark, word_at, is_zero, is_part, is_unused, view_of, buckets, last_position, next_of, is_next, is_linked, chain, IsIn, AreLinked, Stands, IsHashRegion, IsHashArea, in_front}, Chains.{placed, one_bucket, linked_split, linked_join, linked_alike, LinkedAlike, length-chain_from, not_twice}, Linking.{chain_of, piece_far, key_far, next_here, relinked}, Moves.IsSame}
 
 pub some_in : (a : Area) (A : Array) (region : IsHashRegion a A) (b k : ℕ) → b < buckets a → IsIn k (chain a (view_of a A).keys b) → 0 < k
 some_in a A region b k below has = (placed a (view_of a A).keys b 0 (chain a (view_of a A).keys b) (1 + b) 0 k (region.keyed.linked b below) has).some
@@ -54,19 +54,11 @@ module _ (a : Area) (A B : Array) (bucket link : ℕ) (bytes : List ℕ) (region
 
   pub linked_all : (blocks : List ℕ) → AreLinked a (view_of a B).keys bucket 0 blocks (1 + bucket) 0 → chain a (view_of a B).keys bucket ≡ blocks
       → (b : ℕ) → b < buckets a → AreLinked a (view_of a B).keys b 0 (chain a (view_of a B).keys b) (1 + b) 0
-  linked_all blocks linked are b below = elim (cases_eq b bucket) [
-    | inr other ↦ subst (λ (ks : List ℕ). AreLinked a (view_of a B).keys b 0 ks (1 + b) 0) (sym (chain_other b below other)) (linked_other b below other)
-    | inl same ↦ subst (λ (c : ℕ). AreLinked a (view_of a B).keys c 0 (chain a (view_of a B).keys c) (1 + c) 0) (sym same)
-        (subst (λ (ks : List ℕ). AreLinked a (view_of a B).keys bucket 0 ks (1 + bucket) 0) (sym are) linked)
-  ]
+  linked_all blocks linked are b below = grind (arith, chain_other, linked_other) steps 100000
 
   -- the cells of a block that was linked before
   key_kept : (b k i : ℕ) → b < buckets a → IsIn k (chain a (view_of a A).keys b) → i < cell_count a.size → bytes_in (key_mark i) ((view_of a B).keys k) ≡ bytes_in (key_mark i) ((view_of a A).keys k)
-  key_kept b k i below has cell = elim (cases_eq k link) [
-    | inr other ↦ ap (bytes_in (key_mark i)) (keys_far b k below has other)
-    | inl same ↦ subst (λ (m : ℕ). bytes_in (key_mark i) ((view_of a B).keys m) ≡ bytes_in (key_mark i) ((view_of a A).keys m)) (sym same)
-        (ap (bytes_in (key_mark i)) keys_link ∙ key_far a (block_at A (a.start + link)) bytes is.long i cell)
-  ]
+  key_kept b k i below has cell = grind (arith, keys_far, keys_link, key_far) steps 100000
 
   value_kept : (b k i : ℕ) → b < buckets a → IsIn k (chain a (view_of a A).keys b) → (view_of a B).value k i ≡ (view_of a A).value k i
   value_kept b k i below has = elim (cases_eq k link) [
@@ -76,26 +68,11 @@ module _ (a : Area) (A B : Array) (bucket link : ℕ) (bytes : List ℕ) (region
   ]
 
   pub stays_same : (b k i : ℕ) → Stands a (view_of a A).keys b k i → IsIn k (chain a (view_of a B).keys b) → IsSame a (view_of a A).keys (view_of a B).keys (view_of a A).value (view_of a B).value b k i
-  stays_same b k i there now =
-      let part = key_kept b k i there.bucket_is there.block_is there.cell_is in
-      record {
-        stands = record { bucket_is = there.bucket_is; block_is = now; cell_is = there.cell_is; used = ap (λ (p : List ℕ). get_or p 0 0 == 0) part ∙ there.used };
-        key_is = ap text_of part;
-        value_is = value_kept b k i there.bucket_is there.block_is;
-      }
+  stays_same b k i there now = grind (arith, key_kept, value_kept) steps 100000
 
   pub was_same : (b k i : ℕ) → Stands a (view_of a B).keys b k i → IsIn k (chain a (view_of a A).keys b) → IsSame a (view_of a B).keys (view_of a A).keys (view_of a B).value (view_of a A).value b k i
-  was_same b k i there old =
-      let part = key_kept b k i there.bucket_is old there.cell_is in
-      record {
-        stands = record { bucket_is = there.bucket_is; block_is = old; cell_is = there.cell_is; used = ap (λ (p : List ℕ). get_or p 0 0 == 0) (sym part) ∙ there.used };
-        key_is = ap text_of (sym part);
-        value_is = sym (value_kept b k i there.bucket_is old);
-      }
+  was_same b k i there old = grind (arith, key_kept, value_kept) steps 100000
 
   pub values_old : (b k i : ℕ) → b < buckets a → IsIn k (chain a (view_of a A).keys b) → i < cell_count a.size
       → IsTrue (is_part 32 ((view_of a B).value k i)) × (IsTrue (is_unused ((view_of a B).keys k) i) → IsTrue (list_all is_zero ((view_of a B).value k i)))
-  values_old b k i below old cell =
-      let was = region.values b k i below old cell in
-      let v = value_kept b k i below old in
-      (ap (is_part 32) v ∙ was.0, λ unused. ap (list_all is_zero) v ∙ was.1 (ap (λ (p : List ℕ). get_or p 0 0 == 0) (sym (key_kept b k i below old cell)) ∙ unused))
+  values_old b k i below old cell = grind (arith, value_kept, key_kept) steps 100000

@@ -1,5 +1,5 @@
 -- One cell of a linked block is rewritten, key part and value part: what stays.
-use Rattle.iso_hash.proofs.{Words.{◌≡◌, ◌≢◌, ◌⊎◌, ◌↔◌, ◌∙◌, sym, refl, ap, subst, ℕ, zero, suc, ◌+◌, ◌*◌, ◌<◌, ◌≤◌, true, false, ◌==◌, cond, IsTrue, List, [], ◌∷◌, length, get_or, arith, inl, inr, list_all, cases_eq, cases_lt, and_parts, and_from, or_left, or_right, Access, Span, Area, Spot, Array, covered, in_span, merged, put, block_at, bytes_in, store_access, cell_count, keys_end, keys_mark, key_mark, value_mark, word_at, is_zero, is_part, text_of, is_unused, are_key_parts, map_bytes, map_bit, view_of, last_position, next_of, is_next, is_linked, chain_from, chain, IsIn, AreLinked, Stands, IsOverflow, HaveValues, IsHashArea, written_block, other_block, all_at, kept_2, laid_all, piece_of}, Chains.{linked_alike, LinkedAlike, head_of}, Moves.IsSame}
+use Rattle.iso_hash.proofs.{Words.{◌≡◌, ◌≢◌, ◌⊎◌, ◌↔◌, ◌∙◌, sym, refl, ap, subst, ℕ, zero, suc, ◌+◌, ◌*◌, ◌<◌, ◌≤◌, true, false, ◌==◌, cond, IsTrue, List, [], ◌∷◌, length, get_or, arith, inl, inr, list_all, cases_eq, cases_lt, and_parts, and_from, or_left, or_right, Access, Span, Area, Spot, Array, covered, in_span, merged, put, block_at, bytes_in, store_access, cell_count, keys_end, keys_mark, key_mark, value_mark, word_at, is_zero, is_part, is_unused, are_key_parts, map_bytes, map_bit, view_of, last_position, next_of, is_next, is_linked, chain_from, chain, IsIn, AreLinked, Stands, IsOverflow, HaveValues, IsHashArea, written_block, other_block, all_at, kept_2, laid_all, piece_of}, Chains.{linked_alike, LinkedAlike, head_of}, Moves.IsSame}
 use Rattle.tx_blocks.proofs.Frames.{AreApart}
 pub use Rattle.iso_alloc.proofs.Loops.{all_pass}
 
@@ -101,10 +101,7 @@ module _ (a : Area) (A : Array) (s : Spot) (bytes : List ℕ) (area : IsHashArea
 
 -- a cell is this one or another
 pub is_spot : (k i : ℕ) (s : Spot) → ((k ≡ s.block) × (i ≡ s.cell)) ⊎ ((k ≡ s.block) × (i ≡ s.cell) → ⊥)
-is_spot k i s = elim (cases_eq k s.block) [
-  | inr far ↦ inr (λ e. far e.0)
-  | inl here ↦ elim (cases_eq i s.cell) [ inl same ↦ inl (here, same) | inr other ↦ inr (λ e. other e.1) ]
-]
+is_spot k i s = grind arith steps 100000
 
 -- what follows of a rewritten cell whose key part is well formed
 module _ (a : Area) (A B : Array) (s : Spot) (part value : List ℕ) (is : IsRewritten a A B s part value) (good : is_part 28 part ≡ true) where
@@ -149,37 +146,20 @@ module _ (a : Area) (A B : Array) (s : Spot) (part value : List ℕ) (is : IsRew
 
   pub bits_kept : ((k : ℕ) → k < 8 * map_bytes a.blocks → IsTrue (map_bit (view_of a A).first k) ↔ IsOverflow a (view_of a A).keys k)
       → (k : ℕ) → k < 8 * map_bytes a.blocks → IsTrue (map_bit (view_of a B).first k) ↔ IsOverflow a (view_of a B).keys k
-  bits_kept bits k below =
-      let old = bits k below in
-      (λ set. to_new k (old.0 (sym (ap (λ (x : List ℕ). map_bit x k) is.first) ∙ set)), λ over. ap (λ (x : List ℕ). map_bit x k) is.first ∙ old.1 (to_old k over))
+  bits_kept bits k below = grind (arith, to_new, to_old) steps 100000
 
   -- the cell of a block that is not this one
   pub elsewhere : (k i : ℕ) → i < cell_count a.size → ((k ≡ s.block) × (i ≡ s.cell) → ⊥) → bytes_in (key_mark i) ((view_of a B).keys k) ≡ bytes_in (key_mark i) ((view_of a A).keys k)
-  elsewhere k i below other = elim (cases_eq k s.block) [
-    | inl here ↦ subst (λ (m : ℕ). bytes_in (key_mark i) ((view_of a B).keys m) ≡ bytes_in (key_mark i) ((view_of a A).keys m)) (sym here) (is.cells i below (λ e. other (here, e)))
-    | inr far ↦ ap (bytes_in (key_mark i)) (is.others k far)
-  ]
+  elsewhere k i below other = grind arith steps 100000
 
   value_elsewhere : (k i : ℕ) → ((k ≡ s.block) × (i ≡ s.cell) → ⊥) → (view_of a B).value k i ≡ (view_of a A).value k i
   value_elsewhere k i other = is.values k i (elim (cases_eq k s.block) [ inl here ↦ inr (λ e. other (here, e)) | inr far ↦ inl far ])
 
   pub same_there : (b k i : ℕ) → Stands a (view_of a A).keys b k i → ((k ≡ s.block) × (i ≡ s.cell) → ⊥) → IsSame a (view_of a A).keys (view_of a B).keys (view_of a A).value (view_of a B).value b k i
-  same_there b k i stands other =
-      let part_is = elsewhere k i stands.cell_is other in
-      record {
-        stands = record { bucket_is = stands.bucket_is; block_is = subst (IsIn k) (sym (chain_same b)) stands.block_is; cell_is = stands.cell_is; used = ap (λ (x : List ℕ). get_or x 0 0 == 0) part_is ∙ stands.used };
-        key_is = ap text_of part_is;
-        value_is = value_elsewhere k i other;
-      }
+  same_there b k i stands other = grind (arith, elsewhere, chain_same, value_elsewhere) steps 100000
 
   pub same_before : (b k i : ℕ) → Stands a (view_of a B).keys b k i → ((k ≡ s.block) × (i ≡ s.cell) → ⊥) → IsSame a (view_of a B).keys (view_of a A).keys (view_of a B).value (view_of a A).value b k i
-  same_before b k i stands other =
-      let part_is = elsewhere k i stands.cell_is other in
-      record {
-        stands = record { bucket_is = stands.bucket_is; block_is = subst (IsIn k) (chain_same b) stands.block_is; cell_is = stands.cell_is; used = ap (λ (x : List ℕ). get_or x 0 0 == 0) (sym part_is) ∙ stands.used };
-        key_is = ap text_of (sym part_is);
-        value_is = sym (value_elsewhere k i other);
-      }
+  same_before b k i stands other = grind (arith, elsewhere, chain_same, value_elsewhere) steps 100000
 
   -- the values, where that of the cell is well formed too
   pub values_kept : is_part 32 value ≡ true → (is_unused ((view_of a B).keys s.block) s.cell ≡ true → list_all is_zero value ≡ true)

@@ -1,5 +1,5 @@
 -- What puts and removals do where their walk ends.
-use Rattle.iso_hash.proofs.{Words.{◌≡◌, ◌∙◌, sym, refl, ap, subst, ℕ, suc, ◌+◌, ◌-◌, ◌<◌, ◌≤◌, Bool, true, false, cond, List, [], ◌∷◌, length, get_or, Option, Some, None, Result, Ok, Err, IfOk, arith, get_or-take, get_or-set_same, ForSome, Access, Area, Spot, StoreError, TxError, own, block_at, Program, Done, Look, Reserve, Store, then_do, bytes_in, look_access, store_access, w32, to_be_bytes, replicate, next_mark, block_with, map_bytes, map_mark, bit_mark, bit_place, set_bit, clear_bit, with_bit, without_bit, lowest_free, walk, new_block, is_spent, put_new, put_at, put_program, del_at, del_program, is_key, is_value, bucket_of, buckets, last_position, IsHashArea, IsHashRegion, hash_map, put_op, del_op, Tx, Device, IsTx, with_accesses, room_of, Ran, HasRun, Behaves, IsLocalCall, IsAt, at_start, at_then, at_look, at_store, at_reserve, ran_at, full_at_reserve, run_local, later_same, read_none, run_from, refused_so, HasWalked, blocks_of, lowest_alike}, Changes.{put_is, del_is, put_local, del_local, give_back_block, make_zero}, Getting.walk_error}
+use Rattle.iso_hash.proofs.{Words.{◌≡◌, ◌∙◌, sym, refl, ap, subst, ℕ, suc, ◌+◌, ◌-◌, ◌<◌, ◌≤◌, Bool, true, false, cond, List, [], ◌∷◌, length, get_or, Option, Some, None, Result, Ok, Err, IfOk, arith, get_or-take, get_or-set_same, ForSome, Access, Area, Spot, StoreError, TxError, own, block_at, Program, Done, Look, Reserve, Store, then_do, bytes_in, look_access, store_access, w32, to_be_bytes, replicate, next_mark, block_with, map_bytes, map_mark, bit_mark, bit_place, set_bit, clear_bit, with_bit, without_bit, lowest_free, walk, new_block, is_spent, put_new, put_at, put_program, del_at, del_program, is_key, is_value, bucket_of, buckets, last_position, IsHashArea, IsHashRegion, hash_map, put_op, del_op, Tx, Device, IsTx, with_accesses, room_of, Ran, HasRun, Behaves, IsLocalCall, IsAt, at_start, at_then, at_look, at_store, at_reserve, ran_at, ran_done, full_at_reserve, run_local, later_same, read_none, run_from, refused_so, HasWalked, blocks_of, lowest_alike}, Changes.{put_is, del_is, put_local, del_local, give_back_block, make_zero}, Getting.walk_error}
 use Rattle.store_model.specs.declared.stores.StoreError.TheVariants as store
 use Rattle.store_model.specs.declared.stores.TxError.TheVariants as error
 use Rattle.store_model.specs.HashCalls as hash
@@ -158,12 +158,12 @@ given_back a s before byte t u v bytes new result area told tx is inside long ne
 -- arguments that are refused
 pub put_bad_key : (a : Area) (key value : List ℕ) (t : Tx) → is_key key ≡ false → Ran (put_program a key value) t t (Err store.BadKey)
 unfolding put_program
-put_bad_key a key value t not_key = rw not_key (ran_at (Done (Err store.BadKey)) t t (Err store.BadKey) (at_start (Done (Err store.BadKey)) t))
+put_bad_key a key value t not_key = rw not_key (ran_done (Err store.BadKey) t)
 
 pub put_bad_value : (a : Area) (key value : List ℕ) (t : Tx) → is_key key ≡ true → is_value value ≡ false → Ran (put_program a key value) t t (Err store.BadValue)
 unfolding put_program
-put_bad_value a key value t is not_value = rw (is, not_value) (ran_at (Done (Err store.BadValue)) t t (Err store.BadValue) (at_start (Done (Err store.BadValue)) t))
+put_bad_value a key value t is not_value = rw (is, not_value) (ran_done (Err store.BadValue) t)
 
 pub del_bad_key : (a : Area) (key : List ℕ) (t : Tx) → is_key key ≡ false → Ran (del_program a key) t t (Err store.BadKey)
 unfolding del_program
-del_bad_key a key t not_key = rw not_key (ran_at (Done (Err store.BadKey)) t t (Err store.BadKey) (at_start (Done (Err store.BadKey)) t))
+del_bad_key a key t not_key = rw not_key (ran_done (Err store.BadKey) t)

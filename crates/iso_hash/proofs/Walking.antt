@@ -1,24 +1,18 @@
 -- One block of a walk.
-use Rattle.iso_hash.proofs.{Words.{◌≡◌, ◌∙◌, sym, refl, ap, subst, ℕ, suc, ◌+◌, ◌-◌, ◌*◌, ◌<◌, ◌≤◌, ◌&&◌, ◌==◌, Bool, true, false, cond, List, [], ◌∷◌, length, take, Option, Some, None, IfSome, option_map, arith, eq-eqb, ne_eqb, ForSome, Span, Area, Spot, own, or_else, block_at, Program, Done, bytes_in, further_bytes, with_further, look_access, cell_count, keys_end, keys_mark, value_mark, cell_with, unused_cell, are_key_parts, Walked, AtCell, AtEnd, AtBroken, walk, walk_from, walk_further, walk_next, spare_in, spot_in, is_linked, next_of, last_position, bucket_of, Tx, Device, with_accesses, Ran, IsCut, IsCause, TxError, IsAt, at_start, at_look, ran_at, cut_at_look, IsSpot, at_as}, Chains.{next_in, head_of}}
+use Rattle.iso_hash.proofs.{Words.{◌≡◌, ◌∙◌, sym, refl, ap, subst, ℕ, suc, ◌+◌, ◌-◌, ◌*◌, ◌<◌, ◌≤◌, ◌==◌, Bool, true, false, cond, List, [], ◌∷◌, length, take, Option, Some, None, IfSome, arith, eq-eqb, ne_eqb, ForSome, Span, Area, Spot, own, or_else, block_at, Program, Done, bytes_in, further_bytes, with_further, look_access, cell_count, keys_end, keys_mark, value_mark, cell_with, unused_cell, are_key_parts, Walked, AtCell, AtEnd, AtBroken, walk, walk_from, walk_further, walk_next, spare_in, spot_in, is_linked, next_of, last_position, bucket_of, Tx, Device, with_accesses, Ran, IsCut, IsCause, TxError, IsAt, at_start, at_look, ran_at, cut_at_look, IsSpot, at_as}, Chains.{next_in, head_of}}
 
 pub walk_begins : (a : Area) (key : List ℕ) (with_value : Bool) (bucket n : ℕ) (t : Tx) → bucket ≡ bucket_of a key → n ≡ last_position a
     → IsAt (walk a key with_value) (walk_from a key bucket with_value (n + 1 - 0) 0 0 (1 + bucket) None) t t
 unfolding walk
-walk_begins a key with_value bucket n t is last =
-    let e : n + 1 - 0 ≡ n + 1 = omega arith in
-    rw (is, e) (subst (λ (m : ℕ). IsAt (walk a key with_value) (walk_from a key (bucket_of a key) with_value (m + 1) 0 0 (1 + bucket_of a key) None) t t) (sym last) (at_start (walk a key with_value) t))
+walk_begins a key with_value bucket n t is last = grind (arith, at_start)
 
 no_further_unlinked : (a : Area) (key : List ℕ) (bucket : ℕ) (with_value : Bool) (position : ℕ) (x : List ℕ) → is_linked a bucket position x ≡ false
     → walk_further a key bucket with_value position x ≡ None
-no_further_unlinked a key bucket true position x not = rw not refl
-no_further_unlinked a key bucket false position x not = refl
+no_further_unlinked a key bucket with_value position x not = grind arith
 
 no_further_missing : (a : Area) (key : List ℕ) (bucket : ℕ) (with_value : Bool) (position : ℕ) (x : List ℕ) → cell_with a.size key x ≡ None
     → walk_further a key bucket with_value position x ≡ None
-no_further_missing a key bucket with_value position x none = elim (with_value && is_linked a bucket position x) as (λ t. cond t (option_map (value_mark a.size) (cell_with a.size key x)) None ≡ None) [
-  | true ↦ ap (option_map (value_mark a.size)) none
-  | false ↦ refl
-]
+no_further_missing a key bucket with_value position x none = grind arith
 
 wanted_in : (a : Area) (key : List ℕ) (bucket : ℕ) (position : ℕ) (x : List ℕ) (i : ℕ) (with_value : Bool) → is_linked a bucket position x ≡ true → cell_with a.size key x ≡ Some i
     → walk_further a key bucket with_value position x ≡ cond with_value (Some (value_mark a.size i)) None
@@ -26,12 +20,10 @@ wanted_in a key bucket position x i true linked some = rw (linked, some) refl
 wanted_in a key bucket position x i false linked some = refl
 
 marks : (with_value : Bool) (mark : Span) → cond with_value (mark ∷ []) [] ≡ with_further (cond with_value (Some mark) None)
-marks true mark = refl
-marks false mark = refl
+marks with_value mark = grind arith
 
 bytes_of : (with_value : Bool) (mark : Span) (bytes : List ℕ) → further_bytes (cond with_value (Some mark) None) bytes ≡ cond with_value (bytes_in mark bytes) []
-bytes_of true mark bytes = refl
-bytes_of false mark bytes = refl
+bytes_of with_value mark bytes = grind arith
 
 -- the facts of one block of a walk that is to be read, and then its bytes
 pub record IsReading (whole : Program Walked) (a : Area) (key : List ℕ) (bucket : ℕ) (with_value : Bool) (end position before block : ℕ) (spare : Option Spot) (t u : Tx) (bytes : List ℕ) : Type 0 where
@@ -138,16 +130,12 @@ missing (Some i) r is other = absurd (other i is)
 pub with_value_mark : (a : Area) (u w : Tx) (b n i : ℕ) (with_value : Bool) → with_value ≡ true → n ≡ cell_count a.size
     → w ≡ with_accesses u (look_access b (record { off = 0; len = 64 + 31 * n } ∷ record { off = 64 + 31 * n + 33 * i; len = 33 } ∷ []) ∷ [])
     → w ≡ with_accesses u (look_access b (keys_mark a.size ∷ cond with_value (value_mark a.size i ∷ []) []) ∷ [])
-with_value_mark a u w b n i with_value wanted count is =
-    is ∙ ap (λ (m : ℕ). with_accesses u (look_access b (record { off = 0; len = 64 + 31 * m } ∷ record { off = 64 + 31 * m + 33 * i; len = 33 } ∷ []) ∷ [])) count
-    ∙ ap (λ (t : Bool). with_accesses u (look_access b (keys_mark a.size ∷ cond t (value_mark a.size i ∷ []) []) ∷ [])) (sym wanted)
+with_value_mark a u w b n i with_value wanted count is = grind arith
 
 pub without_value_mark : (a : Area) (u w : Tx) (b n i : ℕ) (with_value : Bool) → with_value ≡ false → n ≡ cell_count a.size
     → w ≡ with_accesses u (look_access b (record { off = 0; len = 64 + 31 * n } ∷ []) ∷ [])
     → w ≡ with_accesses u (look_access b (keys_mark a.size ∷ cond with_value (value_mark a.size i ∷ []) []) ∷ [])
-without_value_mark a u w b n i with_value unwanted count is =
-    is ∙ ap (λ (m : ℕ). with_accesses u (look_access b (record { off = 0; len = 64 + 31 * m } ∷ []) ∷ [])) count
-    ∙ ap (λ (t : Bool). with_accesses u (look_access b (keys_mark a.size ∷ cond t (value_mark a.size i ∷ []) []) ∷ [])) (sym unwanted)
+without_value_mark a u w b n i with_value unwanted count is = grind arith
 
 pub spare_inside : (a : Area) (spare : Option Spot) (block : ℕ) (unused : Option ℕ) (r : Option Spot) → r ≡ or_else spare (spot_in block unused)
     → IfSome spare (IsSpot a) → block < a.blocks → IfSome unused (λ cell. cell < cell_count a.size) → IfSome r (IsSpot a)

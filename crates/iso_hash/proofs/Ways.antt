@@ -1,5 +1,5 @@
 -- How a walk ends.
-use Rattle.iso_hash.proofs.Words.{◌≡◌, ◌≢◌, ◌⊎◌, ◌∙◌, sym, refl, ap, subst, ℕ, zero, suc, ◌+◌, ◌<◌, ◌≤◌, Bool, true, false, ◌&&◌, ◌==◌, cond, List, [], ◌∷◌, ◌++◌, length, take, drop, Option, Some, None, IfSome, option_map, arith, inl, inr, eq-eqb, ne_eqb, bytes_eq, cases_Bool, eqb-true, eqb-false, both_ways, bytes_eq-Decides, Span, Area, Spot, Array, or_else, first_from, block_at, Program, Done, bytes_in, further_bytes, answer_of, accesses_of, AreReads, cell_count, key_mark, value_mark, is_unused, key_at, cell_with, unused_cell, first_below, view_of, next_of, is_linked, chain_from, IsIn, Walked, AtCell, AtEnd, AtBroken, spot_in, spare_in, at_cell, walk_from, first_passes, cond_reads}
+use Rattle.iso_hash.proofs.Words.{◌≡◌, ◌≢◌, ◌⊎◌, ◌∙◌, sym, refl, ap, subst, ℕ, zero, suc, ◌+◌, ◌<◌, ◌≤◌, Bool, true, false, ◌&&◌, ◌==◌, cond, List, [], ◌∷◌, ◌++◌, length, Option, Some, None, IfSome, option_map, arith, inl, inr, eq-eqb, ne_eqb, bytes_eq, cases_Bool, eqb-true, eqb-false, both_ways, bytes_eq-Decides, Span, Area, Spot, Array, or_else, first_from, block_at, Program, Done, bytes_in, further_bytes, answer_of, accesses_of, AreReads, cell_count, value_mark, is_unused, key_at, cell_with, unused_cell, first_below, view_of, next_of, is_linked, chain_from, IsIn, Walked, AtCell, AtEnd, AtBroken, spot_in, spare_in, at_cell, walk_from, first_passes, cond_reads}
 
 -- where none is found, none passes
 pub first_none : (test : ℕ → Bool) (i n j : ℕ) → first_from test i n ≡ None → i ≤ j → j < i + n → test j ≡ false
@@ -16,10 +16,7 @@ first_none test i (suc n) j e low high = elim (cases_Bool (test i)) [
 
 -- a cell that has a key is used
 pub key_used : (keys key : List ℕ) (i : ℕ) → 0 < length key → key_at keys i ≡ key → is_unused keys i ≡ false
-key_used keys key i some is = ne_eqb _ 0 (λ none.
-    let empty : key_at keys i ≡ [] = ap (λ (n : ℕ). take n (drop 1 (bytes_in (key_mark i) keys))) none in
-    let zero_long : length key ≡ 0 = ap length (sym is ∙ empty) in
-    absurd (omega arith))
+key_used keys key i some is = grind arith steps 100000
 
 pub cell_below : (a : Area) (key keys : List ℕ) (i : ℕ) → cell_with a.size key keys ≡ Some i → i < cell_count a.size
 cell_below a key keys i e = let below = first_below (λ j. bytes_eq (key_at keys j) key) 0 (cell_count a.size) i e in omega arith
@@ -46,8 +43,7 @@ Way a key bucket with_value A (suc left) position before block spare w =
     × Way a key bucket with_value A left (position + 1) block (next_of ((view_of a A).keys block)) (spare_in a spare block ((view_of a A).keys block)) w))))
 
 value_read : (with_value : Bool) (span : Span) (block : List ℕ) → further_bytes (cond (with_value && true) (Some span) None) block ≡ cond with_value (bytes_in span block) []
-value_read true span block = refl
-value_read false span block = refl
+value_read with_value span block = grind arith
 
 pub way : (a : Area) (key : List ℕ) (bucket : ℕ) (with_value : Bool) (A : Array) (left position before block : ℕ) (spare : Option Spot)
     → Way a key bucket with_value A left position before block spare (answer_of (walk_from a key bucket with_value left position before block spare) A)

@@ -3,7 +3,8 @@ use Rattle.std.specs.Prelude.{ℕ, ◌<◌, Bool, IfSome, cond, List, [], Result
 use Rattle.store_model.specs.{declared.stores.Area.Area, declared.stores.Spot.Spot, declared.stores.StoreError.StoreError, Cells.{keys_end, value_mark, cell_count}, Stores.bytes_in}
 use Rattle.store_model.specs.declared.stores.StoreError.TheVariants as store
 use Rattle.store_model.specs.HashCalls as hash
-use Rattle.tx_blocks.specs.{Tx.Tx, Runs.{Ran, IsCut}}
+use Rattle.store_model.specs.HashRegion.{IsHashArea}
+use Rattle.tx_blocks.specs.{Tx.Tx, Runs.{HasBlock, Ran, IsCut}}
 use Rattle.iso_hash.specs.{declared.walk.Walked.Walked, declared.walk.Walked.TheVariants.{AtCell, AtEnd}}
 
 -- The walk made its reads and ended here; at a cell, the buffer has its block.
@@ -27,3 +28,8 @@ pub record IsSpot (a : Area) (spot : Spot) : Type 0 where
 abbrev pub IsInside : Area → Walked → Type 0
 IsInside a (AtCell spot before) = IsSpot a spot × (before < a.blocks)
 IsInside a (AtEnd spare last position) = IfSome spare (IsSpot a) × (last < a.blocks) × (position < a.blocks)
+
+-- a cell of a block of the area, and a buffer for the block's bytes
+pub record HasSpot (t : Tx) (a : Area) (spot : Spot) (buffer : List ℕ) : Type 0 where
+  pub block : HasBlock IsHashArea t a spot.block buffer
+  pub cell : spot.cell < cell_count a.size

@@ -1,41 +1,20 @@
 // The writes that take a block into a chain, or out of it.
-ghost use Rattle.std.specs.{Prelude.{◌≡◌, ◌+◌, ◌-◌, ◌<◌, ◌≤◌, length, Ok, Some, None, OnOk, OnErr, IfErr, true, [], ◌∷◌, replicate, slice_index}, Int.{w32, to_be_bytes}};
+ghost use Rattle.std.specs.{Prelude.{◌≡◌, ◌+◌, ◌-◌, ◌<◌, ◌≤◌, length, Ok, Some, None, true, [], ◌∷◌, replicate, slice_index}, Int.{w32, to_be_bytes}};
 ghost use Rattle.store_model.specs.{Cells.{block_with, next_mark}, FreeMap.{bit_mark, bit_place, clear_bit, lowest_free, map_mark}, HashCalls.{new_block, put_new}, HashRegion.{bucket_of, buckets, last_position, IsHashArea}, Stores.{store_access, Done, Look, Reserve, Store}};
-ghost use Rattle.tx_blocks.specs.Runs.{Behaves, HasArea, HasBlock, HasRun, HasStored};
+ghost use Rattle.tx_blocks.specs.Runs.{Behaves, HasBlock, HasRun, HasStored};
 
 use crate::bucket::{bucket_of, buckets};
 use crate::writes::lay_cell;
-use byteorder::{BigEndian, ByteOrder};
-use iso_alloc::{give_back, lay, lay_alone, take_lowest};
+use iso_alloc::{give_back, lay, lay_alone, map_span, region_of, take_lowest};
 use iso_model::Span;
-use store_model::{Area, Region, StoreError, TxError};
-use tx_blocks::{TxBlocks, look, reserve, store};
+use store_model::{Area, StoreError, TxError};
+use tx_blocks::{TxBlocks, look, reserve, store, store_bit};
 
 // The number of a block in four bytes.
 fn spelled(number: u32) -> [u8; 4]
     ensures { result ≡ to_be_bytes w32 number }
 {
     number.to_be_bytes()
-}
-
-// Writes the byte of the map with the bit of a block.
-fn store_bit<T: TxBlocks>(
-    tx: &mut T,
-    area: Area,
-    block: u32,
-    byte: u8,
-    buffer: &mut [u8],
-) -> Result<(), TxError>
-    requires block { HasBlock IsHashArea (T.state tx.old) area block buffer.old }
-    ensures { HasStored (store_access area.start (bit_mark block ∷ []) (block_with area.size (bit_place block) (byte ∷ []))) (T.state tx.old) (T.state tx.new) (T.device tx.old) (T.device tx.new) result }
-{
-    let at = 64 + (block / 8) as usize;
-    lay_alone(buffer, at, &[byte]);
-    let span = Span {
-        off: at as u16,
-        len: 1,
-    };
-    store(tx, area.start, &[span], buffer)
 }
 
 // Writes a new block of a bucket, with a key in its first cell.
@@ -60,22 +39,6 @@ fn store_new<T: TxBlocks>(
     store(tx, area.start + block, &[], buffer)
 }
 
-// Writes the number of the next block.
-fn store_next<T: TxBlocks>(
-    tx: &mut T,
-    area: Area,
-    block: u32,
-    next: u32,
-    buffer: &mut [u8],
-) -> Result<(), TxError>
-    requires block { HasBlock IsHashArea (T.state tx.old) area block buffer.old }
-    ensures { HasStored (store_access (area.start + block) (next_mark ∷ []) (block_with area.size 0 (to_be_bytes w32 next))) (T.state tx.old) (T.state tx.new) (T.device tx.old) (T.device tx.new) result }
-{
-    lay_alone(buffer, 0, &spelled(next));
-    let span = Span { off: 0, len: 4 };
-    store(tx, area.start + block, &[span], buffer)
-}
-
 // The three writes of a put into a new block.
 fn grow<T: TxBlocks>(
     tx: &mut T,
@@ -85,17 +48,14 @@ fn grow<T: TxBlocks>(
     position: u32,
     key: &[u8],
     value: &[u8],
-    byte: u8,
     buffer: &mut [u8],
 ) -> Result<(), StoreError>
-    requires within { HasArea IsHashArea (T.state tx.old) area }
+    requires block { HasBlock IsHashArea (T.state tx.old) area block buffer.old }
     requires is_open { (T.state tx.old).is_open ≡ true }
-    requires buffer { length buffer.old ≡ area.size }
-    requires block { block < area.blocks }
     requires last { last < area.blocks }
     requires key { length key.now ≤ 28 }
     requires value { length value.now ≤ 32 }
-    ensures run { HasRun (Reserve 3 (Store area.start (bit_mark block ∷ []) (block_with area.size (bit_place block) (byte ∷ []))
+    ensures run { HasRun (Reserve 3 (Store area.start (bit_mark block ∷ []) (block_with area.size (bit_place block) (slice_index buffer.old (bit_place block) ∷ []))
         (Store (area.start + block) [] (new_block area.size (bucket_of area key.now) position key.now value.now)
         (Store (area.start + last) (next_mark ∷ []) (block_with area.size 0 (to_be_bytes w32 block)) (Done (Ok tt)))))) (T.state tx.old) (T.state tx.new) result }
     ensures behaves { Behaves (T.state tx.old) (T.state tx.new) 3 (T.device tx.old) (T.device tx.new) result }
@@ -103,26 +63,17 @@ fn grow<T: TxBlocks>(
     if let Err(e) = reserve(tx, 3) {
         return Err(StoreError::Tx(e));
     }
-    if let Err(e) = store_bit(tx, area, block, byte, buffer) {
+    if let Err(e) = store_bit(tx, area, block, buffer) {
         return Err(StoreError::Tx(e));
     }
     if let Err(e) = store_new(tx, area, block, position, key, value, buffer) {
         return Err(StoreError::Tx(e));
     }
-    match store_next(tx, area, last, block, buffer) {
+    lay_alone(buffer, 0, &spelled(block));
+    let span = Span { off: 0, len: 4 };
+    match store(tx, area.start + last, &[span], buffer) {
         Ok(()) => Ok(()),
         Err(e) => Err(StoreError::Tx(e)),
-    }
-}
-
-// The mark over head and map.
-fn map_span(area: Area) -> Span
-    requires { IsHashArea area }
-    ensures { result ≡ map_mark area.blocks }
-{
-    Span {
-        off: 0,
-        len: (64 + (area.blocks + 7) / 8) as u16,
     }
 }
 
@@ -136,9 +87,7 @@ pub fn put_block<T: TxBlocks>(
     value: &[u8],
     buffer: &mut [u8],
 ) -> Result<(), StoreError>
-    requires within { HasArea IsHashArea (T.state tx.old) area }
-    requires buffer { length buffer.old ≡ area.size }
-    requires last { last < area.blocks }
+    requires last { HasBlock IsHashArea (T.state tx.old) area last buffer.old }
     requires position { position < area.blocks }
     requires key { length key.now ≤ 28 }
     requires value { length value.now ≤ 32 }
@@ -146,28 +95,11 @@ pub fn put_block<T: TxBlocks>(
         (T.state tx.old) (T.state tx.new) result }
     ensures behaves { Behaves (T.state tx.old) (T.state tx.new) 3 (T.device tx.old) (T.device tx.new) result }
 {
-    if let Err(e) = look(tx, area.start, map_span(area), buffer) {
+    if let Err(e) = look(tx, area.start, map_span(area.blocks), buffer) {
         return Err(StoreError::Tx(e));
     }
-    let region = Region {
-        start: area.start,
-        size: area.blocks,
-    };
-    match take_lowest(buffer, region, buckets(area) + 1) {
-        Some(block) => {
-            let byte = buffer[64 + (block / 8) as usize];
-            grow(
-                tx,
-                area,
-                block,
-                last,
-                position + 1,
-                key,
-                value,
-                byte,
-                buffer,
-            )
-        }
+    match take_lowest(buffer, region_of(area), buckets(area) + 1) {
+        Some(block) => grow(tx, area, block, last, position + 1, key, value, buffer),
         None => Err(StoreError::NoBlocks { need: 1, free: 0 }),
     }
 }
@@ -178,22 +110,19 @@ fn shrink<T: TxBlocks>(
     area: Area,
     block: u32,
     before: u32,
-    byte: u8,
     buffer: &mut [u8],
 ) -> Result<bool, StoreError>
-    requires within { HasArea IsHashArea (T.state tx.old) area }
+    requires block { HasBlock IsHashArea (T.state tx.old) area block buffer.old }
     requires is_open { (T.state tx.old).is_open ≡ true }
-    requires buffer { length buffer.old ≡ area.size }
-    requires block { block < area.blocks }
     requires before { before < area.blocks }
-    ensures run { HasRun (Reserve 2 (Store area.start (bit_mark block ∷ []) (block_with area.size (bit_place block) (byte ∷ []))
+    ensures run { HasRun (Reserve 2 (Store area.start (bit_mark block ∷ []) (block_with area.size (bit_place block) (slice_index buffer.old (bit_place block) ∷ []))
         (Store (area.start + before) (next_mark ∷ []) (replicate area.size 0) (Done (Ok true))))) (T.state tx.old) (T.state tx.new) result }
     ensures behaves { Behaves (T.state tx.old) (T.state tx.new) 2 (T.device tx.old) (T.device tx.new) result }
 {
     if let Err(e) = reserve(tx, 2) {
         return Err(StoreError::Tx(e));
     }
-    if let Err(e) = store_bit(tx, area, block, byte, buffer) {
+    if let Err(e) = store_bit(tx, area, block, buffer) {
         return Err(StoreError::Tx(e));
     }
     buffer.fill(0);
@@ -212,9 +141,7 @@ pub fn del_block<T: TxBlocks>(
     before: u32,
     buffer: &mut [u8],
 ) -> Result<bool, StoreError>
-    requires within { HasArea IsHashArea (T.state tx.old) area }
-    requires buffer { length buffer.old ≡ area.size }
-    requires block { block < area.blocks }
+    requires block { HasBlock IsHashArea (T.state tx.old) area block buffer.old }
     requires before { before < area.blocks }
     ensures run { HasRun (Look area.start (map_mark area.blocks) (λ map. None) (λ map none.
         Reserve 2
@@ -222,14 +149,9 @@ pub fn del_block<T: TxBlocks>(
         (Store (area.start + before) (next_mark ∷ []) (replicate area.size 0) (Done (Ok true)))))) (T.state tx.old) (T.state tx.new) result }
     ensures behaves { Behaves (T.state tx.old) (T.state tx.new) 2 (T.device tx.old) (T.device tx.new) result }
 {
-    if let Err(e) = look(tx, area.start, map_span(area), buffer) {
+    if let Err(e) = look(tx, area.start, map_span(area.blocks), buffer) {
         return Err(StoreError::Tx(e));
     }
-    let region = Region {
-        start: area.start,
-        size: area.blocks,
-    };
-    give_back(buffer, region, block);
-    let byte = buffer[64 + (block / 8) as usize];
-    shrink(tx, area, block, before, byte, buffer)
+    give_back(buffer, region_of(area), block);
+    shrink(tx, area, block, before, buffer)
 }

@@ -1,7 +1,8 @@
 // The writes that puts and removals are made of.
 ghost use Rattle.std.specs.Prelude.{◌≡◌, ◌+◌, ◌*◌, ◌<◌, ◌≤◌, length, Ok, true, [], ◌∷◌, replicate};
-ghost use Rattle.store_model.specs.{Cells.{block_with, cell_count, key_mark, keys_end, value_mark, value_part}, HashCalls.with_cell, HashRegion.IsHashArea, Stores.{Done, Store}};
-ghost use Rattle.tx_blocks.specs.Runs.{Behaves, HasBlock, HasRun};
+ghost use Rattle.store_model.specs.{Cells.{block_with, cell_count, key_mark, keys_end, value_mark, value_part}, HashCalls.with_cell, Stores.{Done, Store}};
+ghost use Rattle.tx_blocks.specs.Runs.{Behaves, HasRun};
+ghost use Rattle.iso_hash.specs.Walks.{HasSpot};
 
 use iso_alloc::{cell_count, lay, lay_alone, spell, value_part};
 use iso_model::Span;
@@ -32,8 +33,7 @@ pub fn put_value<T: TxBlocks>(
     value: &[u8],
     buffer: &mut [u8],
 ) -> Result<(), StoreError>
-    requires block { HasBlock IsHashArea (T.state tx.old) area spot.block buffer.old }
-    requires cell { spot.cell < cell_count area.size }
+    requires spot { HasSpot (T.state tx.old) area spot buffer.old }
     requires value { length value.now ≤ 32 }
     ensures run { HasRun (Store (area.start + spot.block) (value_mark area.size spot.cell ∷ []) (block_with area.size (keys_end area.size + 33 * spot.cell) (value_part value.now)) (Done (Ok tt)))
         (T.state tx.old) (T.state tx.new) result }
@@ -76,8 +76,7 @@ pub fn put_cell<T: TxBlocks>(
     value: &[u8],
     buffer: &mut [u8],
 ) -> Result<(), StoreError>
-    requires block { HasBlock IsHashArea (T.state tx.old) area spot.block buffer.old }
-    requires cell { spot.cell < cell_count area.size }
+    requires spot { HasSpot (T.state tx.old) area spot buffer.old }
     requires key { length key.now ≤ 28 }
     requires value { length value.now ≤ 32 }
     ensures run { HasRun (Store (area.start + spot.block) (key_mark spot.cell ∷ value_mark area.size spot.cell ∷ []) (with_cell area.size spot.cell key.now value.now (replicate area.size 0)) (Done (Ok tt)))
@@ -97,8 +96,7 @@ pub fn clear_cell<T: TxBlocks>(
     spot: Spot,
     buffer: &mut [u8],
 ) -> Result<bool, StoreError>
-    requires block { HasBlock IsHashArea (T.state tx.old) area spot.block buffer.old }
-    requires cell { spot.cell < cell_count area.size }
+    requires spot { HasSpot (T.state tx.old) area spot buffer.old }
     ensures run { HasRun (Store (area.start + spot.block) (key_mark spot.cell ∷ value_mark area.size spot.cell ∷ []) (replicate area.size 0) (Done (Ok true)))
         (T.state tx.old) (T.state tx.new) result }
     ensures behaves { Behaves (T.state tx.old) (T.state tx.new) 1 (T.device tx.old) (T.device tx.new) result }

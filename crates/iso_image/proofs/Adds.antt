@@ -1,11 +1,9 @@
 -- Records that are added to the log of the current half.
-use Rattle.iso_image.proofs.{Words.{◌≡◌, ◌⊎◌, inl, inr, ◌<◌, ◌≤◌, ◌+◌, ◌-◌, ℕ, List, [], ◌∷◌, ◌++◌, length, take, drop, sym, ◌∙◌, ap, arith, length-append, subst, AllByRecursion, length-take, take-take, Geometry, LAST, log_place, IsRecord, Written, records, spliced, Torn, get_or-torn, slice-torn, spliced_torn, torn_same, IsClosed, IsOpen, Half, IsHeld, HasLog, MayFollow, last_told, next_gate, told_bytes, with_records, Appending, InLog}, Appends.appending_gate, Frames.{frame, held_half, log_inside}, Logs.{has_log, log_front, log_gate, log_step, log_whole, records-append}}
+use Rattle.iso_image.proofs.{Words.{◌≡◌, ◌⊎◌, inl, inr, ◌<◌, ◌≤◌, ◌+◌, ℕ, List, [], ◌∷◌, ◌++◌, length, take, drop, sym, ◌∙◌, ap, arith, length-append, subst, AllByRecursion, length-take, take-take, Geometry, LAST, log_place, IsRecord, Written, records, spliced, Torn, get_or-torn, slice-torn, spliced_torn, torn_same, IsClosed, IsOpen, Half, IsHeld, HasLog, MayFollow, last_told, next_gate, told_bytes, with_records, Appending, InLog}, Appends.appending_gate, Frames.{frame, held_half, log_inside}, Logs.{has_log, log_front, log_gate, log_step, log_whole, records-append}}
 
 -- the log of the half that an image holds
 pub held_log : (g : Geometry) (x : Half) (c : List ℕ) → IsHeld g x c → HasLog (log_place g x.at) g.log g (x.base + 1) x.told c
-held_log g x c has =
-    subst (λ (k : ℕ). HasLog (log_place g k) g.log g (x.base + 1) x.told c) has.at_is
-    (subst (λ (told : List Written). HasLog (log_place g has.image.half) g.log g (x.base + 1) told c) has.told_is has.image.log)
+held_log g x c has = grind arith
 
 pub log_in_image : (g : Geometry) (x : Half) (c : List ℕ) → IsHeld g x c → log_place g x.at + g.log ≤ length c
 log_in_image g x c has = omega (arith, has.image.size, log_inside g x.at (held_half g x c has))
@@ -15,9 +13,7 @@ pub held_each : (g : Geometry) (x : Half) (c : List ℕ) → IsHeld g x c → Al
 held_each g x c has = subst (AllByRecursion (IsRecord g)) has.told_is has.image.each
 
 pub held_last : (g : Geometry) (x : Half) (c : List ℕ) → IsHeld g x c → last_told x ≤ LAST
-held_last g x c has =
-    let last : x.base + 1 + length x.told - 1 ≤ LAST = subst (λ (told : List Written). x.base + 1 + length told - 1 ≤ LAST) has.told_is has.image.last in
-    omega (arith, last)
+held_last g x c has = grind arith
 
 all_append : (g : Geometry) (xs ys : List Written) → AllByRecursion (IsRecord g) xs → AllByRecursion (IsRecord g) ys → AllByRecursion (IsRecord g) (xs ++ ys)
 all_append g [] ys a b = b
@@ -82,7 +78,6 @@ pub free_behind : (g : Geometry) (x : Half) (from count : ℕ) (old new : List �
 free_behind g x from count old new has starts ends torn =
     let inside = log_in_image g x old has in
     let size : length new ≡ length old = torn.size in
-    let n : ℕ = length (told_bytes g x) in
     let short : length (told_bytes g x) < g.log = omega (arith, starts, ends) in
     let log = held_log g x old has in
     let front : take (length (told_bytes g x)) (drop (log_place g x.at) new) ≡ told_bytes g x =

@@ -1,5 +1,5 @@
 -- One image through the body and through the gate of what is appended.
-use Rattle.iso_image.proofs.Words.{◌≡◌, inl, inr, ◌<◌, ◌≤◌, ◌+◌, ℕ, List, ◌∷◌, length, take, drop, get_or, sym, ◌∙◌, ap, arith, cases_eq, drop_more, Torn, torn_wider, torn_twice, torn_whole, get_or-torn, drop-torn, IsClosed, Appending}
+use Rattle.iso_image.proofs.Words.{◌≡◌, inl, inr, ◌≤◌, ◌+◌, ℕ, List, ◌∷◌, length, take, drop, get_or, sym, ◌∙◌, arith, cases_eq, drop_more, Torn, torn_wider, torn_twice, torn_whole, get_or-torn, drop-torn, IsClosed, Appending}
 
 -- while the body is written the gate is closed
 pub appending_body : (gate b : ℕ) (body old new : List ℕ) → IsClosed gate old → Torn (gate + 1) (length body) old new → Appending gate (b ∷ body) old new
@@ -11,11 +11,7 @@ appending_body gate b body old new closed torn = record {
 -- the bytes from an open gate on, where the body stands behind it
 opened : (gate : ℕ) (body mid new : List ℕ) → gate + 1 + length body ≤ length mid → take (length body) (drop (gate + 1) mid) ≡ body → Torn gate 1 mid new → get_or new gate 0 ≡ 1
     → take (length (1 ∷ body)) (drop gate new) ≡ 1 ∷ body
-opened gate body mid new fits has torn is =
-    let size : length new ≡ length mid = torn.size in
-    let inside : gate < length new = omega (arith, size) in
-    let behind : take (length body) (drop (gate + 1) new) ≡ body = ap (take (length body)) (drop-torn torn (gate + 1) (omega arith)) ∙ has in
-    ap (take (length (1 ∷ body))) (drop_more new gate 0 inside) ∙ (λ i. is i ∷ behind i)
+opened gate body mid new fits has torn is = grind (arith, drop-torn, drop_more)
 
 -- while the gate is written it is closed, or all stands
 pub appending_gate : (gate : ℕ) (body old mid new : List ℕ) → gate + 1 + length body ≤ length old → Torn (gate + 1) (length body) old mid

@@ -1,5 +1,5 @@
 -- The image on which nothing was committed.
-use Rattle.iso_image.proofs.Words.{◌≡◌, ◌≤◌, ◌+◌, ◌-◌, ◌*◌, ◌==◌, ℕ, zero, suc, List, [], ◌∷◌, ◌++◌, length, take, drop, replicate, get_or, true, false, Some, IsTrue, refl, sym, ◌∙◌, ap, arith, length-append, append_assoc, eq-eqb, length-replicate, drop-replicate, take-replicate, get_or-replicate, take_at, drop_at, drop-drop, get_or-drop, Geometry, image_size, header_place, base_place, log_place, is_valid, IsLog, superblock, half_header, blocks_of, chosen_half, current_half, generation_at, is_open_at, empty_history, limits, IsHeld, empty_image, half_of}
+use Rattle.iso_image.proofs.Words.{◌≡◌, ◌≤◌, ◌+◌, ◌-◌, ◌*◌, ℕ, zero, suc, List, [], ◌∷◌, ◌++◌, length, take, drop, replicate, get_or, Some, IsTrue, refl, sym, ◌∙◌, ap, arith, length-append, append_assoc, length-replicate, drop-replicate, take-replicate, get_or-replicate, take_at, drop_at, drop-drop, get_or-drop, Geometry, image_size, header_place, base_place, log_place, is_valid, IsLog, superblock, half_header, blocks_of, current_half, empty_history, limits, IsHeld, empty_image, half_of}
 
 length-super : (g : Geometry) → length (superblock 1 g) ≡ 64
 unfolding superblock
@@ -48,10 +48,7 @@ module _ (g : Geometry) where
       ∙ get_or-replicate (image_size g - 96) (g.blocks * g.block + g.log) 0 0 (omega arith)
 
   first_half : current_half g (empty_image g) ≡ Some 0
-  first_half =
-      let one : is_open_at (empty_image g) (header_place g 0) ≡ true = eq-eqb _ 1 first_open in
-      let two : is_open_at (empty_image g) (header_place g 1) ≡ false = ap (λ (b : ℕ). b == 1) second_closed in
-      λ i. chosen_half (one i) (generation_at (empty_image g) (header_place g 0)) (two i) (generation_at (empty_image g) (header_place g 1))
+  first_half = grind (arith, first_open, second_closed)
 
   empty_log : 64 ≤ g.log → IsLog g 1 [] (take g.log (drop (log_place g 0) (empty_image g)))
   empty_log some =

@@ -72,9 +72,7 @@ module _ (g : Geometry) (half at n : ℕ) (half_le : half ≤ 1) (from : log_pla
 
 -- the log of a half lies in the image
 pub log_inside : (g : Geometry) (half : ℕ) → half ≤ 1 → log_place g half + g.log ≤ image_size g
-log_inside g zero le = omega arith
-log_inside g (suc zero) le = omega arith
-log_inside g (suc (suc half)) le = absurd (omega arith)
+log_inside g half le = grind arith
 
 -- The image holds what its log tells now.
 pub frame : (g : Geometry) (x : Half) (old new : List ℕ) → IsHeld g x old → InLog g x.at old new

@@ -1,5 +1,5 @@
 -- What an image holds, in words of a history and of a world.
-use Rattle.iso_image.proofs.Words.{◌≡◌, ◌<◌, ◌≤◌, ◌+◌, ◌-◌, ℕ, List, [], ◌∷◌, ◌++◌, length, take, drop, map, Some, refl, sym, ◌∙◌, ap, arith, subst, drop-drop, drop-map, map-append, take-append-le, drop-append-le, Commit, Geometry, record_length, runs, log_place, History, all_own, array_at, last, IsImage, IsLog, Shows, Written, commits_of, current_half, half_header, held, kind_of, records, spell, written, recorded, IsHistory, World, Live, fresh, used, after_commit, held_shows, image_tells_one, length-records, sum_by-map, told_again, AreOne, Half, IsHeld, half_of, half_of_world, history_of, in_form, told_bytes, with_records}
+use Rattle.iso_image.proofs.Words.{◌≡◌, ◌<◌, ◌≤◌, ◌+◌, ◌-◌, ℕ, List, [], ◌∷◌, ◌++◌, length, take, drop, map, Some, refl, sym, ◌∙◌, ap, arith, subst, drop-drop, drop-map, map-append, take-append-le, drop-append-le, Commit, Geometry, runs, log_place, History, all_own, array_at, last, IsImage, IsLog, Shows, Written, commits_of, half_header, held, kind_of, records, spell, written, recorded, IsHistory, World, Live, fresh, used, after_commit, held_shows, image_tells_one, length-records, sum_by-map, told_again, AreOne, Half, IsHeld, half_of, half_of_world, history_of, in_form, told_bytes, with_records}
 
 commits_form : (g : Geometry) (form n : ℕ) (told : List Written) → commits_of (in_form form g) n told ≡ commits_of g n told
 commits_form g form n [] = refl
@@ -19,13 +19,7 @@ same_some m n e = cc
 pub held_once : (g f : Geometry) (x y : Half) (bytes : List ℕ) → IsHeld g x bytes → IsHeld f y bytes → AreOne g f x y
 held_once g f x y bytes has also =
     let one = image_tells_one bytes g f x.generation y.generation (history_of g x) (history_of f y) has.image also.image in
-    record {
-      geometry = one.0;
-      at = sym has.at_is
-          ∙ same_some has.image.half also.image.half (sym has.image.current ∙ ap (λ (h : Geometry). current_half h bytes) one.0 ∙ also.image.current) ∙ also.at_is;
-      generation = one.1;
-      history = one.2;
-    }
+    grind arith
 
 -- An image of a history holds the half of the world that it opens to.
 pub opened_half : (bytes : List ℕ) (g : Geometry) (generation : ℕ) (H : History) → (image : IsImage bytes g generation H)
@@ -75,9 +69,7 @@ half_after W t at since until some =
 
 -- the records take as many bytes as the world says
 pub world_bytes : (W : World) (at : ℕ) → length (told_bytes W.geometry (half_of_world W at)) ≡ used W
-world_bytes W at =
-    let commits = drop (W.base + 1 - W.history.first) W.history.commits in
-    length-records W.geometry (W.base + 1) (map (written W.geometry) commits) ∙ sum_by-map (λ (w : Written). record_length w.parts) (written W.geometry) commits
+world_bytes W at = grind (arith, length-records, sum_by-map)
 
 -- the records above a later base are the last of those above the first
 pub later_records : (g : Geometry) (at generation next b c : ℕ) (H : History) → H.first ≤ b + 1 → b ≤ c
@@ -99,6 +91,4 @@ written_form g form (c ∷ commits) = ap (λ (told : List Written). written g c 
 
 -- a half is the same one in each form
 pub half_form : (g : Geometry) (form at generation b : ℕ) (H : History) → half_of (in_form form g) at generation b H ≡ half_of g at generation b H
-half_form g form at generation b H =
-    ap (λ (told : List Written). record { at = at; generation = generation; base = b; array = array_at H b; told = told })
-    (written_form g form (drop (b + 1 - H.first) H.commits))
+half_form g form at generation b H = grind (arith, written_form)

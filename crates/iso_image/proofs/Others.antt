@@ -1,5 +1,5 @@
 -- An image whose bytes change in the half that is not the current one.
-use Rattle.iso_image.proofs.{Words.{◌≡◌, ◌⊎◌, inl, inr, ◌<◌, ◌≤◌, ◌+◌, ◌-◌, ◌==◌, ℕ, zero, suc, List, take, drop, get_or, Bool, true, false, Some, refl, sym, ◌∙◌, ap, arith, subst, eq-eqb, ne_eqb, lt-ltb, le-ltb, cond, from_be_bytes, to_be_bytes, w64, cases_eq, drop-drop, drop-take, take-take, get_or-take, get_or-drop, from_be_bytes-to_be_bytes_8, Geometry, LAST, half_size, header_place, base_place, log_place, IsLog, blocks_of, chosen_half, current_half, generation_at, half_header, is_open_at, Torn, slice-torn, get_or-torn, take-torn, IsClosed, IsOpen, Half, IsHeld, InHalf}, Frames.blocks_same}
+use Rattle.iso_image.proofs.{Words.{◌≡◌, ◌⊎◌, inl, inr, ◌<◌, ◌≤◌, ◌+◌, ◌-◌, ℕ, zero, suc, List, take, drop, get_or, Bool, true, false, Some, refl, sym, ◌∙◌, ap, arith, subst, eq-eqb, ne_eqb, from_be_bytes, to_be_bytes, w64, cases_eq, drop-drop, drop-take, take-take, get_or-take, get_or-drop, from_be_bytes-to_be_bytes_8, Geometry, LAST, half_size, header_place, base_place, log_place, IsLog, blocks_of, chosen_half, current_half, generation_at, half_header, is_open_at, Torn, slice-torn, get_or-torn, take-torn, IsClosed, IsOpen, Half, IsHeld, InHalf}, Frames.blocks_same}
 
 -- what stands in the one half stands outside the other
 pub apart : (g : Geometry) (half other at n i len : ℕ) → half + other ≡ 1 → header_place g other ≤ at → at + n ≤ header_place g other + half_size g
@@ -39,22 +39,15 @@ told_generation at form generation base c small header =
 pub both_open : (half other : ℕ) → half + other ≡ 1 → (g : Geometry) (c : List ℕ) → is_open_at c (header_place g half) ≡ true → is_open_at c (header_place g other) ≡ true
     → generation_at c (header_place g half) < generation_at c (header_place g other) → current_half g c ≡ Some other
 both_open zero zero both g c one two less = absurd (omega arith)
-both_open zero (suc zero) both g c one two less =
-    (λ i. chosen_half (one i) (generation_at c (header_place g 0)) (two i) (generation_at c (header_place g 1)))
-    ∙ ap (λ (t : Bool). Some (cond t 1 0)) (lt-ltb (generation_at c (header_place g 0)) (generation_at c (header_place g 1)) less)
-both_open (suc zero) zero both g c one two less =
-    (λ i. chosen_half (two i) (generation_at c (header_place g 0)) (one i) (generation_at c (header_place g 1)))
-    ∙ ap (λ (t : Bool). Some (cond t 1 0)) (le-ltb (generation_at c (header_place g 0)) (generation_at c (header_place g 1)) (omega arith))
+both_open zero (suc zero) both g c one two less = grind arith
+both_open (suc zero) zero both g c one two less = grind arith
 both_open zero (suc (suc other)) both g c one two less = absurd (omega arith)
 both_open (suc zero) (suc other) both g c one two less = absurd (omega arith)
 both_open (suc (suc half)) other both g c one two less = absurd (omega arith)
 
 -- the header of the half that holds
 pub held_header : (g : Geometry) (x : Half) (c : List ℕ) → IsHeld g x c → take 32 (drop (header_place g x.at) c) ≡ half_header 1 g.form x.generation x.base
-held_header g x c has =
-    let base : x.base + 1 - 1 ≡ x.base = omega arith in
-    subst (λ (k : ℕ). take 32 (drop (header_place g k) c) ≡ half_header 1 g.form x.generation (x.base + 1 - 1)) has.at_is has.image.header
-    ∙ ap (half_header 1 g.form x.generation) base
+held_header g x c has = grind arith
 
 -- its gate
 pub gate_open : (g : Geometry) (x : Half) (c : List ℕ) → IsHeld g x c → get_or c (header_place g x.at) 0 ≡ 1
@@ -69,9 +62,7 @@ beside g x other old new both has change current =
     let half : ℕ = x.at in
     let is : has.image.half ≡ half = has.at_is in
     let at = change.from in
-    let n = change.count in
     let from = change.starts in
-    let to = change.ends in
     let torn = change.torn in
     let slice : (i len : ℕ) → header_place g x.at ≤ i → i + len ≤ header_place g x.at + half_size g → take len (drop i new) ≡ take len (drop i old) = λ i len start end.
     slice-torn torn i len (apart g x.at other change.from change.count i len both change.starts change.ends start end) in
@@ -147,22 +138,8 @@ module _ (g : Geometry) (other : ℕ) {old new : List ℕ} (torn : Torn (header_
 stays : (half other : ℕ) → half + other ≡ 1 → (g : Geometry) (old new : List ℕ) → Torn (header_place g other) 1 old new → current_half g old ≡ Some half
     → is_open_at old (header_place g half) ≡ true → is_open_at old (header_place g other) ≡ true → current_half g new ≡ Some half
 stays zero zero both g old new torn current is shut = absurd (omega arith)
-stays zero (suc zero) both g old new torn current is open_too =
-    let gate : is_open_at new (header_place g 0) ≡ true = ap (λ (b : ℕ). b == 1) (get_or-torn torn (header_place g 0) 0 (inl (omega arith))) ∙ is in
-    let first = generation_stays g 1 torn 0 (inl (omega arith)) in
-    let second = generation_stays g 1 torn 1 (inr (omega arith)) in
-    let was : chosen_half true (generation_at old (header_place g 0)) true (generation_at old (header_place g 1)) ≡ Some 0 =
-    (λ i. chosen_half (sym is i) (generation_at old (header_place g 0)) (sym open_too i) (generation_at old (header_place g 1))) ∙ current in
-    (λ i. chosen_half (gate i) (first i) (is_open_at new (header_place g 1)) (second i))
-    ∙ first_stays (generation_at old (header_place g 0)) (generation_at old (header_place g 1)) (is_open_at new (header_place g 1)) was
-stays (suc zero) zero both g old new torn current is open_too =
-    let gate : is_open_at new (header_place g 1) ≡ true = ap (λ (b : ℕ). b == 1) (get_or-torn torn (header_place g 1) 0 (inr (omega arith))) ∙ is in
-    let first = generation_stays g 0 torn 0 (inr (omega arith)) in
-    let second = generation_stays g 0 torn 1 (inr (omega arith)) in
-    let was : chosen_half true (generation_at old (header_place g 0)) true (generation_at old (header_place g 1)) ≡ Some 1 =
-    (λ i. chosen_half (sym open_too i) (generation_at old (header_place g 0)) (sym is i) (generation_at old (header_place g 1))) ∙ current in
-    (λ i. chosen_half (is_open_at new (header_place g 0)) (first i) (gate i) (second i))
-    ∙ second_stays (generation_at old (header_place g 0)) (generation_at old (header_place g 1)) (is_open_at new (header_place g 0)) was
+stays zero (suc zero) both g old new torn current is open_too = grind (arith, get_or-torn, generation_stays, first_stays)
+stays (suc zero) zero both g old new torn current is open_too = grind (arith, get_or-torn, generation_stays, second_stays)
 stays zero (suc (suc other)) both g old new torn current is open_too = absurd (omega arith)
 stays (suc zero) (suc other) both g old new torn current is open_too = absurd (omega arith)
 stays (suc (suc half)) other both g old new torn current is open_too = absurd (omega arith)

@@ -12,7 +12,6 @@ pub record_at : (place room : ℕ) (g : Geometry) (first : ℕ) (before : List W
     → take (length (spell 1 (kind_of g w.mode) (first + length before) w.parts)) (drop (place + length (records g first before)) c) ≡ spell 1 (kind_of g w.mode) (first + length before) w.parts
 record_at place room g first before w after c has =
     let (gate, rest, closed, is) = has in
-    let S : List ℕ = spell 1 (kind_of g w.mode) (first + length before) w.parts in
     let all : records g first (before ++ w ∷ after) ≡ records g first before ++ (spell 1 (kind_of g w.mode) (first + length before) w.parts ++ records g (first + length before + 1) after) =
     records-append g first before (w ∷ after) in
     let count : length (records g first (before ++ w ∷ after)) ≡ length (records g first before) + (length (spell 1 (kind_of g w.mode) (first + length before) w.parts) + length (records g (first + length before + 1) after)) =

@@ -1,5 +1,5 @@
 -- The records of a list of bytes, one by one.
-use Rattle.iso_log.proofs.Words.{◌≡◌, ◌<◌, ◌≤◌, ◌+◌, ◌-◌, ◌^◌, ℕ, List, [], ◌∷◌, ◌++◌, length, take, drop, get_or, min, refl, sym, ◌∙◌, ap, arith, length-append, append_assoc, from_be_bytes, to_be_bytes, w32, drop_at, from_be_bytes-to_be_bytes_4, Geometry, Run, Written, body_length, kind_of, records, spell, length-spell, record_window}
+use Rattle.iso_log.proofs.Words.{◌≡◌, ◌<◌, ◌≤◌, ◌+◌, ◌-◌, ◌^◌, ℕ, List, [], ◌∷◌, ◌++◌, length, take, drop, get_or, min, refl, sym, ◌∙◌, ap, arith, length-append, append_assoc, to_be_bytes, w32, drop_at, from_be_bytes-to_be_bytes_4, Geometry, Run, Written, body_length, kind_of, records, spell, length-spell, record_window}
 
 pub spell_gate : (gate kind n : ℕ) (parts : List Run) (rest : List ℕ) → get_or (spell gate kind n parts ++ rest) 0 0 ≡ gate
 unfolding spell
@@ -11,10 +11,7 @@ spell_body gate kind n parts rest = refl
 
 -- the window of a record that is spelled is its length, and one byte more
 pub window_is : (gate kind n : ℕ) (parts : List Run) (rest : List ℕ) → length (spell gate kind n parts) < 2 ^ 32 → record_window (spell gate kind n parts ++ rest) ≡ length (spell gate kind n parts) + 1
-window_is gate kind n parts rest small =
-    let size = length-spell gate kind n parts in
-    let body = ap (from_be_bytes w32) (spell_body gate kind n parts rest) ∙ from_be_bytes-to_be_bytes_4 (body_length parts) (omega (arith, size)) in
-    omega (arith, body, size)
+window_is gate kind n parts rest small = grind (arith, length-spell, spell_body, from_be_bytes-to_be_bytes_4)
 
 -- These bytes are the records that are left of those of a list, once so many were counted.
 pub record AreLeft (g : Geometry) (n : ℕ) (more : List Written) (count : ℕ) (rest : List ℕ) : Type 0 where
@@ -37,7 +34,6 @@ one_counted g n more count rest are long small size size_is = next are.left are.
         let tail : List ℕ = records g (n + count + 1) ws ++ 0 ∷ [] in
         let split : rest ≡ s ++ tail = is ∙ append_assoc s (records g (n + count + 1) ws) (0 ∷ []) in
         let total = ap length split ∙ length-append s tail in
-        let tail_is = length-append (records g (n + count + 1) ws) (0 ∷ []) in
         let window : record_window rest ≡ length s + 1 = ap record_window split ∙ window_is 1 (kind_of g w.mode) (n + count) w.parts tail (omega (arith, total, small)) in
         let whole : size ≡ length s = omega (arith, size_is, window, total) in
         let number : n + count + 1 ≡ n + (count + 1) = omega arith in

@@ -1,5 +1,5 @@
 -- The record at a gate, as it is found in bytes that were read.
-use Rattle.iso_log.proofs.{Words.{◌≡◌, ◌<◌, ◌≤◌, ◌+◌, ◌-◌, ◌^◌, ℕ, List, [], ◌∷◌, ◌++◌, Some, Result, Ok, Err, IsErrOf, length, take, drop, get_or, sym, ◌∙◌, ap, arith, subst, length-append, length-drop, get_or-take, get_or-drop, length-take-le, take-take, nil_from_length, Geometry, kind_of, spell, FormatError, Short, offset_of, test_number, BeginsWith, fault_of, record_window, recorded, window_front, fault_front, short_head, short_body, OpenError, damaged, told_first, kind_again, form_1, LogError, LogFull, Disk, Memory, Damaged, Extent, next_place, IsDamaged, IsFound, IsNextRecord, IsTaken, IsTestBefore, StandAt}, Counts.{spell_gate, window_is}, Offsets.{fault_below, test_among}}
+use Rattle.iso_log.proofs.{Words.{◌≡◌, ◌<◌, ◌≤◌, ◌+◌, ◌-◌, ◌^◌, ℕ, List, [], ◌∷◌, Some, Result, Ok, Err, IsErrOf, length, take, drop, get_or, sym, ◌∙◌, ap, arith, length-append, length-drop, get_or-take, get_or-drop, length-take-le, take-take, nil_from_length, Geometry, kind_of, spell, FormatError, Short, offset_of, test_number, BeginsWith, fault_of, record_window, recorded, window_front, fault_front, short_head, short_body, OpenError, damaged, told_first, kind_again, form_1, LogError, LogFull, Disk, Memory, Damaged, Extent, next_place, IsDamaged, IsFound, IsNextRecord, IsTaken, IsTestBefore, StandAt}, Counts.{spell_gate, window_is}, Offsets.{fault_below, test_among}}
 use Rattle.iso_refusal.specs.declared.open_error.OpenError.TheVariants as refused
 
 -- ---- bytes that stand in an image
@@ -71,12 +71,7 @@ next_record g number bytes b opens size small =
     let total = ap length b.spelling ∙ length-append (spell b.gate kind number parts) (b.next ∷ b.rest) in
     let window = ap record_window b.spelling ∙ window_is b.gate kind number parts (b.next ∷ b.rest) (omega (arith, total, small)) in
     let none : b.rest ≡ [] = nil_from_length b.rest (omega (arith, total, window, size)) in
-    record {
-      is_record = record { some = b.some; runs = b.runs; mode = form_1 g kind b.kind };
-      below = b.last;
-      gate = b.next;
-      bytes_are = b.spelling ∙ (λ i. spell (gate i) (kinds i) number parts ++ b.next ∷ none i);
-    }
+    grind (arith, form_1)
 
 -- ---- bytes that were read further
 
@@ -112,35 +107,24 @@ module _ (place rest : ℕ) (b c : List ℕ) (stands : StandAt place b c) (withi
   no_head g number short = short_head g number (take rest (drop place c)) (omega (arith, rest_long, short))
 
   pub no_body : (g : Geometry) (number : ℕ) → 20 ≤ length b → rest < record_window b → fault_of g number (take rest (drop place c)) ≡ Some (Short 8)
-  no_body g number long short =
-      let window = window_same place rest b c stands within (omega (arith, long)) in
-      short_body g number (take rest (drop place c)) (omega (arith, rest_long, within, long)) (omega (arith, rest_long, window, short))
+  no_body g number long short = grind (arith, window_same, short_body, rest_long)
 
 -- a record that was found has one byte at least
 pub found_some : (g : Geometry) (number size : ℕ) (bytes : List ℕ) → IsFound g number bytes size → 1 ≤ size
-found_some g number size bytes f =
-    let told = told_first g (take size bytes) in
-    omega (arith, ap length f.next.bytes_are, length-append (spell 1 (kind_of g told.mode) number told.parts) (f.next.gate ∷ []), length-take-le size bytes f.within)
+found_some g number size bytes f = grind arith
 
 -- the log has passed it
 pub taken_is : (g : Geometry) (a log : Extent) → a ≡ log → (ahead : List ℕ) (size : ℕ) → log.used + length ahead ≤ log.room → IsFound g (log.last + 1) ahead size
     → IsTaken g log (record a { used = a.used + (size - 1); last = a.last + 1 }) (take size ahead)
 taken_is g a log same ahead size room f =
     let count : length (take size ahead) ≡ size = length-take-le size ahead f.within in
-    record {
-      next = f.next;
-      grown = λ i. record (same i) { used = (same i).used + (sym count i - 1); last = (same i).last + 1 };
-      inside = omega (arith, found_some g (log.last + 1) size ahead f, f.within, room, ap (λ (e : Extent). e.used) same, ap (λ (e : Extent). e.room) same);
-    }
+    grind (arith, found_some)
 
 -- ---- the record of a log
 
 module _ (a log : Extent) (same : a ≡ log) (n : ℕ) (used : n ≡ a.used) where
   pub damaged_here : (g : Geometry) (at cause : ℕ) (c : List ℕ) → IsDamaged g (a.place + n) (a.room - a.used) (a.last + 1) at cause c → IsDamaged g (next_place log) (log.room - log.used) (log.last + 1) at cause c
-  damaged_here g at cause c is =
-      subst (λ (e : Extent). IsDamaged g (next_place e) (e.room - e.used) (e.last + 1) at cause c) same
-      (subst (λ (k : ℕ). IsDamaged g (a.place + k) (a.room - a.used) (a.last + 1) at cause c) used is)
+  damaged_here g at cause c is = grind arith
 
   pub stands_here : (bytes c : List ℕ) → StandAt (a.place + n) bytes c → StandAt (next_place log) bytes c
-  stands_here bytes c stands =
-      subst (λ (e : Extent). StandAt (next_place e) bytes c) same (subst (λ (k : ℕ). StandAt (a.place + k) bytes c) used stands)
+  stands_here bytes c stands = grind arith

@@ -11,11 +11,7 @@ module _ (a log : Extent) (same : a ≡ log) where
   short_is free need within free_is enough = omega (arith, within, free_is, enough, ap (λ (e : Extent). e.room) same, ap (λ (e : Extent). e.used) same)
 
   pub grown_is : (n count more : ℕ) → 1 ≤ n → count ≡ more → record log { used = log.used + n - 1; last = log.last + more } ≡ record a { used = a.used + (n - 1); last = a.last + count }
-  grown_is n count more some counted =
-      let used : log.used + n - 1 ≡ a.used + (n - 1) = omega (arith, some, ap (λ (e : Extent). e.used) same) in
-      let last : log.last + more ≡ a.last + count = omega (arith, counted, ap (λ (e : Extent). e.last) same) in
-      let back = sym same in
-      λ i. record { place = (back i).place; room = (back i).room; used = used i; last = last i }
+  grown_is n count more some counted = grind arith
 
 -- ---- the bytes of a group
 

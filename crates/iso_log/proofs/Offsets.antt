@@ -1,5 +1,5 @@
 -- A test of a record that fails names a place in the bytes that the record needs, and is one of eight.
-use Rattle.iso_log.proofs.Words.{◌≡◌, ◌<◌, ◌≤◌, ◌+◌, ◌-◌, ◌*◌, ◌==◌, ◌||◌, ◌&&◌, not, cond, ℕ, zero, suc, Bool, true, false, List, [], ◌∷◌, length, drop, get_or, Option, Some, None, nat_lt, nat_le, refl, arith, length-drop, subst, IfSome, w32, w64, same_Some, length-take, Geometry, or_else, FormatError, Short, Kind, NotZero, Count, Order, Range, Length, Number, good, offset_of, test_number, number_at, fault_of, head_fault, number_fault, parts_fault, part_fault, part_size, part_end, body_of, follows, lies_in, is_kind, record_window}
+use Rattle.iso_log.proofs.Words.{◌≡◌, ◌<◌, ◌≤◌, ◌+◌, ◌-◌, ◌==◌, ◌&&◌, not, cond, ℕ, zero, suc, Bool, true, false, List, [], ◌∷◌, length, drop, Option, Some, None, nat_le, refl, arith, length-drop, subst, IfSome, w32, w64, same_Some, length-take, Geometry, or_else, FormatError, Number, good, offset_of, test_number, number_at, fault_of, head_fault, number_fault, parts_fault, part_fault, part_size, part_end, body_of, record_window}
 
 -- the place of a fault, where there is one, is not behind this one
 abbrev Below : ℕ → Option FormatError → Type 0
@@ -14,11 +14,7 @@ below_both top None y first later = later refl
 below_both top (Some e) y first later = first
 
 part_below : (g : Geometry) (before : Option (ℕ × ℕ)) (at : ℕ) (body : List ℕ) (top : ℕ) → at ≤ top → Below top (part_fault g before at body)
-part_below g before at body top le =
-    below_test (nat_lt (length body) 8) top (Length at) _ le
-    (below_test (not (follows before body)) top (Order at) _ le
-    (below_test (not (lies_in g body)) top (Range at) _ le
-    (below_test (nat_lt (length body) (part_size body)) top (Length at) None le tt)))
+part_below g before at body top le = grind (arith, below_test, not)
 
 parts_below : (g : Geometry) (before : Option (ℕ × ℕ)) (at n : ℕ) (body : List ℕ) (top : ℕ) → at + length body ≤ top → Below top (parts_fault g before at n body)
 unfolding parts_fault
@@ -31,13 +27,7 @@ parts_below g before at (suc n) body top le =
     parts_below g (Some (part_end body)) (at + part_size body) n (drop (part_size body) body) top (omega (arith, good.long, length-drop (part_size body) body)))
 
 head_below : (g : Geometry) (bytes : List ℕ) (top : ℕ) → 8 ≤ top → Below top (head_fault g bytes)
-head_below g bytes top le =
-    below_test (nat_lt (length bytes) 20) top (Short 0) _ (omega arith)
-    (below_test (nat_lt (length bytes) (record_window bytes)) top (Short 8) _ (omega arith)
-    (below_test (not (is_kind g (get_or bytes 1 0))) top (Kind 1) _ (omega arith)
-    (below_test (not (get_or bytes 2 0 == 0)) top (NotZero 2) _ (omega arith)
-    (below_test (not (get_or bytes 3 0 == 0)) top (NotZero 3) _ (omega arith)
-    (below_test ((number_at w32 4 bytes == 0) || nat_lt (number_at w32 8 bytes) (9 * number_at w32 4 bytes)) top (Count 4) None (omega arith) tt)))))
+head_below g bytes top le = grind (arith, below_test, not)
 
 number_below : (n : ℕ) (bytes : List ℕ) (top : ℕ) → 12 ≤ top → Below top (number_fault n bytes)
 number_below n bytes top le = elim ((number_at w64 12 bytes == n) && nat_le n 9223372036854775807) as (λ b. Below top (cond b None (Some (Number 12)))) [ true ↦ tt | false ↦ le ]
@@ -60,11 +50,4 @@ fault_below g n bytes e long fails =
     omega (arith, below, long)
 
 pub test_among : (e : FormatError) → (1 ≤ test_number e) × (test_number e ≤ 8)
-test_among (Short at) = (omega arith, omega arith)
-test_among (Kind at) = (omega arith, omega arith)
-test_among (NotZero at) = (omega arith, omega arith)
-test_among (Count at) = (omega arith, omega arith)
-test_among (Order at) = (omega arith, omega arith)
-test_among (Range at) = (omega arith, omega arith)
-test_among (Length at) = (omega arith, omega arith)
-test_among (Number at) = (omega arith, omega arith)
+test_among e = grind arith

@@ -146,40 +146,7 @@ same_but_shown r s is = subst (λ (x : Reply). SameButShown r x) is (itself r)
   where
     itself : (x : Reply) → SameButShown x x
     itself (reply.Shown bytes) = tt
-    itself reply.Done = refl
-    itself (reply.Began at) = refl
-    itself (reply.Grouped answers) = refl
-    itself (reply.Committed number) = refl
-    itself reply.ReadOnly = refl
-    itself (reply.Conflict clash) = refl
-    itself (reply.Trimmed at) = refl
-    itself (reply.Compacted at) = refl
-    itself (reply.Upgraded at) = refl
-    itself (reply.Numbers a b c e f g) = refl
-    itself reply.InTx = refl
-    itself reply.NotInTx = refl
-    itself reply.ModeFixed = refl
-    itself (reply.Found value) = refl
-    itself (reply.Pairs pairs) = refl
-    itself reply.Missing = refl
-    itself reply.NoStore = refl
-    itself reply.StoreMode = refl
-    itself reply.BadKey = refl
-    itself reply.BadValue = refl
-    itself reply.BadName = refl
-    itself reply.Exists = refl
-    itself (reply.Broken block) = refl
-    itself (reply.NoBlocks need free) = refl
-    itself reply.BadBlock = refl
-    itself reply.BadRange = refl
-    itself reply.NoAccess = refl
-    itself reply.TooManyMarks = refl
-    itself reply.TooManyAccesses = refl
-    itself reply.NoHandle = refl
-    itself reply.LabelTaken = refl
-    itself reply.TooManyTx = refl
-    itself reply.Worn = refl
-    itself (reply.LogFull a b) = refl
+    itself x = refl
 
 -- what the disk does not tell is not claimed
 module _ (d : DiskState) (W : World) (t : Live) where

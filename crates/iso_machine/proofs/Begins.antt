@@ -1,5 +1,5 @@
 -- A begin, by what the core answers.
-use Rattle.iso_machine.proofs.{Words.{◌≡◌, ◌≢◌, ◌∙◌, sym, refl, ap, ℕ, Bool, true, false, cond, ◌==◌, ◌&&◌, not, length, nat_le, nat_lt, Option, IsTrue, and_parts, Geometry, Mode, LAST, MAX_LIVE, CoreReply, as_step, is_block_size, is_valid, same_mode, last, after_begin, begin_step, mode_named, out_of_transaction, step, World, Live, Place, attached, client}, Refusals.{KeepsRefused, keeps_either}}
+use Rattle.iso_machine.proofs.{Words.{tests_passed, ◌≡◌, ◌≢◌, ◌∙◌, sym, refl, ap, ℕ, Bool, true, false, cond, ◌==◌, ◌&&◌, not, length, nat_le, nat_lt, Option, IsTrue, and_parts, Geometry, Mode, LAST, MAX_LIVE, CoreReply, as_step, is_block_size, is_valid, same_mode, last, after_begin, begin_step, mode_named, out_of_transaction, step, World, Live, Place, attached, client}, Refusals.{KeepsRefused, keeps_either}}
 use Rattle.script_model.specs.declared.script.Op.TheVariants as op
 use Rattle.iso_model.specs.declared.core_reply.CoreReply.TheVariants as reply
 
@@ -52,16 +52,9 @@ pub begin_is : (W : World) (c : ℕ) (mode : Option Mode) (o : Option Live) → 
 unfolding step
 begin_is W c mode o is = ap (λ (p : Option Live). out_of_transaction W p (as_step (begin_step W (client c) (mode_named W mode)))) is
 
--- the size of a block
+-- the size of a block, the first of the tests that a valid geometry passes
+front : (a b : Bool) → IsTrue (a && b) → IsTrue a
+front a b both = (and_parts a b both).0
+
 pub valid_block : (g : Geometry) → IsTrue (is_valid g) → IsTrue (is_block_size g.block)
-unfolding is_valid
-valid_block g valid =
-    let form = and_parts _ _ valid in
-    let form1 = and_parts _ _ form.0 in
-    let regions = and_parts _ _ form1.0 in
-    let tree = and_parts _ _ regions.0 in
-    let hash = and_parts _ _ tree.0 in
-    let log = and_parts _ _ hash.0 in
-    let log1 = and_parts _ _ log.0 in
-    let blocks = and_parts _ _ log1.0 in
-    (and_parts _ _ blocks.0).0
+valid_block g valid = (tests_passed g valid).block

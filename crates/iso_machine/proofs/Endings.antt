@@ -1,30 +1,16 @@
 -- An end, by what the core answers.
-use Rattle.iso_machine.proofs.{Words.{◌≡◌, sym, refl, ap, subst, ℕ, ◌+◌, ◌-◌, ◌≤◌, ◌==◌, Bool, true, false, cond, List, [], drop, take, Option, Some, None, IsSome, Err, ◌⊎◌, inl, inr, nat_lt, arith, false≢true, drop-take, up_to, Access, Clash, EndReply, Geometry, Mode, CoreError, LAST, CoreReply, as_step, clash, clash_from, first_after, has_write, History, last, after_commit, after_leaving, commit_step, end_step, need, in_transaction, step, World, Live, attached, used, without, IsLive, IsWorld, all_weaker, IsAmong, IsCheckedOf, Writes, refusal_of, reply_of, among}, Refusals.{IsRefusal, KeepsRefused, keeps_either}}
+use Rattle.iso_machine.proofs.{Words.{none_behind, ◌≡◌, sym, refl, ap, subst, ℕ, ◌+◌, ◌-◌, ◌≤◌, ◌==◌, Bool, true, false, cond, List, [], drop, take, Option, Some, None, IsSome, Err, ◌⊎◌, inl, inr, nat_lt, arith, false≢true, drop-take, up_to, Access, Clash, EndReply, Geometry, Mode, CoreError, LAST, CoreReply, as_step, clash, clash_from, first_after, has_write, History, last, after_commit, after_leaving, commit_step, end_step, need, in_transaction, step, World, Live, attached, used, without, IsLive, IsWorld, all_weaker, IsAmong, IsCheckedOf, Writes, refusal_of, reply_of, among}, Refusals.{IsRefusal, KeepsRefused, keeps_either}}
 use Rattle.iso_model.specs.declared.access.EndReply.TheVariants as ended
 use Rattle.iso_model.specs.declared.core_error.CoreError.TheVariants as error
 use Rattle.script_model.specs.declared.script.Op.TheVariants as op
 use Rattle.iso_model.specs.declared.core_reply.CoreReply.TheVariants as reply
-
--- no commit is above the last one
-no_more : (test : Bool) (found : Option Clash) → None ≡ found → None ≡ cond test found None
-no_more true found is = is
-no_more false found is = refl
-
-drop_all : {X : Type 0} (n : ℕ) (list : List X) → drop n (take n list) ≡ []
-drop_all n list = subst (λ (k : ℕ). drop n (take k list) ≡ []) (omega arith) (drop-take n 0 list)
-
-no_clash : (g : Geometry) (H : History) (mode : Mode) (accesses : List Access) (begin : ℕ) → None ≡ clash g (up_to H begin) mode begin accesses
-unfolding clash
-no_clash g H mode accesses begin =
-    no_more (has_write accesses) (clash_from g mode accesses (first_after H begin) (drop (begin + 1 - H.first) (take (begin + 1 - H.first) H.commits)))
-    (ap (clash_from g mode accesses (first_after H begin)) (sym (drop_all (begin + 1 - H.first) H.commits)))
 
 -- nothing was checked ahead
 pub nothing_ahead : (W : World) (t : Live) (begin : ℕ) → IsWorld W → IsAmong t W.live → begin ≡ t.begin → IsCheckedOf W t (record { upto = begin; clash = None })
 nothing_ahead W t begin is there same = record {
   from = omega (arith, same);
   to = omega (arith, same, among (λ u. u.begin ≤ last W.history) (λ u le. le) (λ u le. le) t W.live (all_weaker (IsLive W) (λ u. u.begin ≤ last W.history) (λ u live. live.begin) W.live is.live) there);
-  clash = subst (λ (n : ℕ). None ≡ clash W.geometry (up_to W.history begin) t.mode n t.accesses) same (no_clash W.geometry W.history t.mode t.accesses begin);
+  clash = subst (λ (n : ℕ). None ≡ clash W.geometry (up_to W.history begin) t.mode n t.accesses) same (none_behind W.geometry W.history t.mode t.accesses begin);
 }
 
 -- an end that is refused leaves the world
@@ -80,12 +66,7 @@ has_gone W t r is = end_goes W t (subst (λ (x : CoreReply). ¬ IsRefusal x) (sy
 pub unwritten : {D : Type 0} (old new : D) (e : CoreError) → IsSome (refusal_of e) → Writes (Err e) ⊎ (new ≡ old) → new ≡ old
 unwritten old new e some (inr is) = is
 unwritten old new error.Disk some (inl wrote) = absurd (false≢true some)
-unwritten old new error.Down some (inl wrote) = absurd wrote
-unwritten old new error.TooManyTx some (inl wrote) = absurd wrote
-unwritten old new (error.LogFull need free) some (inl wrote) = absurd wrote
-unwritten old new error.Memory some (inl wrote) = absurd wrote
-unwritten old new (error.Worn at) some (inl wrote) = absurd wrote
-unwritten old new error.ModeFixed some (inl wrote) = absurd wrote
+unwritten old new e some (inl wrote) = absurd wrote
 
 -- by who is attached to the client
 pub end_is : (W : World) (c : ℕ) (o : Option Live) → attached W c ≡ o → step W c op.End ≡ in_transaction W o (λ t. as_step (end_step W t))

@@ -1,10 +1,9 @@
 -- How a machine answers an operation.
-use Rattle.std.specs.Prelude.{◌≡◌, IfErr, IfOk, IsErrOf, IsSome, OnOk, Result, Ok, Err}
+use Rattle.std.specs.Prelude.{◌≡◌, IfErr, IfOk, IsErrOf, IsSome, OnOk, Result}
 use Rattle.iso_disk.specs.Disk.{DiskState, LeavesOnly}
-use Rattle.iso_model.specs.{declared.core_error.CoreError.CoreError, World.World, Between.ShowsEither}
-use Rattle.iso_model.specs.declared.core_error.CoreError.TheVariants as error
+use Rattle.iso_model.specs.{World.World, Between.ShowsEither}
+pub use Rattle.script_model.specs.CoreReplies.{refused as answer_to}
 use Rattle.script_model.specs.{declared.script.Reply.Reply, declared.stop.Stop.Stop}
-use Rattle.script_model.specs.declared.script.Reply.TheVariants as reply
 use Rattle.script_model.specs.declared.stop.Stop.TheVariants as stop
 use Rattle.script_runner.specs.{Counts.BlamesDisk, Stopped.StandsStill, Told.{IfTold, SameButShown, StandsSo}}
 
@@ -40,13 +39,3 @@ pub record AnswersTold (goes_on : Stop → Type 0) (stands : World → Type 0) (
   pub up : ¬ IsErrOf result stop.Down
   pub cause : BlamesDisk old.faults new.faults result
   pub stopped : IfErr result (λ why. goes_on why → StandsStill stands plain W)
-
--- what an error of a core is answered: the model's reply that it stands for, or why there is none
-abbrev pub answer_to : CoreError → Result Reply Stop
-answer_to error.Down = Err stop.Down
-answer_to error.TooManyTx = Ok reply.TooManyTx
-answer_to (error.LogFull need free) = Ok (reply.LogFull need free)
-answer_to error.Disk = Err stop.Disk
-answer_to error.Memory = Err stop.Memory
-answer_to (error.Worn at) = Ok reply.Worn
-answer_to error.ModeFixed = Ok reply.ModeFixed

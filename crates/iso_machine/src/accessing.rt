@@ -1,21 +1,14 @@
 // Writes and marks of one transaction.
-ghost use Rattle.std.specs.Prelude.{◌≡◌, None, ◌++◌, ◌+◌, ◌-◌, ◌==◌, ◌<◌, ◌≤◌, IfOk, OnErr, OnOk, length, replicate, IfSome, false};
-ghost use Rattle.iso_model.specs.{declared.access.Access.Access, Marks.{is_outside, mark_fault, marked}, World.{World, Live}};
+ghost use Rattle.std.specs.Prelude.{◌≡◌, None, ◌+◌, ◌<◌, ◌≤◌, IfOk, OnErr, length, IfSome, false};
+ghost use Rattle.iso_model.specs.{declared.access.Access.Access, Marks.{mark_fault, marked}, World.{World, Live}};
 ghost use Rattle.script_model.specs.{declared.script.Reply.Reply, Step.{access_step, fill_step, mark_refused, mark_step, put_step, write_step}};
 ghost use Rattle.iso_core.specs.Calls.{IsWorkOf};
 ghost use Rattle.tx_table.specs.Work.{span_at};
 ghost use Rattle.iso_machine.specs.Accessing.{IsActive, IsGiven};
 
 use iso_model::{MarkError, Memory};
-use script_model::Reply;
+use script_model::{Reply, fill_up, is_outside, lay_out};
 use tx_table::Work;
-
-/// Whether the bytes from `off` on, so many of them, are none or pass the end of a block.
-pub(crate) fn is_outside(size: u32, off: u32, len: usize) -> bool
-    ensures { result ≡ is_outside size off len }
-{
-    len == 0 || len > size as usize || off as usize + len > size as usize
-}
 
 /// Why an access is refused, if it is: its block is outside, its bytes are wrong, or there are as many accesses as there may be.
 pub(crate) fn refusal(work: &Work, block: u32, is_wrong: bool) -> Option<Reply>
@@ -32,18 +25,6 @@ pub(crate) fn refusal(work: &Work, block: u32, is_wrong: bool) -> Option<Reply>
         return Some(Reply::TooManyAccesses);
     }
     None
-}
-
-/// Makes the buffer a block of zeros with these bytes at `off`.
-fn lay_out(buffer: &mut Vec<u8>, size: u32, off: u32, bytes: &[u8]) -> Result<(), Memory>
-    requires { off + length bytes.now ≤ size }
-    ensures { OnOk result (buffer.new.items ≡ replicate off 0 ++ bytes.now ++ replicate (size - (off + length bytes.now)) 0) }
-{
-    buffer.clear();
-    buffer.resize(off as usize, 0)?;
-    buffer.extend_from_slice(bytes)?;
-    buffer.resize(size as usize, 0)?;
-    Ok(())
 }
 
 /// A write of these bytes at `off`, with one mark over them.
@@ -92,15 +73,6 @@ pub(crate) fn write(work: &mut Work, block: u32, bytes: &[u8]) -> Result<Reply, 
     work.reserve(block)?;
     work.write(block, bytes);
     Ok(Reply::Done)
-}
-
-/// Makes the buffer a block full of one byte.
-fn fill_up(buffer: &mut Vec<u8>, size: u32, byte: u8) -> Result<(), Memory>
-    ensures { OnOk result (buffer.new.items ≡ replicate size byte) }
-{
-    buffer.clear();
-    buffer.resize(size as usize, byte)?;
-    Ok(())
 }
 
 /// A write of a block full of one byte.

@@ -52,28 +52,6 @@ pub(crate) fn act<D: Disk>(
         Op::Write { block, bytes } => or_stop(write(work, *block, bytes.as_slice())),
         Op::Fill { block, bytes } => or_stop(fill(work, buffer, *block, bytes.as_slice())),
         Op::Mark { off, len } => Ok(mark(work, *off, *len)),
-        Op::Begin { .. }
-        | Op::End
-        | Op::Abort
-        | Op::Release { .. }
-        | Op::Takeover { .. }
-        | Op::Await { .. }
-        | Op::Group { .. }
-        | Op::Trim
-        | Op::Stat
-        | Op::Compact
-        | Op::Upgrade
-        | Op::HashPut { .. }
-        | Op::HashGet { .. }
-        | Op::HashDelete { .. }
-        | Op::TreePut { .. }
-        | Op::TreeGet { .. }
-        | Op::TreeDelete { .. }
-        | Op::TreeScan { .. }
-        | Op::FileNew { .. }
-        | Op::FileWrite { .. }
-        | Op::FileRead { .. }
-        | Op::FileMove { .. }
-        | Op::FileDelete { .. } => Ok(Reply::NotInTx),
+        _ => Ok(Reply::NotInTx),
     }
 }

@@ -6,10 +6,9 @@ ghost use Rattle.iso_model.specs.{Geometry.is_block_size, World.World};
 use crate::attached::{Attached, Spot};
 use crate::ending::keep_spare;
 use crate::machine::Machine;
-use crate::refusing::refused;
 use iso_disk::Disk;
 use iso_model::{Geometry, Memory, Mode};
-use script_model::{Reply, Stop};
+use script_model::{Reply, Stop, refused};
 use std::alloc::Global;
 use tx_table::Work;
 

@@ -6,12 +6,11 @@ ghost use Rattle.iso_model.specs.{Step.end_step, World.{World, Live}, Between.Sh
 ghost use Rattle.iso_core.specs.{Calls.{BlamesDisk, IsTx, IsWorkOf, Refuses, Writes, reply_of}, Core.{StandsFor, disk_of}, Standing.up};
 
 use crate::machine::Machine;
-use crate::refusing::refused;
 use conflict_rule::Checked;
 use iso_core::{Core, MAX_GROUP};
 use iso_disk::Disk;
 use iso_model::{CoreError, EndReply};
-use script_model::{Reply, Stop};
+use script_model::{Reply, Stop, refused};
 use std::marker::Brand;
 use std::sync::ledger::{Blank, Ledger};
 use step_count::Steps;

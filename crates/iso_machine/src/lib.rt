@@ -13,7 +13,6 @@ mod handles;
 mod leaving;
 mod machine;
 mod reading;
-mod refusing;
 mod storing;
 mod switching;
 

@@ -8,11 +8,11 @@ ghost use Rattle.iso_core.specs.{Calls.{IsTx, IsWorkOf}, Core.{StandsFor, disk_o
 ghost use Rattle.script_runner.specs.{Counts.BlamesDisk, Told.IfTold};
 ghost use Rattle.iso_machine.specs.Accessing.{IsActive, IsShown};
 
-use crate::accessing::{is_outside, mark_within, refusal};
+use crate::accessing::{mark_within, refusal};
 use iso_core::Core;
 use iso_disk::{Disk, DiskFault};
-use iso_model::{Bytes, Memory};
-use script_model::{Reply, Stop};
+use iso_model::Bytes;
+use script_model::{Reply, Stop, copy_from, fit, is_outside, zeros};
 use std::alloc::Global;
 use tx_table::Work;
 
@@ -49,31 +49,6 @@ fn read_into<D: Disk>(
         }
         Err(_) => Err(DiskFault),
     }
-}
-
-/// So many zeros.
-fn zeros(alloc: Global, size: u32) -> Result<Vec<u8>, Memory>
-    ensures { IfOk result (λ bytes. length bytes.items ≡ size) }
-{
-    let bytes = vec![in alloc; 0u8; size as usize]?;
-    Ok(bytes)
-}
-
-/// Makes the buffer as long as a block.
-fn fit(buffer: &mut Vec<u8>, size: u32) -> Result<(), Memory>
-    ensures { OnOk result (length buffer.new.items ≡ size) }
-{
-    buffer.resize(size as usize, 0)?;
-    Ok(())
-}
-
-/// Copies the bytes from `off` on, as many as there are places for.
-fn copy_from(bytes: &mut Vec<u8>, block: &[u8], off: u32)
-    requires { off + length bytes.old.items ≤ length block.now }
-    ensures { bytes.new.items ≡ take (length bytes.old.items) (drop off block.now) }
-{
-    let len = bytes.len();
-    bytes.copy_from_slice(&block[off as usize..off as usize + len]);
 }
 
 /// A read of a whole block.

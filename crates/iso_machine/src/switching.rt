@@ -3,9 +3,8 @@ ghost use Rattle.script_model.specs.{declared.script.Op.TheVariants.{Compact, Up
 ghost use Rattle.iso_model.specs.World.{World};
 
 use crate::machine::Machine;
-use crate::refusing::refused;
 use iso_disk::Disk;
-use script_model::{Reply, Stop};
+use script_model::{Reply, Stop, refused};
 
 impl<D: Disk> Machine<D> {
     ghost use Rattle.iso_core.specs.Core.{disk_of};

@@ -31,12 +31,10 @@ inside_block size off len right =
     above_none (suc n) not = omega arith
 
 pub get_is_access : (g : Geometry) (block off len : ℕ) → block < g.blocks → IsSpan g.block (record { off = off; len = len }) → IsAccess g (get_access block off len)
-get_is_access g block off len below span =
-    record { block = below; spans = (span, tt); few = omega arith; bytes = λ write. cc; none = λ read. refl; values = no_bytes }
+get_is_access g block off len below span = grind (arith, no_bytes)
 
 pub write_is_access : (g : Geometry) (block : ℕ) (bytes : List ℕ) → block < g.blocks → length bytes ≡ g.block → AreBytes bytes → IsAccess g (write_access block bytes)
-write_is_access g block bytes below whole values =
-    record { block = below; spans = tt; few = omega arith; bytes = λ write. whole; none = λ read. cc; values = values }
+write_is_access g block bytes below whole values = grind arith
 
 -- accesses with one more mark that is not refused
 pub length-marked : (span : Span) (accesses : List Access) → length (marked span accesses) ≡ length accesses

@@ -1,5 +1,5 @@
 -- What a write and a list of writes leave at each byte.
-use Rattle.iso_model.proofs.Words.{◌≡◌, ◌≢◌, ◌∙◌, sym, refl, ap, ℕ, zero, suc, ◌+◌, ◌<◌, Bool, true, false, ◌&&◌, ◌||◌, ◌==◌, cond, IsTrue, List, [], ◌∷◌, length, get_or, Option, Some, None, is_some, unwrap_or, arith, zero-add, inl, inr, eq-eqb, ne_eqb, subst, AllByRecursion, cases_eq, cases_lt, length-set, get_or-set_same, get_or-set_other, set_past, get_or_past, Access, Commit, Span, Write, Array, covered, merged, put, byte_at, is_write, own, touches, covers, or_else, effect_at, all_own, block_at, HasBytes}
+use Rattle.iso_model.proofs.Words.{◌≡◌, ◌≢◌, ◌∙◌, sym, refl, ap, ℕ, zero, suc, ◌+◌, ◌<◌, Bool, true, false, ◌&&◌, ◌||◌, ◌==◌, cond, IsTrue, List, [], ◌∷◌, length, get_or, Option, Some, None, is_some, unwrap_or, arith, inl, inr, eq-eqb, ne_eqb, subst, AllByRecursion, cases_eq, cases_lt, length-set, get_or-set_same, get_or-set_other, set_past, get_or_past, Access, Commit, Span, Write, Array, covered, merged, put, byte_at, is_write, own, touches, covers, or_else, effect_at, all_own, block_at, HasBytes}
 
 pub length-merged : (spans : List Span) (p : ℕ) (old new : List ℕ) → length (merged spans p old new) ≡ length old
 length-merged spans p [] new = refl
@@ -46,18 +46,12 @@ written_block A w = elim (cases_lt w.block (length A)) [
 ]
 
 pub length-block_put : (A : Array) (w : Access) (b : ℕ) → length (block_at (put A w) b) ≡ length (block_at A b)
-length-block_put A w b = elim (cases_eq b w.block) [
-  | inl e ↦ rw e (ap length (written_block A w) ∙ length-merged w.spans 0 (block_at A w.block) w.bytes)
-  | inr other ↦ ap length (other_block A w b other)
-]
+length-block_put A w b = grind (arith, written_block, length-merged, other_block)
 
 -- a byte of the written block
 pub put_here : (A : Array) (w : Access) (p : ℕ) → length w.bytes ≡ length (block_at A w.block) → p < length (block_at A w.block)
     → byte_at (put A w) w.block p ≡ cond (covered w.spans p) (get_or w.bytes p 0) (byte_at A w.block p)
-put_here A w p same inside =
-    ap (λ bytes. get_or bytes p 0) (written_block A w)
-    ∙ merged_at w.spans 0 p (block_at A w.block) w.bytes inside same
-    ∙ ap (λ k. cond (covered w.spans k) (get_or w.bytes p 0) (byte_at A w.block p)) (zero-add p)
+put_here A w p same inside = grind (arith, written_block, merged_at)
 
 -- a byte after a write
 pub put_at : (A : Array) (w : Access) (b p : ℕ) → length w.bytes ≡ length (block_at A b) → p < length (block_at A b)
@@ -74,9 +68,7 @@ put_at A w b p same inside = elim (cases_eq w.block b) [
 
 -- a byte that the write does not cover, whatever its bytes are
 pub put_kept : (A : Array) (w : Access) (p : ℕ) → covered w.spans p ≡ false → byte_at (put A w) w.block p ≡ byte_at A w.block p
-put_kept A w p not =
-    ap (λ bytes. get_or bytes p 0) (written_block A w)
-    ∙ merged_kept w.spans 0 p (block_at A w.block) w.bytes (rw (zero-add p) not)
+put_kept A w p not = grind (arith, written_block, merged_kept)
 
 -- a byte after an access
 pub access_at : (test : Bool) (A : Array) (a : Access) (b p size : ℕ) → (IsTrue test → length a.bytes ≡ size) → length (block_at A b) ≡ size → p < size
@@ -85,12 +77,10 @@ access_at true A a b p size whole same inside = put_at A a b p (whole refl ∙ s
 access_at false A a b p size whole same inside = refl
 
 pub length-access : (test : Bool) (A : Array) (a : Access) → length (cond test (put A a) A) ≡ length A
-length-access true A a = length-put A a
-length-access false A a = refl
+length-access test A a = grind (arith, length-put)
 
 pub length-block_access : (test : Bool) (A : Array) (a : Access) (b : ℕ) → length (block_at (cond test (put A a) A) b) ≡ length (block_at A b)
-length-block_access true A a b = length-block_put A a b
-length-block_access false A a b = refl
+length-block_access test A a b = grind (arith, length-block_put)
 
 pub length-own : (A : Array) (accesses : List Access) → length (own A accesses) ≡ length A
 length-own A [] = refl
@@ -101,15 +91,10 @@ length-block_own A [] b = refl
 length-block_own A (a ∷ accesses) b = length-block_own (cond (is_write a) (put A a) A) accesses b ∙ length-block_access (is_write a) A a b
 
 pub value_of_or_else : (o : Option ℕ) (test : Bool) (x y : ℕ) → unwrap_or o (cond test x y) ≡ unwrap_or (or_else o (cond test (Some x) None)) y
-value_of_or_else None true x y = refl
-value_of_or_else None false x y = refl
-value_of_or_else (Some z) test x y = refl
+value_of_or_else o test x y = grind arith
 
 pub some_of_or_else : (o : Option ℕ) (test : Bool) (x : ℕ) → (test || is_some o) ≡ is_some (or_else o (cond test (Some x) None))
-some_of_or_else None true x = refl
-some_of_or_else None false x = refl
-some_of_or_else (Some z) true x = refl
-some_of_or_else (Some z) false x = refl
+some_of_or_else o test x = grind arith
 
 -- a byte after the writes of a list: the list's effect there, or else what it was
 pub own_at : (A : Array) (accesses : List Access) (b p size : ℕ) → AllByRecursion (HasBytes size) accesses → length (block_at A b) ≡ size → p < size

@@ -1,5 +1,5 @@
 -- The least clash, and what there is where there is none.
-use Rattle.iso_model.proofs.Words.{◌≡◌, ◌≢◌, ◌⊎◌, ◌∙◌, sym, refl, ap, ℕ, zero, suc, ◌+◌, ◌-◌, ◌<◌, ◌≤◌, Bool, true, false, cond, List, [], ◌∷◌, drop, Option, Some, None, option_map, slice_get, arith, inl, inr, zero-add, cases_eq, both_ways, and_parts, and_from, same_Some, Access, Clash, Commit, Geometry, Write, Mode, has_write, or_else, touches, History, clash, clash_from, clashes, first_after, first_from, first_byte, guarded, IsClash, NotAfter}
+use Rattle.iso_model.proofs.Words.{◌≡◌, ◌≢◌, ◌⊎◌, ◌∙◌, sym, refl, ap, ℕ, zero, suc, ◌+◌, ◌-◌, ◌<◌, ◌≤◌, Bool, true, false, cond, List, [], ◌∷◌, drop, Option, Some, None, option_map, slice_get, arith, inl, inr, zero-add, cases_eq, and_from, Access, Clash, Commit, Geometry, Mode, has_write, or_else, History, clash, clash_from, clashes, first_after, first_from, first_byte, IsClash, NotAfter}
 
 -- what the first passing number of n from p on is
 abbrev IsFirst : (ℕ → Bool) → (p n : ℕ) → Option ℕ → Type 0
@@ -8,19 +8,8 @@ IsFirst test p n (Some q) = (p ≤ q) × (q < p + n) × (test q ≡ true) × ((r
 
 first_step : (test : ℕ → Bool) (p n : ℕ) (t : Bool) → test p ≡ t → (rest : Option ℕ) → IsFirst test (p + 1) n rest → IsFirst test p (suc n) (cond t (Some p) rest)
 first_step test p n true e rest is = (omega arith, omega arith, e, λ r from below passes. from)
-first_step test p n false e None is = λ r from below passes. elim (cases_eq r p) [
-  | inl same ↦ both_ways (test p) e (rw same at passes)
-  | inr other ↦ is r (omega arith) (omega arith) passes
-]
-first_step test p n false e (Some q) is = (
-  omega arith,
-  omega arith,
-  is.2,
-  λ r from below passes. elim (cases_eq r p) [
-    | inl same ↦ absurd (both_ways (test p) e (rw same at passes))
-    | inr other ↦ is.3 r (omega arith) (omega arith) passes
-  ],
-)
+first_step test p n false e None is = grind arith
+first_step test p n false e (Some q) is = grind arith
 
 first_is : (test : ℕ → Bool) (p n : ℕ) → IsFirst test p n (first_from test p n)
 first_is test p zero = λ r from below passes. omega arith
@@ -40,16 +29,7 @@ IsFirstByte test size b n (Some at) =
 first_byte_step : (test : ℕ → ℕ → Bool) (size b n : ℕ) (here : Option ℕ) (rest : Option (ℕ × ℕ))
     → IsFirst (test b) 0 size here → IsFirstByte test size (b + 1) n rest
     → IsFirstByte test size b (suc n) (or_else (option_map (λ p. (b, p)) here) rest)
-first_byte_step test size b n (Some p) rest is others = (
-  omega arith,
-  omega arith,
-  omega arith,
-  is.2,
-  λ c q from below inside passes. elim (cases_eq b c) [
-    | inl same ↦ inr (same, is.3 q (omega arith) (omega arith) (rw (← same) at passes))
-    | inr other ↦ inl (omega arith)
-  ],
-)
+first_byte_step test size b n (Some p) rest is others = grind arith
 first_byte_step test size b n None None is others = λ c q from below inside passes. elim (cases_eq b c) [
   | inl same ↦ is q (omega arith) (omega arith) (rw (← same) at passes)
   | inr other ↦ others c q (omega arith) (omega arith) inside passes
@@ -94,10 +74,7 @@ at_later g mode accesses k c commits d at =
 -- a clash is with the first commit or with a later one
 at_first : (g : Geometry) (mode : Mode) (accesses : List Access) (k : ℕ) (c : Commit) (commits : List Commit) (d : Clash)
     → IsAt g mode accesses k (c ∷ commits) d → d.commit ≡ k → clashes mode c accesses d.block d.at ≡ true
-at_first g mode accesses k c commits d at same =
-    let e : d.commit - k ≡ 0 = omega arith in
-    let this : c ≡ at.commit = same_Some c at.commit (rw e at at.is) in
-    rw this at.meets
+at_first g mode accesses k c commits d at same = grind arith
 
 at_rest : (g : Geometry) (mode : Mode) (accesses : List Access) (k : ℕ) (c : Commit) (commits : List Commit) (d : Clash)
     → IsAt g mode accesses k (c ∷ commits) d → d.commit ≢ k → IsAt g mode accesses (k + 1) commits d
@@ -145,8 +122,6 @@ slice_get-drop (suc n) i (x ∷ xs) = let e : suc n + i ≡ suc (n + i) = omega 
 clash_at : (g : Geometry) (H : History) (mode : Mode) (begin : ℕ) (accesses : List Access) (d : Clash)
     → IsClash g H mode begin accesses d → IsAt g mode accesses (first_after H begin) (drop (begin + 1 - H.first) H.commits) d
 clash_at g H mode begin accesses d is =
-    let after : begin < d.commit = is.after in
-    let since : H.first ≤ d.commit = is.since in
     let e : begin + 1 - H.first + (d.commit - first_after H begin) ≡ d.commit - H.first = omega arith in
     record {
       from = omega arith;
@@ -159,20 +134,7 @@ clash_at g H mode begin accesses d is =
 
 clash_from_at : (g : Geometry) (H : History) (mode : Mode) (begin : ℕ) (accesses : List Access) (d : Clash)
     → IsAt g mode accesses (first_after H begin) (drop (begin + 1 - H.first) H.commits) d → IsClash g H mode begin accesses d
-clash_from_at g H mode begin accesses d at =
-    let from : first_after H begin ≤ d.commit = at.from in
-    let e : begin + 1 - H.first + (d.commit - first_after H begin) ≡ d.commit - H.first = omega arith in
-    let both = and_parts (touches Write at.commit.accesses d.block d.at) (touches (guarded mode) accesses d.block d.at) at.meets in
-    record {
-      after = omega arith;
-      since = omega arith;
-      block = at.block;
-      byte = at.byte;
-      commit = at.commit;
-      is = rw e at (sym (slice_get-drop (begin + 1 - H.first) (d.commit - first_after H begin) H.commits) ∙ at.is);
-      written = both.0;
-      guarded = both.1;
-    }
+clash_from_at g H mode begin accesses d at = grind (arith, slice_get-drop)
 
 -- what the answer is
 abbrev pub IsAnswer : (g : Geometry) → (H : History) → Mode → (begin : ℕ) → List Access → Option Clash → Type 0
@@ -189,9 +151,7 @@ answer_from_least g H mode begin accesses (Some c) least =
 pub clash_answers : (g : Geometry) (H : History) (mode : Mode) (begin : ℕ) (accesses : List Access)
     → has_write accesses ≡ true → IsAnswer g H mode begin accesses (clash g H mode begin accesses)
 unfolding clash
-clash_answers g H mode begin accesses some =
-    rw some (answer_from_least g H mode begin accesses (clash_from g mode accesses (first_after H begin) (drop (begin + 1 - H.first) H.commits))
-    (least_is g mode accesses (first_after H begin) (drop (begin + 1 - H.first) H.commits)))
+clash_answers g H mode begin accesses some = grind (arith, answer_from_least, least_is)
 
 -- one without a write has none
 pub no_clash : (g : Geometry) (H : History) (mode : Mode) (begin : ℕ) (accesses : List Access) → has_write accesses ≡ false → clash g H mode begin accesses ≡ None
@@ -214,20 +174,7 @@ none_from_clash g H mode begin accesses some none = rw none at (clash_answers g 
 
 -- two clashes that are each not after the other are one
 same_clash : (c d : Clash) → NotAfter c d → NotAfter d c → c ≡ d
-same_clash c d first second =
-    let commit : c.commit ≡ d.commit = elim first [ inl l ↦ elim second [ inl m ↦ omega arith | inr m ↦ omega arith ] | inr l ↦ l.0 ] in
-    let block : c.block ≡ d.block = elim first [
-      | inl l ↦ absurd (omega arith)
-      | inr l ↦ elim l.1 [ inl m ↦ elim second [ inl n ↦ absurd (omega arith) | inr n ↦ elim n.1 [ inl o ↦ omega arith | inr o ↦ omega arith ] ] | inr m ↦ m.0 ]
-    ] in
-    let at : c.at ≡ d.at = elim first [
-      | inl l ↦ absurd (omega arith)
-      | inr l ↦ elim l.1 [
-        | inl m ↦ absurd (omega arith)
-        | inr m ↦ elim second [ inl n ↦ absurd (omega arith) | inr n ↦ elim n.1 [ inl o ↦ absurd (omega arith) | inr o ↦ omega arith ] ]
-      ]
-    ] in
-    λ i. record { commit = commit i; block = block i; at = at i }
+same_clash c d first second = grind arith
 
 only_answer : (g : Geometry) (H : History) (mode : Mode) (begin : ℕ) (accesses : List Access) (c : Clash) (o : Option Clash)
     → IsAnswer g H mode begin accesses o → IsClash g H mode begin accesses c → ((d : Clash) → IsClash g H mode begin accesses d → NotAfter c d) → o ≡ Some c
@@ -238,5 +185,4 @@ only_answer g H mode begin accesses c (Some e) answer is least = ap Some (same_c
 pub least_is_clash : (g : Geometry) (H : History) (mode : Mode) (begin : ℕ) (accesses : List Access) (c : Clash)
     → has_write accesses ≡ true → IsClash g H mode begin accesses c → ((d : Clash) → IsClash g H mode begin accesses d → NotAfter c d)
     → clash g H mode begin accesses ≡ Some c
-least_is_clash g H mode begin accesses c some is least =
-    only_answer g H mode begin accesses c (clash g H mode begin accesses) (clash_answers g H mode begin accesses some) is least
+least_is_clash g H mode begin accesses c some is least = search (arith, only_answer, clash_answers)

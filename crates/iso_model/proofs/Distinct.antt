@@ -95,18 +95,22 @@ pub length-with : (u : Live) (live : List Live) → length (with u live) ≡ len
 length-with u [] = refl
 length-with u (v ∷ live) = ap suc (length-with u live)
 
+-- where a search by places finds none, all are apart from a place that each other place that it passes over is apart from
+pub none_there : (test : Place → Bool) (at : Place) → ((p : Place) → test p ≡ false → AreApart p at) → (live : List Live) → find (λ t. test t.place) live ≡ None
+    → AllByRecursion (λ t. AreApart t.place at) live
+none_there test at apart [] none = tt
+none_there test at apart (t ∷ live) none = go (test t.place) refl none (λ more. none_there test at apart live more)
+  where
+    go : (b : Bool) → test t.place ≡ b → cond b (Some t) (find (λ t. test t.place) live) ≡ None → (find (λ t. test t.place) live ≡ None → AllByRecursion (λ t. AreApart t.place at) live)
+        → AllByRecursion (λ t. AreApart t.place at) (t ∷ live)
+    go true e none rest = absurd (none-some t (sym none))
+    go false e none rest = (apart t.place e, rest none)
+
 -- where no transaction is attached to the client, all are apart from it
 pub all_apart : (c : ℕ) (live : List Live) → find (λ t. is_at_client c t.place) live ≡ None → AllByRecursion (λ t. AreApart t.place (client c)) live
-all_apart c [] none = tt
-all_apart c (t ∷ live) none = go (is_at_client c t.place) refl none (λ more. all_apart c live more)
+all_apart c = none_there (is_at_client c) (client c) apart
   where
     apart : (p : Place) → is_at_client c p ≡ false → AreApart p (client c)
     apart (client d) off = λ e. both_ways (c == d) off (eq-eqb c d (sym e))
     apart (label text) off = tt
     apart unattached off = tt
-
-    go : (b : Bool) → is_at_client c t.place ≡ b → cond b (Some t) (find (λ t. is_at_client c t.place) live) ≡ None
-        → (find (λ t. is_at_client c t.place) live ≡ None → AllByRecursion (λ t. AreApart t.place (client c)) live)
-        → AllByRecursion (λ t. AreApart t.place (client c)) (t ∷ live)
-    go true e none rest = absurd (none-some t (sym none))
-    go false e none rest = (apart t.place e, rest none)

@@ -5,7 +5,6 @@ least_below : (n : ℕ) (live : List Live) → (least_begin n live ≤ n) × All
 least_below n [] = (omega arith, tt)
 least_below n (t ∷ live) =
     let rest = least_below (min n t.begin) live in
-    let below : least_begin (min n t.begin) live ≤ min n t.begin = rest.0 in
     (omega arith, (omega arith, rest.1))
 
 further : (n : ℕ) (t : Live) (live : List Live) → BeganAt n live → BeganAt n (t ∷ live)
@@ -50,7 +49,4 @@ floor_above m n (t ∷ live) below all = least_above m t.begin live all.0 all.1
 -- the floor is not above a number above which none began
 pub floor_under : (n : ℕ) (live : List Live) → AllByRecursion (λ t. t.begin ≤ n) live → floor_of n live ≤ n
 floor_under n [] all = omega arith
-floor_under n (t ∷ live) all =
-    let least : least_begin t.begin live ≤ t.begin = (least_below t.begin live).0 in
-    let begin : t.begin ≤ n = all.0 in
-    omega (arith, least, begin)
+floor_under n (t ∷ live) all = grind (arith, least_below)

@@ -1,15 +1,12 @@
 -- What holds of an image holds of it in another form: the numbers of its array are the same.
-use Rattle.iso_model.proofs.{Words.{◌≡◌, refl, sym, ℕ, ◌-◌, ◌≤◌, IsTrue, List, [], ◌∷◌, Option, Some, None, IfSome, slice_get, sum_by, arith, subst, and_parts, and_from, le-leb, Access, Commit, Geometry, Mode, Serial, Snapshot, Run, record_length, runs, is_valid, History, AreRuns, IsRecord, Written, written, HasSeen, IsIsolated, IsIsolatedAt, AreAccesses, IsAccess, IsHistory, AreRecords}, Growth.all_weaker}
+use Rattle.iso_model.proofs.{Words.{◌≡◌, refl, sym, ℕ, ◌-◌, ◌≤◌, IsTrue, List, [], ◌∷◌, Option, Some, None, IfSome, slice_get, sum_by, arith, subst, Access, Commit, Geometry, Mode, Serial, Snapshot, Run, record_length, runs, is_valid, History, AreRuns, IsRecord, Written, written, HasSeen, IsIsolated, IsIsolatedAt, AreAccesses, IsAccess, IsHistory, AreRecords}, Growth.all_weaker}
 
 abbrev pub in_form : Geometry → ℕ → Geometry
 in_form g form = record g { form = form }
 
 pub valid_in : (g : Geometry) (form : ℕ) → IsTrue (is_valid g) → 1 ≤ form → form ≤ 2 → IsTrue (is_valid (in_form g form))
 unfolding is_valid
-valid_in g form valid least largest =
-    let last_is = and_parts _ _ valid in
-    let first_is = and_parts _ _ last_is.0 in
-    and_from _ _ (and_from _ _ first_is.0 (le-leb 1 form least)) (le-leb form 2 largest)
+valid_in g form valid least largest = search (arith)
 
 access_in : (g : Geometry) (form : ℕ) (a : Access) → IsAccess g a → IsAccess (in_form g form) a
 access_in g form a is = record { block = is.block; spans = is.spans; few = is.few; bytes = is.bytes; none = is.none; values = is.values }
@@ -18,11 +15,7 @@ pub accesses_in : (g : Geometry) (form : ℕ) (accesses : List Access) → AreAc
 accesses_in g form accesses all = all_weaker (IsAccess g) (IsAccess (in_form g form)) (access_in g form) accesses all
 
 pub history_in : (g : Geometry) (form : ℕ) (H : History) → IsHistory g H → IsHistory (in_form g form) H
-history_in g form H is = record {
-  first = is.first;
-  base = record { blocks = is.base.blocks; bytes = is.base.bytes; values = is.base.values };
-  commits = all_weaker (λ c. AreAccesses g c.accesses) (λ c. AreAccesses (in_form g form) c.accesses) (λ c all. accesses_in g form c.accesses all) H.commits is.commits;
-}
+history_in g form H is = grind (arith, all_weaker)
 
 seen_in : (g : Geometry) (form : ℕ) (H : History) (k : ℕ) (o : Option Commit) → IfSome o (HasSeen g H k) → IfSome o (HasSeen (in_form g form) H k)
 seen_in g form H k None seen = tt
@@ -45,11 +38,7 @@ are_runs_in g form (x ∷ []) is = record { block = is.block; some = is.some; fi
 are_runs_in g form (x ∷ y ∷ more) is = (record { block = is.0.block; some = is.0.some; fits = is.0.fits }, is.1, are_runs_in g form (y ∷ more) is.2)
 
 record_in : (g : Geometry) (form : ℕ) (w : Written) → 1 ≤ g.form → g.form ≤ form → IsRecord g w → IsRecord (in_form g form) w
-record_in g form w least rises is = record {
-  some = is.some;
-  runs = are_runs_in g form w.parts is.runs;
-  mode = λ one. is.mode (omega (arith, one, least, rises));
-}
+record_in g form w least rises is = grind (arith, are_runs_in)
 
 pub records_in : (g : Geometry) (form : ℕ) (commits : List Commit) → 1 ≤ g.form → g.form ≤ form → AreRecords g commits → AreRecords (in_form g form) commits
 records_in g form [] least rises all = tt

@@ -1,27 +1,10 @@
 -- A world that was just made or opened is sound, and in a serial one every commit is serial.
-use Rattle.iso_model.proofs.{Words.{◌≡◌, ◌∙◌, refl, ℕ, zero, suc, ◌+◌, ◌-◌, ◌<◌, ◌≤◌, IsTrue, List, [], ◌∷◌, Option, Some, None, slice_get, IfSome, arith, subst, same_Some, Commit, Geometry, Mode, Serial, LAST, IsSerialAt, is_valid, History, last, IsRecord, written, HasSeen, IsIsolated, IsIsolatedAt, IsHistory, World, used, fresh, empty_history, AreRecords, IsWorld}, Bounds.limits, Growth.empty_is}
+use Rattle.iso_model.proofs.{Words.{◌≡◌, ◌∙◌, refl, ℕ, zero, suc, ◌+◌, ◌-◌, ◌≤◌, IsTrue, List, [], ◌∷◌, Option, Some, None, slice_get, IfSome, arith, subst, same_Some, Commit, Geometry, Mode, Serial, LAST, IsSerialAt, is_valid, History, last, IsRecord, written, HasSeen, IsIsolated, IsIsolatedAt, IsHistory, World, used, fresh, empty_history, AreRecords, IsWorld}, Bounds.limits, Growth.empty_is}
 
 -- the world of an image that was just made or opened
 pub fresh_is : (g : Geometry) (generation : ℕ) (H : History) → IsTrue (is_valid g) → IsHistory g H → IsIsolated g H → AreRecords g H.commits
     → last H ≤ LAST → generation ≤ LAST → used (fresh g generation H) + 1 ≤ g.log → IsWorld (fresh g generation H)
-fresh_is g generation H valid is isolated records numbers few room =
-    let first : 0 < H.first = is.first in
-    record {
-      valid = valid;
-      history = is;
-      isolated = isolated;
-      records = records;
-      numbers = numbers;
-      since = omega arith;
-      base = omega arith;
-      trim = omega arith;
-      generation = few;
-      room = room;
-      live = tt;
-      distinct = tt;
-      count = omega arith;
-      next = omega arith;
-    }
+fresh_is g generation H valid is isolated records numbers few room = grind arith
 
 pub empty_world_is : (g : Geometry) (generation : ℕ) → IsTrue (is_valid g) → generation ≤ LAST → IsWorld (fresh g generation (empty_history g))
 empty_world_is g generation valid few =

@@ -1,5 +1,5 @@
 -- What a group does to a world.
-use Rattle.iso_model.proofs.{Words.{◌≡◌, ◌∙◌, sym, refl, ap, ℕ, ◌+◌, ◌-◌, ◌<◌, ◌≤◌, Bool, true, false, ◌==◌, cond, List, [], ◌∷◌, ◌++◌, length, arith, subst, None, Some, Option, nat_lt, append-nil, eqb-false, ltb-false, length-append, length_push, AllByRecursion, Clash, Commit, LAST, GroupReply, CoreReply, clash, has_write, Follow, after_look, after_member, ahead, decided, found_ones, group, group_step, leave_all, looks, made_by, member_reply, numbers_told, with_first, last, after_commit, after_leaving, commit_from, placed, commit_step, end_step, need, with_live, World, Live, Place, client, held, is_under_label, label, unattached, used, without, AreApart, IsLive, IsWorld, LeadsTo}, Distinct.all_find, Growth.all_weaker, Worlds.{commits, leads_on, leaves, live_on, places, same_geometry, stays}}
+use Rattle.iso_model.proofs.{Words.{◌≡◌, ◌∙◌, sym, refl, ap, ℕ, ◌+◌, ◌-◌, ◌<◌, ◌≤◌, Bool, true, false, ◌==◌, cond, List, [], ◌∷◌, ◌++◌, length, arith, subst, None, Some, Option, nat_lt, append-nil, eqb-false, ltb-false, length-append, length_push, AllByRecursion, Clash, Commit, LAST, GroupReply, CoreReply, clash, has_write, Follow, after_look, after_member, ahead, decided, found_ones, group, group_step, leave_all, looks, made_by, member_reply, numbers_told, with_first, last, after_commit, after_leaving, commit_from, placed, commit_step, end_step, need, with_live, World, Live, Place, held, is_under_label, unattached, used, without, AreApart, IsLive, IsWorld, LeadsTo}, Distinct.all_find, Growth.all_weaker, Worlds.{commits, with_lives, leads_on, leaves, live_on, places, same_geometry, stays}}
 use Rattle.iso_model.specs.declared.core_reply.CoreReply.TheVariants as reply
 
 -- what an end answers hangs on no other transaction
@@ -13,14 +13,10 @@ same_answer W live t = go (has_write t.accesses) (clash W.geometry W.history t.m
     tests : (w f : Bool)
         → so (cond w (reply.Worn, with_live W live) (cond f (reply.LogFull (need W t) (W.geometry.log - used W), with_live W live) (reply.Committed (last W.history + 1), after_commit (with_live W live) t)))
         (cond w (reply.Worn, W) (cond f (reply.LogFull (need W t) (W.geometry.log - used W), W) (reply.Committed (last W.history + 1), after_commit W t)))
-    tests true f = refl
-    tests false true = refl
-    tests false false = refl
+    tests w f = grind arith
 
     go : (b : Bool) (o : Option Clash) → so (cond b (commit_step (with_live W live) t o) (reply.ReadOnly, after_leaving (with_live W live) t)) (cond b (commit_step W t o) (reply.ReadOnly, after_leaving W t))
-    go false o = refl
-    go true (Some c) = refl
-    go true None = tests (last W.history == LAST) (nat_lt (W.geometry.log - used W) (need W t))
+    go b o = grind (arith, tests)
 
 pub nothing_ahead : (W : World) → W ≡ ahead W []
 nothing_ahead W = let e = sym (append-nil W.history.commits) in λ i. record W { history = record W.history { commits = e i } }
@@ -34,14 +30,10 @@ member_leaves W t = go (has_write t.accesses) (clash W.geometry W.history t.mode
     so x = after_member t x ≡ after_leaving (ahead W (made_by t (member_reply x.0))) t
 
     tests : (w f : Bool) → so (cond w (reply.Worn, W) (cond f (reply.LogFull (need W t) (W.geometry.log - used W), W) (reply.Committed (last W.history + 1), after_commit W t)))
-    tests true f = ap (λ (V : World). after_leaving V t) (nothing_ahead W)
-    tests false true = ap (λ (V : World). after_leaving V t) (nothing_ahead W)
-    tests false false = refl
+    tests w f = grind (arith, nothing_ahead)
 
     go : (b : Bool) (o : Option Clash) → so (cond b (commit_step W t o) (reply.ReadOnly, after_leaving W t))
-    go false o = ap (λ (V : World). after_leaving V t) (nothing_ahead W)
-    go true (Some c) = ap (λ (V : World). after_leaving V t) (nothing_ahead W)
-    go true None = tests (last W.history == LAST) (nat_lt (W.geometry.log - used W) (need W t))
+    go b o = grind (arith, nothing_ahead, tests)
 
 -- members decide alike whoever else is live
 pub decided_live : (W : World) (live : List Live) (members : List Live) → decided (with_live W live) members ≡ ((decided W members).0, with_live (decided W members).1 live)
@@ -75,22 +67,7 @@ stays_ahead W t is next =
     let count : length V.history.commits ≡ length W.history.commits + 1 = length_push W.history.commits (commit_from t) in
     let later : last W.history ≤ last V.history = omega (arith, count) in
     record {
-      world = record {
-        valid = next.valid;
-        history = next.history;
-        isolated = next.isolated;
-        records = next.records;
-        numbers = next.numbers;
-        since = next.since;
-        base = next.base;
-        trim = next.trim;
-        generation = next.generation;
-        room = next.room;
-        live = all_weaker (IsLive W) (IsLive V) (λ u old. live_on W V u refl (omega arith) later (omega arith) old) W.live is.live;
-        distinct = is.distinct;
-        count = is.count;
-        next = is.next;
-      };
+      world = with_lives (after_commit W t) W.live W.next next (all_weaker (IsLive W) (IsLive V) (λ u old. live_on W V u refl (omega arith) later (omega arith) old) W.live is.live) is.distinct is.count is.next;
       geometry = same_geometry W.geometry;
       history = record { first = refl; base = refl; more = commit_from t ∷ []; commits = refl };
     }
@@ -184,12 +161,10 @@ group_of_one W t = refl
 
 -- ---- the group that labels ask for
 
-nowhere : (place : Place) → AreApart place unattached
-nowhere (client c) = tt
-nowhere (label text) = tt
-nowhere unattached = tt
+pub nowhere : (place : Place) → AreApart place unattached
+nowhere place = grind arith
 
-all_apart_nowhere : (live : List Live) → AllByRecursion (λ u. AreApart u.place unattached) live
+pub all_apart_nowhere : (live : List Live) → AllByRecursion (λ u. AreApart u.place unattached) live
 all_apart_nowhere [] = tt
 all_apart_nowhere (t ∷ live) = (nowhere t.place, all_apart_nowhere live)
 

@@ -32,8 +32,4 @@ both_of P Q R both [] first second = tt
 both_of P Q R both (x ∷ xs) first second = (both x first.0 second.0, both_of P Q R both xs first.1 second.1)
 
 pub appended_is : (g : Geometry) (H : History) (c : Commit) → IsHistory g H → AreAccesses g c.accesses → IsHistory g (appended H c)
-appended_is g H c is all = record {
-  first = is.first;
-  base = is.base;
-  commits = all_push (λ d. AreAccesses g d.accesses) H.commits c is.commits all;
-}
+appended_is g H c is all = grind (arith, all_push)

@@ -46,9 +46,7 @@ held_shows g b form generation H bytes is since until image =
 
 -- told from its first commit on, it is the whole history with its commits as their records tell them
 pub held_whole : (g : Geometry) (b : ℕ) (H : History) → b + 1 ≡ H.first → held g b H ≡ record H { commits = commits_of g H.first (map (written g) H.commits) }
-held_whole g b H first =
-    let none : b + 1 - H.first ≡ 0 = omega arith in
-    λ i. record { first = first i; base = all_own H.base (take (none i) H.commits); commits = commits_of g (first i) (map (written g) (drop (none i) H.commits)) }
+held_whole g b H first = grind arith
 
 -- what shows a history at one of its commits shows each longer one there
 pub shows_longer : (bytes : List ℕ) (g : Geometry) (H G : History) (p : ℕ) → 0 < H.first → Extends H G → Shows bytes g H p → Shows bytes g G p
@@ -89,14 +87,4 @@ same_but_form g form (Some c) (Some d) same = record { mode = same.mode; effect 
 
 -- what an image shows does not depend on the form
 pub shows_any_form : (bytes : List ℕ) (g : Geometry) (form : ℕ) (H : History) (p : ℕ) → Shows bytes g H p → Shows bytes (record g { form = form }) H p
-shows_any_form bytes g form H p shown = record {
-  until = shown.until;
-  form = shown.form;
-  generation = shown.generation;
-  held = shown.held;
-  image = shown.image;
-  last = shown.last;
-  first = shown.first;
-  arrays = shown.arrays;
-  commits = λ n from to. same_but_form g form _ _ (shown.commits n from to);
-}
+shows_any_form bytes g form H p shown = grind (arith, same_but_form)

@@ -2,15 +2,12 @@
 use Rattle.iso_model.proofs.{Words.{◌≡◌, ◌∙◌, sym, refl, ap, ℕ, zero, suc, ◌+◌, ◌-◌, ◌<◌, ◌≤◌, true, false, IsTrue, IfSome, List, [], ◌∷◌, ◌++◌, length, get_or, take, drop, Option, Some, None, is_some, slice_get, option_map, unwrap_or, arith, inl, inr, subst, AllByRecursion, cases_lt, or_left, or_right, false_from_ne_true, none-some, same_Some, IfSome_then, take_all, take-append-le, take-append-drop, get_or_past, length_push, Access, Clash, Commit, Geometry, Kind, Read, Write, Mode, Serial, Snapshot, Array, byte_at, is_write, has_write, covers, touches, effect_at, own, History, last, array_at, all_own, shown, shown_block, clash, guarded, IsClash, IsSerialAt, IsSnapshotAt, Meets, IsIsolatedAt, IsIsolated, HasSeen, block_at, IsAccess, AreAccesses, IsHistory, appended}, Bytes.{own_at, length-block_own, length-block_all_own, touches_where_effect}, Recorded.{CommitsOf, bytes_of_accesses}, Written.covers_where, Clashes.{none_from_clash, slice_get-drop}}
 
 none_from_is_some : (o : Option ℕ) → is_some o ≡ false → o ≡ None
-none_from_is_some None not = refl
-none_from_is_some (Some x) not = cc
+none_from_is_some o not = grind arith
 
 -- a list that does not write the byte keeps it
 own_kept : (g : Geometry) (A : Array) (accesses : List Access) (b p : ℕ) → AreAccesses g accesses → length (block_at A b) ≡ g.block → p < g.block
     → touches Write accesses b p ≡ false → byte_at (own A accesses) b p ≡ byte_at A b p
-own_kept g A accesses b p all same inside not =
-    own_at A accesses b p g.block (bytes_of_accesses g accesses all) same inside
-    ∙ ap (λ o. unwrap_or o (byte_at A b p)) (none_from_is_some (effect_at accesses b p) (sym (touches_where_effect accesses b p) ∙ not))
+own_kept g A accesses b p all same inside not = grind (arith, own_at, bytes_of_accesses, none_from_is_some, touches_where_effect)
 
 -- so do commits that do not
 all_own_kept : (g : Geometry) (A : Array) (commits : List Commit) (b p : ℕ) → CommitsOf g commits → length (block_at A b) ≡ g.block → p < g.block
@@ -120,8 +117,7 @@ shown_on A accesses i o = unwrap_or (option_map (λ a. block_at (own A (take i a
 -- what an access of the longer history shows, at a commit of the shorter one
 shown_appended : (H : History) (c : Commit) (n : ℕ) (accesses : List Access) (i : ℕ) → 0 < H.first → n ≤ last H
     → shown (appended H c) n accesses i ≡ shown H n accesses i
-shown_appended H c n accesses i first before =
-    ap (λ (A : Array). shown_on A accesses i (slice_get accesses i)) (array_appended H c n first before)
+shown_appended H c n accesses i first before = grind (arith, array_appended)
 
 -- an access of the list that is a read shows at the last commit what it showed at the begin
 shown_where_none : (g : Geometry) (H : History) (n : ℕ) (accesses : List Access) (i p : ℕ) (o : Option Access) → slice_get accesses i ≡ o
@@ -209,16 +205,7 @@ stays_serial H c k first from to begun serial =
 -- and a snapshot
 pub stays_snapshot : (g : Geometry) (H : History) (c : Commit) (k : ℕ) → 0 < H.first → H.first ≤ k → k ≤ last H
     → IsSnapshotAt g H k → IsSnapshotAt g (appended H c) k
-stays_snapshot g H c k first from to snapshot =
-    let same : slice_get (H.commits ++ c ∷ []) (k - H.first) ≡ slice_get H.commits (k - H.first) =
-    slice_get_append_left H.commits (c ∷ []) (k - H.first) (omega arith) in
-    subst (λ (o : Option Commit). IfSome o (λ u. (j : ℕ) → H.first ≤ j → u.begin < j → j < k → IfSome (slice_get (H.commits ++ c ∷ []) (j - H.first)) (λ d.
-    (x y : ℕ) → IfSome (slice_get u.accesses x) (λ a. IfSome (slice_get d.accesses y) (λ b.
-    IsTrue (is_write a) → IsTrue (is_write b) → ¬ Meets g.block a b))))) (sym same)
-    (IfSome_then (slice_get H.commits (k - H.first)) snapshot (λ u meets j from after below.
-    subst (λ (o : Option Commit). IfSome o (λ d. (x y : ℕ) → IfSome (slice_get u.accesses x) (λ a. IfSome (slice_get d.accesses y) (λ b.
-    IsTrue (is_write a) → IsTrue (is_write b) → ¬ Meets g.block a b))))
-    (sym (slice_get_append_left H.commits (c ∷ []) (j - H.first) (omega arith))) (meets j from after below)))
+stays_snapshot g H c k first from to snapshot = grind (arith, slice_get_append_left)
 
 -- every commit of the history with one more
 pub stays_isolated : (g : Geometry) (H : History) (c : Commit) → IsHistory g H → IsIsolated g H
@@ -251,10 +238,4 @@ stays_isolated g H c is isolated all known before write none k from to = elim (c
 
     here : (o : Option Commit) → slice_get H.commits (k - H.first) ≡ o → k ≤ last H → IfSome o (HasSeen g H k) → IfSome o (HasSeen g (appended H c) k)
     here None at within seen = tt
-    here (Some d) at within seen =
-        let below : d.begin < k = seen.before in
-        record {
-          since = seen.since;
-          before = seen.before;
-          isolated = stay d.mode (subst (λ (o : Option Commit). IfSome o (λ d. d.begin ≤ last H)) (sym at) (omega arith)) within seen.isolated;
-        }
+    here (Some d) at within seen = grind (arith, stay)

@@ -64,11 +64,7 @@ untrimmed W same = none_dropped W.geometry W.trim (W.base + 1) (logged_commits W
 
 -- a number in a range that passes a test
 any_found : (test : ℕ → Bool) (a n : ℕ) → list_any test (range_with_len a n) ≡ true → (p : ℕ) × (a ≤ p) × (p < a + n) × (test p ≡ true)
-any_found test a n found =
-    let (k, x, inside, at, passes) = Any-from_list_any test (range_with_len a n) found in
-    let below : k < n = omega (arith, inside, length-range_with_len a n) in
-    let is : x ≡ a + k = sym at ∙ get_or-range_with_len a n k x below in
-    (x, omega (arith, is), omega (arith, is, below), passes)
+any_found test a n found = grind (arith, Any-from_list_any, length-range_with_len, get_or-range_with_len)
 
 any_there : (test : ℕ → Bool) (a n p : ℕ) → a ≤ p → p < a + n → test p ≡ true → list_any test (range_with_len a n) ≡ true
 any_there test a n p from to passes =
@@ -97,6 +93,4 @@ kept_shows trim n later run kept = go (or_cases (nat_lt trim n) _ kept)
 
 pub shows_kept : (trim n : ℕ) (later : List Commit) (run : Run) → StillShows trim n later run → is_kept trim n later run ≡ true
 shows_kept trim n later run (inl above) = or_left (nat_lt trim n) _ (lt-ltb trim n above)
-shows_kept trim n later run (inr (p, from, to, never)) =
-    or_right (nat_lt trim n) _
-    (any_there (λ q. not (is_written trim (n + 1) later run.block q)) run.off (length run.bytes) p from to (unwritten_shows trim (n + 1) later run.block p never))
+shows_kept trim n later run (inr (p, from, to, never)) = search (arith, or_right, any_there, not, unwritten_shows)

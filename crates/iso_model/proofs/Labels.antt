@@ -1,11 +1,9 @@
 -- A label is told by its key.
-use Rattle.iso_model.proofs.Words.{◌≡◌, refl, ℕ, zero, suc, ◌^◌, ◌<◌, ◌≤◌, Bool, true, false, ◌&&◌, nat_le, List, [], ◌∷◌, length, drop, arith, IsTrue, list_all, common_steps, pow-suc, is_label, is_label_byte, key_of}
+use Rattle.iso_model.proofs.Words.{◌≡◌, refl, ℕ, zero, suc, ◌^◌, ◌<◌, ◌≤◌, Bool, true, ◌&&◌, nat_le, List, [], ◌∷◌, length, drop, arith, IsTrue, list_all, common_steps, pow-suc, is_label, is_label_byte, key_of}
 use Rattle.std.proofs.Common.{length-drop}
 
 both : (s t : Bool) → (s && t) ≡ true → (s ≡ true) × (t ≡ true)
-both true true h = (refl, refl)
-both true false h = absurd (cc)
-both false t h = absurd (cc)
+both s t h = grind arith
 
 some_byte : (x : ℕ) → is_label_byte x ≡ true → (0 < x) × (x < 256)
 some_byte x h = (grind (arith, common_steps, h), grind (arith, common_steps, h))
@@ -26,9 +24,7 @@ keys_tell (x ∷ xs) (y ∷ ys) all all' same =
 
 -- two labels with one key are one
 pub key_tells : (xs ys : List ℕ) → IsTrue (is_label xs) → IsTrue (is_label ys) → key_of xs ≡ key_of ys → xs ≡ ys
-key_tells xs ys label label' same =
-    keys_tell xs ys (both (nat_le 1 (length xs) && nat_le (length xs) 16) (list_all is_label_byte xs) label).1
-    (both (nat_le 1 (length ys) && nat_le (length ys) 16) (list_all is_label_byte ys) label').1 same
+key_tells xs ys label label' same = grind (arith, keys_tell)
 
 -- the key of n bytes
 pub key_below : (n : ℕ) (xs : List ℕ) → length xs ≤ n → list_all is_label_byte xs ≡ true → key_of xs < 256 ^ n

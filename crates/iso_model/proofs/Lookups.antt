@@ -1,5 +1,5 @@
 -- Which value runs have at a byte.
-use Rattle.iso_model.proofs.Words.{◌≡◌, ◌≢◌, ◌⊎◌, ◌∙◌, sym, refl, ap, ℕ, zero, suc, ◌+◌, ◌-◌, ◌<◌, ◌≤◌, Bool, true, false, ◌&&◌, ◌==◌, nat_le, nat_lt, cond, IsTrue, List, [], ◌∷◌, ◌++◌, length, get_or, Option, Some, None, arith, inl, inr, eq-eqb, ne_eqb, AllByRecursion, flat_map, range_with_len, cases_eq, cases_order, eqb-true, nat_tests, common_steps, Access, Geometry, Run, or_else, effect_at, effects_from, joined, runs_from, block_runs, runs, in_run, value_of, value_in}
+use Rattle.iso_model.proofs.Words.{◌≡◌, ◌≢◌, ◌⊎◌, ◌∙◌, sym, refl, ap, ℕ, zero, suc, ◌+◌, ◌-◌, ◌<◌, ◌≤◌, Bool, true, false, ◌&&◌, ◌==◌, nat_le, nat_lt, cond, IsTrue, List, [], ◌∷◌, ◌++◌, length, get_or, Option, Some, None, arith, inl, inr, eq-eqb, ne_eqb, AllByRecursion, flat_map, range_with_len, cases_eq, eqb-true, nat_tests, Access, Geometry, Run, or_else, effect_at, effects_from, joined, runs_from, block_runs, runs, in_run, value_of, value_in}
 
 -- the runs stand in block b, from p on
 abbrev pub StandIn : (b p : ℕ) → List Run → Type 0
@@ -11,12 +11,7 @@ stand_earlier b p q (run ∷ runs) le all = ((all.0.0, omega arith), stand_earli
 
 pub joined_stand : (b p value : ℕ) (runs : List Run) → StandIn b (p + 1) runs → StandIn b p (joined b p value runs)
 joined_stand b p value [] all = ((refl, omega arith), tt)
-joined_stand b p value (run ∷ runs) all =
-    let rest : StandIn b p runs = stand_earlier b (p + 1) p runs (omega arith) all.1 in
-    elim (run.off == p + 1) as (λ t. StandIn b p (cond t (record { block = b; off = p; bytes = value ∷ run.bytes } ∷ runs) (record { block = b; off = p; bytes = value ∷ [] } ∷ run ∷ runs))) [
-      | true ↦ ((refl, omega arith), rest)
-      | false ↦ ((refl, omega arith), ((all.0.0, omega arith), rest))
-    ]
+joined_stand b p value (run ∷ runs) all = grind (arith, stand_earlier)
 
 pub runs_stand : (b p : ℕ) (values : List (Option ℕ)) → StandIn b p (runs_from b p values)
 runs_stand b p [] = tt
@@ -24,21 +19,17 @@ runs_stand b p (None ∷ values) = stand_earlier b (p + 1) p (runs_from b (p + 1
 runs_stand b p (Some value ∷ values) = joined_stand b p value (runs_from b (p + 1) values) (runs_stand b (p + 1) values)
 
 pub or_else_none : (o : Option ℕ) → or_else o None ≡ o
-or_else_none None = refl
-or_else_none (Some x) = refl
+or_else_none o = grind arith
 
 pub or_else_assoc : (x y z : Option ℕ) → or_else (or_else x y) z ≡ or_else x (or_else y z)
-or_else_assoc None y z = refl
-or_else_assoc (Some x) y z = refl
+or_else_assoc x y z = grind arith
 
 -- a run has no byte of another block, and none before it
 value_of_other : (run : Run) (b q : ℕ) → run.block ≢ b → value_of run b q ≡ None
 value_of_other run b q other = let not : (run.block == b) ≡ false = ne_eqb run.block b other in rw not refl
 
 value_of_before : (run : Run) (b q : ℕ) → q < run.off → value_of run b q ≡ None
-value_of_before run b q before =
-    let not : in_run b q run ≡ false = grind (arith, nat_tests, common_steps) in
-    rw not refl
+value_of_before run b q before = grind arith
 
 pub value_before : (b p q : ℕ) (runs : List Run) → StandIn b p runs → q < p → value_in runs b q ≡ None
 value_before b p q [] all before = refl
@@ -74,45 +65,12 @@ value_of_same x y b q tests values = rw (tests, values) refl
 
 -- a run of one byte
 value_of_one : (b p value q : ℕ) → value_of (record { block = b; off = p; bytes = value ∷ [] }) b q ≡ cond (q == p) (Some value) None
-value_of_one b p value q = elim (cases_order q p) [
-  | inl e ↦
-      (let here : (q == p) ≡ true = eq-eqb q p e in
-      let at : q - p ≡ 0 = omega arith in
-      value_of_within (record { block = b; off = p; bytes = value ∷ [] }) b q value
-      (in_run_of b p q (value ∷ []) ∙ within_span p q 1 (omega arith) (omega arith)) (rw at refl)
-      ∙ rw here refl)
-  | inr other ↦
-      (let not : (q == p) ≡ false = ne_eqb q p (λ e. elim other [ inl l ↦ omega arith | inr l ↦ omega arith ]) in
-      value_of_outside (record { block = b; off = p; bytes = value ∷ [] }) b q
-      (in_run_of b p q (value ∷ []) ∙ outside_span p q 1 (elim other [ inl l ↦ inl l | inr l ↦ inr (omega arith) ]))
-      ∙ rw not refl)
-]
+value_of_one b p value q = grind (arith, value_of_within, in_run_of, within_span, value_of_outside, outside_span)
 
 -- a run with one more byte before it
 value_of_longer : (b p value : ℕ) (bytes : List ℕ) (q : ℕ)
     → value_of (record { block = b; off = p; bytes = value ∷ bytes }) b q ≡ cond (q == p) (Some value) (value_of (record { block = b; off = p + 1; bytes = bytes }) b q)
-value_of_longer b p value bytes q = elim (cases_order q p) [
-  | inl e ↦
-      (let here : (q == p) ≡ true = eq-eqb q p e in
-      let at : q - p ≡ 0 = omega arith in
-      value_of_within (record { block = b; off = p; bytes = value ∷ bytes }) b q value
-      (in_run_of b p q (value ∷ bytes) ∙ within_span p q (length (value ∷ bytes)) (omega arith) (omega arith)) (rw at refl)
-      ∙ rw here refl)
-  | inr (inl before) ↦
-      (let not : (q == p) ≡ false = ne_eqb q p (λ e. omega arith) in
-      value_of_outside (record { block = b; off = p; bytes = value ∷ bytes }) b q
-      (in_run_of b p q (value ∷ bytes) ∙ outside_span p q (length (value ∷ bytes)) (inl before))
-      ∙ sym (value_of_outside (record { block = b; off = p + 1; bytes = bytes }) b q
-      (in_run_of b (p + 1) q bytes ∙ outside_span (p + 1) q (length bytes) (inl (omega arith))))
-      ∙ rw not refl)
-  | inr (inr behind) ↦
-      (let not : (q == p) ≡ false = ne_eqb q p (λ e. omega arith) in
-      let at : q - p ≡ suc (q - (p + 1)) = omega arith in
-      let tests : in_run b q (record { block = b; off = p; bytes = value ∷ bytes }) ≡ in_run b q (record { block = b; off = p + 1; bytes = bytes }) =
-      (in_run_of b p q (value ∷ bytes) ∙ same_tests p q (length bytes) behind ∙ sym (in_run_of b (p + 1) q bytes)) in
-      value_of_same (record { block = b; off = p; bytes = value ∷ bytes }) (record { block = b; off = p + 1; bytes = bytes }) b q tests (rw at refl)
-      ∙ rw not refl)
-]
+value_of_longer b p value bytes q = search (arith, value_of_within, in_run_of, within_span, value_of_outside, outside_span, same_tests, value_of_same)
 
 or_else_cond : (o : Option ℕ) (test : Bool) (x : ℕ) (y : Option ℕ) → (IsTrue test → o ≡ None) → or_else o (cond test (Some x) y) ≡ cond test (Some x) (or_else o y)
 or_else_cond o true x y none = rw (none refl) refl
@@ -145,10 +103,7 @@ value_runs_from b p (None ∷ values) zero = value_before b (p + 1) (p + 0) (run
 value_runs_from b p (None ∷ values) (suc k) =
     let e : p + suc k ≡ p + 1 + k = omega arith in
     rw e (value_runs_from b (p + 1) values k)
-value_runs_from b p (Some value ∷ values) zero =
-    let here : (p + 0 == p) ≡ true = eq-eqb (p + 0) p (omega arith) in
-    value_joined b p value (p + 0) (runs_from b (p + 1) values) (runs_stand b (p + 1) values)
-    ∙ rw here refl
+value_runs_from b p (Some value ∷ values) zero = grind (arith, value_joined, runs_stand)
 value_runs_from b p (Some value ∷ values) (suc k) =
     let there : (p + suc k == p) ≡ false = ne_eqb (p + suc k) p (λ same. omega arith) in
     let e : p + suc k ≡ p + 1 + k = omega arith in

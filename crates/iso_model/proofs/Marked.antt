@@ -1,5 +1,5 @@
 -- A mark changes the last access alone.
-use Rattle.iso_model.proofs.Words.{◌≡◌, ◌∙◌, refl, ap, ℕ, Bool, true, false, ◌&&◌, ◌||◌, ◌==◌, cond, List, [], ◌∷◌, ◌++◌, Option, Some, None, slice_index, list_any, list_any-append, Access, Span, covered, in_span, Write, covers, effect_at, or_else, marked, write_access}
+use Rattle.iso_model.proofs.Words.{arith, ◌≡◌, refl, ap, ℕ, Bool, true, false, ◌&&◌, ◌||◌, cond, List, [], ◌∷◌, ◌++◌, Option, Some, None, slice_index, list_any-append, Access, Span, covered, in_span, Write, covers, effect_at, or_else, marked, write_access}
 
 pub marked_last : (span : Span) (accesses : List Access) (a : Access) → marked span (accesses ++ a ∷ []) ≡ accesses ++ record a { spans = a.spans ++ span ∷ [] } ∷ []
 marked_last span [] a = refl
@@ -7,8 +7,7 @@ marked_last span (b ∷ []) a = refl
 marked_last span (b ∷ c ∷ accesses) a = ap (λ xs. b ∷ xs) (marked_last span (c ∷ accesses) a)
 
 or_false : (b : Bool) → (b || false) ≡ b
-or_false true = refl
-or_false false = refl
+or_false b = grind arith
 
 -- the first mark stands in the place of the whole block
 pub first_covers : (span : Span) (p : ℕ) → covered (span ∷ []) p ≡ in_span p span
@@ -17,8 +16,7 @@ first_covers span p = or_false (in_span p span)
 -- a further one adds its bytes
 pub more_covers : (first : Span) (spans : List Span) (span : Span) (p : ℕ)
     → covered ((first ∷ spans) ++ span ∷ []) p ≡ (covered (first ∷ spans) p || in_span p span)
-more_covers first spans span p =
-    list_any-append (in_span p) (first ∷ spans) (span ∷ []) ∙ ap (λ b. list_any (in_span p) (first ∷ spans) || b) (or_false (in_span p span))
+more_covers first spans span p = grind (arith, list_any-append, or_false)
 
 effect_last : (accesses : List Access) (a : Access) (b p : ℕ) → covers Write b p a ≡ false → effect_at (accesses ++ a ∷ []) b p ≡ effect_at accesses b p
 effect_last [] a b p off = rw off refl
@@ -31,7 +29,4 @@ and_false false y off = refl
 -- what a write is marked beside, it does not write
 pub unwritten : (span : Span) (accesses : List Access) (block : ℕ) (bytes : List ℕ) (p : ℕ) → in_span p span ≡ false
     → effect_at (marked span (accesses ++ write_access block bytes ∷ [])) block p ≡ effect_at accesses block p
-unwritten span accesses block bytes p off =
-    ap (λ xs. effect_at xs block p) (marked_last span accesses (write_access block bytes))
-    ∙ effect_last accesses (record { kind = Write; block = block; spans = span ∷ []; bytes = bytes }) block p
-    (and_false (block == block) (covered (span ∷ []) p) (first_covers span p ∙ off))
+unwritten span accesses block bytes p off = grind (arith, marked_last, effect_last, and_false, first_covers)

@@ -1,12 +1,11 @@
 -- The runs of what a list writes are maximal, rising and in the array.
-use Rattle.iso_model.proofs.{Words.{◌≡◌, ◌∙◌, sym, ℕ, zero, suc, ◌+◌, ◌<◌, ◌≤◌, true, false, ◌==◌, List, [], ◌∷◌, ◌++◌, length, Option, Some, None, arith, inl, inr, eq-eqb, ne_eqb, AllByRecursion, flat_map, range_with_len, cases_eq, Access, Geometry, Run, effects_from, joined, runs_from, block_runs, runs, IsRun, AreRuns}, Lookups.{StandIn, runs_stand, length-effects}}
+use Rattle.iso_model.proofs.{Words.{◌≡◌, sym, ℕ, zero, suc, ◌+◌, ◌<◌, ◌≤◌, true, false, ◌==◌, List, [], ◌∷◌, ◌++◌, length, Option, Some, None, arith, inl, inr, eq-eqb, ne_eqb, AllByRecursion, flat_map, range_with_len, cases_eq, Access, Geometry, Run, effects_from, joined, runs_from, block_runs, runs, IsRun, AreRuns}, Lookups.{StandIn, runs_stand, length-effects}}
 
 -- the first run may be exchanged for one that begins earlier and ends where it does
 longer_runs : (g : Geometry) (x y : Run) (runs : List Run) → IsRun g y → y.block ≡ x.block → y.off + length y.bytes ≡ x.off + length x.bytes
     → AreRuns g (x ∷ runs) → AreRuns g (y ∷ runs)
 longer_runs g x y [] is block end all = is
-longer_runs g x y (z ∷ runs) is block end all =
-    (is, elim all.1 [ inl later ↦ inl (omega arith) | inr behind ↦ inr (block ∙ behind.0, omega arith) ], all.2)
+longer_runs g x y (z ∷ runs) is block end all = grind arith
 
 joined_runs : (g : Geometry) (b p value : ℕ) (runs : List Run) → b < g.blocks → p < g.block → StandIn b (p + 1) runs → AreRuns g runs → AreRuns g (joined b p value runs)
 joined_runs g b p value [] block inside stand all = record { block = block; some = omega arith; fits = omega arith }

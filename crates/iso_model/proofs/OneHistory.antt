@@ -1,5 +1,5 @@
 -- The bytes of an image tell one generation and one history.
-use Rattle.iso_model.proofs.{Words.{◌≡◌, ◌≢◌, ◌∙◌, sym, refl, ap, ℕ, ◌+◌, ◌-◌, ◌^◌, ◌<◌, ◌≤◌, cond, List, [], ◌∷◌, ◌++◌, length, get_or, take, drop, arith, subst, append_assoc, AllByRecursion, to_be_bytes, from_be_bytes, w16, w32, w64, length-append, length-take, from_be_bytes-to_be_bytes_2, from_be_bytes-to_be_bytes_4, from_be_bytes-to_be_bytes_8, same_Some, Geometry, Mode, Serial, Snapshot, Run, LAST, same_mode, log_place, base_place, header_place, History, IsRun, AreRuns, IsRecord, IsImage, Written, commits_of, records, spell, part, kind_of, half_header, superblock, mode_byte, current_half, blocks_of, Limits}, Bounds.limits, Opened.length-part}
+use Rattle.iso_model.proofs.{Words.{◌≡◌, ◌≢◌, ◌∙◌, sym, refl, ap, ℕ, ◌+◌, ◌-◌, ◌^◌, ◌<◌, ◌≤◌, cond, List, [], ◌∷◌, ◌++◌, length, get_or, take, drop, arith, subst, append_assoc, AllByRecursion, to_be_bytes, from_be_bytes, w32, length-append, length-take, from_be_bytes-to_be_bytes_2, from_be_bytes-to_be_bytes_4, from_be_bytes-to_be_bytes_8, same_Some, Geometry, Mode, Serial, Snapshot, Run, LAST, same_mode, log_place, base_place, header_place, History, IsRun, AreRuns, IsRecord, IsImage, Written, commits_of, records, spell, part, kind_of, half_header, superblock, mode_byte, current_half, blocks_of, Limits}, Bounds.limits, Opened.length-part}
 use Rattle.std.proofs.Common.{flat_map}
 
 -- lists that are joined to the same list, the first of one length
@@ -20,24 +20,7 @@ runs_each g (x ∷ y ∷ list) all = (all.0, runs_each g (y ∷ list) all.2)
 
 -- one part, and what follows it
 same_part : (g : Geometry) (x y : Run) (xs ys : List ℕ) → Limits g → IsRun g x → IsRun g y → part x ++ xs ≡ part y ++ ys → (x ≡ y) × (xs ≡ ys)
-same_part g x y xs ys bounds first second same =
-    let most : g.blocks ≤ 16384 = bounds.most_blocks in
-    let largest : g.block ≤ 4096 = bounds.largest_block in
-    let xb : x.block < g.blocks = first.block in
-    let yb : y.block < g.blocks = second.block in
-    let xf : x.off + length x.bytes ≤ g.block = first.fits in
-    let yf : y.off + length y.bytes ≤ g.block = second.fits in
-    let block : x.block ≡ y.block =
-    (sym (from_be_bytes-to_be_bytes_4 x.block (omega arith)) ∙ ap (λ (l : List ℕ). from_be_bytes w32 (take 4 l)) same
-    ∙ from_be_bytes-to_be_bytes_4 y.block (omega arith)) in
-    let off : x.off ≡ y.off =
-    (sym (from_be_bytes-to_be_bytes_2 x.off (omega arith)) ∙ ap (λ (l : List ℕ). from_be_bytes w16 (take 2 (drop 4 l))) same
-    ∙ from_be_bytes-to_be_bytes_2 y.off (omega arith)) in
-    let size : length x.bytes ≡ length y.bytes =
-    (sym (from_be_bytes-to_be_bytes_2 (length x.bytes) (omega arith)) ∙ ap (λ (l : List ℕ). from_be_bytes w16 (take 2 (drop 6 l))) same
-    ∙ from_be_bytes-to_be_bytes_2 (length y.bytes) (omega arith)) in
-    let rest = split_same x.bytes y.bytes xs ys size (ap (drop 8) same) in
-    (λ i. record { block = block i; off = off i; bytes = rest.0 i }, rest.1)
+same_part g x y xs ys bounds first second same = grind (arith, from_be_bytes-to_be_bytes_4, from_be_bytes-to_be_bytes_2, split_same)
 
 same_parts : (g : Geometry) (list other : List Run) (xs ys : List ℕ) → Limits g → AllByRecursion (IsRun g) list → AllByRecursion (IsRun g) other
     → length list ≡ length other → flat_map part list ++ xs ≡ flat_map part other ++ ys → (list ≡ other) × (xs ≡ ys)
@@ -76,14 +59,7 @@ same_record : (g : Geometry) (n : ℕ) (v w : Written) (xs ys : List ℕ) → Li
     → length v.parts < 2 ^ 32 → length w.parts < 2 ^ 32
     → spell 1 (kind_of g v.mode) n v.parts ++ xs ≡ spell 1 (kind_of g w.mode) n w.parts ++ ys → (v ≡ w) × (xs ≡ ys)
 unfolding spell
-same_record g n v w xs ys bounds first second few fewer same =
-    let kind : kind_of g v.mode ≡ kind_of g w.mode = ap (λ (l : List ℕ). get_or l 1 0) same in
-    let mode : v.mode ≡ w.mode = same_kind_of g v.mode w.mode kind in
-    let count : length v.parts ≡ length w.parts =
-    (sym (from_be_bytes-to_be_bytes_4 (length v.parts) few) ∙ ap (λ (l : List ℕ). from_be_bytes w32 (take 4 (drop 4 l))) same
-    ∙ from_be_bytes-to_be_bytes_4 (length w.parts) fewer) in
-    let rest = same_parts g v.parts w.parts xs ys bounds (runs_each g v.parts first.runs) (runs_each g w.parts second.runs) count (ap (drop 20) same) in
-    (λ i. record { mode = mode i; parts = rest.0 i }, rest.1)
+same_record g n v w xs ys bounds first second few fewer same = grind (arith, same_kind_of, from_be_bytes-to_be_bytes_4, same_parts, runs_each)
 
 parts_in : (gate kind n : ℕ) (parts : List Run) (xs : List ℕ) → length parts ≤ length (spell gate kind n parts ++ xs)
 unfolding spell
@@ -123,10 +99,7 @@ same_told g n (v ∷ told) (w ∷ other) gate xs shut ys bounds first second clo
 
 same_header : (form m n a b : ℕ) → m < 2 ^ 64 → n < 2 ^ 64 → a < 2 ^ 64 → b < 2 ^ 64 → half_header 1 form m a ≡ half_header 1 form n b → (m ≡ n) × (a ≡ b)
 unfolding half_header
-same_header form m n a b ms ns below under same = (
-  sym (from_be_bytes-to_be_bytes_8 m ms) ∙ ap (λ (l : List ℕ). from_be_bytes w64 (take 8 (drop 8 l))) same ∙ from_be_bytes-to_be_bytes_8 n ns,
-  sym (from_be_bytes-to_be_bytes_8 a below) ∙ ap (λ (l : List ℕ). from_be_bytes w64 (take 8 (drop 16 l))) same ∙ from_be_bytes-to_be_bytes_8 b under,
-)
+same_header form m n a b ms ns below under same = grind (arith, from_be_bytes-to_be_bytes_8)
 
 -- one history in an image of one geometry
 one_history : (bytes : List ℕ) (g : Geometry) (m n : ℕ) (H G : History) → IsImage bytes g m H → IsImage bytes g n G → (m ≡ n) × (H ≡ G)
@@ -164,14 +137,6 @@ same_mode_byte Snapshot Snapshot e = refl
 same_super : (g f : Geometry) → Limits g → Limits f → superblock 1 g ≡ superblock 1 f → record g { form = f.form } ≡ f
 unfolding superblock
 same_super g f bounds others same =
-    let gb : g.block ≤ 4096 = bounds.largest_block in
-    let fb : f.block ≤ 4096 = others.largest_block in
-    let gn : g.blocks ≤ 16384 = bounds.most_blocks in
-    let fn : f.blocks ≤ 16384 = others.most_blocks in
-    let gl : g.log ≤ 67108864 = bounds.largest_log in
-    let fl : f.log ≤ 67108864 = others.largest_log in
-    let gr : g.hash + g.tree ≤ g.blocks = bounds.regions in
-    let fr : f.hash + f.tree ≤ f.blocks = others.regions in
     let block : g.block ≡ f.block = word g.block f.block (omega arith) (omega arith) (ap (λ (l : List ℕ). take 4 (drop 12 l)) same) in
     let blocks : g.blocks ≡ f.blocks = word g.blocks f.blocks (omega arith) (omega arith) (ap (λ (l : List ℕ). take 4 (drop 16 l)) same) in
     let log : g.log ≡ f.log = word g.log f.log (omega arith) (omega arith) (ap (λ (l : List ℕ). take 4 (drop 20 l)) same) in

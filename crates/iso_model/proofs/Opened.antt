@@ -1,5 +1,5 @@
 -- The history that an image holds is a sound one: the world that it opens to is sound.
-use Rattle.iso_model.proofs.{Words.{◌≡◌, ◌⊎◌, ◌∙◌, sym, refl, ap, ℕ, zero, suc, ◌+◌, ◌-◌, ◌*◌, ◌<◌, ◌≤◌, Bool, true, false, cond, List, [], ◌∷◌, ◌++◌, length, get_or, map, take, drop, slice_get, sum_by, Some, nat_lt, arith, inl, inr, subst, true≢false, AllByRecursion, to_be_bytes, w16, w32, length-append, length-take, length-drop, length-take-le, sum_by-cons, none-some, same_Some, Access, Commit, Geometry, Read, Mode, Serial, Snapshot, Run, LAST, Array, covers, runs, record_length, image_size, base_place, log_place, History, AreRuns, IsRecord, IsImage, Written, written, commit_of, commits_of, records, spell, part, kind_of, blocks_of, chosen_half, recorded, IsIsolated, IsIsolatedAt, block_at, AreAccesses, AreBytes, used, fresh, IsWorld}, ByteLists.{no_bytes, bytes_back, bytes_drop, bytes_front, bytes_take}, Isolation.if_some_from, Unique.runs_recorded, Accesses.put_is_access, FreshWorlds.fresh_is}
+use Rattle.iso_model.proofs.{Words.{◌≡◌, ◌⊎◌, ◌∙◌, sym, refl, ap, ℕ, zero, suc, ◌+◌, ◌-◌, ◌*◌, ◌<◌, ◌≤◌, Bool, true, false, cond, List, [], ◌∷◌, length, get_or, map, take, drop, slice_get, sum_by, Some, nat_lt, arith, inl, inr, subst, AllByRecursion, length-append, length-take, length-drop, length-take-le, sum_by-cons, none-some, same_Some, Access, Commit, Geometry, Read, Mode, Serial, Snapshot, Run, LAST, Array, covers, runs, record_length, image_size, base_place, log_place, History, AreRuns, IsRecord, IsImage, Written, written, commits_of, records, spell, part, kind_of, blocks_of, chosen_half, recorded, IsIsolated, IsIsolatedAt, block_at, AreAccesses, AreBytes, used, fresh, IsWorld}, ByteLists.{no_bytes, bytes_back, bytes_drop, bytes_front, bytes_take}, Isolation.if_some_from, Unique.runs_recorded, Accesses.put_is_access, FreshWorlds.fresh_is}
 use Rattle.std.proofs.Common.{flat_map}
 
 -- the half is the first or the second
@@ -79,9 +79,7 @@ told_again g n (w ∷ told) each =
 -- a write is no read
 no_read : (g : Geometry) (list : List Run) (i : ℕ) (a : Access) (b p : ℕ) → slice_get (recorded g list) i ≡ Some a → covers Read b p a ≡ true → ⊥
 no_read g [] i a b p at reads = none-some a at
-no_read g (x ∷ list) zero a b p at reads =
-    let same = same_Some _ a at in
-    true≢false (sym (subst (λ (c : Access). covers Read b p c ≡ true) (sym same) reads))
+no_read g (x ∷ list) zero a b p at reads = grind arith
 no_read g (x ∷ list) (suc i) a b p at reads = no_read g list i a b p at reads
 
 -- a commit that was told: it began directly before its number, and has a record's writes
@@ -92,10 +90,7 @@ record IsTold (g : Geometry) (k : ℕ) (c : Commit) : Type 0 where
 
 told_at : (g : Geometry) (n i : ℕ) (told : List Written) (c : Commit) → slice_get (commits_of g n told) i ≡ Some c → IsTold g (n + i) c
 told_at g n i [] c at = absurd (none-some c at)
-told_at g n zero (w ∷ told) c at =
-    let same : commit_of g n w ≡ c = same_Some _ c at in
-    let e : n + 0 ≡ n = omega arith in
-    rw e (subst (IsTold g n) same (record { list = w.parts; begin = refl; accesses = refl }))
+told_at g n zero (w ∷ told) c at = grind arith
 told_at g n (suc i) (w ∷ told) c at =
     let e : n + suc i ≡ n + 1 + i = omega arith in
     rw e (told_at g (n + 1) i told c at)
@@ -108,13 +103,11 @@ told_isolated_at g H k Serial told = if_some_from _ (slice_get H.commits (k - H.
     absurd (no_read g t.list i a a.block p (subst (λ (list : List Access). slice_get list i ≡ Some a) t.accesses is) reads)))
 told_isolated_at g H k Snapshot told = if_some_from _ (slice_get H.commits (k - H.first)) (λ c at j from after before.
     let t = told c at in
-    let begin : c.begin ≡ k - 1 = t.begin in
     absurd (omega arith))
 
 told_isolated : (g : Geometry) (H : History) (told : List Written) → 0 < H.first → H.commits ≡ commits_of g H.first told → IsIsolated g H
 told_isolated g H told first is k from to = if_some_from _ (slice_get H.commits (k - H.first)) (λ d there.
     let t = at_number d there in
-    let begin : d.begin ≡ k - 1 = t.begin in
     record { since = omega arith; before = omega arith; isolated = told_isolated_at g H k d.mode at_number })
   where
     at_number : (c : Commit) → slice_get H.commits (k - H.first) ≡ Some c → IsTold g k c
@@ -124,8 +117,7 @@ told_isolated g H told first is k from to = if_some_from _ (slice_get H.commits 
 
 -- the length of the records
 pub length-part : (run : Run) → length (part run) ≡ 8 + length run.bytes
-length-part run =
-    length-append (to_be_bytes w32 run.block ++ to_be_bytes w16 run.off ++ to_be_bytes w16 (length run.bytes)) run.bytes
+length-part run = grind arith
 
 pub length-parts : (parts : List Run) → length (flat_map part parts) ≡ sum_by (λ run. 8 + length run.bytes) parts
 length-parts [] = refl

@@ -1,5 +1,5 @@
 -- Live transactions stay distinct where one of them changes its place.
-use Rattle.iso_model.proofs.Words.{◌≡◌, ◌∙◌, sym, refl, ℕ, Bool, true, false, ◌==◌, cond, List, [], ◌∷◌, find, Some, None, bytes_eq, AllByRecursion, both_ways, eqb-true, eqb-false, none-some, bytes_eq-Decides, Live, Place, client, label, unattached, is_under_label, with, AreApart, AreTwo, AreDistinct}
+use Rattle.iso_model.proofs.{Distinct.none_there, Words.{◌≡◌, ◌∙◌, sym, refl, ℕ, Bool, true, false, ◌==◌, cond, List, [], ◌∷◌, find, None, bytes_eq, AllByRecursion, both_ways, eqb-true, eqb-false, bytes_eq-Decides, Live, Place, client, label, unattached, is_under_label, with, AreApart, AreTwo, AreDistinct}}
 
 apart_sym : (p q : Place) → AreApart p q → AreApart q p
 apart_sym (client c) (client d) apart = λ e. apart (sym e)
@@ -35,16 +35,9 @@ distinct_placed u (x ∷ live) all apart = (each_with u x live all.0 apart.0 apa
 
 -- where no transaction is under the label, all are apart from it
 pub all_apart_from_label : (text : List ℕ) (live : List Live) → find (λ t. is_under_label text t.place) live ≡ None → AllByRecursion (λ t. AreApart t.place (label text)) live
-all_apart_from_label text [] none = tt
-all_apart_from_label text (t ∷ live) none = go (is_under_label text t.place) refl none (λ more. all_apart_from_label text live more)
+all_apart_from_label text = none_there (is_under_label text) (label text) apart
   where
     apart : (p : Place) → is_under_label text p ≡ false → AreApart p (label text)
     apart (client d) off = tt
     apart (label other) off = λ e. both_ways (bytes_eq text other) off ((bytes_eq-Decides text other).1 (sym e))
     apart unattached off = tt
-
-    go : (b : Bool) → is_under_label text t.place ≡ b → cond b (Some t) (find (λ t. is_under_label text t.place) live) ≡ None
-        → (find (λ t. is_under_label text t.place) live ≡ None → AllByRecursion (λ t. AreApart t.place (label text)) live)
-        → AllByRecursion (λ t. AreApart t.place (label text)) (t ∷ live)
-    go true e none rest = absurd (none-some t (sym none))
-    go false e none rest = (apart t.place e, rest none)

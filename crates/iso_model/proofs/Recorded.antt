@@ -1,5 +1,5 @@
 -- The writes that a record stands for have the effect of those that it was made of.
-use Rattle.iso_model.proofs.{Words.{inl, inr, ◌≡◌, ◌∙◌, sym, refl, ap, ℕ, zero, suc, ◌+◌, ◌-◌, ◌<◌, ◌≤◌, Bool, true, false, ◌&&◌, ◌||◌, ◌==◌, nat_le, nat_lt, cond, IfSome, List, [], ◌∷◌, ◌++◌, length, get_or, map, take, replicate, Some, None, slice_get, unwrap_or, arith, AllByRecursion, cases_eq, and_parts, leb-true, ltb-true, length-replicate, length-append, get_or_append_left, get_or-append_right, ext_get_or, Access, Commit, Geometry, Run, Span, Write, Array, in_span, byte_at, put, is_write, covers, or_else, effect_at, own, runs, History, array_at, all_own, AreRuns, SameEffect, SameCommit, written, commits_of, recorded, put_access, block_at, AreBytes, HasShape, HasBytes, AreAccesses, IsHistory, in_run, value_of, value_in}, ByteLists.merged_bytes, Bytes.{written_block, other_block, own_at, length-own, length-block_own}, Lookups.value_runs, Maximal.are_runs}
+use Rattle.iso_model.proofs.{Words.{◌≡◌, ◌∙◌, sym, refl, ap, ℕ, zero, suc, ◌+◌, ◌-◌, ◌<◌, ◌≤◌, Bool, true, false, ◌&&◌, ◌||◌, ◌==◌, cond, IfSome, List, [], ◌∷◌, ◌++◌, length, get_or, map, take, replicate, Some, None, slice_get, unwrap_or, arith, AllByRecursion, and_parts, length-replicate, length-append, get_or_append_left, get_or-append_right, ext_get_or, Access, Commit, Geometry, Run, Span, Write, Array, in_span, byte_at, put, is_write, covers, or_else, effect_at, own, runs, History, array_at, all_own, AreRuns, SameEffect, SameCommit, written, commits_of, recorded, put_access, block_at, AreBytes, HasShape, HasBytes, AreAccesses, IsHistory, in_run, value_of, value_in}, ByteLists.merged_bytes, Bytes.{written_block, other_block, own_at, length-own, length-block_own}, Lookups.value_runs, Maximal.are_runs}
 
 -- a byte of bytes between two others
 between : (off n p : ℕ) (bytes : List ℕ) → off ≤ p → p < off + length bytes → get_or (replicate off 0 ++ bytes ++ replicate n 0) p 0 ≡ get_or bytes (p - off) 0
@@ -8,13 +8,10 @@ between off n p bytes from below =
     ∙ get_or-append_right (replicate off 0) bytes off p 0 (length-replicate {A = ℕ} off 0) from
 
 or_false : (t : Bool) → (t || false) ≡ t
-or_false true = refl
-or_false false = refl
+or_false t = grind arith
 
 span_bounds : (p : ℕ) (span : Span) → in_span p span ≡ true → (span.off ≤ p) × (p < span.off + span.len)
-span_bounds p span within =
-    let both = and_parts (nat_le span.off p) (nat_lt p (span.off + span.len)) within in
-    (leb-true _ _ both.0, ltb-true _ _ both.1)
+span_bounds p span within = grind arith
 
 -- a value where the test holds
 same_where : (test : Bool) (x y : ℕ) → (test ≡ true → x ≡ y) → cond test (Some x) None ≡ cond test (Some y) None
@@ -81,17 +78,11 @@ same_arrays g A B first second each =
     ext_get_or 0 (get_or A b []) (get_or B b []) (ba ∙ sym (second.bytes b block)) (λ p inside. each b p block (omega arith)))
 
 pub own_size : (g : Geometry) (A : Array) (accesses : List Access) → HasSize g A → HasSize g (own A accesses)
-own_size g A accesses size = record {
-  blocks = length-own A accesses ∙ size.blocks;
-  bytes = λ b below. length-block_own A accesses b ∙ size.bytes b below;
-}
+own_size g A accesses size = grind (arith, length-own, length-block_own)
 
 -- writes of bytes leave bytes
 pub put_values : (A : Array) (w : Access) → ((b : ℕ) → AreBytes (block_at A b)) → AreBytes w.bytes → (b : ℕ) → AreBytes (block_at (put A w) b)
-put_values A w values bytes b = elim (cases_eq b w.block) [
-  | inl e ↦ rw e (rw (written_block A w) (merged_bytes w.spans 0 (block_at A w.block) w.bytes (values w.block) bytes))
-  | inr other ↦ rw (other_block A w b other) (values b)
-]
+put_values A w values bytes b = grind (arith, written_block, merged_bytes, other_block)
 
 access_values : (test : Bool) (A : Array) (a : Access) → ((b : ℕ) → AreBytes (block_at A b)) → AreBytes a.bytes → (b : ℕ) → AreBytes (block_at (cond test (put A a) A) b)
 access_values true A a values bytes = put_values A a values bytes
@@ -103,11 +94,7 @@ own_values g A (a ∷ accesses) all values =
     own_values g (cond (is_write a) (put A a) A) accesses all.1 (access_values (is_write a) A a values all.0.values)
 
 pub own_shape : (g : Geometry) (A : Array) (accesses : List Access) → AreAccesses g accesses → HasShape g A → HasShape g (own A accesses)
-own_shape g A accesses all shape = record {
-  blocks = length-own A accesses ∙ shape.blocks;
-  bytes = λ b below. length-block_own A accesses b ∙ shape.bytes b below;
-  values = own_values g A accesses all shape.values;
-}
+own_shape g A accesses all shape = grind (arith, length-own, length-block_own, own_values)
 
 -- the array after each commit has the shape
 all_own_shape : (g : Geometry) (A : Array) (n : ℕ) (commits : List Commit) → CommitsOf g commits → HasShape g A → HasShape g (all_own A (take n commits))

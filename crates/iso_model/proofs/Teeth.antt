@@ -1,5 +1,5 @@
 -- What the definitions refuse: histories that are not isolated, and images that show something else.
-use Rattle.iso_model.proofs.{Words.{◌≡◌, ◌∙◌, sym, refl, ap, subst, ℕ, zero, suc, ◌-◌, ◌<◌, ◌≤◌, List, [], ◌∷◌, IfSome, slice_get, arith, Commit, Geometry, Mode, Serial, Snapshot, put, zeros, IsSerialAt, IsSnapshotAt, History, array_at, last, IsImage, SameCommit, Shows, mode_byte, IsIsolated, put_access, read_access, Live, Place, client, label, AreDistinct}, OneHistory.image_tells_one, Rows.small}
+use Rattle.iso_model.proofs.{Words.{◌≡◌, ◌∙◌, sym, refl, ap, subst, ℕ, zero, suc, ◌-◌, ◌≤◌, List, [], ◌∷◌, IfSome, slice_get, arith, Commit, Geometry, Mode, Serial, Snapshot, put, zeros, IsSerialAt, IsSnapshotAt, History, array_at, last, IsImage, SameCommit, Shows, mode_byte, IsIsolated, put_access, read_access, Live, Place, client, label, AreDistinct}, OneHistory.image_tells_one, Rows.small}
 
 -- a put of bytes in a transaction of this mode that began at a commit
 abbrev put_in : (mode : Mode) → (begin block off : ℕ) → List ℕ → Commit
@@ -33,23 +33,17 @@ two_writers_are_no_snapshot is = is 1 (omega arith) (omega arith) (omega arith) 
 -- A commit that began at its own number would have seen itself.
 pub a_begin_at_its_own_number_is_not_isolated :
     IsIsolated small (from_first 1 (put_in Snapshot 0 0 0 (1 ∷ []) ∷ put_in Snapshot 2 0 0 (2 ∷ []) ∷ [])) → ⊥
-a_begin_at_its_own_number_is_not_isolated is =
-    let before : 2 < 2 = (is 2 (omega arith) (omega arith)).before in
-    omega arith
+a_begin_at_its_own_number_is_not_isolated is = grind arith
 
 -- One that began before the base saw an array that is not told.
 pub a_begin_before_the_base_is_not_isolated : IsIsolated small (from_first 5 (put_in Snapshot 2 0 0 (1 ∷ []) ∷ [])) → ⊥
-a_begin_before_the_base_is_not_isolated is =
-    let since : 5 ≤ 3 = (is 5 (omega arith) (omega arith)).since in
-    omega arith
+a_begin_before_the_base_is_not_isolated is = grind arith
 
 -- what an image holds is what it shows
 pub shows_what_it_holds : (bytes : List ℕ) (g : Geometry) (form generation : ℕ) (K H : History) (p : ℕ)
     → IsImage bytes (record g { form = form }) generation K → Shows bytes g H p → (last K ≡ p) × (array_at K p ≡ array_at H p)
 shows_what_it_holds bytes g form generation K H p image shows =
     let one = image_tells_one bytes (record g { form = form }) (record g { form = shows.form }) generation shows.generation K shows.held image shows.image in
-    let first = shows.image.first in
-    let p_is = shows.last in
     (ap last one.2 ∙ shows.last, ap (λ (G : History). array_at G p) one.2 ∙ shows.arrays p (omega arith) (omega arith))
 
 -- two histories that an image shows agree at that commit

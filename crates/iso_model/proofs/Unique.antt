@@ -1,5 +1,5 @@
 -- Runs are told apart by the bytes that they have.
-use Rattle.iso_model.proofs.{Words.{◌≡◌, ◌⊎◌, ◌∙◌, sym, refl, ap, ℕ, ◌+◌, ◌-◌, ◌<◌, ◌≤◌, Bool, true, false, ◌&&◌, ◌==◌, nat_le, nat_lt, List, [], ◌∷◌, length, get_or, Some, None, arith, inl, inr, eq-eqb, ne_eqb, subst, AllByRecursion, cases_Bool, and_from, and_parts, cases_order, eqb-true, ltb-true, none-some, same_Some, nat_tests, ext_get_or, Geometry, Run, in_span, or_else, runs, IsRun, AreRuns, recorded, in_run, value_of, value_in}, Lookups.{value_runs, or_else_none, value_of_within, value_of_outside}, Maximal.are_runs, Recorded.effect_recorded}
+use Rattle.iso_model.proofs.{Words.{◌≡◌, ◌⊎◌, ◌∙◌, sym, refl, ap, ℕ, ◌+◌, ◌-◌, ◌<◌, Bool, true, false, ◌&&◌, ◌==◌, nat_le, nat_lt, List, [], ◌∷◌, length, get_or, Some, None, arith, inl, inr, eq-eqb, ne_eqb, subst, AllByRecursion, and_from, and_parts, cases_order, eqb-true, ltb-true, none-some, same_Some, nat_tests, ext_get_or, Geometry, Run, in_span, or_else, runs, IsRun, AreRuns, recorded, in_run, value_of, value_in}, Lookups.{value_runs, or_else_none, value_of_within, value_of_outside}, Maximal.are_runs, Recorded.effect_recorded}
 
 -- the byte (b, q) stands before (c, p)
 abbrev Before : (b q c p : ℕ) → Type 0
@@ -22,9 +22,7 @@ all_behind_on b q c p (run ∷ list) before all = (before_on b q c p run.block r
 -- runs behind a byte do not have it
 behind_value : (b q : ℕ) (run : Run) → Before b q run.block run.off → value_of run b q ≡ None
 behind_value b q run (inl later) = value_of_outside run b q (let not : (run.block == b) ≡ false = ne_eqb run.block b (λ e. omega arith) in rw not refl)
-behind_value b q run (inr behind) =
-    let before : q < run.off = behind.1 in
-    value_of_outside run b q (grind (arith, nat_tests))
+behind_value b q run (inr behind) = grind (arith, value_of_outside)
 
 behind_none : (b q : ℕ) (list : List Run) → AllBehind b q list → value_in list b q ≡ None
 behind_none b q [] all = refl
@@ -39,11 +37,11 @@ rest_behind g x (y ∷ list) all = (
       (elim all.1 [ inl later ↦ inl later | inr behind ↦ inr (behind.0, omega arith) ]) (rest_behind g y list all.2),
 )
 
-head_is : (g : Geometry) (x : Run) (list : List Run) → AreRuns g (x ∷ list) → IsRun g x
+pub head_is : (g : Geometry) (x : Run) (list : List Run) → AreRuns g (x ∷ list) → IsRun g x
 head_is g x [] all = all
 head_is g x (y ∷ list) all = all.0
 
-tail_are : (g : Geometry) (x : Run) (list : List Run) → AreRuns g (x ∷ list) → AreRuns g list
+pub tail_are : (g : Geometry) (x : Run) (list : List Run) → AreRuns g (x ∷ list) → AreRuns g list
 tail_are g x [] all = tt
 tail_are g x (y ∷ list) all = all.2
 
@@ -70,7 +68,6 @@ not_earlier : (g : Geometry) (x y : Run) (xs ys : List Run) → AreRuns g (x ∷
 not_earlier g x y xs ys first second same before =
     let is = head_is g x xs first in
     let some : 0 < length x.bytes = is.some in
-    let fits : x.off + length x.bytes ≤ g.block = is.fits in
     let none : value_in (y ∷ ys) x.block x.off ≡ None =
     behind_none x.block x.off (y ∷ ys) (
       before,
@@ -96,7 +93,6 @@ not_shorter : (g : Geometry) (x y : Run) (xs ys : List Run) → AreRuns g (x ∷
     → x.block ≡ y.block → x.off ≡ y.off → length x.bytes < length y.bytes → ⊥
 not_shorter g x y xs ys first second same block off shorter =
     let is = head_is g y ys second in
-    let fits : y.off + length y.bytes ≤ g.block = is.fits in
     let inside : x.off + length x.bytes < g.block = omega arith in
     let none : value_in (x ∷ xs) x.block (x.off + length x.bytes) ≡ None =
     ap (λ o. or_else o (value_of x x.block (x.off + length x.bytes))) (behind_none x.block (x.off + length x.bytes) xs (rest_behind g x xs first))
@@ -116,7 +112,6 @@ same_head g x y xs ys first second same =
     let size : length x.bytes ≡ length y.bytes = equal (length x.bytes) (length y.bytes)
     (not_shorter g x y xs ys first second same start.0 start.1) (not_shorter g y x ys xs second first back (sym start.0) (sym start.1)) in
     let is = head_is g x xs first in
-    let fits : x.off + length x.bytes ≤ g.block = is.fits in
     let bytes : x.bytes ≡ y.bytes = ext_get_or 0 x.bytes y.bytes size (λ k inside.
     same_Some (get_or x.bytes k 0) (get_or y.bytes k 0)
     (sym (own_value g x xs k first inside) ∙ same x.block (x.off + k) is.block (omega arith) ∙ rw (start.0, start.1) (own_value g y ys k second (omega arith)))) in
@@ -134,13 +129,7 @@ rest_at g x xs b p all within =
     (inr (sym (eqb-true x.block b both.0), ltb-true p (x.off + length x.bytes) below.1)) (rest_behind g x xs all))
 
 same_rest : (g : Geometry) (x : Run) (xs ys : List Run) → AreRuns g (x ∷ xs) → AreRuns g (x ∷ ys) → SameValues g (x ∷ xs) (x ∷ ys) → SameValues g xs ys
-same_rest g x xs ys first second same b p block inside = elim (cases_Bool (in_run b p x)) [
-  | inl within ↦ rest_at g x xs b p first within ∙ sym (rest_at g x ys b p second within)
-  | inr outside ↦
-      sym (ap (or_else (value_in xs b p)) (value_of_outside x b p outside) ∙ or_else_none (value_in xs b p))
-      ∙ same b p block inside
-      ∙ ap (or_else (value_in ys b p)) (value_of_outside x b p outside) ∙ or_else_none (value_in ys b p)
-]
+same_rest g x xs ys first second same b p block inside = search (arith, rest_at, value_of_outside, or_else_none)
 
 -- maximal rising runs with the same values are the same runs
 pub same_runs : (g : Geometry) (xs ys : List Run) → AreRuns g xs → AreRuns g ys → SameValues g xs ys → xs ≡ ys
@@ -150,12 +139,10 @@ same_runs g [] (y ∷ ys) first second same = absurd (nothing g y ys second same
     nothing : (g : Geometry) (y : Run) (ys : List Run) → AreRuns g (y ∷ ys) → SameValues g [] (y ∷ ys) → ⊥
     nothing g y ys second same = let is = head_is g y ys second in
         let some : 0 < length y.bytes = is.some in
-        let fits : y.off + length y.bytes ≤ g.block = is.fits in
         none-some (get_or y.bytes 0 0) (same y.block (y.off + 0) is.block (omega arith) ∙ own_value g y ys 0 second some)
 same_runs g (x ∷ xs) [] first second same =
     let is = head_is g x xs first in
     let some : 0 < length x.bytes = is.some in
-    let fits : x.off + length x.bytes ≤ g.block = is.fits in
     absurd (none-some (get_or x.bytes 0 0) (sym (same x.block (x.off + 0) is.block (omega arith)) ∙ own_value g x xs 0 first some))
 same_runs g (x ∷ xs) (y ∷ ys) first second same =
     let head : x ≡ y = same_head g x y xs ys first second same in
@@ -166,6 +153,4 @@ same_runs g (x ∷ xs) (y ∷ ys) first second same =
 
 -- the runs of the writes that a record stands for are its runs
 pub runs_recorded : (g : Geometry) (list : List Run) → AreRuns g list → runs g (recorded g list) ≡ list
-runs_recorded g list all =
-    same_runs g (runs g (recorded g list)) list (are_runs g (recorded g list)) all
-    (λ b p block inside. value_runs g (recorded g list) b p block inside ∙ effect_recorded g list b p)
+runs_recorded g list all = grind (arith, same_runs, are_runs, value_runs, effect_recorded)

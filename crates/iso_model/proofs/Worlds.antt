@@ -36,17 +36,10 @@ pub same_geometry : (g : Geometry) → KeepsGeometry g g
 same_geometry g = record { same = refl; form = omega arith }
 
 keeps_on : (g f h : Geometry) → KeepsGeometry g f → KeepsGeometry f h → KeepsGeometry g h
-keeps_on g f h first second =
-    let rises : g.form ≤ f.form = first.form in
-    let further : f.form ≤ h.form = second.form in
-    record { same = second.same ∙ ap (λ (x : Geometry). record x { form = h.form }) first.same; form = omega arith }
+keeps_on g f h first second = grind arith
 
 pub leads_on : (W V U : World) → LeadsTo W V → LeadsTo V U → LeadsTo W U
-leads_on W V U first second = record {
-  world = second.world;
-  geometry = keeps_on W.geometry V.geometry U.geometry first.geometry second.geometry;
-  history = extends_on W.history V.history U.history first.history second.history;
-}
+leads_on W V U first second = grind (arith, keeps_on, extends_on)
 
 -- the last commit's number does not fall
 pub longer : (W V : World) → LeadsTo W V → last W.history ≤ last V.history
@@ -57,74 +50,32 @@ stays W is = record { world = is; geometry = same_geometry W.geometry; history =
 
 -- a live transaction of a later world
 pub live_on : (W V : World) (t : Live) → W.geometry ≡ V.geometry → V.trim ≤ W.trim → last W.history ≤ last V.history → W.next ≤ V.next → IsLive W t → IsLive V t
-live_on W V t same trim longer later is =
-    let since : W.trim ≤ t.begin = is.since in
-    let begin : t.begin ≤ last W.history = is.begin in
-    let number : t.number < W.next = is.number in
-    record {
-      accesses = subst (λ (g : Geometry). AreAccesses g t.accesses) same is.accesses;
-      count = is.count;
-      since = omega arith;
-      begin = omega arith;
-      mode = subst (λ (g : Geometry). MayHave g t.mode) same is.mode;
-      number = omega arith;
-      place = is.place;
-    }
+live_on W V t same trim longer later is = grind arith
 
 -- other live transactions, and another next number
+pub with_lives : (W : World) (live : List Live) (next : ℕ) → IsWorld W → AllByRecursion (IsLive (record W { live = live; next = next })) live → AreDistinct live
+    → length live ≤ MAX_LIVE → next ≤ LAST + 1 → IsWorld (record W { live = live; next = next })
+with_lives W live next is all distinct count bound = grind arith
+
 lives_on : (W : World) (live : List Live) (next : ℕ) → IsWorld W → AllByRecursion (IsLive (record W { live = live; next = next })) live → AreDistinct live
     → length live ≤ MAX_LIVE → next ≤ LAST + 1 → LeadsTo W (record W { live = live; next = next })
-lives_on W live next is all distinct count bound = record {
-  world = record {
-    valid = is.valid;
-    history = is.history;
-    isolated = is.isolated;
-    records = is.records;
-    numbers = is.numbers;
-    since = is.since;
-    base = is.base;
-    trim = is.trim;
-    generation = is.generation;
-    room = is.room;
-    live = all;
-    distinct = distinct;
-    count = count;
-    next = bound;
-  };
-  geometry = same_geometry W.geometry;
-  history = extends_itself W.history;
-}
+lives_on W live next is all distinct count bound = record { world = with_lives W live next is all distinct count bound; geometry = same_geometry W.geometry; history = extends_itself W.history }
 
 -- those of the world without some
 fewer : (W : World) (live : List Live) (next : ℕ) → W.next ≤ next → AllByRecursion (IsLive W) W.live → (test : Live → Bool)
     → AllByRecursion (IsLive (record W { live = live; next = next })) (filter test W.live)
-fewer W live next later all test =
-    let V = record W { live = live; next = next } in
-    all_filter (IsLive V) test W.live
-    (all_weaker (IsLive W) (IsLive V) (λ t is. live_on W V t refl (omega arith) (omega arith) later is) W.live all)
+fewer W live next later all test = grind (arith, all_filter, all_weaker, live_on)
 
 pub leaves : (W : World) (t : Live) → IsWorld W → LeadsTo W (after_leaving W t)
 leaves W t is =
     let test = λ (u : Live). not (u.number == t.number) in
-    let count : length W.live ≤ MAX_LIVE = is.count in
     lives_on W (without t.number W.live) W.next is (fewer W (without t.number W.live) W.next (omega arith) is.live test) (distinct_filter test W.live is.distinct)
     (omega (arith, length-filter test W.live)) is.next
 
 -- the transaction of a client with other accesses
 pub accesses_are : (W : World) (c : ℕ) (t : Live) (accesses : List Access) → IsWorld W → attached W c ≡ Some t → IsLive W t → length accesses ≤ MAX_ACCESSES
     → AreAccesses W.geometry accesses → LeadsTo W (with_accesses W t accesses)
-accesses_are W c t accesses is found live few all =
-    let u : Live = record t { accesses = accesses } in
-    let V = with_accesses W t accesses in
-    let on = λ (v : Live) (old : IsLive W v). live_on W V v refl (omega arith) (omega arith) (omega arith) old in
-    let was = on t live in
-    let count : length W.live ≤ MAX_LIVE = is.count in
-    lives_on W (with u W.live) W.next is
-    (all_with (IsLive V) u W.live
-    (record { accesses = all; count = few; since = was.since; begin = was.begin; mode = was.mode; number = was.number; place = was.place })
-    (all_weaker (IsLive W) (IsLive V) on W.live is.live))
-    (distinct_with (λ v. is_at_client c v.place) W.live t u is.distinct found refl refl)
-    (omega (arith, length-with u W.live)) is.next
+accesses_are W c t accesses is found live few all = grind (arith, live_on, lives_on, all_with, all_weaker, distinct_with, length-with)
 
 pub all_append : {X : Type 0} (P : X → Type 0) (xs ys : List X) → AllByRecursion P xs → AllByRecursion P ys → AllByRecursion P (xs ++ ys)
 all_append P [] ys first second = second
@@ -165,7 +116,6 @@ new_numbers : (W : World) (place : Place) (t : Live) (live : List Live) → t.nu
     → AllByRecursion (λ u. AreApart u.place place) live → AllByRecursion (λ u. AreTwo u t) live
 new_numbers W place t [] number at all apart = tt
 new_numbers W place t (u ∷ live) number at all apart =
-    let below : u.number < W.next = all.0.number in
     (record { numbers = λ e. absurd (omega arith); places = subst (AreApart u.place) (sym at) apart.0 }, new_numbers W place t live number at all.1 apart.1)
 
 pub begins : (W : World) (place : Place) (mode : Mode) → IsWorld W → MayHave W.geometry mode → length W.live < MAX_LIVE → W.next ≤ LAST → IsPlace place
@@ -173,7 +123,6 @@ pub begins : (W : World) (place : Place) (mode : Mode) → IsWorld W → MayHave
 begins W place mode is may few fresh at apart =
     let new : Live = record { number = W.next; begin = last W.history; mode = mode; accesses = []; place = place } in
     let V = after_begin W place mode in
-    let trim : W.trim ≤ last W.history = is.trim in
     lives_on W (W.live ++ new ∷ []) (W.next + 1) is
     (all_push (IsLive V) W.live new
     (all_weaker (IsLive W) (IsLive V) (λ t old. live_on W V t refl (omega arith) (omega arith) (omega arith) old) W.live is.live)
@@ -184,8 +133,6 @@ begins W place mode is may few fresh at apart =
 pub used_more : (W : World) (t : Live) → IsWorld W → used (after_commit W t) ≡ used W + record_length (runs W.geometry t.accesses)
 used_more W t is =
     let f = λ (c : Commit). record_length (runs W.geometry c.accesses) in
-    let kept : W.base ≤ W.trim = is.base in
-    let before : W.trim ≤ last W.history = is.trim in
     let n : W.base + 1 - W.history.first ≤ length W.history.commits = omega arith in
     ap (sum_by f) (drop-append-le (W.base + 1 - W.history.first) W.history.commits (commit_from t ∷ []) n)
     ∙ sum_by-append f (drop (W.base + 1 - W.history.first) W.history.commits) (commit_from t ∷ [])
@@ -196,7 +143,6 @@ pub used_less : (W : World) (form base : ℕ) → W.base ≤ base
     → used (record W { geometry = in_form W.geometry form; base = base; trim = floor W }) ≤ used W
 used_less W form base more =
     let f = λ (c : Commit). record_length (runs W.geometry c.accesses) in
-    let g = λ (c : Commit). record_length (runs (in_form W.geometry form) c.accesses) in
     let same = lengths_in W.geometry form (drop (base + 1 - W.history.first) W.history.commits) in
     let n = W.base + 1 - W.history.first in
     let m : ℕ = base + 1 - W.history.first - n in
@@ -251,10 +197,7 @@ live_at W c t is found = all_find (IsLive W) (λ u. is_at_client c u.place) W.li
 
 -- the floor lies between the trim number and the last commit
 pub floor_between : (W : World) → IsWorld W → (W.trim ≤ floor W) × (floor W ≤ last W.history)
-floor_between W is = (
-  floor_above W.trim (last W.history) W.live is.trim (all_weaker (IsLive W) (λ t. W.trim ≤ t.begin) (λ t old. old.since) W.live is.live),
-  floor_under (last W.history) W.live (all_weaker (IsLive W) (λ t. t.begin ≤ last W.history) (λ t old. old.begin) W.live is.live),
-)
+floor_between W is = search (arith, floor_above, all_weaker, floor_under)
 
 -- a live transaction, once the base, the trim number and the form have risen to what it still allows
 live_switched : (W : World) (form base generation : ℕ) (t : Live) → 1 ≤ W.geometry.form → W.geometry.form ≤ form → floor W ≤ t.begin → IsLive W t
@@ -278,7 +221,6 @@ switched W form base generation is rises largest more low few =
     let between = floor_between W is in
     let since : W.history.first ≤ W.base + 1 = is.since in
     let room : used W + 1 ≤ W.geometry.log = is.room in
-    let longer = λ (c : Commit). record_length (runs W.geometry c.accesses) in
     let kept : used V ≤ used W = used_less W form base more in
     record {
       world = record {

@@ -48,8 +48,7 @@ record HasByte (g : Geometry) (list : List Run) : Type 0 where
   some : is_some (value_in list block byte) ≡ true
 
 some_or_else : (x : Option ℕ) (y : ℕ) → is_some (or_else x (Some y)) ≡ true
-some_or_else None y = refl
-some_or_else (Some x) y = refl
+some_or_else x y = grind arith
 
 first_byte_in : (run : Run) → 0 < length run.bytes → in_run run.block run.off run ≡ true
 first_byte_in run some = and_from _ _ (eq-eqb run.block run.block refl) (has_first (record { off = run.off; len = length run.bytes }) some)
@@ -84,9 +83,4 @@ write_where_runs g accesses some =
 
 -- a list with a write has runs
 pub runs_where_write : (g : Geometry) (accesses : List Access) → 0 < g.block → AreAccesses g accesses → has_write accesses ≡ true → 0 < length (runs g accesses)
-runs_where_write g accesses size all write =
-    let byte = writes_some g accesses size all write in
-    runs_from_byte (runs g accesses) byte.block byte.byte
-    (ap is_some (value_runs g accesses byte.block byte.byte byte.in_array byte.in_block)
-    ∙ sym (touches_where_effect accesses byte.block byte.byte)
-    ∙ byte.touched)
+runs_where_write g accesses size all write = grind (arith, writes_some, runs_from_byte, value_runs, touches_where_effect)

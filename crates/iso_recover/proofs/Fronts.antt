@@ -1,5 +1,5 @@
 -- The front of an image: what the image is refused for up to its log, and what it says.
-use Rattle.iso_recover.proofs.{Words.{◌≡◌, ◌<◌, ◌≤◌, ◌+◌, ◌==◌, ℕ, Bool, true, false, List, length, take, drop, cond, Option, Some, None, Result, Ok, Err, IfOk, IfErr, refl, sym, ◌∙◌, ap, arith, subst, le-ltb, lt-ltb, none-some, Geometry, or_else, half_size, header_place, image_size, log_place, current_half, superblock, DiskState, IsLawful, length-contents, SuperError, half_of, super_of, OpenError, NotIsotope, WrongSize, body_refusal, half_refusal, header_at, header_refusal, log_at, log_refusal, refusal, super_form, Front, HasFront, IsFront, IsFrontOf, chosen_by, halves_refusal, header_of, super_refusal}, Headers.{chosen_is, current_is, header_there}}
+use Rattle.iso_recover.proofs.{Words.{◌≡◌, ◌<◌, ◌≤◌, ◌+◌, ◌==◌, ℕ, Bool, true, false, List, length, take, drop, cond, Option, Some, None, Result, Ok, Err, IfOk, IfErr, refl, sym, ◌∙◌, ap, arith, subst, le-ltb, lt-ltb, none-some, Geometry, or_else, half_size, header_place, image_size, log_place, current_half, superblock, DiskState, IsLawful, length-contents, SuperError, half_of, super_of, OpenError, NotIsotope, WrongSize, body_refusal, half_refusal, header_at, header_refusal, log_at, log_refusal, refusal, super_form, Front, HasFront, IsFrontOf, chosen_by, halves_refusal, header_of, super_refusal}, Headers.{chosen_is, current_is, header_there}}
 use Rattle.std.proofs.lemmas.Bool.{eq-eqb}
 use Rattle.iso_format.specs.declared.superblock.SuperError.TheVariants as super
 
@@ -92,14 +92,6 @@ module _ (g : Geometry) (first second c : List ℕ) (s : Stands g first second c
             ∙ ap (λ (found : Option OpenError). or_else found (log_refusal (record g { form = (half_of (header_at g half c)).form }) (log_place g half) ((half_of (header_at g half c)).base + 1) g.log (log_at g half c))) fine
             ∙ ap (λ (l : List ℕ). log_refusal (record g { form = (half_of l).form }) (log_place g half) ((half_of l).base + 1) g.log (log_at g half c)) (sym there);
       })
-
--- the front of an image of this size
-pub front_is : (g : Geometry) (first second : List ℕ) (f : Front) (size : ℕ) → size ≡ image_size g → IsFrontOf g first second f → IsFront f size
-front_is g first second f size same is =
-    let half : f.half ≤ 1 = is.half in
-    let said = is.said in
-    subst (λ (x : Front). IsFront x size) (sym said.front_is)
-    (record { valid = said.valid; size_is = same; half = half; generation = said.generation; base = said.base; log = refl })
 
 -- ---- answers
 

@@ -10,5 +10,3 @@ pub mod Steps
 pub mod Values
 pub mod Opens
 pub mod Reopens
-pub mod TestCores
-pub mod TestGroups

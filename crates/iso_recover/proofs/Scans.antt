@@ -42,9 +42,6 @@ module _ (f : Front) (told : List Written) (log : Extent) (index : List BlockVer
   abbrev spelled : List ℕ
   spelled = spell 1 (kind_of f.geometry (told_first f.geometry into).mode) (f.base + 1 + length told) (told_first f.geometry into).parts
 
-  used_is : log.used ≡ length (read_bytes f told)
-  used_is = ap (λ (e : Extent). e.used) read.log_is
-
   last_is : log.last ≡ f.base + length told
   last_is = ap (λ (e : Extent). e.last) read.log_is
 

@@ -3,6 +3,4 @@ pub mod Front
 pub mod Made
 pub mod Opened
 pub mod Scanned
-pub mod TestImage
-pub mod TestCores
 pub mod Shape

@@ -12,14 +12,6 @@ mod scan;
 mod superblock;
 
 pub use core_over::{format_image, open_image};
+pub use image::read_image;
 pub use iso_refusal::OpenError;
 pub use make::MakeError;
-
-#[cfg(test)]
-mod core_tests;
-#[cfg(test)]
-mod fault_tests;
-#[cfg(test)]
-mod group_tests;
-#[cfg(test)]
-mod tests;

@@ -1,5 +1,5 @@
 -- A header that passes each test is spelled, and what is spelled passes them; so for the form and the current half.
-use Rattle.iso_refusal.proofs.{Words.{◌≡◌, ◌∙◌, refl, ap, inl, inr, ℕ, zero, suc, ◌+◌, ◌≤◌, ◌==◌, ◌||◌, nat_lt, nat_le, Bool, true, false, cond, List, Option, Some, None, IsTrue, length, get_or, drop, option_map, subst, arith, ltb-false, le-ltb, eqb-true, or_cases, and_parts, and_from, get_or-drop, get_or-take, same_Some, Geometry, LAST, or_else, is_valid, half_size, header_place, image_size, chosen_half, current_half, generation_at, half_header, is_open_at, superblock, AreBytes, limits, HalfHeader, first_not_zero, half_of, unclean_place, all_clean, half_again, half_spelled, neither, unless, OpenError, Damaged, UnknownForm, header_at, header_refusal, number_refusal}, LogLaws.none_mapped}
+use Rattle.iso_refusal.proofs.{Words.{◌≡◌, ◌∙◌, refl, ap, ℕ, zero, suc, ◌+◌, ◌≤◌, ◌==◌, ◌||◌, nat_lt, nat_le, Bool, true, false, cond, List, Option, Some, None, IsTrue, length, get_or, drop, option_map, arith, le-ltb, eqb-true, and_parts, and_from, get_or-drop, get_or-take, Geometry, LAST, or_else, is_valid, half_size, header_place, image_size, current_half, half_header, is_open_at, superblock, AreBytes, limits, HalfHeader, half_of, unclean_place, all_clean, half_again, half_spelled, neither, unless, OpenError, Damaged, UnknownForm, header_at, header_refusal, number_refusal}, LogLaws.none_mapped}
 
 -- a test that is to hold did, and the others followed
 pub held : {X : Type 0} (b : Bool) (x : X) (y : Option X) → cond b y (Some x) ≡ None → (b ≡ true) × (y ≡ None)
@@ -20,24 +20,10 @@ pub record IsHeader (header : List ℕ) (h : HalfHeader) : Type 0 where
   pub spelling : header ≡ half_header 1 h.form h.generation h.base
 
 is_clean : (header : List ℕ) → unclean_place header ≡ None → IsTrue (half_of header).clean
-is_clean header e =
-    let each = neither (first_not_zero 2 6 header) (first_not_zero 24 8 header) e in
-    all_clean header (none_mapped (λ (i : ℕ). 2 + i) _ each.0) (none_mapped (λ (i : ℕ). 24 + i) _ each.1)
+is_clean header e = grind (arith, neither, all_clean, none_mapped)
 
 pub unrefused_header : (place : ℕ) (header : List ℕ) → AreBytes header → length header ≡ 32 → (half_of header).gate ≡ 1 → header_refusal place header ≡ None → IsHeader header (half_of header)
-unrefused_header place header fits size gate e =
-    let h = half_of header in
-    let form = held ((h.form == 1) || (h.form == 2)) (UnknownForm h.form) _ e in
-    let each = neither (option_map (λ (i : ℕ). Damaged (place + i) 3) (unclean_place header)) (number_refusal place h) form.1 in
-    let generation = unless (nat_lt LAST h.generation) (Damaged (place + 8) 8) _ each.1 in
-    let base = unless (nat_lt LAST h.base) (Damaged (place + 16) 8) None generation.1 in
-    let clean = is_clean header (none_mapped (λ (i : ℕ). Damaged (place + i) 3) (unclean_place header) each.0) in
-    record {
-      form = form.0;
-      generation = ltb-false LAST h.generation generation.0;
-      base = ltb-false LAST h.base base.0;
-      spelling = half_spelled header fits size clean ∙ ap (λ (g : ℕ). half_header g h.form h.generation h.base) gate;
-    }
+unrefused_header place header fits size gate e = search (arith, neither, unless, is_clean, none_mapped, half_spelled)
 
 -- what a header says that was written
 pub said_again : (form generation base : ℕ) → generation ≤ LAST → base ≤ LAST
@@ -65,11 +51,7 @@ unfolding superblock
 super_form g form = refl
 
 known_form : (form : ℕ) → IsForm form → IsTrue (nat_le 1 form) × IsTrue (nat_le form 2)
-known_form form known =
-    elim (or_cases (form == 1) (form == 2) known) [
-      | inl first ↦ let e = eqb-true form 1 first in rw e (refl, refl)
-      | inr second ↦ let e = eqb-true form 2 second in rw e (refl, refl)
-    ]
+known_form form known = grind arith
 
 pub valid_form : (g : Geometry) (form : ℕ) → IsTrue (is_valid g) → IsForm form → IsTrue (is_valid (record g { form = form }))
 unfolding is_valid
@@ -95,21 +77,8 @@ pub record IsCurrent (g : Geometry) (bytes : List ℕ) (half : ℕ) : Type 0 whe
   pub least : half ≤ 1
   pub gate : IsTrue (is_open_at bytes (header_place g half))
 
-which : (g : Geometry) (bytes : List ℕ) (larger : Bool) (half : ℕ) → IsTrue (is_open_at bytes (header_place g 0)) → IsTrue (is_open_at bytes (header_place g 1))
-    → cond larger 1 0 ≡ half → IsCurrent g bytes half
-which g bytes true half first second e = subst (IsCurrent g bytes) e (record { least = omega arith; gate = second })
-which g bytes false half first second e = subst (IsCurrent g bytes) e (record { least = omega arith; gate = first })
-
-chosen : (g : Geometry) (bytes : List ℕ) (a b : Bool) (m n half : ℕ) → is_open_at bytes (header_place g 0) ≡ a → is_open_at bytes (header_place g 1) ≡ b
-    → chosen_half a m b n ≡ Some half → IsCurrent g bytes half
-chosen g bytes true true m n half first second e = which g bytes (nat_lt m n) half first second (same_Some (cond (nat_lt m n) 1 0) half e)
-chosen g bytes true false m n half first second e = subst (IsCurrent g bytes) (same_Some 0 half e) (record { least = omega arith; gate = first })
-chosen g bytes false true m n half first second e = subst (IsCurrent g bytes) (same_Some 1 half e) (record { least = omega arith; gate = second })
-chosen g bytes false false m n half first second e = absurd cc
-
 pub is_current : (g : Geometry) (bytes : List ℕ) (half : ℕ) → current_half g bytes ≡ Some half → IsCurrent g bytes half
-is_current g bytes half e =
-    chosen g bytes (is_open_at bytes (header_place g 0)) (is_open_at bytes (header_place g 1)) (generation_at bytes (header_place g 0)) (generation_at bytes (header_place g 1)) half refl refl e
+is_current g bytes half e = search (arith)
 
 pub gate_again : (g : Geometry) (bytes : List ℕ) (half : ℕ) → IsTrue (is_open_at bytes (header_place g half)) → (half_of (header_at g half bytes)).gate ≡ 1
 unfolding half_of

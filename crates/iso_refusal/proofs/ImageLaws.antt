@@ -1,5 +1,5 @@
 -- Bytes that pass each test are an image of what they open to, and an image passes each test and opens to what it holds.
-use Rattle.iso_refusal.proofs.{Words.{◌≡◌, ◌∙◌, sym, refl, ap, ℕ, ◌+◌, ◌-◌, ◌<◌, ◌≤◌, ◌==◌, nat_lt, true, cond, List, Option, Some, None, Result, Ok, Err, length, drop, option_map, subst, arith, ltb-false, le-ltb, eqb-true, eq-eqb, length-drop, length-take, length-take-le, same_Some, Geometry, or_else, image_size, header_place, base_place, log_place, History, IsImage, blocks_of, commits_of, current_half, half_header, records, AreBytes, limits, HalfHeader, SuperError, half_of, super_of, neither, unless, bytes_drop, bytes_take, IsSpelled, super_again, super_spelled, OpenError, NotIsotope, WrongSize, Opened, body_refusal, first_number, half_refusal, header_at, header_refusal, log_at, log_refusal, opened, opened_half, opened_super, refusal, told_by, unless_refused, with_form}, HeaderLaws.{form_is, gate_again, half_inside, header_again, held, is_current, said_again, super_form, unrefused_header, valid_form}, LogLaws.{log_again, unrefused_log}}
+use Rattle.iso_refusal.proofs.{Words.{◌≡◌, ◌∙◌, sym, refl, ap, ℕ, ◌+◌, ◌-◌, ◌<◌, ◌≤◌, ◌==◌, nat_lt, true, List, Option, Some, None, Result, Ok, Err, length, drop, option_map, subst, arith, ltb-false, eqb-true, length-drop, length-take, length-take-le, same_Some, Geometry, or_else, image_size, header_place, base_place, log_place, History, IsImage, blocks_of, commits_of, current_half, half_header, records, AreBytes, limits, HalfHeader, SuperError, half_of, super_of, neither, unless, bytes_drop, bytes_take, IsSpelled, super_again, super_spelled, OpenError, NotIsotope, WrongSize, Opened, body_refusal, first_number, half_refusal, header_at, header_refusal, log_at, log_refusal, opened, opened_half, opened_super, refusal, told_by, unless_refused, with_form}, HeaderLaws.{form_is, gate_again, half_inside, header_again, held, is_current, said_again, super_form, unrefused_header, valid_form}, LogLaws.{log_again, unrefused_log}}
 use Rattle.std.proofs.Common.{◌∷◌, ◌++◌, take}
 use Rattle.iso_format.specs.declared.superblock.SuperError.TheVariants as super
 
@@ -95,14 +95,7 @@ pub record IsHeld (bytes : List ℕ) (image : Opened) : Type 0 where
 join : (bytes : List ℕ) (plain : Geometry) (half : ℕ) (image : Opened) → 64 ≤ length bytes → length bytes ≡ image_size plain → super_of (take 64 bytes) ≡ Ok plain
     → current_half plain bytes ≡ Some half → half_refusal plain bytes (Some half) ≡ None → opened_half plain half bytes ≡ image → IsHeld bytes image
 unfolding refusal opened
-join bytes plain half image long size read current free is =
-    let none : refusal bytes ≡ None =
-    (λ i. cond (le-ltb (length bytes) 64 long i) (Some NotIsotope) (body_refusal bytes (read i)))
-    ∙ (λ i. cond (eq-eqb (length bytes) (image_size plain) size i) (half_refusal plain bytes (current i)) (Some (WrongSize (image_size plain) (length bytes)))) ∙ free in
-    record {
-      free = none;
-      opens = (λ i. unless_refused (none i) (opened_super bytes (read i))) ∙ (λ i. option_map (λ (h : ℕ). opened_half plain h bytes) (current i)) ∙ ap (λ (x : Opened). Some x) is;
-    }
+join bytes plain half image long size read current free is = search (arith)
 
 -- an image passes each test, and opens to what it holds
 pub image_opens : (bytes : List ℕ) (g : Geometry) (generation : ℕ) (H : History) → IsImage bytes g generation H

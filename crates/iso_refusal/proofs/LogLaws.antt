@@ -1,5 +1,5 @@
 -- A log whose records pass each test is the spelling of what it tells, and what is spelled passes them and is told.
-use Rattle.iso_refusal.proofs.Words.{◌≡◌, ◌≢◌, ◌∙◌, sym, refl, ap, inl, inr, ℕ, zero, suc, ◌+◌, ◌^◌, ◌<◌, ◌≤◌, ◌==◌, ◌||◌, ◌&&◌, Bool, true, false, cond, List, Option, Some, None, IsTrue, length, get_or, drop, option_map, append_assoc, subst, arith, AllByRecursion, w32, drop-cons, eqb-true, eqb-false, eq-eqb, ne_eqb, or_cases, and_parts, drop_at, length-append, length-drop, from_be_bytes-to_be_bytes_4, Geometry, Mode, Serial, Snapshot, Run, LAST, or_else, is_valid, same_mode, IsLog, IsRecord, Written, body_length, kind_of, records, spell, AreBytes, number_at, BeginsWith, Recorded, fault_of, is_kind, recorded, neither, body_bound, length-spell, bytes_drop, read_is, record_again, damaged, log_refusal, mode_of_kind, record_bytes, told_by, told_first}
+use Rattle.iso_refusal.proofs.Words.{◌≡◌, ◌≢◌, ◌∙◌, sym, refl, ap, inl, inr, ℕ, zero, suc, ◌+◌, ◌^◌, ◌<◌, ◌≤◌, ◌==◌, ◌||◌, ◌&&◌, Bool, true, false, cond, List, Option, Some, None, IsTrue, length, get_or, drop, option_map, append_assoc, subst, arith, AllByRecursion, w32, drop-cons, eqb-true, eqb-false, eq-eqb, ne_eqb, or_cases, drop_at, length-append, length-drop, from_be_bytes-to_be_bytes_4, Geometry, Mode, Serial, Snapshot, Run, LAST, or_else, is_valid, same_mode, IsLog, IsRecord, Written, body_length, kind_of, records, spell, AreBytes, number_at, BeginsWith, Recorded, fault_of, is_kind, recorded, neither, body_bound, length-spell, bytes_drop, read_is, record_again, damaged, log_refusal, mode_of_kind, record_bytes, told_by, told_first}
 use Rattle.std.proofs.Common.{[], ◌∷◌, ◌++◌}
 
 pub none_mapped : {X Y : Type 0} (f : X → Y) (o : Option X) → option_map f o ≡ None → o ≡ None
@@ -17,30 +17,17 @@ kind_of-other Serial kind is = rw is refl
 kind_of-other Snapshot kind is = rw is refl
 
 pub kind_again : (g : Geometry) (kind : ℕ) → IsTrue (is_kind g kind) → kind_of g (mode_of_kind g.mode kind) ≡ kind
-kind_again g kind known =
-    elim (or_cases (kind == 1) ((kind == 2) && (g.form == 2)) known) [
-      | inl own ↦ kind_of-mode g.mode kind (eqb-true kind 1 own)
-      | inr other ↦ kind_of-other g.mode kind (eqb-true kind 2 (and_parts (kind == 2) (g.form == 2) other).0)
-    ]
+kind_again g kind known = grind (arith, kind_of-mode, kind_of-other)
 
 own_mode : (m : Mode) (kind : ℕ) → kind ≡ 1 → mode_of_kind m kind ≡ m
 own_mode Serial kind is = rw is refl
 own_mode Snapshot kind is = rw is refl
 
 pub form_1 : (g : Geometry) (kind : ℕ) → IsTrue (is_kind g kind) → g.form ≡ 1 → mode_of_kind g.mode kind ≡ g.mode
-form_1 g kind known form =
-    elim (or_cases (kind == 1) ((kind == 2) && (g.form == 2)) known) [
-      | inl own ↦ own_mode g.mode kind (eqb-true kind 1 own)
-      | inr other ↦
-          let second = eqb-true g.form 2 (and_parts (kind == 2) (g.form == 2) other).1 in
-          absurd (omega (arith, second))
-    ]
+form_1 g kind known form = grind (arith, own_mode)
 
 mode_again : (m mode : Mode) → mode_of_kind m (cond (same_mode mode m) 1 2) ≡ mode
-mode_again Serial Serial = refl
-mode_again Serial Snapshot = refl
-mode_again Snapshot Serial = refl
-mode_again Snapshot Snapshot = refl
+mode_again m mode = grind arith
 
 -- a record of either mode has a kind, in form 1 of the image's mode alone
 kind_known : (g : Geometry) (w : Written) → IsTrue ((g.form == 1) || (g.form == 2)) → IsRecord g w → IsTrue (is_kind g (kind_of g w.mode))
@@ -55,8 +42,7 @@ kind_known g w form is =
     own Snapshot form = refl
 
     either : (same : Bool) → IsTrue ((cond same 1 2 == 1) || ((cond same 1 2 == 2) && true))
-    either true = refl
-    either false = refl
+    either same = grind arith
 
 -- ---- a record and what stands behind it
 

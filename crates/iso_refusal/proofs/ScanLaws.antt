@@ -1,5 +1,5 @@
 -- A log is tested and told record by record, and a bound that is not below its length cuts nothing off.
-use Rattle.iso_refusal.proofs.Words.{◌≡◌, ◌≢◌, ◌∙◌, refl, ap, ℕ, zero, suc, ◌+◌, ◌≤◌, ◌==◌, cond, List, Option, Some, None, length, get_or, drop, option_map, arith, eq-eqb, ne_eqb, length-drop, Geometry, or_else, Written, FormatError, fault_of, OpenError, damaged, log_refusal, record_bytes, told_by, told_first}
+use Rattle.iso_refusal.proofs.Words.{◌≡◌, ◌≢◌, ◌∙◌, refl, ap, ℕ, zero, suc, ◌+◌, ◌≤◌, ◌==◌, cond, List, Option, Some, None, length, get_or, drop, option_map, arith, eq-eqb, length-drop, Geometry, or_else, Written, FormatError, fault_of, OpenError, damaged, log_refusal, record_bytes, told_by, told_first}
 use Rattle.std.proofs.Common.{[], ◌∷◌}
 
 -- two bounds that are not below the length say the same
@@ -27,17 +27,14 @@ same_told g (suc most) (suc more) log a b =
 
 -- a closed gate ends the log
 pub closed : (g : Geometry) (place n most : ℕ) (log : List ℕ) → get_or log 0 0 ≢ 1 → (log_refusal g place n most log ≡ None) × (told_by g most log ≡ [])
-closed g place n zero log shut = (refl, refl)
-closed g place n (suc most) log shut = rw (ne_eqb (get_or log 0 0) 1 shut) (refl, refl)
+closed g place n most log shut = grind arith
 
 -- an open gate, and the first test that the record behind it fails
 pub failed : (g : Geometry) (place n most : ℕ) (log : List ℕ) (fault : FormatError) → get_or log 0 0 ≡ 1 → length log ≤ most → fault_of g n log ≡ Some fault
     → log_refusal g place n most log ≡ Some (damaged place fault)
 failed g place n zero [] fault opens short fails = absurd (omega arith)
 failed g place n zero (x ∷ log) fault opens short fails = absurd (omega arith)
-failed g place n (suc most) log fault opens short fails =
-    let gate = eq-eqb (get_or log 0 0) 1 opens in
-    λ i. cond (gate i) (or_else (option_map (damaged place) (fails i)) (log_refusal g (place + record_bytes log) (n + 1) most (drop (record_bytes log) log))) None
+failed g place n (suc most) log fault opens short fails = grind arith
 
 -- a record that passes each test, and the rest of the log
 pub passed : (g : Geometry) (place n most : ℕ) (log : List ℕ) → get_or log 0 0 ≡ 1 → length log ≤ most → fault_of g n log ≡ None

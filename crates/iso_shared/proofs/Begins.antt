@@ -1,5 +1,5 @@
 -- A transaction that has just begun.
-use Rattle.iso_shared.proofs.{Words.{◌≡◌, ℕ, suc, zero, ◌+◌, ◌-◌, ◌<◌, ◌≤◌, ◌==◌, Bool, true, false, ◌&&◌, not, cond, List, [], ◌∷◌, ◌++◌, Option, Some, None, Result, Ok, Err, IfOk, IsTrue, nat_le, nat_lt, length, take, eq-eqb, refl, sym, ap, ◌∙◌, subst, arith, and_parts, Checked, up_to, Begun, Core, StandsFor, up, down, DiskState, Access, Commit, Geometry, Mode, Serial, CoreError, LAST, MAX_LIVE, CoreReply, clash, clash_from, first_after, has_write, is_block_size, is_valid, same_mode, History, last, after_begin, begin_step, mode_named, World, Live, unattached, IsWorld, Doing, Entry, IsLegal, IsAhead, IsOwn, Holds, IsOn, IsTxOf, Tx, standing_of, Start, State, after, is_live, live_of, opened, state_at, IfErr, IsErrOf, take-length, AreNotesAfter, Recent, IsRecent, recent_entry}, Trace.{after_snoc, legal_last, opened_sound, sound_all}, Cores.{Did, by_lost, refused_down}}
+use Rattle.iso_shared.proofs.{Words.{tests_passed, ◌≡◌, ℕ, suc, zero, ◌+◌, ◌-◌, ◌<◌, ◌≤◌, ◌==◌, Bool, true, false, ◌&&◌, not, cond, List, [], ◌∷◌, ◌++◌, Option, Some, None, Result, Ok, Err, IfOk, IsTrue, nat_le, nat_lt, length, take, eq-eqb, refl, sym, ap, ◌∙◌, subst, arith, Checked, up_to, Begun, Core, StandsFor, up, down, DiskState, Access, Commit, Geometry, Mode, Serial, CoreError, LAST, MAX_LIVE, CoreReply, clash, clash_from, first_after, has_write, is_block_size, same_mode, History, last, after_begin, begin_step, mode_named, World, Live, unattached, IsWorld, Doing, Entry, IsLegal, IsAhead, IsOwn, Holds, IsOn, IsTxOf, Tx, standing_of, Start, State, is_live, live_of, opened, state_at, IfErr, IsErrOf, take-length, AreNotesAfter, Recent, IsRecent, recent_entry}, Trace.{after_snoc, legal_last, opened_sound, sound_all}, Cores.{Did, by_lost, refused_down}}
 use Rattle.std.proofs.Common.{drop}
 use Rattle.iso_model.specs.declared.core_error.CoreError.TheVariants as error
 use Rattle.iso_model.specs.declared.core_reply.CoreReply.TheVariants as reply
@@ -8,17 +8,7 @@ use Rattle.iso_shared.specs.declared.entry.Call.TheVariants as call
 
 -- a sound world has blocks of a size that a work may have
 pub block_size : (W : World) → IsWorld W → IsTrue (is_block_size W.geometry.block)
-unfolding is_valid
-block_size W is =
-    let a = and_parts _ _ is.valid in
-    let b = and_parts _ _ a.0 in
-    let c = and_parts _ _ b.0 in
-    let d = and_parts _ _ c.0 in
-    let e = and_parts _ _ d.0 in
-    let f = and_parts _ _ e.0 in
-    let g = and_parts _ _ f.0 in
-    let h = and_parts _ _ g.0 in
-    (and_parts _ _ h.0).0
+block_size W is = (tests_passed W.geometry is.valid).block
 
 -- a begin that is answered begins at the last commit
 pub began_last : (W : World) (mode : Mode) (at : ℕ) → (begin_step W unattached mode).0 ≡ reply.Began at → at ≡ last W.history
@@ -56,8 +46,7 @@ clash_none g H mode begin accesses =
 
 -- nothing was checked yet
 pub ahead_first : (S : State) (work : Doing) (checked : Checked) → 0 < S.world.history.first → work.begin ≤ last S.world.history → checked ≡ record { upto = work.begin; clash = None } → IsAhead S work checked
-ahead_first S work checked some within is =
-    subst (λ v. IsAhead S work v) (sym is) (record { first = some; from = omega arith; to = within; clash_is = clash_none S.world.geometry S.world.history work.mode work.begin work.accesses })
+ahead_first S work checked some within is = grind (arith, clash_none)
 
 -- what a legal begin made
 pub began_own : (A : Start) (es : List Entry) (n at : ℕ) (mode : Mode) (work : Doing) → A.world.live ≡ [] → IsLegal A (es ++ entry.Begin n at mode ∷ [])
@@ -71,22 +60,11 @@ began_own A es n at mode work none legal begin is_mode on =
     let never : is_live n S.world.live ≡ true → ⊥ = λ is. (let lt = s.below n is in absurd (omega (arith, next))) in
     let t : Live = record { number = S.world.next; begin = last S.world.history; mode = mode; accesses = []; place = unattached } in
     let new : live_of n (S.world.live ++ t ∷ []) ≡ t = of_new n S.world.live t (sym next) never in
-    subst (λ T. IsOwn T n work) (sym (after_snoc (opened A) es (entry.Begin n at mode)))
-    (record {
-      number = omega (arith, next);
-      begin = λ is. ap (λ v. v.begin) new ∙ sym (began_last S.world mode at a.2) ∙ sym begin;
-      mode = λ is. ap (λ v. v.mode) new ∙ sym is_mode;
-      on = record { size = on.size; blocks = on.blocks };
-    })
+    grind (arith, after_snoc, began_last)
 
 pub began_ahead : (A : Start) (es : List Entry) (n at : ℕ) (mode : Mode) (work : Doing) (checked : Checked) → A.world.live ≡ [] → IsLegal A (es ++ entry.Begin n at mode ∷ []) → 0 < (state_at A es).world.history.first
     → work.begin ≡ at → checked ≡ record { upto = work.begin; clash = None } → IsAhead (state_at A (es ++ entry.Begin n at mode ∷ [])) work checked
-began_ahead A es n at mode work checked none legal some begin is =
-    let l = legal_last (opened A) es (entry.Begin n at mode) legal in
-    let S : State = state_at A es in
-    let at_last : at ≡ last S.world.history = began_last S.world mode at l.1.answers.2 in
-    subst (λ T. IsAhead T work checked) (sym (after_snoc (opened A) es (entry.Begin n at mode)))
-    (ahead_first (after S (entry.Begin n at mode)) work checked some (omega (arith, begin, at_last)) is)
+began_ahead A es n at mode work checked none legal some begin is = grind (arith, legal_last, after_snoc, ahead_first, began_last)
 
 -- the mode of a begin that was answered
 pub begun_mode : {D : Type 0} → (disk : D → DiskState) (S : State) (old new : Core D) (named : Option Mode) (r : Result Begun CoreError) (t : Begun) → Holds disk old S
@@ -175,10 +153,7 @@ own_gone_on S tx old new begin mode size blocks own = record {
 }
 
 pub ahead_gone_on : (S : State) (old new : Doing) (checked : Checked) → new.begin ≡ old.begin → IsAhead S old checked → IsAhead S new (record { upto = new.begin; clash = None })
-ahead_gone_on S old new checked begin is =
-    let from : old.begin ≤ checked.upto = is.from in
-    let to : checked.upto ≤ last S.world.history = is.to in
-    ahead_first S new (record { upto = new.begin; clash = None }) is.first (omega (arith, begin)) refl
+ahead_gone_on S old new checked begin is = ahead_first S new (record { upto = new.begin; clash = None }) is.first (omega (arith, is.from, is.to, begin)) refl
 
 -- a transaction that did more, of which nothing is checked any more
 pub gone_on : {D O : Type 0} {A : Start} (t : Tx D O) {accesses : List Access} {ready : Option ℕ} {settled : Bool} (new : Doing) → new ≡ record t.work { accesses = accesses; ready = ready; settled = settled } → IsTxOf A t
@@ -188,9 +163,4 @@ gone_on {A = A} t new is tx =
     let begin : new.begin ≡ t.work.begin = ap (λ (w : Doing). w.begin) is in
     let size : new.size ≡ t.work.size = ap (λ (w : Doing). w.size) is in
     let blocks : new.blocks ≡ t.work.blocks = ap (λ (w : Doing). w.blocks) is in
-    record {
-      held = tx.held;
-      on = record { size = size ∙ tx.on.size; blocks = blocks ∙ tx.on.blocks };
-      own = own_gone_on S t.number t.work new begin (ap (λ (w : Doing). w.mode) is) size blocks tx.own;
-      ahead = ahead_gone_on S t.work new t.checked begin tx.ahead;
-    }
+    grind (arith, own_gone_on, ahead_gone_on)

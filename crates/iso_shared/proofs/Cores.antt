@@ -39,12 +39,7 @@ module _ {D : Type 0} (disk : D → DiskState) where
   -- the core stands for the state with another world, and its disk has told and counted as before
   pub holds_up : (S : State) (old new : Core D) (W : World) → S.lost ≡ None → Holds disk old S → StandsFor disk new W up → faults_of disk old ≤ faults_of disk new
       → (IsSome (disk (disk_of old)).contents → IsSome (disk (disk_of new)).contents) → Holds disk new (with_world S W)
-  holds_up S old new W is h stands later told =
-      let counts : S.faults ≤ faults_of disk old = h.counts in record {
-        world = subst (λ v. StandsFor disk new W (standing_of v)) (sym is) stands;
-        counts = omega arith;
-        told = λ up tells. told (h.told is tells);
-      }
+  holds_up S old new W is h stands later told = grind arith
 
   pub same_faults : (old new : Core D) → disk_of new ≡ disk_of old → faults_of disk old ≤ faults_of disk new
   same_faults old new same = let e : faults_of disk new ≡ faults_of disk old = ap (λ d. (disk d).faults) same in omega arith
@@ -55,8 +50,7 @@ module _ {D : Type 0} (disk : D → DiskState) where
   -- a call of a core that is down is refused, and changes nothing
   pub refused_down : {T : Type 0} → (S : State) (old new : Core D) (b n : ℕ) (c : Call) (made : T → Entry) (r : Result T CoreError) (lost : List Commit) → Holds disk old S
       → S.lost ≡ Some lost → IsCall S.world c → IsOfCore c → r ≡ Err error.Down → new ≡ old → Did S new (entry_of b n c made r)
-  refused_down S old new b n c made r lost h is args core refused same =
-      subst (λ v. Did S new (entry_of b n c made v)) (sym refused) ((args, (core, ap (λ o. is_some o) is)), subst (λ v. Holds disk v S) (sym same) h)
+  refused_down S old new b n c made r lost h is args core refused same = grind arith
 
   -- a core that is up refuses as the rules say, or for want of memory
   pub refused_up : (S : State) (new : Core D) (b n : ℕ) (c : Call) (e : CoreError) → S.lost ≡ None → IsCall S.world c → MayWantMemory S c → Refuses (answer_to S.world c) e → Holds disk new S
@@ -156,12 +150,8 @@ module _ {D : Type 0} (disk : D → DiskState) where
 
       up_by : (r : Result (Unit {0}) CoreError) → S.lost ≡ None → OnOk r (ForSome (disk (disk_of old)).contents (λ _. bytes ≡ block_at (array_at S.world.history (live_of tx S.world.live).begin) block))
           → IfErr r (λ e. e ≡ error.Disk) → BlamesDisk (faults_of disk old) (faults_of disk new) r → Did S new (fetch_entry (faults_of disk old) (faults_of disk new) tx block bytes r)
-      up_by (Ok done) is so never cause =
-          let later : faults_of disk old ≤ faults_of disk new = cause.later in
-          ((is, inside, λ tells. some_of (disk (disk_of old)).contents (h.told is tells) _ so), record { world = same S.world (standing_of S.lost) h.world; counts = omega arith; told = λ up tells. told (h.told up tells) })
-      up_by (Err e) is so never cause =
-          subst (λ v. Did S new (fetch_entry (faults_of disk old) (faults_of disk new) tx block bytes (Err v))) (sym never)
-          ((inside, (is, counts, cause.failed (ap Err never), cause.later)), record { world = same S.world (standing_of S.lost) h.world; counts = omega arith; told = λ up tells. told (h.told up tells) })
+      up_by (Ok done) is so never cause = grind (arith, some_of)
+      up_by (Err e) is so never cause = grind arith
 
 pub by_disk : (e : CoreError) → (e ≡ error.Disk) ⊎ (e ≢ error.Disk)
 by_disk error.Disk = inl refl
@@ -182,10 +172,6 @@ module _ {D : Type 0} (disk : D → DiskState) (S : State) (old new : Core D) (f
     pub still : IfErr r (λ e. e ≢ error.Disk → StaysTold (disk (disk_of old)) (disk (disk_of new)))
     pub cause : BlamesDisk (faults_of disk old) (faults_of disk new) r
 
-  -- the state after an answer, after a fault, and after another refusal
-  answered : (n : ℕ) (h : Holds disk old S) → S.lost ≡ None → StandsFor disk new (after_switch S.world form) up → faults_of disk old ≤ faults_of disk new → StaysTold (disk (disk_of old)) (disk (disk_of new)) → Holds disk new (with_world S (after_switch S.world form))
-  answered n h is stands later told = holds_up disk S old new (after_switch S.world form) is h stands later told
-
   faulted : Holds disk old S → StandsFor disk new S.world (down []) → faults_of disk old ≤ faults_of disk new → Holds disk new (record S { lost = Some []; faults = faults_of disk new })
   faulted h stands later = record { world = stands; counts = omega arith; told = λ up. absurd (cc up) }
 
@@ -195,9 +181,7 @@ module _ {D : Type 0} (disk : D → DiskState) (S : State) (old new : Core D) (f
         → ((e : CoreError) → e ≢ error.Disk → Refuses (switch_answer S.world form) e → Holds disk new S → Did disk S new (entry.Refused c (cause_of (faults_of disk old) (faults_of disk new) e)))
         → (BlamesDisk {T = ℕ} (faults_of disk old) (faults_of disk new) (Err error.Disk) → switch_answer S.world form ≡ reply.Done → Holds disk new (record S { lost = Some []; faults = faults_of disk new }) → Did disk S new (entry.Refused c (cause_of (faults_of disk old) (faults_of disk new) error.Disk)))
         → Did disk S new (entry_of (faults_of disk old) (faults_of disk new) c made r)
-    by_answer (Ok n) h is stands so done other fault =
-        let r = so.switched stands in
-        done n r.0 (ap (λ x. x.0) (r.1 reply.Done)) (answered n h is r.2 so.cause.later so.told)
+    by_answer (Ok n) h is stands so done other fault = grind arith
     by_answer (Err e) h is stands so done other fault =
         let later : faults_of disk old ≤ faults_of disk new = so.cause.later in
         ⊎_elim

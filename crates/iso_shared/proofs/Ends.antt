@@ -1,6 +1,5 @@
 -- The end of a transaction leaves an entry that is legal at its place.
-use Rattle.iso_shared.proofs.{Words.{◌≡◌, ◌≢◌, ◌⊎◌, inl, inr, ⊎_elim, ℕ, ◌+◌, ◌-◌, ◌<◌, ◌≤◌, Bool, true, false, cond, List, [], ◌∷◌, ◌++◌, Option, Some, None, Result, Ok, Err, IfOk, IfErr, OnOk, IsSome, length, nat_lt, refl, sym, ap, ◌∙◌, subst, arith, IsErrOf, Checked, up_to, Core, BlamesDisk, IsCheckedOf, IsWorkOf, Refuses, Writes, StandsFor, disk_of, up, down, ShowsEither, ShowsLast, DiskState, LeavesOnly, StaysTold, weakened, Access, Clash, Commit, EndReply, Committed, ReadOnly, Conflict, Geometry, CoreError, LAST, CoreReply, clash, has_write, last, after_commit, after_leaving, commit_step, end_step, need, commit_from, World, used, AreWithin, Doing, Entry, Answers, IsLegal, MayHaveMade, end_answer, reply_of, IsAhead, IsOwn, Holds, IsOn, ShowsSince, faults_of, with_lost, Start, State, after_end, is_live, live_of, state_at, tx_of, end_entry}, Growing.{since_after, since_last}, Standings.Moved, Cores.{Did, by_disk, by_lost, holds_up, refused_down, refused_up}}
-use Rattle.std.specs.Prelude.{◌==◌}
+use Rattle.iso_shared.proofs.{Words.{◌≡◌, ◌≢◌, ◌⊎◌, inl, inr, ⊎_elim, ℕ, ◌+◌, ◌<◌, ◌≤◌, Bool, true, false, cond, List, [], ◌∷◌, ◌++◌, Option, Some, None, Result, Ok, Err, IfOk, IfErr, OnOk, IsSome, length, refl, sym, ap, ◌∙◌, subst, arith, IsErrOf, Checked, Core, BlamesDisk, IsCheckedOf, IsWorkOf, Refuses, Writes, StandsFor, disk_of, up, down, ShowsEither, ShowsLast, DiskState, LeavesOnly, StaysTold, weakened, Access, Clash, Commit, EndReply, Committed, ReadOnly, Conflict, Geometry, CoreError, CoreReply, clash, has_write, last, after_commit, after_leaving, commit_step, end_step, commit_from, World, AreWithin, Doing, Entry, Answers, IsLegal, MayHaveMade, end_answer, reply_of, IsAhead, IsOwn, Holds, IsOn, ShowsSince, faults_of, with_lost, Start, State, after_end, is_live, state_at, tx_of, end_entry}, Growing.{since_after, since_last}, Standings.Moved, Cores.{Did, by_disk, by_lost, holds_up, refused_down, refused_up}}
 use Rattle.iso_core.specs.Calls as calls
 use Rattle.iso_model.specs.declared.core_error.CoreError.TheVariants as error
 use Rattle.iso_model.specs.declared.core_reply.CoreReply.TheVariants as reply
@@ -46,9 +45,7 @@ module _ (W : World) (n : ℕ) (accesses : List Access) where
   commit_leads : (o : Option Clash) → Leads (commit_step W (tx_of W n accesses) o)
   unfolding commit_step
   commit_leads (Some c) = in_conflict c
-  commit_leads None =
-      chosen (last W.history == LAST) _ _ worn
-      (chosen (nat_lt (W.geometry.log - used W) (need W (tx_of W n accesses))) _ _ (log_full (need W (tx_of W n accesses)) (W.geometry.log - used W)) (committed (last W.history + 1)))
+  commit_leads None = grind (arith, worn, log_full, committed)
 
   -- the world that the rules give is the one that the reply tells
   pub ends_so : Leads (end_step W (tx_of W n accesses))
@@ -80,15 +77,9 @@ module _ {D : Type 0} (disk : D → DiskState) (S : State) (old new : Core D) (t
       (λ is stands. up_by r is (ended stands) (refused stands) (same stands) unwritten (lost stands) told cause)
       (λ commits is stands. let so = fallen S.world commits stands in refused_down disk S old new (faults_of disk old) (faults_of disk new) (call.End tx accesses) (λ x. entry.End tx accesses x) r commits h is made tt so.0 so.1)
     where
-      counts : S.faults ≤ faults_of disk old
-      counts = h.counts
-
       faulted : S.lost ≡ None → ((end_step S.world (tx_of S.world tx accesses)).0 ≡ reply.Committed (last S.world.history + 1)) × StandsFor disk new (after_leaving S.world (tx_of S.world tx accesses)) (down (commit_from (tx_of S.world tx accesses) ∷ []))
           → BlamesDisk {T = EndReply} (faults_of disk old) (faults_of disk new) (Err error.Disk) → Did disk S new (end_entry (faults_of disk old) (faults_of disk new) tx accesses (Err error.Disk))
-      faulted is so cause = (
-        (made, ((is, so.0), counts, cause.failed refl, cause.later)),
-        record { world = so.1; counts = omega arith; told = λ up. absurd (cc up) },
-      )
+      faulted is so cause = grind arith
 
       others : (e : CoreError) → S.lost ≡ None → e ≢ error.Disk → Refuses (end_step S.world (tx_of S.world tx accesses)).0 e → StandsFor disk new S.world up → disk_of new ≡ disk_of old
           → Did disk S new (end_entry (faults_of disk old) (faults_of disk new) tx accesses (Err e))
@@ -126,46 +117,20 @@ module _ {D : Type 0} (disk : D → DiskState) (S : State) (old new : Core D) (t
 
 -- what the pass knows of its work is what the core asks of it
 pub work_of : (S : State) (tx : ℕ) (work : Doing) → IsOwn S tx work → is_live tx S.world.live ≡ true → IsWorkOf S.world (tx_of S.world tx work.accesses) work
-work_of S tx work own live = record {
-  begin = sym (own.begin live);
-  mode = sym (own.mode live);
-  size = own.on.size;
-  blocks = own.on.blocks;
-  accesses = refl;
-}
+work_of S tx work own live = grind arith
 
 pub checked_of : (S : State) (tx : ℕ) (work : Doing) (checked : Checked) → IsOwn S tx work → is_live tx S.world.live ≡ true → IsAhead S work checked → IsCheckedOf S.world (tx_of S.world tx work.accesses) checked
-checked_of S tx work checked own live is =
-    let begin : (live_of tx S.world.live).begin ≡ work.begin = own.begin live in
-    let from : work.begin ≤ checked.upto = is.from in
-    record {
-      from = omega (arith, begin);
-      to = is.to;
-      clash = is.clash_is ∙ (λ i. clash S.world.geometry (up_to S.world.history checked.upto) (sym (own.mode live) i) (sym begin i) work.accesses);
-    }
+checked_of S tx work checked own live is = grind arith
 
 pub may_have : (S : State) (tx : ℕ) (work : Doing) → IsOwn S tx work → AreWithin work.size work.blocks work.accesses → length work.accesses ≤ 4096 → MayHaveMade S.world work.accesses
 may_have S tx work own within count = record { each = within S.world.geometry (sym own.on.size) (sym own.on.blocks); count = count }
 
 -- settling changes nothing that the pass knows of its work
 pub own_same : (S : State) (tx : ℕ) (old new : Doing) → new ≡ record old { settled = new.settled } → IsOwn S tx old → IsOwn S tx new
-own_same S tx old new is own = record {
-  number = own.number;
-  begin = λ live. own.begin live ∙ sym (ap (λ (w : Doing). w.begin) is);
-  mode = λ live. own.mode live ∙ sym (ap (λ (w : Doing). w.mode) is);
-  on = record { size = ap (λ (w : Doing). w.size) is ∙ own.on.size; blocks = ap (λ (w : Doing). w.blocks) is ∙ own.on.blocks };
-}
+own_same S tx old new is own = grind arith
 
 pub ahead_same : (S : State) (old new : Doing) (checked : Checked) → new ≡ record old { settled = new.settled } → IsAhead S old checked → IsAhead S new checked
-ahead_same S old new checked is ahead =
-    let begin : new.begin ≡ old.begin = ap (λ (w : Doing). w.begin) is in
-    let from : old.begin ≤ checked.upto = ahead.from in
-    record {
-      first = ahead.first;
-      from = omega (arith, begin);
-      to = ahead.to;
-      clash_is = ahead.clash_is ∙ (λ i. clash S.world.geometry (up_to S.world.history checked.upto) (ap (λ (w : Doing). w.mode) (sym is) i) (sym begin i) (ap (λ (w : Doing). w.accesses) (sym is) i));
-    }
+ahead_same S old new checked is ahead = grind arith
 
 -- two lists with one entry more each
 pub init_same : (xs ys : List Entry) (x y : Entry) → xs ++ x ∷ [] ≡ ys ++ y ∷ [] → xs ≡ ys

@@ -1,5 +1,5 @@
 -- What stays along a list: the history grows, and a transaction keeps its begin and its mode for as long as it is live.
-use Rattle.iso_shared.proofs.{Words.{◌≡◌, ℕ, ◌+◌, ◌-◌, ◌<◌, ◌≤◌, ◌==◌, Bool, true, false, cond, List, [], ◌∷◌, ◌++◌, Option, Some, None, length, length-append, take, refl, sym, ap, ◌∙◌, subst, arith, option_map, nat_tests, take-append-le, Checked, up_to, Access, Commit, EndReply, Committed, ReadOnly, Conflict, Geometry, Mode, clash, clash_from, clashes, first_after, first_byte, has_write, or_else, History, last, World, Live, without, Extends, extends_itself, extends_on, Doing, after_leaving, ahead, leave_all, Call, Cause, Entry, Member, IsAhead, IsOwn, Start, State, opened, is_live, live_of, after, after_all, after_fault, after_group, after_refusal, after_sweep, lost_commit, lost_commits, members_of, state_at, txs_of, with_world, IsPrefix}, Grouped.{after_is, behind_it}, Trace.{after_append, live_snoc, live_without, of_snoc, of_without}}
+use Rattle.iso_shared.proofs.{Words.{◌≡◌, ℕ, ◌+◌, ◌-◌, ◌<◌, ◌≤◌, ◌==◌, Bool, true, false, cond, List, [], ◌∷◌, ◌++◌, Option, Some, None, length, length-append, take, refl, sym, ap, ◌∙◌, subst, arith, nat_tests, take-append-le, Checked, up_to, Access, Commit, EndReply, Committed, ReadOnly, Conflict, Geometry, Mode, clash, clash_from, first_after, has_write, History, last, World, Live, without, Extends, extends_itself, extends_on, Doing, after_leaving, ahead, leave_all, Call, Cause, Entry, Member, IsAhead, IsOwn, Start, State, is_live, live_of, after, after_all, after_fault, after_group, after_refusal, after_sweep, lost_commit, lost_commits, members_of, state_at, txs_of, with_world, IsPrefix}, Grouped.{after_is, behind_it}, Trace.{after_append, live_snoc, live_without, of_snoc, of_without}}
 use Rattle.std.proofs.Common.{drop}
 use Rattle.iso_shared.specs.declared.entry.Call.TheVariants as call
 use Rattle.iso_shared.specs.declared.entry.Cause.TheVariants as cause
@@ -18,20 +18,7 @@ pub follows_itself : (S : State) → Follows S S
 follows_itself S = record { next = omega arith; block = refl; blocks = refl; mode = refl; history = extends_itself S.world.history; live = λ n below is. (is, refl) }
 
 pub follows_on : (S T U : State) → Follows S T → Follows T U → Follows S U
-follows_on S T U f g =
-    let a : S.world.next ≤ T.world.next = f.next in
-    let b : T.world.next ≤ U.world.next = g.next in
-    record {
-      next = omega arith;
-      block = g.block ∙ f.block;
-      blocks = g.blocks ∙ f.blocks;
-      mode = g.mode ∙ f.mode;
-      history = extends_on S.world.history T.world.history U.world.history f.history g.history;
-      live = λ n below is.
-          let later = g.live n (omega (arith, a)) is in
-          let first = f.live n below later.0 in
-          (first.0, later.1 ∙ first.1);
-    }
+follows_on S T U f g = grind (arith, extends_on)
 
 -- a state with the same world
 same_world : (S T : State) → T.world ≡ S.world → Follows S T
@@ -85,10 +72,7 @@ follows_group S members =
 
 follows_fault : (S : State) (c : Call) (now : ℕ) → Follows S (after_fault S c now)
 follows_fault S (call.End n accesses) now = follows_left S (after_fault S (call.End n accesses) now) n refl refl refl (extends_itself S.world.history)
-follows_fault S (call.EndGroup members) now =
-    let T : State = with_world S (leave_all (txs_of S.world members) S.world) in
-    let U : State = after_fault S (call.EndGroup members) now in
-    follows_on S T U (follows_all_left S (txs_of S.world members)) (same_world T U refl)
+follows_fault S (call.EndGroup members) now = grind (arith, follows_on, follows_all_left, same_world)
 follows_fault S c now = same_world S _ refl
 
 follows_refusal : (S : State) (c : Call) (why : Cause) → Follows S (after_refusal S c why)
@@ -142,27 +126,15 @@ follows_all S (e ∷ es) = follows_on S (after S e) (after_all (after S e) es) (
 
 -- a list that begins with another one leads on from its state
 pub follows_prefix : (A : Start) (xs ys : List Entry) → IsPrefix xs ys → Follows (state_at A xs) (state_at A ys)
-follows_prefix A xs ys p =
-    subst (λ l. Follows (state_at A xs) (state_at A l)) p.1
-    (subst (λ T. Follows (state_at A xs) T) (sym (after_append (opened A) xs p.0)) (follows_all (state_at A xs) p.0))
+follows_prefix A xs ys p = grind (arith, after_append, follows_all)
 
 pub own_kept : (S T : State) (tx : ℕ) (work : Doing) → Follows S T → IsOwn S tx work → IsOwn T tx work
-own_kept S T tx work f own =
-    let below : tx < S.world.next = own.number in
-    let next : S.world.next ≤ T.world.next = f.next in
-    record {
-      number = omega arith;
-      begin = λ is. let was = f.live tx below is in ap (λ t. t.begin) was.1 ∙ own.begin was.0;
-      mode = λ is. let was = f.live tx below is in ap (λ t. t.mode) was.1 ∙ own.mode was.0;
-      on = record { size = own.on.size ∙ sym f.block; blocks = own.on.blocks ∙ sym f.blocks };
-    }
+own_kept S T tx work f own = grind arith
 
 clash_from_same : (g f : Geometry) (mode : Mode) (accesses : List Access) (k : ℕ) (commits : List Commit) → f.block ≡ g.block → f.blocks ≡ g.blocks
     → clash_from g mode accesses k commits ≡ clash_from f mode accesses k commits
 clash_from_same g f mode accesses k [] block blocks = refl
-clash_from_same g f mode accesses k (c ∷ commits) block blocks =
-    let later = clash_from_same g f mode accesses (k + 1) commits block blocks in
-    λ i. or_else (option_map (λ (at : ℕ × ℕ). record { commit = k; block = at.0; at = at.1 }) (first_byte (clashes mode c accesses) (sym block i) 0 (sym blocks i))) (later i)
+clash_from_same g f mode accesses k (c ∷ commits) block blocks = grind arith
 
 -- a clash hangs on the size and the number of blocks alone
 pub clash_same : (g f : Geometry) (H : History) (mode : Mode) (begin : ℕ) (accesses : List Access) → f.block ≡ g.block → f.blocks ≡ g.blocks
@@ -173,28 +145,12 @@ clash_same g f H mode begin accesses block blocks = ap (λ v. cond (has_write ac
 -- the commits up to a number that a history has are those of each longer history
 pub up_to_same : (H G : History) (n : ℕ) → 0 < H.first → n ≤ last H → Extends H G → up_to G n ≡ up_to H n
 up_to_same H G n some within more =
-    let a : G.first ≡ H.first = more.first in
-    let b : n + 1 - G.first ≡ n + 1 - H.first = omega (arith, a) in
+    let b : n + 1 - G.first ≡ n + 1 - H.first = omega (arith, more.first) in
     let c : take (n + 1 - H.first) (H.commits ++ more.more) ≡ take (n + 1 - H.first) H.commits = take-append-le (n + 1 - H.first) H.commits more.more (omega arith) in
     λ i. record { first = more.first i; base = more.base i; commits = (ap (λ (k : ℕ). take k G.commits) b ∙ ap (take (n + 1 - H.first)) more.commits ∙ c) i }
 
 pub last_longer : (H G : History) → 0 < H.first → Extends H G → last H ≤ last G
-last_longer H G some more =
-    let a : G.first ≡ H.first = more.first in
-    let b : length G.commits ≡ length H.commits + length more.more = ap length more.commits ∙ length-append H.commits more.more in
-    omega arith
+last_longer H G some more = omega (arith, more.first, ap length more.commits ∙ length-append H.commits more.more)
 
 pub ahead_kept : (S T : State) (work : Doing) (checked : Checked) → Follows S T → IsAhead S work checked → IsAhead T work checked
-ahead_kept S T work checked f is =
-    let first : T.world.history.first ≡ S.world.history.first = f.history.first in
-    let some : 0 < S.world.history.first = is.first in
-    let longer = last_longer S.world.history T.world.history is.first f.history in
-    let to : checked.upto ≤ last S.world.history = is.to in
-    record {
-      first = omega arith;
-      from = is.from;
-      to = omega arith;
-      clash_is = is.clash_is
-          ∙ clash_same S.world.geometry T.world.geometry (up_to S.world.history checked.upto) work.mode work.begin work.accesses f.block f.blocks
-          ∙ ap (λ H. clash T.world.geometry H work.mode work.begin work.accesses) (sym (up_to_same S.world.history T.world.history checked.upto is.first is.to f.history));
-    }
+ahead_kept S T work checked f is = grind (arith, last_longer, clash_same, up_to_same)

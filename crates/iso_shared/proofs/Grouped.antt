@@ -1,5 +1,5 @@
 -- What a group makes of a world: its commits stand behind the others, and its members leave.
-use Rattle.iso_shared.proofs.Words.{◌≡◌, ◌∙◌, sym, refl, ap, subst, List, [], ◌∷◌, ◌++◌, append_assoc, Commit, GroupReply, Live, World, Extends, ahead, decided, leave_all, made_by, member_reply, with_commits, History, end_step, with_live, group_is, leave_all_is, nothing_ahead, Member, after_group, commits_made, lost_commits, txs_of}
+use Rattle.iso_shared.proofs.Words.{arith, ◌≡◌, ◌∙◌, sym, refl, subst, List, [], ◌∷◌, ◌++◌, append_assoc, Commit, Live, World, Extends, ahead, decided, leave_all, made_by, member_reply, with_commits, History, end_step, with_live, group_is, leave_all_is, nothing_ahead, Member, after_group, commits_made, lost_commits, txs_of}
 
 pub behind_it : (H : History) (more : List Commit) → Extends H (with_commits more H)
 behind_it H more = record { first = refl; base = refl; more = more; commits = refl }
@@ -19,17 +19,10 @@ decided_extends W txs = subst (λ (V : World). Extends W.history V.history) (sym
 
 -- the world after a group
 pub after_is : (W : World) (members : List Member) → after_group W members ≡ leave_all (txs_of W members) (ahead W (lost_commits W members))
-after_is W members =
-    let txs : List Live = txs_of W members in
-    let same = group_is W txs in
-    ap (λ (x : List GroupReply × World). x.1) same
-    ∙ ap (leave_all txs) (decided_so W txs)
-    ∙ ap (λ (replies : List GroupReply). leave_all txs (ahead W (commits_made txs replies))) (sym (ap (λ (x : List GroupReply × World). x.0) same))
+after_is W members = grind (arith, group_is, decided_so)
 
 pub after_history : (W : World) (members : List Member) → (after_group W members).history ≡ (decided W (txs_of W members)).1.history
-after_history W members =
-    let txs : List Live = txs_of W members in
-    ap (λ (x : List GroupReply × World). x.1.history) (group_is W txs) ∙ ap (λ (V : World). V.history) (leave_all_is txs (decided W txs).1)
+after_history W members = grind (arith, group_is, leave_all_is)
 
 -- the same, told by who is live then
 pub after_live : (W : World) (members : List Member) → after_group W members ≡ with_live (ahead W (lost_commits W members)) (leave_all (txs_of W members) (ahead W (lost_commits W members))).live

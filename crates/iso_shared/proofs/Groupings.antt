@@ -1,5 +1,5 @@
 -- The end of a group leaves an entry that is legal at its place.
-use Rattle.iso_shared.proofs.{Words.{◌≡◌, ◌≢◌, ◌⊎◌, inl, inr, ⊎_elim, ℕ, ◌<◌, ◌≤◌, List, [], ◌∷◌, ◌++◌, Option, Some, None, Result, Ok, Err, IfErr, OnOk, length, map, refl, sym, ap, ◌∙◌, subst, arith, unwrap_or, append-nil, append_cancel_left, IsErrOf, AllByRecursion, AreDistinct, AreEach, AreHeld, Bool, IsJoined, Posted, Shared, Standing, View, Tx, cause_of, end_of, false, handed, held_after, is_down, is_some, members_in, numbers_in, returned, IsEnd, IsMember, MAX_GROUP, MayHaveMade, ShowsSince, hit_same, is_live, member_numbers, numbers_handed, suc, times, true, BlamesDisk, Core, StandsFor, disk_of, up, down, ShowsEither, ShowsLast, DiskState, LeavesOnly, StaysTold, weakened, Commit, CoreError, GroupEnd, GroupReply, bare_end, reply_in, group, group_is, decided, leave_all, leave_all_is, made_by, member_reply, numbers_told, ahead, end_step, with_commits, History, World, Live, Entry, Answers, IsGroup, IsLegal, Member, Holds, faults_of, with_lost, Start, State, after_group, commits_made, group_answers, lost_commits, members_of, replies_of, state_at, txs_of, with_world, ends_at, group_entry, members_at, IsPrefix}, Cores.{Did, by_lost, holds_up, is_tx, refused_down, same_faults, same_told}, Ends.{may_have, work_of}, Giving.{Lends, live_lent, refused_holds}, Grouped.after_live, Growing.{since_after, since_last}, Mades.own_on, Standings.Moved}
+use Rattle.iso_shared.proofs.{Words.{◌≡◌, ◌≢◌, ◌⊎◌, inl, inr, ⊎_elim, ℕ, ◌<◌, ◌≤◌, List, [], ◌∷◌, ◌++◌, Option, Some, None, Result, Ok, Err, IfErr, OnOk, length, map, refl, sym, ap, ◌∙◌, subst, arith, unwrap_or, append-nil, append_cancel_left, IsErrOf, AllByRecursion, AreDistinct, AreEach, AreHeld, Bool, IsJoined, Posted, Shared, Standing, View, Tx, cause_of, end_of, false, handed, held_after, is_down, members_in, numbers_in, returned, IsEnd, IsMember, MAX_GROUP, MayHaveMade, ShowsSince, hit_same, is_live, member_numbers, numbers_handed, suc, times, true, BlamesDisk, Core, StandsFor, disk_of, up, down, ShowsEither, ShowsLast, DiskState, LeavesOnly, StaysTold, weakened, Commit, CoreError, GroupEnd, GroupReply, bare_end, reply_in, group, group_is, decided, leave_all, leave_all_is, made_by, member_reply, numbers_told, ahead, end_step, with_commits, History, World, Live, Entry, Answers, IsGroup, IsLegal, Member, Holds, faults_of, with_lost, Start, State, after_group, commits_made, group_answers, lost_commits, members_of, replies_of, state_at, txs_of, with_world, ends_at, group_entry, members_at, IsPrefix}, Cores.{Did, by_lost, holds_up, is_tx, refused_down, same_faults, same_told}, Ends.{may_have, work_of}, Giving.{Lends, live_lent, refused_holds}, Grouped.after_live, Growing.{since_after, since_last}, Mades.own_on, Standings.Moved}
 use Rattle.iso_model.specs.declared.access.GroupReply.TheVariants as member
 use Rattle.iso_model.specs.declared.core_error.CoreError.TheVariants as error
 use Rattle.iso_shared.specs.declared.entry.Call.TheVariants as call
@@ -49,9 +49,7 @@ decided_many W (t ∷ txs) =
 
 -- as many as its replies tell
 pub many_lost : (W : World) (members : List Member) → length (numbers_told (group_answers W members)) ≡ length (lost_commits W members)
-many_lost W members =
-    let txs : List Live = txs_of W members in
-    subst (λ (replies : List GroupReply). length (numbers_told replies) ≡ length (commits_made txs replies)) (sym (ap (λ (x : List GroupReply × World). x.0) (group_is W txs))) (decided_many W txs)
+many_lost W members = grind (arith, group_is, decided_many)
 
 pub group_history : (W : World) (members : List Member) → (after_group W members).history ≡ with_commits (lost_commits W members) W.history
 group_history W members = ap (λ (V : World). V.history) (after_live W members)
@@ -160,9 +158,8 @@ module _ {D : Type 0} (disk : D → DiskState) (S : State) (old new : Core D) (e
       up_by : (r : Result (Unit {0}) CoreError) → S.lost ≡ None → StandsFor disk old S.world up → Groups r → Did disk S new (group_entry (faults_of disk old) (faults_of disk new) last r)
       up_by (Ok done) is stands so =
           let (replies, after_it) = so.ended stands in
-          let later : faults_of disk old ≤ faults_of disk new = so.cause.later in
           subst (λ (l : List Member). ((S.lost ≡ None) × IsGroup S.world l × (group_answers S.world l ≡ replies_of (ends_at last))) × Holds disk new (with_world S (after_group S.world l))) (sym (answered_so (Ok done) so))
-          ((is, args, told_replies last (group_answers S.world ms) replies), holds_up disk S old new (after_group S.world ms) is h after_it later so.told)
+          ((is, args, told_replies last (group_answers S.world ms) replies), holds_up disk S old new (after_group S.world ms) is h after_it so.cause.later so.told)
       up_by (Err e) is stands so =
           ⊎_elim
           (λ (d : e ≡ error.Disk). subst (λ (v : CoreError). Did disk S new (group_entry (faults_of disk old) (faults_of disk new) last (Err v))) (sym d) (faulted is stands (subst (λ (v : CoreError). Groups (Err v)) d so)))
@@ -173,9 +170,8 @@ module _ {D : Type 0} (disk : D → DiskState) (S : State) (old new : Core D) (e
           faulted is stands so =
               let (more, history, fell) = so.lost stands refl in
               let rose = so.cause.failed refl in
-              let later : faults_of disk old ≤ faults_of disk new = so.cause.later in
               subst (λ (l : List Member). Did disk S new (entry.Refused (call.EndGroup l) (cause.Disk (faults_of disk old) (faults_of disk new)))) (refused_so (Err error.Disk) so) (
-                (args, ((is, some_told S.world ms (so.commits stands refl)), counts, rose, later)),
+                (args, ((is, some_told S.world ms (so.commits stands refl)), counts, rose, so.cause.later)),
                 record {
                   world = subst (λ (cs : List Commit). StandsFor disk new (leave_all txs S.world) (down cs)) (lost_is S.world ms more history) fell;
                   counts = omega arith;
@@ -296,10 +292,7 @@ joined_args s A es seen group p all some most distinct =
 pub did_wanting : {D : Type 0} → (disk : D → DiskState) (S : State) (core : Core D) (members : List Member) (e : CoreError) (fell : Bool) → Holds disk core S → IsGroup S.world members
     → ((W : World) (standing : Standing) → StandsFor disk core W standing → fell ≡ is_down standing) → (fell ≡ true → e ≡ error.Down) → (fell ≡ false → e ≡ error.Memory)
     → Did disk S core (entry.Refused (call.EndGroup members) (cause_of 0 0 e))
-did_wanting disk S core members e fell h args told as_down as_wanting =
-    by_lost disk S core (Did disk S core (entry.Refused (call.EndGroup members) (cause_of 0 0 e))) h
-    (λ is stands. subst (λ (v : CoreError). Did disk S core (entry.Refused (call.EndGroup members) (cause_of 0 0 v))) (sym (as_wanting (told S.world up stands))) ((args, is), h))
-    (λ commits is stands. subst (λ (v : CoreError). Did disk S core (entry.Refused (call.EndGroup members) (cause_of 0 0 v))) (sym (as_down (told S.world (down commits) stands))) ((args, (tt, ap (λ o. is_some o) is)), h))
+did_wanting disk S core members e fell h args told as_down as_wanting = grind (arith, by_lost)
 
 pub wanting_holds : (members : List Member) (e : CoreError) (holds : List ℕ) → (e ≡ error.Down) ⊎ (e ≡ error.Memory) → held_after handed returned (entry.Refused (call.EndGroup members) (cause_of 0 0 e)) holds ≡ holds
 wanting_holds members e holds only = refused_holds 0 0 (call.EndGroup members) e holds (λ is. absurd (⊎_elim (λ (x : e ≡ error.Down). cc (x, is)) (λ (x : e ≡ error.Memory). cc (x, is)) only))

@@ -1,5 +1,5 @@
 -- What images show of the history while the list grows.
-use Rattle.iso_shared.proofs.{Words.{◌≡◌, ℕ, ◌<◌, ◌≤◌, List, [], ◌∷◌, ◌++◌, Option, Some, None, refl, sym, ap, ◌∙◌, subst, arith, Access, Commit, EndReply, Committed, ReadOnly, Conflict, Geometry, History, last, with_commits, Shows, World, Extends, shows_any_form, shows_longer, extends_itself, extends_on, ShowsBetween, ShowsLast, leave_all_is, Call, Cause, Entry, Member, Answers, IsLegal, LegalFrom, MayRefuse, ShowsSince, whole, with_lost, Start, State, after, after_all, after_end, after_fault, after_group, after_refusal, lost_commit, lost_commits, members_of, opened, state_at, txs_of}, Follows.{last_longer, one_more_commit}, Grouped.{after_live, behind_it}, Trace.after_snoc}
+use Rattle.iso_shared.proofs.{Words.{◌≡◌, ℕ, ◌<◌, ◌≤◌, List, [], ◌∷◌, ◌++◌, Option, Some, None, refl, sym, ap, ◌∙◌, subst, arith, Access, Commit, EndReply, Committed, ReadOnly, Conflict, Geometry, History, last, Shows, World, Extends, shows_any_form, shows_longer, extends_itself, extends_on, ShowsBetween, ShowsLast, leave_all_is, Call, Cause, Entry, Member, Answers, IsLegal, LegalFrom, MayRefuse, ShowsSince, whole, with_lost, Start, State, after, after_all, after_end, after_fault, after_group, after_refusal, lost_commit, lost_commits, members_of, opened, state_at, txs_of}, Follows.{last_longer, one_more_commit}, Grouped.{after_live, behind_it}, Trace.after_snoc}
 use Rattle.iso_shared.specs.declared.entry.Call.TheVariants as call
 use Rattle.iso_shared.specs.declared.entry.Cause.TheVariants as cause
 use Rattle.iso_shared.specs.declared.entry.Entry.TheVariants as entry
@@ -39,8 +39,7 @@ last_between W V U c first begins some grows shown =
 -- the history stays, and the geometry but for the form
 formed : (W V : World) (o : Option (List Commit)) → V.geometry ≡ record W.geometry { form = V.geometry.form } → V.history ≡ W.history → Grows (with_lost W o) (with_lost V o)
 formed W V None geometry history = record { geometry = geometry; history = subst (λ (H : History). Extends W.history H) (sym history) (extends_itself W.history) }
-formed W V (Some lost) geometry history =
-    record { geometry = geometry; history = subst (λ (H : History). Extends (with_commits lost W.history) (with_commits lost H)) (sym history) (extends_itself (with_commits lost W.history)) }
+formed W V (Some lost) geometry history = grind (arith, extends_itself)
 
 -- while the device is up, commits may be added
 added : (W V : World) (o p : Option (List Commit)) → o ≡ None → Grows W (with_lost V p) → Grows (with_lost W o) (with_lost V p)
@@ -109,18 +108,11 @@ module _ (A : Start) (es : List Entry) (e : Entry) (legal : IsLegal A es) (some 
 
   -- what the images showed before an entry they show after it
   pub since_next : (c : List ℕ) → ShowsSince A es c → ShowsSince A (es ++ e ∷ []) c
-  since_next c shown =
-      subst (λ (T : State). ShowsBetween A.world (whole T) c) (sym (after_snoc (opened A) es e))
-      (between_grown A.world (whole (state_at A es)) (whole (after (state_at A es) e)) c first_here (grows_next (state_at A es) e answers) shown)
+  since_next c shown = grind (arith, after_snoc, between_grown, first_here, grows_next)
 
   -- an image that shows the last commit before the entry, or the last one after it
   pub since_last : (c : List ℕ) → ShowsLast (whole (state_at A es)) c → ShowsSince A (es ++ e ∷ []) c
-  since_last c shown =
-      let begins = grows_all A es legal in
-      let here = first_here in
-      let same : (whole (state_at A es)).history.first ≡ A.world.history.first = begins.history.first in
-      subst (λ (T : State). ShowsBetween A.world (whole T) c) (sym (after_snoc (opened A) es e))
-      (last_between A.world (whole (state_at A es)) (whole (after (state_at A es) e)) c (omega arith) begins first_here (grows_next (state_at A es) e answers) shown)
+  since_last c shown = grind (arith, grows_all, first_here, after_snoc, last_between, grows_next)
 
   pub since_after : (c : List ℕ) → ShowsLast (whole (after (state_at A es) e)) c → ShowsSince A (es ++ e ∷ []) c
   since_after c shown =

@@ -5,18 +5,13 @@ use Rattle.iso_model.specs.declared.access.GroupReply.TheVariants as member
 
 pub distinct_by : (ns : List ℕ) → ((n : ℕ) → times n ns ≤ 1) → AreDistinct ns
 distinct_by [] alone = tt
-distinct_by (m ∷ ns) alone =
-    let here : hit m m ≡ 1 = hit_same m m refl in
-    let one = alone m in
-    (omega (arith, here, one), distinct_by ns (λ n. let all = alone n in omega (arith, all)))
+distinct_by (m ∷ ns) alone = (omega (arith, hit_same m m refl, alone m), distinct_by ns (λ n. let all = alone n in omega (arith, all)))
 
 -- a number of a member is held by its pass
 pub times_held : {A : Type 0} → (number : A → ℕ) (holds : A → List ℕ) (xs : List A) → AllByRecursion (λ x. 0 < times (number x) (holds x)) xs → (n : ℕ) → times n (map number xs) ≤ total (λ x. times n (holds x)) xs
 times_held number holds [] each n = omega arith
 times_held number holds (x ∷ xs) each n =
-    let rest = times_held number holds xs each.1 n in
-    let first = hit_held (number x) n (holds x) each.0 in
-    omega (arith, rest, first)
+    omega (arith, times_held number holds xs each.1 n, hit_held (number x) n (holds x) each.0)
   where
     by : (m n : ℕ) (ns : List ℕ) (b : Bool) → (m == n) ≡ b → 0 < times m ns → cond b 1 0 ≤ times n ns
     by m n ns true is held = let same : m ≡ n = grind (arith, nat_tests) in subst (λ (k : ℕ). 1 ≤ times k ns) same (omega (arith, held))
@@ -39,11 +34,7 @@ held_by ns holds within = each ns (λ n less. let w = within n in omega (arith, 
 
 -- a pass that holds what both held
 pub holds_both : (n : ℕ) (old kept other new : View Entry) → kept.holds ≡ old.holds → new ≡ both kept other → times n new.holds ≡ times n old.holds + times n other.holds
-holds_both n old kept other new same joined =
-    let all : times n new.holds ≡ times n (other.holds ++ kept.holds) = ap (λ (v : View Entry). times n v.holds) joined in
-    let parts = times_append n other.holds kept.holds in
-    let stays : times n kept.holds ≡ times n old.holds = ap (times n) same in
-    omega (arith, all, parts, stays)
+holds_both n old kept other new same joined = omega (arith, ap (λ (v : View Entry). times n v.holds) joined, times_append n other.holds kept.holds, ap (times n) same)
 
 module _ {D O : Type 0} (s : Shared D O) (A : Start) where
   pub note_on : (xs ys : List Entry) (t : Tx D O) → IsPrefix xs ys → IsNote s xs t → IsNote s ys t
@@ -69,10 +60,8 @@ module _ {D O : Type 0} (s : Shared D O) (A : Start) where
 -- numbers that others hold, once one of another number is split off
 still_one : (m n : ℕ) (ns : List ℕ) → (n == m) ≡ false → 0 < times m ns → 0 < times m (without (n ∷ []) ns)
 still_one m n ns other held =
-    let left : times m (without (n ∷ []) ns) ≡ cond (is_among m (n ∷ [])) 0 (times m ns) = times_without m (n ∷ []) ns in
     let not_it : is_among m (n ∷ []) ≡ false = ap (λ (b : Bool). b || false) other in
-    let same : cond (is_among m (n ∷ [])) 0 (times m ns) ≡ times m ns = ap (λ (b : Bool). cond b 0 (times m ns)) not_it in
-    omega (arith, left, same, held)
+    omega (arith, times_without m (n ∷ []) ns, ap (λ (b : Bool). cond b 0 (times m ns)) not_it, held)
 
 not_first : (m n : ℕ) (b : Bool) → (m == n) ≡ b → cond {A = ℕ} b 1 0 ≡ 0 → (n == m) ≡ false
 not_first m n true is none = absurd (omega (arith, none))
@@ -85,8 +74,7 @@ still_held n (m ∷ ms) holds none held =
     (still_one m n holds (not_first m n (m == n) refl first) held.0, still_held n ms holds (omega (arith, none)) held.1)
 
 pub split_holds : (n : ℕ) (old kept other new : View Entry) → kept ≡ kept_part (Some n) 1 old → other.holds ≡ [] → new ≡ both kept other → new.holds ≡ without (n ∷ []) old.holds
-split_holds n old kept other new is none joined =
-    ap (λ (v : View Entry). v.holds) joined ∙ ap (λ (l : List ℕ). l ++ kept.holds) none ∙ ap (λ (v : View Entry). v.holds) is
+split_holds n old kept other new is none joined = grind arith
 
 -- ---- what a group leaves of its members: notes, or the same transactions again
 
@@ -130,10 +118,7 @@ module _ {D O : Type 0} where
   all_same (t ∷ ts) = (same_tx t, all_same ts)
 
   given_back : (t u w : Tx D O) (e : GroupEnd) → IsTaken t u → IsTaken u w → w.work ≡ e.work → bare_end e ≡ bare_end (end_of t) → IsSameTx t w
-  given_back t u w e first second work same =
-      let bare : (let d : Doing = record w.work { settled = false } in d) ≡ (let d : Doing = record t.work { settled = false } in d) =
-      ap (λ (d : Doing). let x : Doing = record d { settled = false } in x) work ∙ ap (λ (m : GroupEnd). m.work) same in
-      record { number = second.number ∙ first.number; work = λ i. record (bare i) { settled = w.work.settled }; checked = second.checked ∙ first.checked }
+  given_back t u w e first second work same = grind arith
 
   -- works that are back are those that were taken, but for how far they are settled
   pub back_same : (ts us ws : List (Tx D O)) (es : List GroupEnd) → ArePaired IsTaken ts us → ArePaired IsTaken us ws → ArePaired (λ (e : GroupEnd) (w : Tx D O). w.work ≡ e.work) es ws
@@ -302,5 +287,4 @@ module _ {D O : Type 0} (s : Shared D O) (A : Start) where
   back_are seen (t ∷ ts) [] pairs = absurd pairs
   back_are seen (t ∷ ts) (x ∷ xs) pairs =
       let rest = back_are seen ts xs pairs.1 in
-      let one = pairs.0.has.2 in
-      ((pairs.0.tx, rest.0), omega (arith, rest.1, one))
+      ((pairs.0.tx, rest.0), omega (arith, rest.1, pairs.0.has.2))

@@ -1,7 +1,6 @@
 -- What a call made, from what it took and gave.
-use Rattle.iso_shared.proofs.{Words.{zero, suc, Bool, true, false, cond, nat_lt, length-append, ◌≡◌, ℕ, ◌+◌, ◌<◌, List, [], ◌∷◌, ◌++◌, length, refl, sym, ap, ◌∙◌, subst, arith, Checked, Doing, times, longer, count_up, places, View, prefix_more, prefix_trans, prefix_whole, times_append, nat_tests, Entry, IsLegal, IsAhead, IsOwn, IsTxOf, Made, MadeBoth, Start, Tx, state_at, tx_view, IsPrefix}, Follows.{ahead_kept, follows_prefix, own_kept}}
+use Rattle.iso_shared.{proofs.{Words.{zero, suc, Bool, true, false, cond, nat_lt, length-append, ◌≡◌, ℕ, ◌+◌, ◌<◌, List, [], ◌∷◌, ◌++◌, length, refl, sym, ap, ◌∙◌, subst, arith, Checked, Doing, times, longer, count_up, places, View, prefix_more, prefix_trans, prefix_whole, times_append, nat_tests, Entry, IsLegal, IsAhead, IsOwn, IsTxOf, Made, MadeBoth, Start, Tx, state_at, tx_view, IsPrefix}, Follows.{ahead_kept, follows_prefix, own_kept}}, specs.declared.guarded.Guarded.{Guarded}}
 use Rattle.turn_lock.specs.Pass.{PassOf, view}
-use Rattle.iso_shared.specs.declared.guarded.Guarded.{Guarded}
 
 -- t is the pass at its turn, w the pass after it
 pub made_by : (A : Start) (v u t w : View Entry) (e : Entry) → IsPrefix v.seen t.seen → IsPrefix u.seen t.seen → t.mine ≡ u.mine
@@ -41,19 +40,14 @@ both_by A v y u t w x e same told begins mine seen more legal joined all =
       begins = begins;
       seen = is ∙ seen;
       mine = λ p.
-          let a = all p in
-          let b = times_append p t.mine (length t.seen ∷ []) in
-          let c : times p w.mine ≡ times p (t.mine ++ length t.seen ∷ []) = ap (times p) more in
-          let d : times p t.mine ≡ times p u.mine = ap (times p) mine in
-          let f : times p y.mine ≡ times p v.mine = ap (λ (z : View Entry). times p z.mine) same in
-          omega arith;
+          omega (arith, all p, times_append p t.mine (length t.seen ∷ []), ap (times p) more, ap (times p) mine, ap (λ (z : View Entry). times p z.mine) same);
       legal = subst (λ l. IsLegal A l) (sym is) legal;
     }
 
 pub units_by : (y v u w x : View Entry) → y ≡ v → w.units ≡ u.units → x.units ≡ y.units + w.units → x.units ≡ v.units + u.units
 units_by y v u w x same mine all = let a : y.units ≡ v.units = ap (λ (z : View Entry). z.units) same in omega arith
 
-count_snoc : (from n : ℕ) → count_up from n ++ (from + n) ∷ [] ≡ count_up from (n + 1)
+pub count_snoc : (from n : ℕ) → count_up from n ++ (from + n) ∷ [] ≡ count_up from (n + 1)
 count_snoc from zero = let e : from + 0 ≡ from = omega arith in ap (λ (k : ℕ). k ∷ []) e
 count_snoc from (suc n) =
     let e : from + suc n ≡ suc from + n = omega arith in

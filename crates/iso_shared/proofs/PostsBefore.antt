@@ -1,5 +1,5 @@
 -- What stood before: a look finds what was posted and nothing has taken out since, and a begin is at or above each commit that was told of.
-use Rattle.iso_shared.proofs.{Words.{◌≡◌, ◌⊎◌, inl, inr, ℕ, ◌+◌, ◌≤◌, ◌==◌, Bool, true, false, cond, List, [], ◌∷◌, ◌++◌, Option, Some, None, refl, sym, ap, ◌∙◌, subst, arith, bytes_eq, drop, option_map, slice_get, AllByRecursion, lookup, remove_entry, bytes_eq-Decides, hit, times, hit_same, Access, Call, Cause, Entry, Posting, Fits, IsLegal, LegalFrom, WasPosted, is_number, takes_out, Start, State, after, after_all, after_fault, after_refusal, opened, posting_of, racked, state_at, ◌-◌, ◌<◌, nat_lt, length-append, GroupReply, ahead, decided, group_is, made_by, member_reply, Clash, EndReply, Committed, ReadOnly, Conflict, Mode, CoreReply, LAST, clash, has_write, last, commit_from, commit_step, end_step, need, World, Live, used, MemberEnd, CommitsUpTo, IsMemberUpTo, IsReplyUpTo, members_of, replies_of, tx_of, txs_of}, Trace.{IsSound, first_parts, hits, hits_are, label_parts, legal_last, opened_sound, sound_next}, Begins.began_last, Follows.{follows_all, last_longer}, Grouped.{after_history, decided_extends}}
+use Rattle.iso_shared.proofs.{Words.{◌≡◌, ◌⊎◌, inl, inr, ℕ, ◌+◌, ◌≤◌, ◌==◌, Bool, true, false, cond, List, [], ◌∷◌, ◌++◌, Option, Some, None, refl, sym, ap, ◌∙◌, subst, arith, bytes_eq, drop, option_map, slice_get, AllByRecursion, lookup, remove_entry, bytes_eq-Decides, hit, times, hit_same, Access, Call, Cause, Entry, Posting, Fits, IsLegal, LegalFrom, WasPosted, is_number, takes_out, Start, State, after, after_all, after_fault, after_refusal, opened, posting_of, racked, state_at, ◌-◌, ◌<◌, nat_lt, length-append, ahead, decided, group_is, made_by, member_reply, Clash, EndReply, Committed, ReadOnly, Conflict, Mode, CoreReply, LAST, clash, has_write, last, commit_from, commit_step, end_step, need, World, Live, used, MemberEnd, CommitsUpTo, IsMemberUpTo, IsReplyUpTo, replies_of, tx_of}, Trace.{IsSound, first_parts, hits, hits_are, label_parts, legal_last, opened_sound, sound_next}, Begins.began_last, Follows.{follows_all, last_longer}, Grouped.{after_history, decided_extends}}
 use Rattle.iso_shared.specs.declared.entry.Call.TheVariants as call
 use Rattle.iso_shared.specs.declared.entry.Cause.TheVariants as cause
 use Rattle.iso_shared.specs.declared.entry.Entry.TheVariants as entry
@@ -16,10 +16,7 @@ IsIn x (y ∷ rack) = (y ≡ x) ⊎ IsIn x rack
 
 found_by : (label : List ℕ) (y : Item) (rack : List Item) (p : Posting) (b : Bool) → bytes_eq label y.0 ≡ b → (lookup (bytes_eq label) rack ≡ Some p → IsIn (label, p) rack)
     → cond b (Some y.1) (lookup (bytes_eq label) rack) ≡ Some p → IsIn (label, p) (y ∷ rack)
-found_by label y rack p true test later is =
-    let same : label ≡ y.0 = (bytes_eq-Decides label y.0).0 test in
-    let posting : y.1 ≡ p = cc is in
-    inl (λ i. (sym same i, posting i))
+found_by label y rack p true test later is = grind (arith, bytes_eq-Decides)
 found_by label y rack p false test later is = inr (later is)
 
 found_in : (label : List ℕ) (rack : List Item) (p : Posting) → lookup (bytes_eq label) rack ≡ Some p → IsIn (label, p) rack
@@ -47,9 +44,7 @@ last_in x y (z ∷ rack) (inr more) = elim (last_in x y rack more) [ inl there �
 
 counted : (x : Item) (rack : List Item) → IsIn x rack → 1 ≤ times x.1.number (racked rack)
 counted x [] never = absurd never
-counted x (y ∷ rack) (inl same) =
-    let h : hit y.1.number x.1.number ≡ 1 = hit_same y.1.number x.1.number (ap (λ (z : Item). z.1.number) same) in
-    omega (arith, h)
+counted x (y ∷ rack) (inl same) = omega (arith, hit_same y.1.number x.1.number (ap (λ (z : Item). z.1.number) same))
 counted x (y ∷ rack) (inr more) = let later = counted x rack more in omega (arith, later)
 
 -- the number of one that is still there was not taken out
@@ -155,9 +150,7 @@ module _ (W : World) (t : Live) (k : ℕ) where
   commits_next : (o : Option Clash) → IsNext (commit_step W t o)
   unfolding commit_step
   commits_next (Some c) = λ is. absurd (cc is)
-  commits_next None =
-      either (last W.history == LAST) _ _ (λ is. absurd (cc is))
-      (either (nat_lt (W.geometry.log - used W) (need W t)) _ _ (λ is. absurd (cc is)) (λ is. cc is))
+  commits_next None = grind arith
 
   ends_next : IsNext (end_step W t)
   unfolding end_step
@@ -167,8 +160,7 @@ replied : (S : State) (n bound : ℕ) (accesses : List Access) (r : EndReply) �
     → IsReplyUpTo bound r
 replied S n bound accesses (Committed k) some fits upto =
     let is : k ≡ last S.world.history + 1 = ends_next S.world (tx_of S.world n accesses) k fits.answers.2 in
-    let more = length-append S.world.history.commits (commit_from (tx_of S.world n accesses) ∷ []) in
-    omega (arith, is, upto, some, more)
+    omega (arith, is, upto, some, length-append S.world.history.commits (commit_from (tx_of S.world n accesses) ∷ []))
 replied S n bound accesses ReadOnly some fits upto = tt
 replied S n bound accesses (Conflict c) some fits upto = tt
 
@@ -199,17 +191,11 @@ decided_told : (W : World) (txs : List Live) (bound : ℕ) → 0 < W.history.fir
 decided_told W [] bound some upto = tt
 decided_told W (t ∷ txs) bound some upto =
     let V : World = ahead W (made_by t (member_reply (end_step W t).0)) in
-    let here = longer V txs some in
-    (end_told W t bound some (omega (arith, here, upto)), decided_told V txs bound some upto)
+    (end_told W t bound some (omega (arith, longer V txs some, upto)), decided_told V txs bound some upto)
 
 group_told : (S : State) (bound : ℕ) (ends : List MemberEnd) → 0 < S.world.history.first → Fits S (entry.EndGroup ends) → last (after S (entry.EndGroup ends)).world.history ≤ bound
     → AllByRecursion (IsMemberUpTo bound) (replies_of ends)
-group_told S bound ends some fits upto =
-    let txs : List Live = txs_of S.world (members_of ends) in
-    let V : World = (decided S.world txs).1 in
-    let history : last (after S (entry.EndGroup ends)).world.history ≡ last V.history = ap last (after_history S.world (members_of ends)) in
-    subst (AllByRecursion (IsMemberUpTo bound)) (sym (ap (λ (x : List GroupReply × World). x.0) (group_is S.world txs)) ∙ fits.answers.2)
-    (decided_told S.world txs bound some (omega (arith, history, upto)))
+group_told S bound ends some fits upto = grind (arith, group_is, decided_told, after_history)
 
 told : (S : State) (bound : ℕ) (e : Entry) → 0 < S.world.history.first → Fits S e → last (after S e).world.history ≤ bound → CommitsUpTo bound e
 told S bound (entry.End n accesses r) some fits upto = replied S n bound accesses r some fits upto
@@ -219,13 +205,9 @@ told S bound e some fits upto = tt
 all_told : (S : State) (es : List Entry) (bound : ℕ) → 0 < S.world.history.first → LegalFrom S es → last (after_all S es).world.history ≤ bound → AllByRecursion (λ e. CommitsUpTo bound e) es
 all_told S [] bound some legal upto = tt
 all_told S (e ∷ es) bound some legal upto =
-    let first : (after S e).world.history.first ≡ S.world.history.first = (follows_all S (e ∷ [])).history.first in
-    let more : 0 < (after S e).world.history.first = omega (arith, first, some) in
+    let more : 0 < (after S e).world.history.first = omega (arith, (follows_all S (e ∷ [])).history.first, some) in
     let later = last_longer (after S e).world.history (after_all (after S e) es).world.history more (follows_all (after S e) es).history in
     (told S bound e some legal.0 (omega (arith, later, upto)), all_told (after S e) es bound more legal.1 upto)
 
 pub begins_after_commits : (A : Start) (es : List Entry) (n at : ℕ) (mode : Mode) → 0 < A.world.history.first → IsLegal A (es ++ entry.Begin n at mode ∷ []) → AllByRecursion (λ e. CommitsUpTo at e) es
-begins_after_commits A es n at mode some legal =
-    let (before, fits) = legal_last (opened A) es (entry.Begin n at mode) legal in
-    let is : at ≡ last (state_at A es).world.history = began_last (state_at A es).world mode at fits.answers.2 in
-    all_told (opened A) es at some before (omega (arith, is))
+begins_after_commits A es n at mode some legal = grind (arith, legal_last, all_told, began_last)

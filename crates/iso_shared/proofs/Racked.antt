@@ -13,15 +13,8 @@ pub record IsPosting (S : State) (p : Posting) : Type 0 where
 abbrev pub AreKnown : State → List (List ℕ × Posting) → Type 0
 AreKnown S rack = AllByRecursion (λ e. IsPosting S e.1) rack
 
-known_on : (S T : State) (p : Posting) → Follows S T → IsPosting S p → IsPosting T p
-known_on S T p f is =
-    let below : p.number < S.world.next = is.number in
-    let next : S.world.next ≤ T.world.next = f.next in
-    record {
-      number = omega arith;
-      begin = λ live. let was = f.live p.number below live in ap (λ t. t.begin) was.1 ∙ is.begin was.0;
-      mode = λ live. let was = f.live p.number below live in ap (λ t. t.mode) was.1 ∙ is.mode was.0;
-    }
+pub known_on : (S T : State) (p : Posting) → Follows S T → IsPosting S p → IsPosting T p
+known_on S T p f is = grind arith
 
 all_on : (S T : State) (rack : List (List ℕ × Posting)) → Follows S T → AreKnown S rack → AreKnown T rack
 all_on S T [] f all = tt
@@ -125,17 +118,7 @@ found_own disk A core items es test p s is =
     let world = s.core.world.kept_of.world in
     let begin : (live_of p.number S.world.live).begin ≡ p.work.begin = posting.begin live in
     let within : (live_of p.number S.world.live).begin ≤ last S.world.history = begins_within S.world p.number S.world.live world.live live in
-    record {
-      own = record {
-        number = posting.number;
-        begin = posting.begin;
-        mode = posting.mode;
-        on = record { size = on.size ∙ sym f.block; blocks = on.blocks ∙ sym f.blocks };
-      };
-      on = on;
-      within = omega (arith, begin);
-      first = world.history.first;
-    }
+    grind arith
 
 -- ---- what stands under the lock after a call on labels
 

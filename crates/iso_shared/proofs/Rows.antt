@@ -1,5 +1,5 @@
 -- What the definitions of legal lists compute on small lists, and what no legal list holds.
-use Rattle.iso_shared.proofs.Words.{◌≡◌, true, false, List, [], ◌∷◌, ◌++◌, Some, None, ap, length, replicate, refl, arith, is_some, option_map, Access, Committed, Geometry, Serial, Snapshot, clash, put, runs, begin_step, commit_step, end_step, put_access, read_access, empty_history, fresh, is_out, Entry, Posting, Fits, IsGroup, MayRefuse, answer_to, end_answer, handed, numbers_at, returned, Start, is_loose, opened, state_at, ◌≤◌, ◌∙◌, length-map, length-replicate, GroupReply, MAX_GROUP, write_access, Member, MemberEnd, group_answers, last, lost_commits, member_of, members_of}
+use Rattle.iso_shared.proofs.Words.{◌≡◌, true, false, List, [], ◌∷◌, ◌++◌, Some, None, ap, length, replicate, refl, arith, is_some, option_map, Access, Committed, Geometry, Serial, Snapshot, clash, put, runs, begin_step, commit_step, end_step, put_access, read_access, empty_history, fresh, is_out, Entry, Posting, Fits, IsGroup, MayRefuse, answer_to, end_answer, handed, numbers_at, returned, Start, is_loose, opened, state_at, ◌∙◌, length-map, length-replicate, GroupReply, write_access, Member, MemberEnd, group_answers, last, lost_commits, member_of}
 use Rattle.iso_model.specs.declared.core_reply.CoreReply.TheVariants as reply
 use Rattle.iso_shared.specs.declared.entry.Call.TheVariants as call
 use Rattle.iso_shared.specs.declared.entry.Cause.TheVariants as cause
@@ -230,24 +230,11 @@ abbrev no_writes : List Member
 no_writes = one [] ∷ two [] ∷ []
 
 are_a_group : IsGroup (state_at start two_begun).world no_writes
-are_a_group = record {
-  some = omega arith;
-  most = omega arith;
-  distinct = (refl, (refl, tt));
-  each = (record { each = tt; count = omega arith }, (record { each = tt; count = omega arith }, tt));
-}
+are_a_group = grind arith
 
 bare_ones : Fits (state_at start two_begun) (entry.EndGroup (ended_as (one []) member.ReadOnly ∷ ended_as (two []) member.ReadOnly ∷ []))
 unfolding end_step
-bare_ones = record {
-  needs = tt;
-  takes = (refl, (refl, tt));
-  answers = (
-    refl,
-    are_a_group,
-    refl,
-  );
-}
+bare_ones = grind (arith, are_a_group)
 
 -- no other replies, and one for each member
 not_another_reply : Fits (state_at start two_begun) (entry.EndGroup (ended_as (one []) member.ReadOnly ∷ ended_as (two []) (member.Committed 1) ∷ [])) → ⊥
@@ -273,10 +260,7 @@ abbrev seventeen : List MemberEnd
 seventeen = replicate 17 (ended_as (one []) member.ReadOnly)
 
 not_of_seventeen : Fits (state_at start two_begun) (entry.EndGroup seventeen) → ⊥
-not_of_seventeen f =
-    let few : length (members_of seventeen) ≤ MAX_GROUP = f.answers.1.most in
-    let many : length (members_of seventeen) ≡ 17 = length-map seventeen member_of ∙ length-replicate 17 (ended_as (one []) member.ReadOnly) in
-    absurd (omega (arith, few, many))
+not_of_seventeen f = absurd (omega (arith, f.answers.1.most, length-map seventeen member_of ∙ length-replicate 17 (ended_as (one []) member.ReadOnly)))
 
 -- each member is live and under no label
 not_of_one_unbegun : Fits (state_at start two_begun) (entry.EndGroup (ended_as (record { number = 3; accesses = [] }) member.ReadOnly ∷ [])) → ⊥
@@ -291,14 +275,7 @@ not_of_short_writes f = let e = f.answers.1.each.0.each.0.bytes refl in absurd (
 
 -- a refused group names each of its members
 refused_for_memory : Fits (state_at start two_begun) (entry.Refused (call.EndGroup no_writes) cause.Memory)
-refused_for_memory = record {
-  needs = (refl, (refl, tt));
-  takes = tt;
-  answers = (
-    are_a_group,
-    refl,
-  );
-}
+refused_for_memory = grind (arith, are_a_group)
 
 not_refused_unbegun : Fits (state_at start two_begun) (entry.Refused (call.EndGroup (one [] ∷ three [] ∷ [])) cause.Memory) → ⊥
 not_refused_unbegun f = cc (f.needs.1.0)

@@ -92,10 +92,6 @@ module _ {D : Type 0} (disk : D → DiskState) {first : DiskState} (A : Start) w
         came = came_next old new es e s.came s.legal s.core.world.kept_of.world.history.first moved answers;
       }
 
-  -- what stands at the start
-  pub stands_first : (core : Core D) → Holds disk core (opened A) → A.world.live ≡ [] → Came A first (disk (disk_of core)) [] → StandsAt disk A first core [] []
-  stands_first core holds none came = record { start = none; legal = tt; core = holds; rack = refl; works = tt; came = came }
-
 -- where a list begins, the core stands for its start
 pub holds_first : {D : Type 0} (disk : D → DiskState) (core : Core D) (W : World) → StandsFor disk core W up → Holds disk core (opened (start_at W (disk (disk_of core))))
 holds_first disk core W stands = record { world = stands; counts = omega arith; told = λ is tells. tells }

@@ -65,10 +65,7 @@ parts_by : (n : ℕ) (test : List ℕ → Bool) (e : List ℕ × Posting) (rack 
     → times n (racked rack) ≡ hits n (lookup test rack) + times n (racked (remove_entry test rack))
     → hit e.1.number n + times n (racked rack) ≡ hits n (cond b (Some e.1) (lookup test rack)) + times n (racked (cond b rack (e ∷ remove_entry test rack)))
 parts_by n test e rack true is = refl
-parts_by n test e rack false is =
-    let h : ℕ = hits n (lookup test rack) in
-    let g : times n (racked rack) ≡ h + times n (racked (remove_entry test rack)) = is in
-    let r : hit e.1.number n + times n (racked rack) ≡ h + (hit e.1.number n + times n (racked (remove_entry test rack))) = omega arith in r
+parts_by n test e rack false is = grind arith
 
 -- what is taken out from under a label, and the rest
 pub label_parts : (n : ℕ) (test : List ℕ → Bool) (rack : List (List ℕ × Posting)) → times n (racked rack) ≡ hits n (lookup test rack) + times n (racked (remove_entry test rack))
@@ -147,9 +144,7 @@ module _ (L L' : ℕ → Bool) (R R' : ℕ → ℕ) (k : ℕ) where
   }
 
   post_by : Sound L R k → (j n : ℕ) → L j ≡ true → R j ≡ 0 → (b : Bool) → (j == n) ≡ b → (0 < R n + cond b 1 0 → L n ≡ true) × (R n + cond b 1 0 ≤ 1)
-  post_by s j n live none true is =
-      let e : j ≡ n = grind (arith, nat_tests) in
-      let z : R n ≡ 0 = subst (λ (v : ℕ). R v ≡ 0) e none in ((λ some. subst (λ (v : ℕ). L v ≡ true) e live), omega arith)
+  post_by s j n live none true is = grind arith
   post_by s j n live none false is = let a = s.alone n in ((λ some. s.racked n (omega arith)), omega arith)
 
   -- one that is not labelled gets a label
@@ -256,9 +251,7 @@ sound_next S (entry.Begin k at mode) s fits = sound_begin (λ n. is_live n S.wor
 sound_next S (entry.End k accesses r) s fits = end_left S k accesses r s fits.takes.0
 sound_next S (entry.EndGroup ends) s fits = group_left S (members_of ends) s fits.takes
 sound_next S (entry.Abort k) s fits = sound_left S k s fits.takes.0
-sound_next S (entry.Post k l accesses) s fits =
-    let loose = loose_is k S fits.takes.0 in
-    sound_post (λ n. is_live n S.world.live) (λ n. is_live n S.world.live) (λ n. times n (racked S.rack)) (λ n. times n (racked (after S (entry.Post k l accesses)).rack)) S.world.next s k loose.0 loose.1 (λ n. racked_snoc n S.rack _)
+sound_next S (entry.Post k l accesses) s fits = grind (arith, loose_is, sound_post, racked_snoc)
 sound_next S (entry.Look l found) s fits = sound_less (λ n. is_live n S.world.live) (λ n. is_live n S.world.live) (λ n. times n (racked S.rack)) (λ n. times n (racked (remove_entry (bytes_eq l) S.rack))) S.world.next s (λ n. look_less (bytes_eq l) n S.rack)
 sound_next S (entry.Sweep found) s fits = sweep_left S found s fits.answers
 sound_next S (entry.Refused c why) s fits = refusal_left S c why s fits.takes
@@ -295,12 +288,7 @@ none_racked (suc R) k n L live below is = let same : k ≡ n = grind (arith, nat
 
 begin_loose : (S : State) (n k : ℕ) (t : Live) → IsSound S → k ≡ S.world.next → t.number ≡ S.world.next
     → cond (is_among n (k ∷ [])) true (is_loose n S) ≡ (is_live n (S.world.live ++ t ∷ []) && (times n (racked S.rack) == 0))
-begin_loose S n k t s is number =
-    let z : Bool = times n (racked S.rack) == 0 in
-    hands_one n k (is_loose n S)
-    ∙ ap (λ (v : ℕ). cond (v == n) true (is_loose n S)) (is ∙ sym number)
-    ∙ join_by (t.number == n) (is_live n S.world.live) z (λ same. is_none (times n (racked S.rack)) (none_racked (times n (racked S.rack)) S.world.next n (is_live n S.world.live) (s.racked n) (s.below n) (ap (λ (v : ℕ). v == n) (sym number) ∙ same)))
-    ∙ ap (λ v. v && z) (sym (live_snoc n S.world.live t))
+begin_loose S n k t s is number = grind (arith, hands_one, join_by, is_none, none_racked, live_snoc)
 
 post_loose_by : (b a : Bool) (R R' : ℕ) → R' ≡ R + cond b 1 0 → cond b false (a && (R == 0)) ≡ (a && (R' == 0))
 post_loose_by true a R R' e = sym (ap (λ v. a && v) (some_is R' (omega arith)) ∙ and_false a)
@@ -325,10 +313,7 @@ sweep_loose_by false a R R' e = let same : R ≡ R' = omega arith in ap (λ (v :
 
 sweep_loose : (S : State) (n : ℕ) (found : Option ℕ) → found ≡ option_map (λ e. e.1.number) (slice_get S.rack 0) → is_loose n S ≡ is_loose n (after_sweep S found)
 sweep_loose S n None is = refl
-sweep_loose S n (Some k) is =
-    let R' : ℕ = times n (racked (drop 1 S.rack)) in
-    let e : times n (racked S.rack) ≡ hit k n + R' = first_parts n S.rack ∙ ap (λ v. v + R') (hits_are n (slice_get S.rack 0) k is) in
-    sweep_loose_by (k == n) (is_live n S.world.live) (times n (racked S.rack)) R' e ∙ ap (λ v. v && (R' == 0)) (sym (live_without k n S.world.live))
+sweep_loose S n (Some k) is = grind (arith, first_parts, hits_are, sweep_loose_by, live_without)
 
 both_take : (a b x : Bool) → cond (a || b) false x ≡ cond b false (cond a false x)
 both_take true true x = refl
@@ -369,8 +354,7 @@ loose_next S (entry.Begin k at mode) n s fits = begin_loose S n k _ s fits.answe
 loose_next S (entry.End k accesses r) n s fits = end_loose S n k accesses r
 loose_next S (entry.EndGroup ends) n s fits = group_loose S n (members_of ends)
 loose_next S (entry.Abort k) n s fits = left_loose n k S
-loose_next S (entry.Post k l accesses) n s fits =
-    takes_one n k (is_loose n S) ∙ post_loose_by (k == n) (is_live n S.world.live) (times n (racked S.rack)) (times n (racked (after S (entry.Post k l accesses)).rack)) (racked_snoc n S.rack _)
+loose_next S (entry.Post k l accesses) n s fits = grind (arith, takes_one, post_loose_by, racked_snoc)
 loose_next S (entry.Look l found) n s fits = look_loose S n (bytes_eq l) found s fits.answers
 loose_next S (entry.Sweep found) n s fits = sweep_loose S n found fits.answers
 loose_next S (entry.Refused c why) n s fits = refusal_loose S n c why
@@ -390,11 +374,7 @@ no_live : (L : List Live) (n : ℕ) → L ≡ [] → is_live n L ≡ false
 no_live L n e = ap (is_live n) e
 
 pub opened_sound : (A : Start) → A.world.live ≡ [] → IsSound (opened A)
-opened_sound A e = record {
-  below = λ n is. absurd (cc (is, no_live A.world.live n e));
-  racked = λ n some. absurd (omega arith);
-  alone = λ n. omega arith;
-}
+opened_sound A e = grind (arith, no_live)
 
 -- A number is out in a legal list exactly where its transaction is live and under no label.
 pub out_is : (A : Start) (es : List Entry) (n : ℕ) → A.world.live ≡ [] → IsLegal A es → is_out handed returned n es ≡ is_loose n (state_at A es)

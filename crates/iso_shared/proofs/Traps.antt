@@ -1,5 +1,5 @@
 -- What no legal list holds that a looser word would let in, and what the rows of the other file leave.
-use Rattle.iso_shared.proofs.{Words.{◌≡◌, ◌≤◌, ℕ, ◌+◌, ◌-◌, zero, suc, true, false, List, [], ◌∷◌, ◌++◌, Some, None, ap, length, replicate, refl, sym, ◌∙◌, arith, length-replicate, Access, Committed, ReadOnly, Serial, Snapshot, LAST, MAX_ACCESSES, CoreReply, put, clash, runs, begin_step, commit_step, end_step, read_access, switch_step, write_access, versions, empty_history, fresh, Entry, Numbers, Fits, MayRefuse, numbers_at, IsIsolatedAt, most_steps, Start, opened, state_at}, Rows.{fallen, one_ended, one_put, posted, small, start, two_begun}}
+use Rattle.iso_shared.proofs.{Words.{◌≡◌, ℕ, ◌+◌, ◌-◌, zero, suc, true, false, List, [], ◌∷◌, ◌++◌, Some, None, ap, length, replicate, refl, sym, ◌∙◌, arith, length-replicate, Access, Committed, ReadOnly, Serial, Snapshot, LAST, CoreReply, put, clash, runs, begin_step, commit_step, end_step, read_access, switch_step, write_access, versions, empty_history, fresh, Entry, Numbers, Fits, MayRefuse, numbers_at, IsIsolatedAt, most_steps, Start, opened, state_at}, Rows.{fallen, one_ended, one_put, posted, small, start, two_begun}}
 use Rattle.iso_model.specs.declared.core_reply.CoreReply.TheVariants as reply
 use Rattle.iso_shared.specs.declared.entry.Call.TheVariants as call
 use Rattle.iso_shared.specs.declared.entry.Cause.TheVariants as cause
@@ -242,16 +242,10 @@ abbrev one_too_many : List Access
 one_too_many = replicate 4097 (read_access 1)
 
 no_access_too_many : Fits (state_at start two_begun) (entry.End 1 one_too_many ReadOnly) → ⊥
-no_access_too_many f =
-    let few : length one_too_many ≤ MAX_ACCESSES = f.answers.1.count in
-    let many : length one_too_many ≡ 4097 = length-replicate 4097 (read_access 1) in
-    absurd (omega (arith, few, many))
+no_access_too_many f = absurd (omega (arith, f.answers.1.count, length-replicate 4097 (read_access 1)))
 
 no_refused_end_too_many : Fits (state_at start two_begun) (entry.Refused (call.End 1 one_too_many) cause.Memory) → ⊥
-no_refused_end_too_many f =
-    let few : length one_too_many ≤ MAX_ACCESSES = f.answers.0.count in
-    let many : length one_too_many ≡ 4097 = length-replicate 4097 (read_access 1) in
-    absurd (omega (arith, few, many))
+no_refused_end_too_many f = absurd (omega (arith, f.answers.0.count, length-replicate 4097 (read_access 1)))
 
 -- nor does a fetch find a label taken
 not_taken_of_a_fetch : MayRefuse (state_at start posted) (call.Fetch 1 0) cause.LabelTaken → ⊥

@@ -4,7 +4,7 @@ pub use Rattle.byte_marks.specs.Touched.{AreTouched}
 pub use Rattle.conflict_rule.{proofs.Following.dropped_after, specs.Decision.{AreNotesAfter, up_to}, specs.declared.decision.Checked.Checked}
 pub use Rattle.iso_core.{proofs.Grouping.leave_all_is, proofs.Moments.shows_world, specs.Calls.{BlamesDisk, IsAmong, IsCheckedOf, IsTx, IsWorkOf, Refuses, Writes}, specs.Core.{StandsFor, disk_of}, specs.Kept.bare, specs.Planned.{AreEach, IsMember, bare_end, reply_in}, specs.Standing.{Standing, down, is_down, up}, specs.declared.answers.Begun.Begun, specs.declared.answers.Recent.Recent, specs.declared.answers.Stat.Stat, specs.declared.core_itself.Core.Core, specs.declared.group_end.GroupEnd.GroupEnd, specs.declared.group_end.TheConstants.MAX_GROUP}
 pub use Rattle.iso_disk.{proofs.Moments.{at_end, joined, started, starts_unwritten, weakened}, specs.Disk.{DiskState, IsLawful, LeavesOnly, StaysTold, WritesNothing}}
-pub use Rattle.iso_model.{proofs.Groups.{group_is, nothing_ahead}, proofs.Held.{shows_any_form, shows_longer}, proofs.Worlds.{extends_itself, extends_on}, specs.Between.{ShowsBetween, ShowsEither, ShowsLast}, specs.Conflict.{clash_from, clashes, first_after, first_byte}, specs.Effect.{has_write, or_else}, specs.Geometry.{is_block_size, same_mode}, specs.Group.{ahead, decided, group, leave_all, made_by, member_reply, numbers_told}, specs.History.{History, array_at, last, with_commits}, specs.Image.Shows, specs.Premises.block_at, specs.Step.{after_begin, after_commit, after_leaving, after_switch, after_trim, commit_from, mode_named, need, put_access, read_access, with_live, write_access}, specs.World.{Live, World, empty_history, floor, fresh, unattached, used, without}, specs.Worlds.{Extends, IsLive, IsWorld}, specs.declared.access.Access.Access, specs.declared.access.Clash.Clash, specs.declared.access.Commit.Commit, specs.declared.access.EndReply.EndReply, specs.declared.access.EndReply.TheVariants.{Committed, Conflict, ReadOnly}, specs.declared.access.Geometry.Geometry, specs.declared.access.GroupReply.GroupReply, specs.declared.access.Kind.TheVariants.{Read, Write}, specs.declared.access.Mode.Mode, specs.declared.access.Mode.TheVariants.{Serial, Snapshot}, specs.declared.core_error.CoreError.CoreError, specs.declared.core_error.CoreError.TheVariants.{Disk as OfDisk}, specs.declared.core_reply.CoreReply.CoreReply, specs.declared.core_reply.CoreReply.TheVariants.Done, specs.declared.limits.TheConstants.{LAST, MAX_ACCESSES, MAX_LIVE}}
+pub use Rattle.iso_model.{proofs.Bounds.tests_passed, proofs.Groups.{group_is, nothing_ahead}, proofs.Held.{shows_any_form, shows_longer}, proofs.Worlds.{extends_itself, extends_on}, specs.Between.{ShowsBetween, ShowsEither, ShowsLast}, specs.Conflict.{clash_from, clashes, first_after, first_byte}, specs.Effect.{has_write, or_else}, specs.Geometry.{is_block_size, same_mode}, specs.Group.{ahead, decided, group, leave_all, made_by, member_reply, numbers_told}, specs.History.{History, array_at, last, with_commits}, specs.Image.Shows, specs.Premises.block_at, specs.Step.{after_begin, after_commit, after_leaving, after_switch, after_trim, commit_from, mode_named, need, put_access, read_access, with_live, write_access}, specs.World.{Live, World, empty_history, floor, fresh, unattached, used, without}, specs.Worlds.{Extends, IsLive, IsWorld}, specs.declared.access.Access.Access, specs.declared.access.Clash.Clash, specs.declared.access.Commit.Commit, specs.declared.access.EndReply.EndReply, specs.declared.access.EndReply.TheVariants.{Committed, Conflict, ReadOnly}, specs.declared.access.Geometry.Geometry, specs.declared.access.GroupReply.GroupReply, specs.declared.access.Kind.TheVariants.{Read, Write}, specs.declared.access.Mode.Mode, specs.declared.access.Mode.TheVariants.{Serial, Snapshot}, specs.declared.core_error.CoreError.CoreError, specs.declared.core_error.CoreError.TheVariants.{Disk as OfDisk}, specs.declared.core_reply.CoreReply.CoreReply, specs.declared.core_reply.CoreReply.TheVariants.Done, specs.declared.limits.TheConstants.{LAST, MAX_ACCESSES, MAX_LIVE}}
 unfoldable pub use Rattle.iso_model.specs.{Array.put, Conflict.clash, Effect.runs, Geometry.is_valid, Step.{begin_step, commit_step, end_step, switch_step}, Versions.versions}
 pub use Rattle.turn_lock.{proofs.Outs.{held_first, times_without}, proofs.Prefixes.{prefix_more, prefix_self, prefix_trans, prefix_whole}, proofs.Rising.times_append, proofs.Totals.hit_same, specs.Lists.{AreDistinct, count_up, hit, longer, places, times, total}, specs.Numbers.{AreFree, AreHeld, IsOut, held_after, is_among, is_out, out_from, out_next}, specs.Views.{both, kept_part}, specs.declared.view.View.View}
 pub use Rattle.tx_table.specs.{Work.{AreWithin, Doing}, declared.rack.PostError.PostError}

@@ -41,11 +41,7 @@ module _ (seed count status : ℕ) (good : (script (bench_text count seed)).bad 
       is run.done any.given (many_of bench_world run.answered.reached run.done any.given any.are)
       (same_text held.text (text_of run.done any.given) any.put) in
       subst (λ (l : List ℕ). ((status ≡ 0) × WroteWhole old new l) ⊎ ((status ≡ 7) × WasCut old new l)) same put
-  printed_line (end.BadLine bad) run done = tt
-  printed_line end.Disk run done = tt
-  printed_line end.Input run done = tt
-  printed_line end.Output run done = tt
-  printed_line end.Memory run done = tt
+  printed_line e run done = tt
 
   pub printed_bench : (e : RunEnd) → Ran e → (e ≡ end.Done → PutSummary count status held.text old new)
       → (e ≡ end.Disk → (status ≡ 5) × Printed old new disk_fault_text)

@@ -5,21 +5,11 @@ use Rattle.script_runner.specs.declared.run_end.RunEnd.TheVariants as end
 
 zero_is_done : (e : RunEnd) → 0 ≡ end_status e → e ≡ end.Done
 zero_is_done end.Done is = refl
-zero_is_done (end.BadLine bad) is = cc is
-zero_is_done end.Disk is = cc is
-zero_is_done end.Input is = cc is
-zero_is_done end.Output is = cc is
-zero_is_done end.Memory is = cc is
+zero_is_done e is = cc is
 
 pub zero_is_begun : (e : OpenError) → 0 ≡ error_status e → ⊥
 zero_is_begun error.NotIsotope is = cc is
-zero_is_begun (error.BadGeometry field) is = cc is
-zero_is_begun (error.WrongSize want have) is = cc is
-zero_is_begun error.NoHalf is = cc is
-zero_is_begun (error.Damaged at cause) is = cc is
-zero_is_begun (error.UnknownForm form) is = cc is
-zero_is_begun error.Disk is = cc is
-zero_is_begun error.Memory is = cc is
+zero_is_begun e is = cc is
 
 opens_between : (W V : World) (c : List ℕ) → ShowsBetween W V c → OpensFrom (last W.history) c
 opens_between W V c shown =
@@ -47,20 +37,23 @@ module _ {D : Type 0} (state : D → DiskState) (name : List ℕ) (old new : D) 
             (subst (λ (k : SinkState). Wrote output_old k (replies a.world a.run.done)) (sym a.last) (a.run.answered.replies (a.begun.told tells))),
       )
 
+  -- with status 0 all lines were run
+  zero_answered : (made : Option Geometry) (e : RunEnd) → 0 ≡ end_status e → HasAnswered state made name e old new input_old input_new output_old output_new
+      → HasAnswered state made name end.Done old new input_old input_new output_old output_new
+  zero_answered made e is a = subst (λ (f : RunEnd). HasAnswered state made name f old new input_old input_new output_old output_new) (zero_is_done e is) a
+
   pub made_prints : (g : Geometry) (all : List ℕ) → HasMet state (New g) name 0 old new input_old input_new output_old output_new → TellsNamed name (state old) → input_old.rest ≡ Some all
       → PrintsReplies (fresh g 1 (empty_history g)) all output_old output_new
   made_prints g all (inl (e, is, not)) tells rest = absurd (zero_is_begun e is)
   made_prints g all (inr (e, is, a)) tells rest =
-      let done : HasAnswered state (Some g) name end.Done old new input_old input_new output_old output_new =
-      subst (λ (f : RunEnd). HasAnswered state (Some g) name f old new input_old input_new output_old output_new) (zero_is_done e is) a in
+      let done = zero_answered (Some g) e is a in
       subst (λ (W : World). PrintsReplies W all output_old output_new) done.begun.starts (prints (Some g) all done tells rest)
 
   pub given_prints : (all image : List ℕ) → HasMet state Run name 0 old new input_old input_new output_old output_new → (state old).named name ≡ Some image → input_old.rest ≡ Some all
       → PrintsRepliesOf image all output_old output_new
   given_prints all image (inl (e, is, not)) named rest = absurd (zero_is_begun e is)
   given_prints all image (inr (e, is, a)) named rest =
-      let done : HasAnswered state None name end.Done old new input_old input_new output_old output_new =
-      subst (λ (f : RunEnd). HasAnswered state None name f old new input_old input_new output_old output_new) (zero_is_done e is) a in
+      let done = zero_answered None e is a in
       let opens : OpensTo ((state old).named name) done.world = done.begun.starts in
       record {
         geometry = opens.geometry;
@@ -110,16 +103,14 @@ module _ {D : Type 0} (state : D → DiskState) (name : List ℕ) (old new : D) 
       → PrintsButShown (fresh g 1 (empty_history g)) all output_old output_new
   made_prints_any g all (inl (e, is, not)) rest plain = absurd (zero_is_begun e is)
   made_prints_any g all (inr (e, is, a)) rest plain =
-      let done : HasAnswered state (Some g) name end.Done old new input_old input_new output_old output_new =
-      subst (λ (f : RunEnd). HasAnswered state (Some g) name f old new input_old input_new output_old output_new) (zero_is_done e is) a in
+      let done = zero_answered (Some g) e is a in
       subst (λ (W : World). PrintsButShown W all output_old output_new) done.begun.starts (prints_any (Some g) all done rest plain)
 
   pub given_prints_any : (all : List ℕ) → HasMet state Run name 0 old new input_old input_new output_old output_new → input_old.rest ≡ Some all → ArePlain (script all).lines
       → PrintsButShownOf ((state old).named name) all output_old output_new
   given_prints_any all (inl (e, is, not)) rest plain = absurd (zero_is_begun e is)
   given_prints_any all (inr (e, is, a)) rest plain =
-      let done : HasAnswered state None name end.Done old new input_old input_new output_old output_new =
-      subst (λ (f : RunEnd). HasAnswered state None name f old new input_old input_new output_old output_new) (zero_is_done e is) a in
+      let done = zero_answered None e is a in
       (done.world, done.begun.starts, prints_any None all done rest plain)
 
   pub clients_open : (status : ℕ) (r : HasRunClients state name status old new input_old input_new output_old output_new) → SinceBind (state new) (OpensFrom (last r.world.history))

@@ -14,14 +14,7 @@ Failed S T = Rose S.faults T.faults × (S.faults ≤ T.faults)
 
 fault_count : (S : State) (c : Call) (k : ℕ) → (after_fault S c k).faults ≡ k
 fault_count S (call.Begin named) k = refl
-fault_count S (call.Fetch n block) k = refl
-fault_count S (call.End n accesses) k = refl
-fault_count S (call.EndGroup members) k = refl
-fault_count S call.Trim k = refl
-fault_count S call.Compact k = refl
-fault_count S call.Upgrade k = refl
-fault_count S (call.Post n label accesses) k = refl
-fault_count S (call.Recent n) k = refl
+fault_count S c k = refl
 
 failed_by : (f b k : ℕ) → f ≤ b → Rose b k → b ≤ k → Rose f k × (f ≤ k)
 failed_by f b k low rose later = (omega arith, omega arith)

@@ -4,11 +4,7 @@ use Rattle.script_runner.specs.declared.run_end.RunEnd.TheVariants as end
 
 nothing_up : (e : RunEnd) → IfUp e (Unit {0})
 nothing_up end.Done = tt
-nothing_up (end.BadLine bad) = tt
-nothing_up end.Disk = tt
-nothing_up end.Input = tt
-nothing_up end.Output = tt
-nothing_up end.Memory = tt
+nothing_up e = tt
 
 -- what holds behind a run that stopped nothing
 pub up_behind : (P : Type 0) (e : RunEnd) → IfUp e P → (e ≡ end.Done) ⊎ ((bad : BadLine) × (e ≡ end.BadLine bad)) ⊎ (e ≡ end.Input) ⊎ (e ≡ end.Output) → P

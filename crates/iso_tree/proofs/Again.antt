@@ -1,5 +1,5 @@
 -- The nodes that a put reads once more are those of its descent, and the way up over them is the put below the root.
-use Rattle.iso_tree.proofs.{Words.{◌≡◌, ◌∙◌, sym, refl, ap, ℕ, zero, suc, ◌+◌, ◌<◌, ◌≤◌, true, List, [], ◌∷◌, map, take, length, Option, None, arith, inl, inr, AllByRecursion, flat_map, append-nil, Area, Array, own, IsIn, block_at, Program, accesses_of, cell_count, Cell, child_of, child_part, is_child, tree_at, nodes_in, IsOrdered, climb, climb_on, full_row, look_again, cells_in, AreNodes, AreWhole, all_append, in_cases}, Climbs.child_ordered, Facts.child_below, Fits.cells_few, Putting.{child_all, node_children}, Shapes.{kids, child_for, put_below}, Ways.{path_below, counts, climb_below, climb_take}}
+use Rattle.iso_tree.proofs.{Words.{◌≡◌, ◌∙◌, sym, refl, ap, ℕ, zero, suc, ◌+◌, ◌<◌, ◌≤◌, true, List, [], ◌∷◌, map, take, length, Option, None, arith, inl, inr, AllByRecursion, flat_map, append-nil, Area, Array, own, IsIn, block_at, Program, accesses_of, cell_count, Cell, child_of, child_part, is_child, tree_at, nodes_in, IsOrdered, climb, climb_on, full_row, look_again, cells_in, AreNodes, AreWhole, all_append, in_cases}, Climbs.child_ordered, Enough.{path_below, counts, climb_below, climb_take}, Facts.child_below, Fits.cells_few, Putting.{child_all, node_children}, Shapes.{kids, child_for, put_below}}
 
 -- the nodes of these blocks
 abbrev pub nodes_at : (ℕ → List Cell) → List ℕ → List (ℕ × List Cell)
@@ -47,8 +47,7 @@ pub way_is : (n : ℕ) (key value : List ℕ) (cells : ℕ → List Cell) (level
     (λ s. climb n key (suc level) (s.0, child_part s.1) block [] (put_below n child_part cells key value level block news).left) (put_below n child_part cells key value level block news).second
 way_is n key value cells level block news order few =
     let nodes = path_below cells key level block in
-    let k = suc (full_row n (counts nodes)) in
-    ap (λ (l : List (ℕ × List Cell)). climb n key 0 (key, value) 0 l news) (nodes_read cells k nodes (path_true cells key level block))
+    ap (λ (l : List (ℕ × List Cell)). climb n key 0 (key, value) 0 l news) (nodes_read cells (suc (full_row n (counts nodes))) nodes (path_true cells key level block))
     ∙ climb_take n key 0 (key, value) 0 nodes news few
     ∙ ap (λ (l : List (ℕ × List Cell)). climb n key 0 (key, value) 0 l news) (sym (append-nil nodes))
     ∙ climb_below n key value cells level block 0 [] None [] news order
@@ -66,10 +65,7 @@ rows_inside a A level k (c ∷ cs) each parts all is =
     ]
 
 pub nodes_inside : (a : Area) (A : Array) (k level block : ℕ) → AreNodes a A level block → 1 ≤ block → block < a.blocks → IsIn k (nodes_in level (tree_at (cells_in a A) level block)) → (1 ≤ k) × (k < a.blocks)
-nodes_inside a A k zero block nodes some below is = elim is [
-  | inl here ↦ (omega (arith, here), omega (arith, here))
-  | inr never ↦ absurd never
-]
+nodes_inside a A k zero block nodes some below is = grind arith steps 100000
 nodes_inside a A k (suc level) block nodes some below is = elim is [
   | inl here ↦ (omega (arith, here), omega (arith, here))
   | inr later ↦ rows_inside a A level k (cells_in a A block) (nodes_inside a A k level) (node_children a A level block nodes.0) nodes.1 later

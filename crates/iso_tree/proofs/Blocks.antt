@@ -1,5 +1,5 @@
 -- Blocks that are reached once, and the trees that stay as they were.
-use Rattle.iso_tree.proofs.{Words.{◌≡◌, ◌⊎◌, ◌∙◌, sym, refl, ap, subst, ℕ, zero, suc, true, false, cond, List, [], ◌∷◌, ◌++◌, inl, inr, flat_map, before, Cell, child_of, Tree, tree_at, nodes_in, put_after, IsApart, IsIn, in_front, in_back, in_cases}, Shapes.{kids, chosen, set_chosen, IsAdded, IsGrown}}
+use Rattle.iso_tree.proofs.{Words.{arith, ◌≡◌, ◌⊎◌, ◌∙◌, sym, refl, ap, subst, ℕ, zero, suc, true, false, cond, List, [], ◌∷◌, ◌++◌, inl, inr, flat_map, before, Cell, child_of, Tree, tree_at, nodes_in, put_after, IsApart, IsIn, in_front, in_back, in_cases}, Shapes.{kids, chosen, set_chosen, IsAdded, IsGrown}}
 
 pub apart_parts : (xs ys : List ℕ) → IsApart (xs ++ ys) → IsApart xs × IsApart ys × ((k : ℕ) → IsIn k xs → IsIn k ys → ⊥)
 apart_parts [] ys is = (tt, is, λ k left right. absurd left)
@@ -38,8 +38,7 @@ apart_moved x xs ys rest is =
     ])
 
 pub added_apart : (x : ℕ) (old new rest : List ℕ) → IsAdded x old new → IsApart (old ++ x ∷ rest) → IsApart (new ++ rest)
-added_apart x old new rest is apart =
-    subst (λ (l : List ℕ). IsApart (l ++ rest)) (sym is.3) (apart_moved x is.0 is.1 rest (subst (λ (l : List ℕ). IsApart (l ++ x ∷ rest)) is.2 apart))
+added_apart x old new rest is apart = grind (arith, apart_moved)
 
 pub grown_apart : (more old new rest : List ℕ) → IsGrown more old new → IsApart (old ++ (more ++ rest)) → IsApart (new ++ rest)
 grown_apart [] old new rest is apart = subst (λ (l : List ℕ). IsApart (l ++ rest)) is apart
@@ -78,10 +77,9 @@ pub tree_same : (cells cells' : ℕ → List Cell) (level block : ℕ) → ((k :
     → tree_at cells' level block ≡ tree_at cells level block
 tree_same cells cells' zero block kept = ap (λ (cs : List Cell). (block, cs)) (kept block (inl refl))
 tree_same cells cells' (suc level) block kept =
-    let here : cells' block ≡ cells block = kept block (inl refl) in
     let below : kids cells' level (cells block) ≡ kids cells level (cells block) =
     kids_same cells cells' level (cells block) (tree_same cells cells' level) (λ k is. kept k (inr is)) in
-    ap (λ (cs : List Cell). (block, kids cells' level cs)) here ∙ ap (λ ts. (block, ts)) below
+    ap (λ (cs : List Cell). (block, kids cells' level cs)) (kept block (inl refl)) ∙ ap (λ ts. (block, ts)) below
 
 pub kids_kept : (cells cells' : ℕ → List Cell) (level : ℕ) (cs : List Cell) → ((k : ℕ) → IsIn k (flat_map (λ c. nodes_in level c.1) (kids cells level cs)) → cells' k ≡ cells k)
     → kids cells' level cs ≡ kids cells level cs
@@ -122,8 +120,7 @@ module _ (cells : ℕ → List Cell) (level : ℕ) (key : List ℕ) where
         | false ↦ λ h.
             (let first : tree_at cells' level (child_of c.1) ≡ tree_at cells level (child_of c.1) = tree_same cells cells' level (child_of c.1)
             (λ k is. h k (in_front k (below c.1) _ is) (λ other. parts.2 k is (chosen_in k d ds other))) in
-            let rest = set_one cells' d ds parts.1 (λ k is not. h k (in_back k (below c.1) _ is) not) in
-            λ i. (c.0, first i) ∷ rest i)
+            λ i. (c.0, first i) ∷ (set_one cells' d ds parts.1 (λ k is not. h k (in_back k (below c.1) _ is) not)) i)
       ] kept
 
   pub set_two : (cells' : ℕ → List Cell) (new : Cell) (c : Cell) (cs : List Cell) → IsApart (below c.1 ++ flat_map (λ c. nodes_in level c.1) (kids cells level cs))
@@ -138,6 +135,5 @@ module _ (cells : ℕ → List Cell) (level : ℕ) (key : List ℕ) where
         | false ↦ λ h.
             (let first : tree_at cells' level (child_of c.1) ≡ tree_at cells level (child_of c.1) = tree_same cells cells' level (child_of c.1)
             (λ k is. h k (in_front k (below c.1) _ is) (λ other. parts.2 k is (chosen_in k d ds other))) in
-            let rest = set_two cells' new d ds parts.1 (λ k is not. h k (in_back k (below c.1) _ is) not) in
-            λ i. (c.0, first i) ∷ rest i)
+            λ i. (c.0, first i) ∷ (set_two cells' new d ds parts.1 (λ k is not. h k (in_back k (below c.1) _ is) not)) i)
       ] kept

@@ -4,10 +4,9 @@ use Rattle.iso_tree.proofs.{Words.{◌≡◌, ◌∙◌, sym, refl, ap, ℕ, zer
 -- bytes in the place of as many others
 pub laid_mid : (xs ys zs ws : List ℕ) (at : ℕ) → length xs ≡ at → length zs ≡ length ys → laid_at at ys (xs ++ (zs ++ ws)) ≡ xs ++ (ys ++ ws)
 laid_mid xs ys zs ws at here same =
-    let front : take at (xs ++ (zs ++ ws)) ≡ xs = take_at xs (zs ++ ws) at here in
     let back : drop (at + length ys) (xs ++ (zs ++ ws)) ≡ ws =
     ap (drop (at + length ys)) (sym (append_assoc xs zs ws)) ∙ drop_at (xs ++ zs) ws (at + length ys) (omega (arith, length-append xs zs)) in
-    λ i. front i ++ (ys ++ back i)
+    λ i. (take_at xs (zs ++ ws) at here) i ++ (ys ++ back i)
 
 module _ (size level : ℕ) (cs : List Cell) (key part : List ℕ) (fit : FitCells cs) (few : length cs < cell_count size) (short : length key ≤ 28) (whole : length part ≡ 33) where
   abbrev n : ℕ
@@ -124,8 +123,7 @@ empty_is size level sized =
     let whole : size ≡ 64 + (31 * n + 33 * n) = omega (arith, sized.whole) in
     let split : replicate {A = ℕ} size 0 ≡ (replicate 64 0 ++ replicate (31 * n) 0) ++ replicate (33 * n) 0 =
     ap (λ k. replicate k 0) whole ∙ zeros_more 64 (31 * n + 33 * n) ∙ ap (λ l. replicate 64 0 ++ l) (zeros_more (31 * n) (33 * n)) ∙ sym (append_assoc (replicate 64 0) (replicate (31 * n) 0) (replicate (33 * n) 0)) in
-    let made : set (set ((replicate 64 0 ++ replicate (31 * n) 0) ++ replicate (33 * n) 0) 0 1) 1 level ≡ ((1 ∷ level ∷ 0 ∷ 0 ∷ replicate 60 0) ++ replicate (31 * n) 0) ++ replicate (33 * n) 0 = refl in
-    ap (λ l. set (set l 0 1) 1 level) split ∙ made ∙ (λ i. ((1 ∷ level ∷ 0 ∷ 0 ∷ replicate 60 0) ++ replicate (31 * sym none i) 0) ++ replicate (33 * sym none i) 0)
+    ap (λ l. set (set l 0 1) 1 level) split ∙ (λ i. ((1 ∷ level ∷ 0 ∷ 0 ∷ replicate 60 0) ++ replicate (31 * sym none i) 0) ++ replicate (33 * sym none i) 0)
 
 pub filter_all : (P : Cell → Type 0) (p : Cell → Bool) (cs : List Cell) → AllByRecursion P cs → AllByRecursion P (filter p cs)
 filter_all P p [] all = tt
@@ -146,20 +144,14 @@ module _ (key : List ℕ) (size : ℕ) (old : List ℕ) (cell : ℕ) where
   value i = bytes_in (value_mark size i) old
 
   pub copied_more : copied key size old (cell + 1) ≡ copied key size old cell ++ cond (not (bytes_eq (key_at keys cell) key)) ((key_at keys cell, value cell) ∷ []) []
-  copied_more =
-      let e : 0 + cell ≡ cell = omega arith in
-      ap (without_key key) (cells_more keys value 0 cell ∙ (λ j. cells_by keys value 0 cell ++ (key_at keys (e j), value (e j)) ∷ []))
-      ∙ filter_more (λ c. not (bytes_eq c.0 key)) (cells_by keys value 0 cell) (key_at keys cell, value cell)
+  copied_more = grind (arith, cells_more, filter_more, not) steps 100000
 
   one_or_none : (t : Bool) (c : Cell) → length (cond t (c ∷ []) []) ≡ cond t 1 0
-  one_or_none true c = refl
-  one_or_none false c = refl
+  one_or_none t c = grind arith
 
   pub copied_long : length (copied key size old (cell + 1)) ≡ length (copied key size old cell) + cond (not (bytes_eq (key_at keys cell) key)) 1 0
   copied_long = ap length copied_more ∙ length-append (copied key size old cell) (cond (not (bytes_eq (key_at keys cell) key)) ((key_at keys cell, value cell) ∷ []) [])
       ∙ ap (λ n. length (copied key size old cell) + n) (one_or_none (not (bytes_eq (key_at keys cell) key)) (key_at keys cell, value cell))
 
   pub copied_fit : IsBlock size → length old ≡ size → is_node size 0 keys ≡ true → cell ≤ count_of keys → FitCells (copied key size old cell)
-  copied_fit sized long node inside =
-      filter_all (λ (c : Cell). (length c.0 ≤ 28) × (length c.1 ≡ 33)) (λ c. not (bytes_eq c.0 key)) (cells_by keys value 0 cell)
-      (fit_first (λ (c : Cell). (length c.0 ≤ 28) × (length c.1 ≡ 33)) keys value 0 cell (count_of keys) inside (cells_fit size 0 old sized long node))
+  copied_fit sized long node inside = search (arith, filter_all, not, fit_first, cells_fit) steps 100000

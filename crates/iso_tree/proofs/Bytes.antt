@@ -36,11 +36,10 @@ cells_back size K B i (c ∷ cs) restK restV fit k v =
     let nextK : 64 + 31 * i + 31 ≡ 64 + 31 * (i + 1) = omega arith in
     let nextV : keys_end size + 33 * i + 33 ≡ keys_end size + 33 * (i + 1) = omega arith in
     let key : key_at K i ≡ c.0 = ap text_of (first_part (64 + 31 * i) 31 K (key_part c.0) (flat_map (λ c. key_part c.0) cs) restK long k) ∙ key_text c.0 in
-    let value : bytes_in (value_mark size i) B ≡ c.1 = first_part (keys_end size + 33 * i) 33 B c.1 (flat_map (λ c. c.1) cs) restV fit.0.1 v in
     let rest = cells_back size K B (i + 1) cs restK restV fit.1
     (ap (λ n. drop n K) (sym nextK) ∙ after_part (64 + 31 * i) 31 K (key_part c.0) (flat_map (λ c. key_part c.0) cs) restK long k)
     (ap (λ n. drop n B) (sym nextV) ∙ after_part (keys_end size + 33 * i) 33 B c.1 (flat_map (λ c. c.1) cs) restV fit.0.1 v) in
-    λ j. (key j, value j) ∷ rest j
+    λ j. (key j, (first_part (keys_end size + 33 * i) 33 B c.1 (flat_map (λ c. c.1) cs) restV fit.0.1 v) j) ∷ rest j
 
 drop_more : (m n : ℕ) (xs : List ℕ) → drop n (drop m xs) ≡ drop (m + n) xs
 drop_more m n xs = drop-drop n m xs

@@ -59,7 +59,6 @@ leaf_is : (n : ℕ) (cells : ℕ → List Cell) (key value : List ℕ) (block : 
 leaf_is n cells key value block news some less lacks apart enough =
     let cs = put_after key (key, value) (cells block) in
     let is = fit_leaf n cells block cs news (omega arith) less apart enough in
-    let q = fit n zero block cs news in
     record {
       ordered = λ low high inside old. is.ordered low high (put_rise low high key value (cells block) old inside (lacks_cells key (cells block) lacks));
       pairs = (map (λ c. (c.0, text_of c.1)) cs, leaf_added key value (cells block), is.pairs);
@@ -163,10 +162,7 @@ module _ (n level : ℕ) (part : ℕ → List ℕ) (cells : ℕ → List Cell) (
 
   -- the children with the new one beside the chosen one
   rows_are : (s : List ℕ × ℕ) → p.second ≡ Some s → child_of (part s.1) ≡ s.1 → kids cells1 level (c ∷ put_after key (s.0, part s.1) cs) ≡ after
-  rows_are s e named =
-      set_two cells level key cells1 (s.0, part s.1) c cs all_apart kept_others
-      ∙ ap (λ (b : ℕ). set_chosen key t1 ((s.0, tree_at cells1 level b) ∷ []) kid0 row) named
-      ∙ ap (λ (o : Option (List ℕ × ℕ)). set_chosen key t1 (second_kid cells1 level o) kid0 row) (sym e)
+  rows_are s e named = grind (arith, set_two, all_apart, kept_others) steps 100000
 
   pub rows_apart : (s : List ℕ × ℕ) → p.second ≡ Some s → child_of (part s.1) ≡ s.1
       → IsApart ((block ∷ flat_map (λ c. nodes_in level c.1) (kids cells1 level (c ∷ put_after key (s.0, part s.1) cs))) ++ p.left)
@@ -238,8 +234,7 @@ pub child_apart : (cells : ℕ → List Cell) (level : ℕ) (key : List ℕ) (bl
     → IsApart ((block ∷ flat_map (λ c. nodes_in level c.1) (kids cells level cs)) ++ news) → IsApart (nodes_in level (tree_at cells level (child_of (child_for key cs))) ++ news)
 child_apart cells level key block low high [] news is apart = absurd is
 child_apart cells level key block low high (c ∷ cs) news is apart =
-    let below = flat_map (λ c. nodes_in level c.1) (kids cells level (c ∷ cs)) in
-    let parts = apart_parts below news apart.1 in
+    let parts = apart_parts (flat_map (λ c. nodes_in level c.1) (kids cells level (c ∷ cs))) news apart.1 in
     apart_join (nodes_in level (tree_at cells level (child_of (chosen key c.1 cs)))) news
     (subst (λ (t : Tree level). IsApart (nodes_in level t)) (chosen_kid cells level key c cs) (chosen_apart (nodes_in level) key (tree_at cells level (child_of c.1)) (kids cells level cs) parts.0))
     parts.1 (λ k old new. parts.2 k (chosen_in cells level key k c cs old) new)
@@ -264,8 +259,7 @@ at_inner : (n level : ℕ) (part : ℕ → List ℕ) (cells : ℕ → List Cell)
     → ((b : ℕ) → IsIn b news → child_of (part b) ≡ b) → 1 < half n → half n ≤ n → (after_child n part key level block cs p p.second).enough ≡ true
     → IsPut n (suc level) cells (written cells (after_child n part key level block cs p p.second).writes) block (block, kids cells level cs) key value news (after_child n part key level block cs p p.second)
 at_inner n level part cells key value block [] news p low high here order apart is named some less enough = absurd order
-at_inner n level part cells key value block (c ∷ cs) news p low high here order apart is named some less enough =
-    inner_is n level part cells key value block c cs news p here apart is named some less enough
+at_inner n level part cells key value block (c ∷ cs) news p low high here order apart is named some less enough = search (arith, inner_is) steps 100000
 
 -- What a put below a node does.
 pub put_is : (n : ℕ) (part : ℕ → List ℕ) (cells : ℕ → List Cell) (key value : List ℕ) → 1 < half n → half n ≤ n → (level block : ℕ) (news : List ℕ) (low : List ℕ) (high : Option (List ℕ))

@@ -1,6 +1,5 @@
 -- A removal is local.
-use Rattle.iso_tree.proofs.{Words.{◌≡◌, ◌≢◌, ◌∙◌, sym, refl, ap, subst, ℕ, ◌+◌, ◌<◌, ◌≤◌, ◌==◌, Bool, true, false, not, cond, List, [], ◌∷◌, ◌++◌, length, Option, Some, None, Result, Ok, Err, option_map, is_some, arith, inl, inr, eq-eqb, ne_eqb, AllByRecursion, filter, bytes_eq, get, remove, cases_Bool, cases_eq, Area, StoreError, BadKey, Broken, Array, put, own, at_cell, is_key, del_op, block_at, Program, Done, bytes_in, then_do, accesses_of, answer_of, store_access, IsLocal, cell_count, keys_mark, value_mark, is_part, text_of, AreWhole, accesses_then, own_reads, whole_reads, IsCorrect, local_from, IsBlock, FitCells, Cell, cell_of, count_of, node_bytes, is_head, head_mark, Rise, in_range, tree_at, IsOrdered, Descent, AtLeaf, AtBroken, descend, with_head, without_key, edit_leaf, del_at, del_below, del_program, cells_in, root_of, level_of, IsTreeArea, IsTreeRegion, tree_pairs, tree_map, same_ok, found_in, length-filter_le, before, RiseAfter}, Building.filter_all, Bytes.length-node_bytes, Edits.leaf_of, Ending.{order_of, ends_of, answer_at, own_at, found_of}, Facts.head_parts, Fits.{area_block, cells_fit, cells_few, rise_strict}, Gets.{descend_reads, map_gets, parts_all}, Leaves.{EndsAtLeaf, leaf_rises, HasLanded, lands}, Dels.{IsLeafEdit, leaf_written, edit_region, edit_pairs, edit_found, map_without, map_missing}, Ranges.{low_of, range_within}, Order.before_trans}
-pub use Rattle.tx_blocks.proofs.Programs.{HasBlocks, whole_append}
+use Rattle.iso_tree.proofs.{Words.{HasBlocks, whole_append, ◌≡◌, ◌≢◌, ◌∙◌, sym, refl, ap, subst, ℕ, ◌+◌, ◌<◌, ◌≤◌, ◌==◌, Bool, true, false, not, cond, List, [], ◌∷◌, length, Option, Some, None, Result, Ok, Err, option_map, is_some, arith, inl, inr, eq-eqb, ne_eqb, AllByRecursion, filter, bytes_eq, get, remove, cases_Bool, cases_eq, Area, StoreError, BadKey, Broken, Array, put, own, at_cell, is_key, del_op, block_at, Program, Done, bytes_in, then_do, accesses_of, answer_of, store_access, IsLocal, cell_count, keys_mark, value_mark, is_part, text_of, AreWhole, accesses_then, own_reads, whole_reads, IsCorrect, local_from, IsBlock, FitCells, Cell, cell_of, count_of, node_bytes, is_head, head_mark, Rise, in_range, tree_at, IsOrdered, Descent, AtLeaf, AtBroken, descend, with_head, without_key, edit_leaf, del_at, del_below, del_program, cells_in, root_of, level_of, IsTreeArea, IsTreeRegion, tree_pairs, tree_map, same_ok, found_in, length-filter_le, before, RiseAfter}, Building.filter_all, Bytes.length-node_bytes, Dels.{order_of, ends_of, answer_at, own_at, found_of, IsLeafEdit, leaf_written, edit_region, edit_pairs, edit_found, map_without, map_missing}, Edits.leaf_of, Facts.head_parts, Fits.{area_block, cells_fit, cells_few, rise_strict}, Gets.{descend_reads, map_gets, parts_all}, Leaves.{EndsAtLeaf, leaf_rises, HasLanded, lands}, Order.{before_trans, low_of, range_within}}
 
 -- A leaf without some of its cells still rises.
 rise_later : (last mid : List ℕ) (high : Option (List ℕ)) (cs : List Cell) → before last mid ≡ true → in_range last high mid ≡ true → RiseAfter mid high cs → RiseAfter last high cs
@@ -20,10 +19,7 @@ rise_from_after low mid high (d ∷ ds) inside is = (range_within low mid high d
 
 pub filter_rises : (p : Cell → Bool) (low : List ℕ) (high : Option (List ℕ)) (cs : List Cell) → Rise low high cs → Rise low high (filter p cs)
 filter_rises p low high [] is = tt
-filter_rises p low high (c ∷ cs) is = elim (p c) as (λ b. Rise low high (cond b (c ∷ filter p cs) (filter p cs))) [
-  | true ↦ (is.0, filter_after p c.0 high cs is.1)
-  | false ↦ rise_from_after low c.0 high (filter p cs) is.0 (filter_after p c.0 high cs is.1)
-]
+filter_rises p low high (c ∷ cs) is = grind (arith, filter_after, rise_from_after) steps 100000
 
 -- what a removal is to the map
 record HasRemoved (a : Area) (key : List ℕ) (A : Array) (r : Bool) (C : Array) : Type 0 where
@@ -119,24 +115,12 @@ module _ (a : Area) (key : List ℕ) (A : Array) (area : IsTreeArea a) (region :
 
   -- what the call does where the leaf has the key, and where it has not
   does : (o : Option ℕ) → cell_of key keys ≡ o → (r : Bool) → answer_of (del_below a key root level) A ≡ Ok r → HasRemoved a key A r (own A (accesses_of (del_below a key root level) A))
-  does None none r is =
-      let at_end : del_at a key (AtLeaf ends.passed at keys ends.value) ≡ Done (Ok false) = ap (λ (o : Option ℕ). at_cell o (λ i. edit_leaf a at (without_key key) (Ok true)) (Done (Ok false))) none in
-      let answer : false ≡ r = same_ok false r StoreError (sym (answer_is ∙ ap (λ (p : Program (Result Bool StoreError)). answer_of p A) at_end) ∙ is) in
-      let same : own A (accesses_of (del_below a key root level) A) ≡ A = own_is ∙ ap (λ (p : Program (Result Bool StoreError)). own A (accesses_of p A)) at_end in
-      record {
-        found = ap is_some (get_is ∙ ap (option_map (λ j. text_of (bytes_in (value_mark a.size j) (block_at A (a.start + at))))) none) ∙ answer;
-        region = subst (IsTreeRegion a) (sym same) region;
-        map_is = ap (tree_map a) same ∙ missing_map none;
-      }
+  does None none r is = grind (arith, same_ok, answer_is, own_is, get_is, region, missing_map) steps 100000
   does (Some i) found r is =
       let at_end : del_at a key (AtLeaf ends.passed at keys ends.value) ≡ edit_leaf a at (without_key key) (Ok true) = ap (λ (o : Option ℕ). at_cell o (λ i. edit_leaf a at (without_key key) (Ok true)) (Done (Ok false))) found in
       let answer : true ≡ r = same_ok true r StoreError (sym (answer_is ∙ ap (λ (p : Program (Result Bool StoreError)). answer_of p A) at_end) ∙ is) in
       let same : own A (accesses_of (del_below a key root level) A) ≡ after = own_is ∙ ap (λ (p : Program (Result Bool StoreError)). own A (accesses_of p A)) at_end in
-      record {
-        found = ap is_some (get_is ∙ ap (option_map (λ j. text_of (bytes_in (value_mark a.size j) (block_at A (a.start + at))))) found) ∙ answer;
-        region = subst (IsTreeRegion a) (sym same) after_region;
-        map_is = ap (tree_map a) same ∙ after_map;
-      }
+      grind (arith, get_is, region, after_region, after_map)
 
 empty_does : (a : Area) (key : List ℕ) (A : Array) → IsTreeRegion a A → root_of a A ≡ 0 → (r : Bool) → answer_of (del_below a key (root_of a A) (level_of a A)) A ≡ Ok r
     → HasRemoved a key A r (own A (accesses_of (del_below a key (root_of a A) (level_of a A)) A))
@@ -148,11 +132,7 @@ empty_does a key A region empty r is =
     let answer : false ≡ r = same_ok false r StoreError (sym (ap (λ (p : Program (Result Bool StoreError)). answer_of p A) program) ∙ is) in
     let same : own A (accesses_of (del_below a key root level) A) ≡ A = ap (λ (p : Program (Result Bool StoreError)). own A (accesses_of p A)) program in
     let none : found_in key (tree_pairs a A) ≡ None = ap (λ (t : Bool). found_in key (cond t [] (Rattle.store_model.specs.Trees.pairs_in level (tree_at (cells_in a A) level root)))) test in
-    record {
-      found = ap is_some (map_gets a A key ∙ none) ∙ answer;
-      region = subst (IsTreeRegion a) (sym same) region;
-      map_is = ap (tree_map a) same ∙ empty_map a key A none;
-    }
+    grind (arith, map_gets, empty_map)
 
 below_does : (a : Area) (key : List ℕ) (A : Array) → IsTreeArea a → IsTreeRegion a A → (r : Bool) → answer_of (del_below a key (root_of a A) (level_of a A)) A ≡ Ok r
     → HasRemoved a key A r (own A (accesses_of (del_below a key (root_of a A) (level_of a A)) A))
@@ -201,16 +181,7 @@ del_whole_at a key A (AtLeaf path leaf keys x) sized shape landed =
     ]
 
 del_whole_below : (a : Area) (key : List ℕ) (A : Array) (root level : ℕ) → IsBlock a.size → HasBlocks a A → root < a.blocks → AreWhole A (accesses_of (del_below a key root level) A)
-del_whole_below a key A root level sized shape below =
-    elim (root == 0) as (λ t. AreWhole A (accesses_of (cond t (Done (Ok false)) (then_do (descend a key false level root []) (del_at a key))) A)) [
-      | true ↦ tt
-      | false ↦
-          (let reads = accesses_of (descend a key false level root []) A in
-          let same : own A reads ≡ A = own_reads A reads (descend_reads a key false level root [] A) in
-          subst (AreWhole A) (sym (accesses_then (descend a key false level root []) (del_at a key) A ∙ ap (λ (C : Array). reads ++ accesses_of (del_at a key (answer_of (descend a key false level root []) A)) C) same))
-          (whole_append A reads (accesses_of (del_at a key (answer_of (descend a key false level root []) A)) A) (whole_reads A reads (descend_reads a key false level root [] A))
-          (del_whole_at a key A (answer_of (descend a key false level root []) A) sized shape (lands a A key false level root [] below))))
-    ]
+del_whole_below a key A root level sized shape below = grind (arith, own_reads, descend_reads, accesses_then, whole_append, whole_reads, del_whole_at, lands) steps 100000
 
 pub del_whole : (a : Area) (key : List ℕ) (A : Array) → IsBlock a.size → HasBlocks a A → AreWhole A (accesses_of (del_program a key) A)
 unfolding del_program

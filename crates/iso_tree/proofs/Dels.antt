@@ -1,5 +1,5 @@
 -- A removal takes the key out of the map of the region.
-use Rattle.iso_tree.proofs.{Words.{◌≡◌, ◌≢◌, ◌∙◌, sym, refl, ap, subst, ℕ, suc, ◌+◌, ◌≤◌, ◌==◌, Bool, true, false, not, cond, IsTrue, List, [], ◌∷◌, ◌++◌, length, Option, Some, None, arith, inl, inr, ne_eqb, AllByRecursion, nat_cmp, eq_by_cmp, bytes_eq, slice_cmp, nat_list_cmp_total, nat_list_eq_equiv, from_entries, get, remove, get-from_entries, get-remove, same_map, slice_cmp-IsAntisymmetric, nat_cmp-IsAntisymmetric, cases_Bool, cases_eq, bytes_eq-Decides, Area, or_else, Array, put, IsIn, Pairs, block_at, bytes_in, store_access, cell_count, keys_mark, is_part, text_of, word_at, length-block_put, written_block, other_block, IsBlock, FitCells, Cell, is_node, used_cells, node_bytes, head_mark, tree_at, pairs_in, nodes_in, IsApart, in_range, Rise, IsOrdered, without_key, cells_in, root_of, level_of, IsNode, AreNodes, IsTreeRegion, tree_pairs, tree_nodes, found_in, find_append, ties, laid_whole}, Bytes.length-node_bytes, Edits.{leaf_of, leaf_pairs, IsSwapped, IsEdited, edit_is}, Leaves.{found_leaf, leaf_stays}, Fits.{nodes_after, one_level, leaf_is_node}, Order.not_before_empty}
+use Rattle.iso_tree.proofs.{Words.{◌≡◌, ◌≢◌, ◌∙◌, sym, refl, ap, subst, ℕ, suc, ◌+◌, ◌≤◌, ◌==◌, Bool, true, false, not, cond, IsTrue, List, [], ◌∷◌, ◌++◌, length, Option, Some, None, arith, inl, inr, ne_eqb, AllByRecursion, nat_cmp, eq_by_cmp, bytes_eq, slice_cmp, nat_list_cmp_total, nat_list_eq_equiv, from_entries, get, remove, get-from_entries, get-remove, same_map, slice_cmp-IsAntisymmetric, nat_cmp-IsAntisymmetric, cases_Bool, cases_eq, bytes_eq-Decides, Area, or_else, Array, put, IsIn, Pairs, block_at, bytes_in, store_access, cell_count, keys_mark, is_part, text_of, word_at, length-block_put, written_block, other_block, IsBlock, FitCells, Cell, is_node, used_cells, node_bytes, head_mark, tree_at, pairs_in, nodes_in, IsApart, in_range, Rise, IsOrdered, without_key, cells_in, root_of, level_of, IsNode, AreNodes, IsTreeRegion, tree_pairs, tree_nodes, found_in, find_append, ties, laid_whole, ◌<◌, option_map, own, Program, then_do, accesses_of, answer_of, value_mark, accesses_then, answer_then, own_reads, own_append, cell_of, Descent, AtLeaf, descend}, Bytes.length-node_bytes, Edits.{leaf_of, leaf_pairs, IsSwapped, IsEdited, edit_is}, Fits.{nodes_after, one_level, leaf_is_node}, Gets.{descend_reads, leaf_finds}, Leaves.{found_leaf, leaf_stays, EndsAtLeaf, ends_at_leaf}, Order.not_before_empty}
 
 -- A leaf that is written, whole or in part, and the cells that it has then.
 pub record IsLeafEdit (a : Area) (A B : Array) (leaf : ℕ) (cs : List Cell) : Type 0 where
@@ -68,9 +68,7 @@ module _ (a : Area) (A B : Array) (key : List ℕ) (cs : List Cell) (region : Is
     ]
 
     inner_kept : (k l : ℕ) → IsNode a (suc l) (block_at A (a.start + k)) → cells_in a B k ≡ cells_in a A k
-    inner_kept k l is = kept k (λ same.
-        let level : suc l ≡ 0 = one_level a.size (suc l) 0 (bytes_in (keys_mark a.size) (block_at A (a.start + leaf))) (subst (λ (j : ℕ). is_node a.size (suc l) (bytes_in (keys_mark a.size) (block_at A (a.start + j))) ≡ true) same is.keys) node.keys in
-        absurd (omega arith))
+    inner_kept k l is = grind (arith, one_level) steps 100000
 
     edited : IsEdited (level_of a A) (cells_in a A) (cells_in a B) (root_of a A) (tree_at (cells_in a A) (level_of a A) (root_of a A)) key leaf
     edited = edit_is (cells_in a A) (cells_in a B) key (level_of a A) (root_of a A) [] None order_A apart_A kept
@@ -85,8 +83,7 @@ module _ (a : Area) (A B : Array) (key : List ℕ) (cs : List Cell) (region : Is
     order_at = edited.ordered [] None (ap not (not_before_empty key)) order_A (λ lo hi inside is. subst (Rise lo hi) (sym here) (keeps lo hi inside is))
 
     order_B : IsOrdered (level_of a B) [] None (tree_at (cells_in a B) (level_of a B) (root_of a B))
-    order_B = subst (λ (l : ℕ). IsOrdered l [] None (tree_at (cells_in a B) l (root_of a B))) (sym level_kept)
-        (subst (λ (r : ℕ). IsOrdered (level_of a A) [] None (tree_at (cells_in a B) (level_of a A) r)) (sym root_kept) order_at)
+    order_B = grind (arith, level_kept, root_kept, order_at) steps 100000
 
     nodes_B : AreNodes a B (level_of a B) (root_of a B)
     nodes_B = subst (λ (l : ℕ). AreNodes a B l (root_of a B)) (sym level_kept) (subst (λ (r : ℕ). AreNodes a B (level_of a A) r) (sym root_kept) (nodes_after a A B stays inner_kept (level_of a A) (root_of a A) nodes_A))
@@ -119,9 +116,7 @@ module _ (a : Area) (A B : Array) (key : List ℕ) (cs : List Cell) (region : Is
     pairs_old = ap (λ (t : Bool). cond t [] (pairs_in (level_of a A) (tree_at (cells_in a A) (level_of a A) (root_of a A)))) some_test
 
     pairs_new : tree_pairs a B ≡ pairs_in (level_of a A) (tree_at (cells_in a B) (level_of a A) (root_of a A))
-    pairs_new =
-        (λ i. cond (root_kept i == 0) [] (pairs_in (level_kept i) (tree_at (cells_in a B) (level_kept i) (root_kept i))))
-        ∙ ap (λ (t : Bool). cond t [] (pairs_in (level_of a A) (tree_at (cells_in a B) (level_of a A) (root_of a A)))) some_test
+    pairs_new = grind (arith, root_kept, level_kept, some_test) steps 100000
 
     -- its pairs are the old ones, with those of the leaf changed
     pub edit_pairs : IsSwapped (leaf_pairs (cells_in a A leaf)) (leaf_pairs cs) (tree_pairs a A) (tree_pairs a B)
@@ -131,18 +126,14 @@ module _ (a : Area) (A B : Array) (key : List ℕ) (cs : List Cell) (region : Is
 
     -- and the key stands in the leaf or nowhere
     pub edit_found : found_in key (tree_pairs a B) ≡ found_in key (leaf_pairs cs)
-    edit_found =
-        ap (found_in key) pairs_new ∙ found_leaf (cells_in a B) key (level_of a A) (root_of a A) [] None order_at
-        ∙ ap (λ (k : ℕ). found_in key (leaf_pairs (cells_in a B k))) (leaf_stays (cells_in a A) (cells_in a B) key (level_of a A) (root_of a A) [] None order_A apart_A kept)
-        ∙ ap (λ (c : List Cell). found_in key (leaf_pairs c)) here
+    edit_found = grind (arith, pairs_new, found_leaf, order_at, leaf_stays, order_A, apart_A) steps 100000
 
 -- Look-ups after pairs were swapped.
 pub swapped_found : (q : List ℕ) (ms ms' old new : List (List ℕ × List ℕ)) → IsSwapped ms ms' old new → found_in q ms' ≡ found_in q ms → found_in q new ≡ found_in q old
 swapped_found q ms ms' old new is same =
-    let xs = is.0 in
     let ys = is.1 in
-    ap (found_in q) is.3 ∙ find_append q xs (ms' ++ ys) ∙ ap (or_else (found_in q xs)) (find_append q ms' ys ∙ ap (λ o. or_else o (found_in q ys)) same ∙ sym (find_append q ms ys))
-    ∙ sym (find_append q xs (ms ++ ys)) ∙ ap (found_in q) (sym is.2)
+    ap (found_in q) is.3 ∙ find_append q is.0 (ms' ++ ys) ∙ ap (or_else (found_in q is.0)) (find_append q ms' ys ∙ ap (λ o. or_else o (found_in q ys)) same ∙ sym (find_append q ms ys))
+    ∙ sym (find_append q is.0 (ms ++ ys)) ∙ ap (found_in q) (sym is.2)
 
 -- a leaf without a key
 without_found : (key q : List ℕ) (cs : List Cell) → bytes_eq q key ≡ false → found_in q (leaf_pairs (without_key key cs)) ≡ found_in q (leaf_pairs cs)
@@ -151,10 +142,9 @@ without_found key q (c ∷ cs) other =
     elim (cases_Bool (bytes_eq c.0 key)) [
       | inl is ↦
           (let same : c.0 ≡ key = (bytes_eq-Decides c.0 key).0 is in
-          let miss : eq_by_cmp (slice_cmp nat_cmp) q c.0 ≡ false = ties q c.0 ∙ ap (bytes_eq q) same ∙ other in
           ap (λ (t : Bool). found_in q (leaf_pairs (cond (not t) (c ∷ without_key key cs) (without_key key cs)))) is
           ∙ without_found key q cs other
-          ∙ sym (ap (λ (t : Bool). cond t (Some (text_of c.1)) (found_in q (leaf_pairs cs))) miss))
+          ∙ sym (ap (λ (t : Bool). cond t (Some (text_of c.1)) (found_in q (leaf_pairs cs))) (ties q c.0 ∙ ap (bytes_eq q) same ∙ other)))
       | inr no_it ↦
           ap (λ (t : Bool). found_in q (leaf_pairs (cond (not t) (c ∷ without_key key cs) (without_key key cs)))) no_it
           ∙ ap (λ (o : Option (List ℕ)). cond (eq_by_cmp (slice_cmp nat_cmp) q c.0) (Some (text_of c.1)) o) (without_found key q cs other)
@@ -203,3 +193,41 @@ map_missing key pairs none =
       | inr other ↦ sym (ap (λ (t : Bool). cond t None (get m q)) (ties q key ∙ other))
     ]
     ∙ sym (get-remove nat_list_cmp_total (from_entries pairs) key q))
+
+-- A call on a well-formed region whose tree is not empty: where its descent ends, and what comes after it.
+module _ (a : Area) (key : List ℕ) (A : Array) (region : IsTreeRegion a A) (below : root_of a A < a.blocks) (some : root_of a A ≢ 0) where
+  abbrev root : ℕ
+  root = root_of a A
+
+  abbrev level : ℕ
+  level = level_of a A
+
+  pub nodes_of : AreNodes a A level root
+  nodes_of = elim region.nodes [ inl empty ↦ absurd (some empty) | inr is ↦ is ]
+
+  pub order_of : IsOrdered level [] None (tree_at (cells_in a A) level root)
+  order_of = elim region.ordered [ inl empty ↦ absurd (some empty) | inr is ↦ is ]
+
+  pub ends_of : EndsAtLeaf a A key level root []
+  ends_of = ends_at_leaf a A key level root [] [] None nodes_of order_of (omega arith) below
+
+  abbrev pub at : ℕ
+  at = leaf_of (cells_in a A) key level root
+
+  abbrev pub keys : List ℕ
+  keys = bytes_in (keys_mark a.size) (block_at A (a.start + at))
+
+  reads_own : own A (accesses_of (descend a key false level root []) A) ≡ A
+  reads_own = own_reads A (accesses_of (descend a key false level root []) A) (descend_reads a key false level root [] A)
+
+  pub answer_at : {R : Type 0} (f : Descent → Program R) → answer_of (then_do (descend a key false level root []) f) A ≡ answer_of (f (AtLeaf ends_of.passed at keys ends_of.value)) A
+  answer_at f = answer_then (descend a key false level root []) f A ∙ (λ i. answer_of (f (ends_of.ends i)) (reads_own i))
+
+  pub own_at : {R : Type 0} (f : Descent → Program R) → own A (accesses_of (then_do (descend a key false level root []) f) A) ≡ own A (accesses_of (f (AtLeaf ends_of.passed at keys ends_of.value)) A)
+  own_at f =
+      ap (own A) (accesses_then (descend a key false level root []) f A)
+      ∙ own_append A (accesses_of (descend a key false level root []) A) _
+      ∙ (λ i. own (reads_own i) (accesses_of (f (ends_of.ends i)) (reads_own i)))
+
+  pub found_of : found_in key (tree_pairs a A) ≡ option_map (λ j. text_of (bytes_in (value_mark a.size j) (block_at A (a.start + at)))) (cell_of key keys)
+  found_of = grind (arith, found_leaf, order_of, leaf_finds) steps 100000

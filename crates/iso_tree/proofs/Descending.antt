@@ -1,5 +1,5 @@
 -- A descent, step by step.
-use Rattle.iso_tree.proofs.Words.{◌≡◌, ◌∙◌, sym, refl, subst, ℕ, zero, suc, ◌+◌, ◌&&◌, Bool, true, false, cond, List, [], ◌∷◌, take, Result, Ok, Err, IfOk, IfErr, Area, StoreError, Program, Done, Look, further_bytes, then_do, keys_end, keys_mark, Tx, Device, IsLater, Ran, IsCut, HasRun, HasRead, IsAt, at_then, ran_at, cut_then, later_than, cause_since, cut_from, read_join, Leaf, is_node, is_child, child_of, count_of, Descent, AtLeaf, AtBroken, descend, inner_further, leaf_further, IsWalkError, OnlyReads, child_program, leaf_program, HasDescended, HasReadLeaf, at_as, at_start}
+use Rattle.iso_tree.proofs.Words.{arith, ◌≡◌, ◌∙◌, sym, refl, subst, ℕ, zero, suc, ◌+◌, ◌&&◌, Bool, true, false, cond, List, [], ◌∷◌, take, Result, Ok, Err, IfOk, IfErr, Area, StoreError, Program, Done, Look, further_bytes, then_do, keys_end, keys_mark, Tx, Device, IsLater, Ran, IsCut, HasRun, HasRead, IsAt, at_then, ran_at, cut_then, later_than, cause_since, cut_from, read_join, Leaf, is_node, is_child, child_of, count_of, Descent, AtLeaf, AtBroken, descend, inner_further, leaf_further, IsWalkError, OnlyReads, child_program, leaf_program, HasDescended, HasReadLeaf, at_as, at_start}
 use Rattle.store_model.specs.declared.stores.StoreError.TheVariants as store
 
 module _ (a : Area) (key : List ℕ) (with_value : Bool) where
@@ -25,17 +25,14 @@ module _ (a : Area) (key : List ℕ) (with_value : Bool) where
   step_same : (level block : ℕ) (path : List (ℕ × ℕ)) (keys value : List ℕ) (t : Bool)
       → cond t (descend a key with_value level (child_of value) ((block, count_of keys) ∷ path)) (Done (AtBroken (a.start + block)))
       ≡ after_step level block path (cond t (Ok (child_of value, count_of keys)) (Err (store.Broken (a.start + block))))
-  step_same level block path keys value true = refl
-  step_same level block path keys value false = refl
+  step_same level block path keys value t = grind arith
 
   leaf_same : (block : ℕ) (path : List (ℕ × ℕ)) (keys value : List ℕ) (t : Bool)
       → cond t (Done (AtLeaf path block keys value)) (Done (AtBroken (a.start + block))) ≡ after_leaf block path (cond t (Ok (keys, value)) (Err (store.Broken (a.start + block))))
-  leaf_same block path keys value true = refl
-  leaf_same block path keys value false = refl
+  leaf_same block path keys value t = grind arith
 
   step_as : (level block : ℕ) (path : List (ℕ × ℕ)) → descend a key with_value (suc level) block path ≡ then_do (child_program a key (suc level) block) (after_step level block path)
-  step_as level block path = λ i. Look (a.start + block) (keys_mark a.size) (inner_further a key (suc level))
-      (λ keys value. step_same level block path keys value (is_node a.size (suc level) keys && is_child a.blocks value) i)
+  step_as level block path = grind (arith, step_same)
 
   leaf_as : (block : ℕ) (path : List (ℕ × ℕ)) → descend a key with_value zero block path ≡ then_do (leaf_program a key with_value block) (after_leaf block path)
   leaf_as block path = λ i. Look (a.start + block) (keys_mark a.size) (leaf_further a key with_value) (λ keys value. leaf_same block path keys value (is_node a.size 0 keys) i)
@@ -110,19 +107,5 @@ descent_refused whole a key with_value root level f t u is broken path buffer st
 
 -- after reads that went well
 pub reads_after : {R : Type 0} (t u v : Tx) (before mid now : Device) (result : Result R StoreError) → HasRead t u → IsLater before mid → mid.faults ≡ before.faults → OnlyReads u v mid now result → OnlyReads t v before now result
-reads_after t u v before mid now (Ok x) read later passed is = record {
-  reads = read_join t u v read is.reads;
-  cause = tt;
-  known = tt;
-  later = later_than before mid now later is.later;
-  passed = is.passed ∙ passed;
-  is_open = is.is_open;
-}
-reads_after t u v before mid now (Err e) read later passed is = record {
-  reads = read_join t u v read is.reads;
-  cause = cause_since v 1 before mid now e passed is.cause;
-  known = is.known;
-  later = later_than before mid now later is.later;
-  passed = tt;
-  is_open = tt;
-}
+reads_after t u v before mid now (Ok x) read later passed is = grind (arith, read_join, later_than)
+reads_after t u v before mid now (Err e) read later passed is = grind (arith, read_join, cause_since, later_than)

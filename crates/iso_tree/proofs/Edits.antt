@@ -114,9 +114,7 @@ pub edit_is : (cells cells' : ℕ → List Cell) (key : List ℕ) (level block :
     → IsEdited level cells cells' block (tree_at cells level block) key (leaf_of cells key level block)
 edit_is cells cells' key zero block low high order apart kept = edit_leaf cells cells' block key
 edit_is cells cells' key (suc level) block low high order apart kept =
-    let leaf = leaf_of cells key (suc level) block in
     let child = child_of (child_for key (cells block)) in
     let range = child_ordered cells level key low high (cells block) order in
-    let inside = leaf_in cells key level child range.0 range.1 range.2 in
-    edit_inner level cells cells' block key leaf (cells block) low high (kept block (not_leaf cells key level block low high order apart)) order apart.1 kept inside
+    edit_inner level cells cells' block key (leaf_of cells key (suc level) block) (cells block) low high (kept block (not_leaf cells key level block low high order apart)) order apart.1 kept (leaf_in cells key level child range.0 range.1 range.2)
     (edit_is cells cells' key level child range.0 range.1 range.2 (child_once cells level key low high (cells block) order apart.1) kept)

@@ -1,12 +1,75 @@
--- How many blocks a put takes: one for each full node in a row from the leaf up.
-use Rattle.iso_tree.proofs.{Words.{◌≡◌, ◌⊎◌, ◌∙◌, sym, refl, ap, subst, ℕ, zero, suc, ◌+◌, ◌<◌, ◌≤◌, ◌==◌, true, false, cond, nat_le, List, [], ◌∷◌, ◌++◌, length, Option, Some, None, arith, inl, inr, eq-eqb, ne_eqb, AllByRecursion, and_from, cases_eq, nat_tests, append_assoc, map-append, length-append, Cell, child_of, child_part, tree_at, AreChildren, IsOrdered, Put, put_after, halves, fit, full_row}, Climbs.child_ordered, Order.{all_left, all_right, length-put_after}, Shapes.{kids, after_child, child_for, put_below}, Ways.{path_below, counts}}
+-- The way up of a put over the path of its descent is the put below the root.
+use Rattle.iso_tree.proofs.{Words.{◌≡◌, ◌∙◌, sym, refl, ap, ℕ, zero, suc, ◌<◌, ◌≤◌, true, ◌&&◌, ◌==◌, cond, nat_le, List, [], ◌∷◌, ◌++◌, take, length, map, Option, Some, None, arith, inl, inr, eq-eqb, AllByRecursion, cases_eq, nat_tests, append_assoc, Cell, child_of, child_part, tree_at, AreChildren, IsOrdered, put_after, Put, halves, fit, Climb, placed, climb_on, climb, full_row, length-placed, ◌⊎◌, subst, ◌+◌, false, ne_eqb, and_from, map-append, length-append}, Climbs.child_ordered, Order.{all_left, all_right, length-put_after}, Shapes.{kids, after_child, child_for, put_below}}
 
+-- the nodes that the descent of a key passes, the leaf first
+abbrev pub path_below : (ℕ → List Cell) → (key : List ℕ) → (level block : ℕ) → List (ℕ × List Cell)
+path_below cells key zero block = (block, cells block) ∷ []
+path_below cells key (suc level) block = path_below cells key level (child_of (child_for key (cells block))) ++ (block, cells block) ∷ []
+
+climb_more : (p q : Put) (on : List ℕ × ℕ → Climb) (s : Option (List ℕ × ℕ))
+    → ◌≡◌ {A = Climb} (record { writes = p.writes ++ (climb_on q on s).writes; root = (climb_on q on s).root })
+    (climb_on (record { writes = p.writes ++ q.writes; second = q.second; taken = p.taken ++ q.taken; left = q.left; enough = p.enough && q.enough }) on s)
+climb_more p q on None = refl
+climb_more p q on (Some s) = λ i. record { writes = sym (append_assoc p.writes q.writes (on s).writes) i; root = (on s).root }
+
+at_node : (n : ℕ) (key : List ℕ) (level block : ℕ) (cs : List Cell) (child : ℕ) (rest : List (ℕ × List Cell)) (p : Put) (s : Option (List ℕ × ℕ)) (some : 0 < length cs) → p.second ≡ s
+    → climb_on p (λ s. climb n key (suc level) (s.0, child_part s.1) child ((block, cs) ∷ rest) p.left) s
+    ≡ climb_on (after_child n child_part key level block cs p s) (λ s'. climb n key (suc (suc level)) (s'.0, child_part s'.1) block rest (after_child n child_part key level block cs p s).left) (after_child n child_part key level block cs p s).second
+at_node n key level block [] child rest p s some e = absurd (omega arith)
+at_node n key level block (c ∷ cs) child rest p None some e = grind arith steps 100000
+at_node n key level block (c ∷ cs) child rest p (Some s) some e = grind (arith, climb_more) steps 100000
+
+has_child : (cells : ℕ → List Cell) (level : ℕ) (low : List ℕ) (high : Option (List ℕ)) (cs : List Cell) → AreChildren (IsOrdered level) low high (kids cells level cs) → 0 < length cs
+has_child cells level low high [] is = absurd is
+has_child cells level low high (c ∷ cs) is = omega arith
+
+-- the way up over the path of a descent, and what comes above it
+pub climb_below : (n : ℕ) (key value : List ℕ) (cells : ℕ → List Cell) (level block below : ℕ) (low : List ℕ) (high : Option (List ℕ)) (rest : List (ℕ × List Cell)) (news : List ℕ)
+    → IsOrdered level low high (tree_at cells level block)
+    → climb n key 0 (key, value) below (path_below cells key level block ++ rest) news
+    ≡ climb_on (put_below n child_part cells key value level block news)
+    (λ s. climb n key (suc level) (s.0, child_part s.1) block rest (put_below n child_part cells key value level block news).left) (put_below n child_part cells key value level block news).second
+climb_below n key value cells zero block below low high rest news order = refl
+climb_below n key value cells (suc level) block below low high rest news order =
+    let child = child_of (child_for key (cells block)) in
+    let range = child_ordered cells level key low high (cells block) order in
+    let p = put_below n child_part cells key value level child news in
+    ap (λ (nodes : List (ℕ × List Cell)). climb n key 0 (key, value) below nodes news) (append_assoc (path_below cells key level child) ((block, cells block) ∷ []) rest)
+    ∙ climb_below n key value cells level child below range.0 range.1 ((block, cells block) ∷ rest) news range.2
+    ∙ at_node n key level block (cells block) child rest p p.second (has_child cells level low high (cells block) order) refl
+
+-- the counts of nodes
+abbrev pub counts : List (ℕ × List Cell) → List (ℕ × ℕ)
+counts nodes = map (λ w. (w.0, length w.1)) nodes
+
+fits : (n level block : ℕ) (cs : List Cell) (news : List ℕ) → length cs ≤ n → (fit n level block cs news).second ≡ None
+fits n level block cs news less = grind arith steps 100000
+
+on_same : (q : Put) (f g : List ℕ × ℕ → Climb) (s : Option (List ℕ × ℕ)) → ((x : List ℕ × ℕ) → f x ≡ g x) → climb_on q f s ≡ climb_on q g s
+on_same q f g None same = refl
+on_same q f g (Some x) same = λ i. record { writes = q.writes ++ (same x i).writes; root = (same x i).root }
+
+-- The way up ends at the first node that is not full: the nodes above it are not wanted.
+pub climb_take : (n : ℕ) (key : List ℕ) (level : ℕ) (new : Cell) (below : ℕ) (nodes : List (ℕ × List Cell)) (news : List ℕ) → AllByRecursion (λ (w : ℕ × List Cell). length w.1 ≤ n) nodes
+    → climb n key level new below (take (suc (full_row n (counts nodes))) nodes) news ≡ climb n key level new below nodes news
+climb_take n key level new below [] news all = refl
+climb_take n key level new below (node ∷ nodes) news all =
+    let q = fit n level node.0 (placed level key new node.1) news in
+    elim (cases_eq (length node.1) n) [
+      | inl full ↦
+          (let e : (length node.1 == n) ≡ true = eq-eqb (length node.1) n full in
+          ap (λ t. climb n key level new below (node ∷ take (cond t (suc (full_row n (counts nodes))) 0) nodes) news) e
+          ∙ on_same q _ _ q.second (λ s. climb_take n key (suc level) (s.0, child_part s.1) node.0 nodes q.left all.1))
+      | inr room ↦
+          (let e : q.second ≡ None = fits n level node.0 (placed level key new node.1) news (omega (arith, all.0, length-placed level key new node.1)) in
+          let ends : (f g : List ℕ × ℕ → Climb) → climb_on q f q.second ≡ climb_on q g q.second = λ f g. ap (climb_on q f) e ∙ ap (climb_on q g) (sym e) in
+          ends _ _)
+    ]
+
+-- How many blocks a put takes: one for each full node in a row from the leaf up.
 -- WHAT IS TAKEN AND WHAT IS LEFT
 fit_blocks : (n level block : ℕ) (cs : List Cell) (news : List ℕ) → news ≡ (fit n level block cs news).taken ++ (fit n level block cs news).left
-fit_blocks n level block cs [] = elim (nat_le (length cs) n) as (λ b. [] ≡ (cond b (record { writes = (block, level, cs) ∷ []; second = None; taken = []; left = []; enough = true }) (halves n level block cs [])).taken
-    ++ (cond b (record { writes = (block, level, cs) ∷ []; second = None; taken = []; left = []; enough = true }) (halves n level block cs [])).left) [ true ↦ refl | false ↦ refl ]
-fit_blocks n level block cs (new ∷ news) = elim (nat_le (length cs) n) as (λ b. new ∷ news ≡ (cond b (record { writes = (block, level, cs) ∷ []; second = None; taken = []; left = new ∷ news; enough = true }) (halves n level block cs (new ∷ news))).taken
-    ++ (cond b (record { writes = (block, level, cs) ∷ []; second = None; taken = []; left = new ∷ news; enough = true }) (halves n level block cs (new ∷ news))).left) [ true ↦ refl | false ↦ refl ]
+fit_blocks n level block cs news = grind arith
 
 after_blocks : (n : ℕ) (key : List ℕ) (level block : ℕ) (cs : List Cell) (news : List ℕ) (p : Put) (s : Option (List ℕ × ℕ)) → news ≡ p.taken ++ p.left
     → news ≡ (after_child n child_part key level block cs p s).taken ++ (after_child n child_part key level block cs p s).left
@@ -58,9 +121,7 @@ pub record IsServed (n : ℕ) (path : List (ℕ × ℕ)) (p : Put) : Type 0 wher
   pub kind : ((full_row n path ≡ length path) × ((s : List ℕ × ℕ) × (p.second ≡ Some s))) ⊎ ((full_row n path < length path) × (p.second ≡ None))
 
 pub fits_one : (n level block : ℕ) (cs : List Cell) (news : List ℕ) → length cs ≤ n → fit n level block cs news ≡ record { writes = (block, level, cs) ∷ []; second = None; taken = []; left = news; enough = true }
-fits_one n level block cs news few =
-    let e : nat_le (length cs) n ≡ true = grind (arith, nat_tests) in
-    ap (λ (t : Rattle.std.proofs.Common.Bool). cond t (record { writes = (block, level, cs) ∷ []; second = None; taken = []; left = news; enough = true }) (halves n level block cs news)) e
+fits_one n level block cs news few = grind arith steps 100000
 
 record IsSplit (q : Put) : Type 0 where
   enough : q.enough ≡ true
@@ -76,21 +137,7 @@ fits_two n level block cs (new ∷ news) many some =
 
 leaf_served : (n block : ℕ) (cells : ℕ → List Cell) (key value : List ℕ) (news : List ℕ) → length (cells block) ≤ n → full_row n ((block, length (cells block)) ∷ []) ≤ length news
     → IsServed n ((block, length (cells block)) ∷ []) (fit n zero block (put_after key (key, value) (cells block)) news)
-leaf_served n block cells key value news few enough =
-    let cs = put_after key (key, value) (cells block) in
-    let long : length cs ≡ suc (length (cells block)) = length-put_after key (key, value) (cells block) in
-    elim (cases_eq (length (cells block)) n) [
-      | inl full ↦
-          (let e : (length (cells block) == n) ≡ true = eq-eqb (length (cells block)) n full in
-          let row : full_row n ((block, length (cells block)) ∷ []) ≡ 1 = ap (λ t. cond t 1 0) e in
-          let is = fits_two n zero block cs news (omega arith) (omega arith) in
-          record { enough = is.enough; count = is.count ∙ sym row; kind = inl (row, is.second) })
-      | inr other ↦
-          (let e : (length (cells block) == n) ≡ false = ne_eqb (length (cells block)) n other in
-          let row : full_row n ((block, length (cells block)) ∷ []) ≡ 0 = ap (λ t. cond t 1 0) e in
-          let is = fits_one n zero block cs news (omega arith) in
-          record { enough = ap (λ (q : Put). q.enough) is; count = ap (λ (q : Put). length q.taken) is ∙ sym row; kind = inr (omega arith, ap (λ (q : Put). q.second) is) })
-    ]
+leaf_served n block cells key value news few enough = grind (arith, length-put_after, fits_two, zero, fits_one) steps 100000
 
 inner_served : (n : ℕ) (key : List ℕ) (level block : ℕ) (c : Cell) (cs : List Cell) (news : List ℕ) (path : List (ℕ × ℕ)) (p : Put) → news ≡ p.taken ++ p.left → IsServed n path p → length (c ∷ cs) ≤ n
     → full_row n (path ++ (block, length (c ∷ cs)) ∷ []) ≤ length news
@@ -145,10 +192,7 @@ at_served n cells key level block [] low high news path p order blocks is few en
 at_served n cells key level block (c ∷ cs) low high news path p order blocks is few enough = inner_served n key level block c cs news path p blocks is few enough
 
 row_less : (n : ℕ) (path : List (ℕ × ℕ)) (w : ℕ × ℕ) → full_row n path ≤ full_row n (path ++ w ∷ [])
-row_less n path w = elim (cases_eq (full_row n path) (length path)) [
-  | inl full ↦ omega (arith, row_all n path w full)
-  | inr part ↦ omega (arith, row_part n path w (let most = row_most n path in omega arith))
-]
+row_less n path w = grind (arith, row_all, row_part, row_most) steps 100000
 
 -- A put is served by as many blocks as its row of full nodes.
 pub put_served : (n : ℕ) (cells : ℕ → List Cell) (key value : List ℕ) (level block : ℕ) (low : List ℕ) (high : Option (List ℕ)) (news : List ℕ) → IsOrdered level low high (tree_at cells level block)

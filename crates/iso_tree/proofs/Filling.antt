@@ -6,14 +6,10 @@ upto_step : (key keys : List ℕ) (i n : ℕ) → i < n → upto_from key keys i
 upto_step key keys i n below = let e : n - i ≡ suc (n - (i + 1)) = omega arith in rw e refl
 
 pub upto_goes_on : (key keys : List ℕ) (i n c total : ℕ) → i < n → c + upto_from key keys i (n - i) ≡ total → before key (key_at keys i) ≡ false → c + 1 + upto_from key keys (i + 1) (n - (i + 1)) ≡ total
-upto_goes_on key keys i n c total below so not =
-    let e : upto_from key keys i (n - i) ≡ suc (upto_from key keys (i + 1) (n - (i + 1))) = upto_step key keys i n below ∙ ap (λ t. cond t 0 (suc (upto_from key keys (i + 1) (n - (i + 1))))) not in
-    omega arith
+upto_goes_on key keys i n c total below so not = grind (arith, upto_step) steps 100000
 
 pub upto_ends : (key keys : List ℕ) (i n c total : ℕ) → i < n → c + upto_from key keys i (n - i) ≡ total → before key (key_at keys i) ≡ true → c ≡ total
-upto_ends key keys i n c total below so less =
-    let e : upto_from key keys i (n - i) ≡ 0 = upto_step key keys i n below ∙ ap (λ t. cond t 0 (suc (upto_from key keys (i + 1) (n - (i + 1))))) less in
-    omega arith
+upto_ends key keys i n c total below so less = grind (arith, upto_step) steps 100000
 
 -- ROWS
 more_map : (f : ℕ → Cell) (from n : ℕ) → map f (range_with_len from (n + 1)) ≡ map f (range_with_len from n) ++ f (from + n) ∷ []
@@ -45,32 +41,14 @@ module _ (size : ℕ) (node : List ℕ) (place : ℕ) (new : Cell) where
 
   -- a cell of the row fits its place
   pub key_fits : are_key_parts size K ≡ true → length new.0 ≤ 28 → place ≤ cell_count size → (cell : ℕ) → cell ≤ cell_count size → length (key_in_row K place new.0 cell) ≤ 28
-  key_fits parts short inside cell most = elim (cases_lt cell place) [
-    | inl low ↦
-        (let t : nat_lt cell place ≡ true = grind (arith, nat_tests) in
-        let same : key_in_row K place new.0 cell ≡ key_at K cell = ap (λ b. cond b (key_at K cell) (cond (cell == place) new.0 (key_at K (cell - 1)))) t in
-        omega (arith, ap length same, key_short size K cell parts (omega arith)))
-    | inr high ↦
-        (let t : nat_lt cell place ≡ false = grind (arith, nat_tests) in
-        let rest : key_in_row K place new.0 cell ≡ cond (cell == place) new.0 (key_at K (cell - 1)) = ap (λ b. cond b (key_at K cell) (cond (cell == place) new.0 (key_at K (cell - 1)))) t in
-        elim (cases_eq cell place) [
-          | inl here ↦
-              (let e : (cell == place) ≡ true = eq-eqb cell place here in
-              omega (arith, ap length (rest ∙ ap (λ b. cond b new.0 (key_at K (cell - 1))) e)))
-          | inr other ↦
-              (let e : (cell == place) ≡ false = ne_eqb cell place other in
-              omega (arith, ap length (rest ∙ ap (λ b. cond b new.0 (key_at K (cell - 1))) e), key_short size K (cell - 1) parts (omega arith)))
-        ])
-  ]
+  key_fits parts short inside cell most = grind (arith, key_short) steps 100000
 
   part_fits : IsBlock size → length node ≡ size → length new.1 ≡ 33 → place ≤ cell_count size → (cell : ℕ) → cell ≤ cell_count size → length (part_in_row size node place new.1 cell) ≡ 33
   part_fits sized long whole inside cell most =
-      let w = sized.whole in
       elim (cases_lt cell place) [
         | inl low ↦
             (let t : nat_lt cell place ≡ true = grind (arith, nat_tests) in
-            let same : part_in_row size node place new.1 cell ≡ V cell = ap (λ b. cond b (V cell) (cond (cell == place) new.1 (V (cell - 1)))) t in
-            omega (arith, ap length same, length-take 33 (drop (keys_end size + 33 * cell) node), length-drop (keys_end size + 33 * cell) node))
+            omega (arith, ap length (ap (λ b. cond b (V cell) (cond (cell == place) new.1 (V (cell - 1)))) t), length-take 33 (drop (keys_end size + 33 * cell) node), length-drop (keys_end size + 33 * cell) node))
         | inr high ↦
             (let t : nat_lt cell place ≡ false = grind (arith, nat_tests) in
             let rest : part_in_row size node place new.1 cell ≡ cond (cell == place) new.1 (V (cell - 1)) = ap (λ b. cond b (V cell) (cond (cell == place) new.1 (V (cell - 1)))) t in
@@ -122,13 +100,7 @@ pub row_split : (size : ℕ) (node : List ℕ) (place : ℕ) (new : Cell) (i m n
 row_split size node place new i m n = range_parts (at_row size node place new) i m n
 
 at_place : (size : ℕ) (node : List ℕ) (place : ℕ) (new : Cell) → at_row size node place new place ≡ new
-at_place size node place new =
-    let t : nat_lt place place ≡ false = grind (arith, nat_tests) in
-    let e : (place == place) ≡ true = eq-eqb place place refl in
-    (λ j. (
-      cond (t j) (key_at (take (keys_end size) node) place) (cond (e j) new.0 (key_at (take (keys_end size) node) (place - 1))),
-      cond (t j) (bytes_in (value_mark size place) node) (cond (e j) new.1 (bytes_in (value_mark size (place - 1)) node)),
-    ))
+at_place size node place new = grind arith steps 100000
 
 -- a cell put in after those whose keys are not above
 put_cells : (key keys : List ℕ) (value : ℕ → List ℕ) (new : Cell) (i m : ℕ)
@@ -158,11 +130,7 @@ row_whole size node key new start m =
     let most = upto_most key K start m in
     let e : m + 1 ≡ u + suc (m - u) = omega arith in
     let back : start + u + 1 - 1 ≡ start + u = omega arith in
-    ap (λ (k : ℕ). row_from size node (start + u) new start k) e
-    ∙ row_split size node (start + u) new start u (suc (m - u))
-    ∙ (λ j. before_place size node (start + u) new start u (omega arith) j ++ at_place size node (start + u) new j ∷ after_place size node (start + u) new (start + u + 1) (m - u) (omega arith) j)
-    ∙ ap (λ (k : ℕ). cells_by K V start u ++ new ∷ cells_by K V k (m - u)) back
-    ∙ sym (put_cells key K V new start m)
+    grind (arith, row_split, before_place, at_place, after_place, put_cells)
 
 place_row : (size : ℕ) (node key : List ℕ) (level : ℕ) (new : Cell) (count : ℕ) → (level ≡ 0 → ⊥) → 1 ≤ count
     → row_from size node (1 + upto_from key (take (keys_end size) node) 1 (count - 1)) new 0 (count + 1) ≡ placed 1 key new (cells_by (take (keys_end size) node) (λ j. bytes_in (value_mark size j) node) 0 count)
@@ -173,15 +141,10 @@ place_row size node key level new (suc m) inner some =
     let g : suc m + 1 ≡ 1 + (m + 1) = omega arith in
     let u = upto_from key K 1 m in
     let z : 0 + 1 ≡ 1 = omega arith in
-    ap (λ (k : ℕ). row_from size node (1 + upto_from key K 1 k) new 0 (suc m + 1)) e
-    ∙ ap (λ (k : ℕ). row_from size node (1 + u) new 0 k) g
-    ∙ row_split size node (1 + u) new 0 1 (m + 1)
-    ∙ (λ j. before_place size node (1 + u) new 0 1 (omega arith) j ++ row_from size node (1 + u) new (z j) (m + 1))
-    ∙ ap (λ l. (key_at K 0, bytes_in (value_mark size 0) node) ∷ l) (row_whole size node key new 1 m)
+    grind (arith, row_split, before_place, row_whole)
 
 same_placed : (level : ℕ) (key : List ℕ) (new : Cell) (cs : List Cell) → placed 1 key new cs ≡ placed (suc level) key new cs
-same_placed level key new [] = refl
-same_placed level key new (c ∷ cs) = refl
+same_placed level key new cs = grind arith
 
 -- The row of a node is its cells with the new one.
 pub row_is : (size : ℕ) (node key : List ℕ) (level : ℕ) (new : Cell) → (level ≡ 0 → ⊥) → 1 ≤ count_of (take (keys_end size) node)

@@ -1,14 +1,8 @@
 -- The cells of a node fit their places, and nodes stay nodes.
-use Rattle.iso_tree.proofs.{Words.{◌≡◌, ◌⊎◌, ◌∙◌, sym, refl, ap, subst, ℕ, zero, suc, ◌+◌, ◌*◌, ◌<◌, ◌≤◌, ◌||◌, ◌==◌, Bool, true, List, [], ◌∷◌, length, drop, get_or, arith, inl, inr, AllByRecursion, and_parts, leb-true, cases_Bool, nat_tests, length-take, length-drop, Area, Array, block_at, bytes_in, cell_count, keys_end, keys_mark, key_mark, value_mark, key_at, is_part, are_key_parts, all_at, IsBlock, FitCells, Cell, child_of, count_of, is_node, cells_by, used_cells, node_bytes, Rise, RiseAfter, cells_in, IsNode, AreNodes, IsTreeArea, block_size_is}, Bytes.{keys_are, cells_are, unused_values, count_is}, Passes.{Strict, StrictFrom, node_passes}, Facts.node_parts}
+use Rattle.iso_tree.proofs.{Words.{◌≡◌, ◌⊎◌, ◌∙◌, sym, refl, ap, subst, ℕ, zero, suc, ◌+◌, ◌*◌, ◌<◌, ◌≤◌, ◌||◌, ◌==◌, Bool, true, List, [], ◌∷◌, length, drop, get_or, arith, inl, inr, AllByRecursion, and_parts, leb-true, nat_tests, length-take, length-drop, Area, Array, block_at, bytes_in, cell_count, keys_end, keys_mark, key_mark, value_mark, key_at, is_part, are_key_parts, all_at, IsBlock, FitCells, Cell, child_of, count_of, is_node, cells_by, used_cells, node_bytes, Rise, RiseAfter, cells_in, IsNode, AreNodes, IsTreeArea, block_size_is}, Bytes.{keys_are, cells_are, unused_values, count_is}, Passes.{Strict, StrictFrom, node_passes}, Facts.node_parts}
 
 one_of : (size n : ℕ) (rest : Bool) → ((size == n) || rest) ≡ true → (size ≡ n) ⊎ (rest ≡ true)
-one_of size n rest is = elim (cases_Bool (size == n)) [
-  | inl yes_it ↦ inl (let e : size ≡ n = grind (arith, nat_tests) in e)
-  | inr not ↦ inr (sym (ap (λ (t : Bool). t || rest) not) ∙ is)
-]
-
-block_at_size : (size n : ℕ) → size ≡ n → 64 * (cell_count n + 1) ≡ n → n ≤ 4096 → IsBlock size
-block_at_size size n is whole most = subst IsBlock (sym is) (record { whole = whole; most = most })
+one_of size n rest is = grind arith steps 100000
 
 pub area_block : (a : Area) → IsTreeArea a → IsBlock a.size
 area_block a area = block_size_is a.size area.block_size
@@ -45,7 +39,6 @@ cells_fit size level block sized long is =
     cells_all (λ (c : Cell). (length c.0 ≤ 28) × (length c.1 ≡ 33)) K (λ i. bytes_in (value_mark size i) block) 0 (count_of K) (λ j from to.
     let part : is_part 28 (bytes_in (key_mark j) K) ≡ true = all_at (λ i. is_part 28 (bytes_in (key_mark i) K)) 0 (cell_count size) j parts.parts (omega arith) (omega (arith, parts.few)) in
     let short : get_or (bytes_in (key_mark j) K) 0 0 ≤ 28 = leb-true _ _ (and_parts _ _ part).0 in
-    let whole = sized.whole in
     let few = parts.few in (
       omega (arith, short, length-take (get_or (bytes_in (key_mark j) K) 0 0) (drop 1 (bytes_in (key_mark j) K))),
       omega (arith, length-take 33 (drop (keys_end size + 33 * j) block), length-drop (keys_end size + 33 * j) block),
@@ -54,8 +47,7 @@ cells_fit size level block sized long is =
 pub cells_few : (size level : ℕ) (block : List ℕ) → is_node size level (bytes_in (keys_mark size) block) ≡ true → length (used_cells size block) ≤ cell_count size
 cells_few size level block is =
     let K = bytes_in (keys_mark size) block in
-    let parts = node_parts size level K is in
-    omega (arith, parts.few, length-cells K (λ i. bytes_in (value_mark size i) block) 0 (count_of K))
+    omega (arith, (node_parts size level K is).few, length-cells K (λ i. bytes_in (value_mark size i) block) 0 (count_of K))
 
 -- cells that rise are strict
 strict_after : (last : List ℕ) (high : Rattle.std.proofs.Common.Option (List ℕ)) (cs : List Cell) → RiseAfter last high cs → StrictFrom last cs

@@ -1,5 +1,5 @@
 -- A node that gets one more cell, or its two halves, as nodes of the array.
-use Rattle.iso_tree.proofs.{Words.{◌≡◌, ◌≢◌, ◌⊎◌, ◌∙◌, sym, refl, ap, subst, ℕ, zero, suc, ◌+◌, ◌<◌, true, false, cond, nat_le, List, [], ◌∷◌, ◌++◌, take, drop, length, Option, Some, None, arith, inl, inr, AllByRecursion, flat_map, take-append-drop, map-append, flat_map-append, Area, Array, put, IsIn, block_at, store_access, cell_count, length-block_put, other_block, Cell, FitCells, IsBlock, child_of, used_cells, node_bytes, Tree, tree_at, nodes_in, IsApart, AreAfter, AreChildren, IsOrdered, Put, first_key, without_first, emptied, half, halves, fit, cells_in, is_part_at, IsNode, AreNodes, in_front, in_back}, Blocks.apart_parts, Bytes.cells_are, Fits.rise_strict, Order.{all_left, all_right}, Passes.{Strict, StrictFrom}, Shapes.{kids, written, second_kid, IsSized, AreSized, length-kids, same_some}, Splits.{write_here, write_other}, Stored.{stored, spots, block_written, row_same, IsRow, row_is_node}, Writes.FitWrite}
+use Rattle.iso_tree.proofs.{Words.{◌≡◌, ◌≢◌, ◌⊎◌, ◌∙◌, sym, refl, ap, subst, ℕ, zero, suc, ◌+◌, ◌<◌, true, false, List, [], ◌∷◌, ◌++◌, take, drop, length, Option, Some, None, arith, inl, inr, AllByRecursion, flat_map, take-append-drop, map-append, flat_map-append, Area, Array, put, IsIn, block_at, store_access, cell_count, length-block_put, other_block, Cell, FitCells, IsBlock, child_of, used_cells, node_bytes, Tree, tree_at, nodes_in, IsApart, AreAfter, AreChildren, IsOrdered, Put, first_key, without_first, emptied, half, halves, fit, cells_in, is_part_at, IsNode, AreNodes, in_front, in_back}, Blocks.apart_parts, Bytes.cells_are, Fits.rise_strict, Order.{all_left, all_right}, Passes.{Strict, StrictFrom}, Shapes.{kids, written, second_kid, IsSized, AreSized, length-kids, same_some}, Splits.{write_here, write_other}, Stored.{stored, spots, block_written, row_same, IsRow, row_is_node, FitWrite}}
 
 -- a value part of a level, of the length of one
 abbrev pub ArePartsAt : Area → (level : ℕ) → List Cell → Type 0
@@ -30,8 +30,7 @@ strict_kids cells level last low high x (d ∷ ds) is = (is.0, strict_kids cells
 
 inner_strict : (cells : ℕ → List Cell) (level : ℕ) (low : List ℕ) (high : Option (List ℕ)) (cs : List Cell) → AreChildren (IsOrdered level) low high (kids cells level cs) → Strict cs × (first_key cs ≡ [])
 inner_strict cells level low high [] is = absurd is
-inner_strict cells level low high (c ∷ cs) is =
-    (subst (λ (k : List ℕ). StrictFrom k cs) (sym is.0) (strict_kids cells level [] low high (tree_at cells level (child_of c.1)) cs is.1), is.0)
+inner_strict cells level low high (c ∷ cs) is = grind (arith, strict_kids) steps 100000
 
 fit_kids : (n : ℕ) (cells : ℕ → List Cell) (level : ℕ) (cs : List Cell) → AreSized n level (kids cells level cs) → AllByRecursion (λ (c : Cell). length c.1 ≡ 33) cs → FitCells cs
 fit_kids n cells level [] all long = tt
@@ -47,13 +46,7 @@ long_only a level (c ∷ cs) all = (all.0.0, long_only a level cs all.1)
 
 row_at : (a : Area) (cells : ℕ → List Cell) (level block : ℕ) (low : List ℕ) (high : Option (List ℕ)) → IsOrdered level low high (tree_at cells level block) → IsSized (cell_count a.size) level (tree_at cells level block)
     → ArePartsAt a level (cells block) → IsRow a level (cells block)
-row_at a cells zero block low high order sized parts = record {
-  fit = sized.1;
-  few = sized.0;
-  strict = rise_strict low high (cells block) order;
-  kind = inl refl;
-  parts = parts_only a zero (cells block) parts;
-}
+row_at a cells zero block low high order sized parts = grind (arith, rise_strict, parts_only) steps 100000
 row_at a cells (suc level) block low high order sized parts =
     let strict = inner_strict cells level low high (cells block) order in
     let long = length-kids cells level (cells block) in
@@ -69,8 +62,7 @@ row_at a cells (suc level) block low high order sized parts =
 
 pub row_of : (a : Area) (cells : ℕ → List Cell) (level block : ℕ) (cs : List Cell) (low : List ℕ) (high : Option (List ℕ)) → cells block ≡ cs → IsOrdered level low high (tree_at cells level block)
     → IsSized (cell_count a.size) level (tree_at cells level block) → ArePartsAt a level cs → IsRow a level cs
-row_of a cells level block cs low high here order sized parts =
-    subst (IsRow a level) here (row_at a cells level block low high order sized (subst (ArePartsAt a level) (sym here) parts))
+row_of a cells level block cs low high here order sized parts = grind (arith, row_at) steps 100000
 
 -- parts of the halves
 without_parts : (P : List ℕ → Type 0) (R : List Cell) → AllByRecursion (λ (c : Cell). P c.1) R → AllByRecursion (λ (c : Cell). P c.1) (without_first R)
@@ -96,8 +88,7 @@ in_left cells (suc level) L R k is =
     (in_front k (flat_map (λ c. nodes_in level c.1) (kids cells level L)) _ is)
 
 without_below : (cells : ℕ → List Cell) (level : ℕ) (R : List Cell) → flat_map (λ c. nodes_in level c.1) (kids cells level (without_first R)) ≡ flat_map (λ c. nodes_in level c.1) (kids cells level R)
-without_below cells level [] = refl
-without_below cells level (c ∷ cs) = refl
+without_below cells level R = grind arith
 
 in_right : (cells : ℕ → List Cell) (level : ℕ) (L R : List Cell) (k : ℕ) → IsIn k (below_cells cells level (emptied level R)) → IsIn k (below_cells cells level (L ++ R))
 in_right cells zero L R k is = absurd is
@@ -197,13 +188,4 @@ module _ (a : Area) (sized : IsBlock a.size) (A : Array) (shape : (k : ℕ) → 
       → IsSized n level (tree_at (written (cells_in a A) (fit n level block cs news).writes) level block)
       → AreSized n level (second_kid (written (cells_in a A) (fit n level block cs news).writes) level (fit n level block cs news).second)
       → (fit n level block cs news).enough ≡ true → HasFit a level A block (fit n level block cs news)
-  fit_has news low high inside apart order size size2 enough =
-      let whole : Put = record { writes = (block, level, cs) ∷ []; second = None; taken = []; left = news; enough = true } in
-      elim (nat_le (length cs) n) as (λ b.
-      AreAfter (IsOrdered level) low low high (tree_at (written (cells_in a A) (cond b whole (halves n level block cs news)).writes) level block) (second_kid (written (cells_in a A) (cond b whole (halves n level block cs news)).writes) level (cond b whole (halves n level block cs news)).second)
-      → IsSized n level (tree_at (written (cells_in a A) (cond b whole (halves n level block cs news)).writes) level block)
-      → AreSized n level (second_kid (written (cells_in a A) (cond b whole (halves n level block cs news)).writes) level (cond b whole (halves n level block cs news)).second)
-      → (cond b whole (halves n level block cs news)).enough ≡ true → HasFit a level A block (cond b whole (halves n level block cs news))) [
-        | true ↦ λ o s t e. one_has news low high apart o s
-        | false ↦ λ o s t e. halves_has news low high inside apart o s t e
-      ] order size size2 enough
+  fit_has news low high inside apart order size size2 enough = grind (arith, one_has, halves_has) steps 100000

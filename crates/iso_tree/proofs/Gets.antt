@@ -1,9 +1,8 @@
 -- The descent finds what the map of the region has.
-use Rattle.iso_tree.proofs.{Words.{◌≡◌, ◌∙◌, sym, refl, ap, subst, ℕ, zero, suc, ◌+◌, ◌-◌, ◌<◌, ◌≤◌, Bool, true, false, ◌&&◌, ◌==◌, cond, List, [], ◌∷◌, ◌++◌, map, Option, Some, None, Result, Ok, Err, option_map, arith, inl, inr, eq-eqb, ne_eqb, AllByRecursion, flat_map, nat_cmp, eq_by_cmp, bytes_eq, slice_cmp, nat_list_cmp_total, nat_list_eq_equiv, get, get-from_entries, and_parts, both_ways, cases_eq, append-nil, Area, StoreError, Broken, Array, or_else, first_from, block_at, AreReads, Program, Done, bytes_in, further_bytes, accesses_of, answer_of, then_do, IsLocal, keys_mark, value_mark, is_part, text_of, key_at, at_cell, is_key, get_op, before, count_of, place_from, place_of, is_child, is_node, Cell, child_of, head_mark, is_head, cells_by, cell_of, in_range, Tree, tree_at, pairs_in, AreAfter, AreChildren, Rise, RiseAfter, IsOrdered, with_head, inner_further, get_below, Descent, AtLeaf, AtBroken, descend, got, get_program, cells_in, root_of, level_of, AreNodes, tree_pairs, IsTreeRegion, tree_map, answer_then, own_reads, whole_reads, reads_then, IsCorrect, local_from, cond_reads, same_ok, found_in, find_append, ties, all_append}, Shapes.{kids, chosen, child_for, same_some}, Finding.{find_outside, at_test}, Ranges.{low_of, range_within, range_cut, all_weaker}, Blocks.chosen_kid, Climbs.child_ordered}
+use Rattle.iso_tree.proofs.{Words.{◌≡◌, ◌∙◌, sym, refl, ap, subst, ℕ, zero, suc, ◌+◌, ◌-◌, ◌<◌, ◌≤◌, Bool, true, false, ◌&&◌, ◌==◌, cond, List, [], ◌∷◌, ◌++◌, map, Option, Some, None, Result, Ok, Err, option_map, arith, AllByRecursion, flat_map, bytes_eq, nat_list_cmp_total, nat_list_eq_equiv, get, get-from_entries, and_parts, both_ways, append-nil, Area, StoreError, Broken, Array, or_else, first_from, block_at, AreReads, Program, Done, bytes_in, further_bytes, accesses_of, answer_of, IsLocal, keys_mark, value_mark, is_part, text_of, key_at, at_cell, is_key, get_op, before, count_of, place_from, place_of, is_child, is_node, Cell, child_of, head_mark, is_head, cells_by, cell_of, in_range, Tree, tree_at, pairs_in, AreAfter, AreChildren, Rise, RiseAfter, IsOrdered, with_head, inner_further, get_below, Descent, AtLeaf, AtBroken, descend, got, get_program, cells_in, root_of, level_of, AreNodes, tree_pairs, IsTreeRegion, tree_map, answer_then, own_reads, whole_reads, reads_then, IsCorrect, local_from, cond_reads, same_ok, found_in, find_append, ties, all_append}, Blocks.chosen_kid, Climbs.child_ordered, Facts.{find_outside, at_test}, Order.{low_of, range_within, range_cut, all_weaker}, Shapes.{kids, chosen, child_for, same_some}}
 
 or_none : (o : Option (List ℕ)) → or_else o None ≡ o
-or_none None = refl
-or_none (Some x) = refl
+or_none o = grind arith
 
 -- ORDER
 rise_in_after : (last : List ℕ) (high : Option (List ℕ)) (cs : List Cell) → RiseAfter last high cs → AllByRecursion (λ (pair : List ℕ × List ℕ). in_range last high pair.0 ≡ true) (map (λ c. (c.0, text_of c.1)) cs)
@@ -16,11 +15,7 @@ rise_in_after last high (c ∷ cs) is = (
 
 pub rise_in : (low : List ℕ) (high : Option (List ℕ)) (cs : List Cell) → Rise low high cs → AllByRecursion (λ (pair : List ℕ × List ℕ). in_range low high pair.0 ≡ true) (map (λ c. (c.0, text_of c.1)) cs)
 rise_in low high [] is = tt
-rise_in low high (c ∷ cs) is = (
-  is.0,
-  all_weaker (λ (pair : List ℕ × List ℕ). in_range c.0 high pair.0 ≡ true) (λ (pair : List ℕ × List ℕ). in_range low high pair.0 ≡ true) (map (λ c. (c.0, text_of c.1)) cs)
-      (λ pair h. range_within low c.0 high pair.0 (low_of low high c.0 is.0) h) (rise_in_after c.0 high cs is.1),
-)
+rise_in low high (c ∷ cs) is = grind (arith, all_weaker, range_within, low_of, rise_in_after) steps 100000
 
 module _ {X : Type 0} (P : List ℕ → Option (List ℕ) → X → Type 0) (f : X → List (List ℕ × List ℕ))
     (each : (low : List ℕ) (high : Option (List ℕ)) (x : X) → P low high x → AllByRecursion (λ (pair : List ℕ × List ℕ). in_range low high pair.0 ≡ true) (f x)) where
@@ -75,8 +70,7 @@ pub leaf_finds : (key keys : List ℕ) (value : ℕ → List ℕ) (i m : ℕ)
     → found_in key (map (λ c. (c.0, text_of c.1)) (cells_by keys value i m)) ≡ option_map (λ j. text_of (value j)) (first_from (λ j. bytes_eq (key_at keys j) key) i m)
 leaf_finds key keys value i zero = refl
 leaf_finds key keys value i (suc m) =
-    let e : eq_by_cmp (slice_cmp nat_cmp) key (key_at keys i) ≡ bytes_eq (key_at keys i) key = ties key (key_at keys i) ∙ nat_list_eq_equiv.symm key (key_at keys i) in
-    rw e (at_test (bytes_eq (key_at keys i) key) (text_of (value i)) i m (λ j. text_of (value j)) (λ j. bytes_eq (key_at keys j) key) refl (leaf_finds key keys value (i + 1) m))
+    rw (ties key (key_at keys i) ∙ nat_list_eq_equiv.symm key (key_at keys i)) (at_test (bytes_eq (key_at keys i) key) (text_of (value i)) i m (λ j. text_of (value j)) (λ j. bytes_eq (key_at keys j) key) refl (leaf_finds key keys value (i + 1) m))
 
 -- what holds of each value part holds of all cells
 pub parts_all : (P : List ℕ → Type 0) (keys : List ℕ) (value : ℕ → List ℕ) (i m : ℕ) → ((j : ℕ) → i ≤ j → j < i + m → P (value j)) → AllByRecursion (λ (c : Cell). P c.1) (cells_by keys value i m)
@@ -172,35 +166,16 @@ map_gets a A key = get-from_entries nat_list_cmp_total (tree_pairs a A) key
 
 -- below the root of a well-formed region
 below_gets : (a : Area) (A : Array) (key : List ℕ) → IsTreeRegion a A → answer_of (get_below a key (root_of a A) (level_of a A)) A ≡ Ok (get (tree_map a A) key)
-below_gets a A key region =
-    let root = root_of a A in
-    let level = level_of a A in
-    elim (cases_eq root 0) [
-      | inl empty ↦
-          (let test : (root == 0) ≡ true = eq-eqb root 0 empty in
-          ap (λ (t : Bool). answer_of (cond t (Done (Ok None)) (then_do (descend a key true level root []) (λ d. Done (got a key d)))) A) test
-          ∙ ap (λ o. Ok o) (sym (map_gets a A key ∙ ap (λ (t : Bool). found_in key (cond t [] (pairs_in level (tree_at (cells_in a A) level root)))) test)))
-      | inr some ↦
-          (let test : (root == 0) ≡ false = ne_eqb root 0 some in
-          let nodes : AreNodes a A level root = elim region.nodes [ inl empty ↦ absurd (some empty) | inr is ↦ is ] in
-          let order : IsOrdered level [] None (tree_at (cells_in a A) level root) = elim region.ordered [ inl empty ↦ absurd (some empty) | inr is ↦ is ] in
-          ap (λ (t : Bool). answer_of (cond t (Done (Ok None)) (then_do (descend a key true level root []) (λ d. Done (got a key d)))) A) test
-          ∙ answer_then (descend a key true level root []) (λ d. Done (got a key d)) A
-          ∙ descend_gets a key A level root [] [] None nodes order
-          ∙ ap (λ o. Ok o) (sym (map_gets a A key ∙ ap (λ (t : Bool). found_in key (cond t [] (pairs_in level (tree_at (cells_in a A) level root)))) test)))
-    ]
+below_gets a A key region = grind (arith, map_gets, answer_then, descend_gets) steps 100000
 
 -- A get answers what the map of a well-formed region has.
 pub get_answers : (a : Area) (A : Array) (key : List ℕ) → IsTreeRegion a A → is_key key ≡ true → answer_of (get_program a key) A ≡ Ok (get (tree_map a A) key)
 unfolding get_program
-get_answers a A key region is = rw is
-    (subst (λ (t : Bool). answer_of (cond t (get_below a key (root_of a A) (level_of a A)) (Done (Err (Broken a.start)))) A ≡ Ok (get (tree_map a A) key)) (sym region.head) (below_gets a A key region))
+get_answers a A key region is = grind (arith, get, below_gets) steps 100000
 
 -- A get reads alone.
 pub descend_reads : (a : Area) (key : List ℕ) (with_value : Bool) (level block : ℕ) (path : List (ℕ × ℕ)) (A : Array) → AreReads (accesses_of (descend a key with_value level block path) A)
-descend_reads a key with_value zero block path A =
-    let K = bytes_in (keys_mark a.size) (block_at A (a.start + block)) in
-    (refl, cond_reads (is_node a.size 0 K) _ _ A tt tt)
+descend_reads a key with_value zero block path A = grind (arith, cond_reads) steps 100000
 descend_reads a key with_value (suc level) block path A =
     let B = block_at A (a.start + block) in
     let K = bytes_in (keys_mark a.size) B in
@@ -219,11 +194,7 @@ get_reads a key A = cond_reads (is_key key) _ _ A
 
 -- A get is what the look-up in the region's map is.
 pub get_correct : (a : Area) (key : List ℕ) → is_key key ≡ true → IsCorrect (IsTreeRegion a) (tree_map a) (get_op key) Ok (get_program a key)
-get_correct a key is = record {
-  answer = λ B r region e. same_ok _ _ StoreError (sym (get_answers a B key region is) ∙ e);
-  well_formed = λ B r region e. subst (IsTreeRegion a) (sym (own_reads B (accesses_of (get_program a key) B) (get_reads a key B))) region;
-  maps = λ B r region e. ap (tree_map a) (own_reads B (accesses_of (get_program a key) B) (get_reads a key B));
-}
+get_correct a key is = grind (arith, same_ok, get_answers, own_reads, get_reads) steps 100000
 
 pub get_local : (a : Area) (key : List ℕ) (A : Array) (r : Option (List ℕ)) → is_key key ≡ true → answer_of (get_program a key) A ≡ Ok r
     → IsLocal (IsTreeRegion a) (tree_map a) (get_op key) A (accesses_of (get_program a key) A) r

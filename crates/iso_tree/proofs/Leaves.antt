@@ -1,5 +1,5 @@
 -- The leaf of a key: what it has of the tree, and where a descent ends.
-use Rattle.iso_tree.proofs.{Words.{◌≡◌, ◌≢◌, ◌∙◌, sym, refl, ap, subst, ℕ, zero, suc, ◌+◌, ◌<◌, ◌≤◌, ◌&&◌, Bool, true, false, cond, List, [], ◌∷◌, ◌++◌, length, Option, Some, None, arith, flat_map, and_parts, append_assoc, map-append, Area, Array, IsIn, block_at, Program, Done, bytes_in, further_bytes, answer_of, keys_mark, value_mark, Cell, child_of, count_of, is_node, is_child, place_of, cells_by, Tree, tree_at, pairs_in, nodes_in, IsApart, Rise, AreChildren, IsOrdered, Descent, AtLeaf, AtBroken, descend, inner_further, leaf_further, cells_in, IsNode, AreNodes, found_in}, Shapes.{kids, child_for}, Facts.child_below, Blocks.chosen_kid, Climbs.child_ordered, Edits.{not_leaf, leaf_of, leaf_pairs, leaf_in, child_once, child_reached}, Fits.length-cells, Ways.{path_below, counts}, Gets.{found_chosen, ordered_in, parts_all, IsChosen, chosen_is}}
+use Rattle.iso_tree.proofs.{Words.{◌≡◌, ◌≢◌, ◌∙◌, sym, refl, ap, subst, ℕ, zero, suc, ◌+◌, ◌<◌, ◌≤◌, ◌&&◌, Bool, true, false, cond, List, [], ◌∷◌, ◌++◌, length, Option, Some, None, arith, flat_map, and_parts, append_assoc, map-append, Area, Array, block_at, Program, Done, bytes_in, further_bytes, answer_of, keys_mark, value_mark, Cell, child_of, count_of, is_node, is_child, place_of, cells_by, Tree, tree_at, pairs_in, nodes_in, IsApart, Rise, AreChildren, IsOrdered, Descent, AtLeaf, AtBroken, descend, inner_further, leaf_further, cells_in, IsNode, AreNodes, found_in}, Blocks.chosen_kid, Climbs.child_ordered, Edits.{not_leaf, leaf_of, leaf_pairs, child_once}, Enough.{path_below, counts}, Facts.child_below, Fits.length-cells, Gets.{found_chosen, ordered_in, parts_all, IsChosen, chosen_is}, Shapes.{kids, child_for}}
 
 -- a key below an inner node stands below the child that is chosen
 child_found : (cells : ℕ → List Cell) (key : List ℕ) (level : ℕ) (low : List ℕ) (high : Option (List ℕ)) (cs : List Cell) → AreChildren (IsOrdered level) low high (kids cells level cs)
@@ -97,11 +97,6 @@ abbrev pub HasLanded : Area → Array → Descent → Type 0
 HasLanded a A (AtLeaf path leaf keys value) = IsLanded a A leaf keys
 HasLanded a A (AtBroken block) = Unit {0}
 
-landed_if : (a : Area) (A : Array) (block : ℕ) (path : List (ℕ × ℕ)) (keys value : List ℕ) (broken : ℕ) (t : Bool) → (t ≡ true → IsLanded a A block keys)
-    → HasLanded a A (answer_of (cond t (Done (AtLeaf path block keys value)) (Done (AtBroken broken))) A)
-landed_if a A block path keys value broken true is = is refl
-landed_if a A block path keys value broken false is = tt
-
 lands_if : (a : Area) (A : Array) (p : Program Descent) (broken : ℕ) (t : Bool) → (t ≡ true → HasLanded a A (answer_of p A)) → HasLanded a A (answer_of (cond t p (Done (AtBroken broken))) A)
 lands_if a A p broken true is = is refl
 lands_if a A p broken false is = tt
@@ -110,7 +105,7 @@ pub lands : (a : Area) (A : Array) (key : List ℕ) (with_value : Bool) (level b
 lands a A key with_value zero block path below =
     let B = block_at A (a.start + block) in
     let K = bytes_in (keys_mark a.size) B in
-    landed_if a A block path K (further_bytes (leaf_further a key with_value K) B) (a.start + block) (is_node a.size 0 K) (λ is. record { below = below; keys_are = refl; node = is })
+    lands_if a A (Done (AtLeaf path block K (further_bytes (leaf_further a key with_value K) B))) (a.start + block) (is_node a.size 0 K) (λ is. record { below = below; keys_are = refl; node = is })
 lands a A key with_value (suc level) block path below =
     let B = block_at A (a.start + block) in
     let K = bytes_in (keys_mark a.size) B in

@@ -49,8 +49,7 @@ apart_without m (x ∷ xs) apart = elim (x == m) as (λ t. IsApart (cond t (with
 none_left : (m : ℕ) (xs : List ℕ) → (IsIn m xs → ⊥) → length (without m xs) ≡ length xs
 none_left m [] none = refl
 none_left m (x ∷ xs) none =
-    let test : (x == m) ≡ false = ne_eqb x m (λ e. none (inl e)) in
-    rw test (ap suc (none_left m xs (λ is. none (inr is))))
+    rw (ne_eqb x m (λ e. none (inl e))) (ap suc (none_left m xs (λ is. none (inr is))))
 
 length_without : (m : ℕ) (xs : List ℕ) → IsApart xs → length xs ≤ length (without m xs) + 1
 length_without m [] apart = omega arith

@@ -1,5 +1,5 @@
 -- One read of a call, and what follows from its bytes.
-use Rattle.iso_tree.proofs.Words.{◌≡◌, ◌∙◌, sym, refl, ap, subst, ℕ, ◌+◌, ◌≤◌, ◌&&◌, Bool, true, false, cond, List, [], ◌∷◌, length, Option, Some, None, Ok, Err, option_map, ForSome, false_from_ne_true, Access, Span, Area, Region, own, is_write, block_at, Program, Done, Look, bytes_in, further_bytes, with_further, look_access, keys_mark, value_mark, word_at, Tx, Device, IsLater, with_accesses, Passed, Ran, Array, own_reads, own_append, at_start, at_look, ran_at, read_none, read_more, Node, keys_in, value_in, is_node, is_child, child_of, count_of, place_of, cell_of, head_mark, is_head, leaf_further, inner_further, AreBytesOf, OnlyReads, head_program, child_program, leaf_program, marked, marked_access}
+use Rattle.iso_tree.proofs.Words.{arith, ◌≡◌, ◌∙◌, sym, refl, ap, subst, ℕ, ◌+◌, ◌≤◌, ◌&&◌, Bool, true, false, cond, List, [], ◌∷◌, length, Option, Some, None, Ok, Err, option_map, ForSome, false_from_ne_true, Access, Span, Area, Region, own, is_write, block_at, Program, Done, Look, bytes_in, further_bytes, with_further, look_access, keys_mark, value_mark, word_at, Tx, Device, IsLater, with_accesses, Passed, Ran, Array, own_reads, own_append, at_start, at_look, ran_at, read_none, read_more, Node, keys_in, value_in, is_node, is_child, child_of, count_of, place_of, cell_of, head_mark, is_head, leaf_further, inner_further, AreBytesOf, OnlyReads, head_program, child_program, leaf_program, marked, marked_access}
 use Rattle.store_model.specs.declared.stores.StoreError.TheVariants as store
 pub use Rattle.tx_blocks.proofs.Progress.{at_as}
 
@@ -24,32 +24,15 @@ looked_so b mark further next t v bytes more r bytes_are fits same is ends =
 -- what one read leaves
 pub ok_read : {R : Type 0} (t v : Tx) (a : Access) (before now : Device) (x : R) → v ≡ with_accesses t (a ∷ []) → is_write a ≡ false → t.is_open ≡ true → IsLater before now → now.faults ≡ before.faults
     → OnlyReads t v before now (Ok x)
-ok_read t v a before now x is read is_open later passed = record {
-  reads = read_more t t v a (read_none t) is read;
-  cause = tt;
-  known = tt;
-  later = later;
-  passed = passed;
-  is_open = ap (λ (w : Tx). w.is_open) is ∙ is_open;
-}
+ok_read t v a before now x is read is_open later passed = grind (arith, read_more, read_none)
 
 pub broken_read : {R : Type 0} (t v : Tx) (a : Access) (before now : Device) (block : ℕ) → v ≡ with_accesses t (a ∷ []) → is_write a ≡ false → IsLater before now → Passed before now
     → OnlyReads {R = R} t v before now (Err (store.Broken block))
-broken_read t v a before now block is read later passed = record {
-  reads = read_more t t v a (read_none t) is read;
-  cause = passed;
-  known = tt;
-  later = later;
-  passed = tt;
-  is_open = tt;
-}
+broken_read t v a before now block is read later passed = grind (arith, read_more, read_none)
 
 -- bytes that were read stay those of their block
 pub bytes_after : (t v : Tx) (a : Access) (block : ℕ) (bytes : List ℕ) → AreBytesOf t block bytes → v ≡ with_accesses t (a ∷ []) → is_write a ≡ false → AreBytesOf v block bytes
-bytes_after t v a block bytes are is read = λ A told.
-    let same : own A v.accesses ≡ own A t.accesses =
-    ap (λ (w : Tx). own A w.accesses) is ∙ own_append A t.accesses (a ∷ []) ∙ own_reads (own A t.accesses) (a ∷ []) (read, tt) in
-    are A (sym (ap (λ (w : Tx). w.base) is) ∙ told) ∙ ap (λ (B : Array). block_at B block) (sym same)
+bytes_after t v a block bytes are is read = grind (arith, own_append, own_reads)
 
 -- the device after a mark is as before it
 pub later_as : (before mid now : Device) → IsLater before mid → now ≡ mid → IsLater before now
@@ -106,8 +89,7 @@ module _ (a : Area) (key : List ℕ) (level : ℕ) (bytes : List ℕ) (node : No
       ∙ (λ i. with_accesses t (look_access (a.start + block) (s_is i ∷ (m_is ∙ ap (value_mark a.size) at_place) i ∷ []) ∷ []))
 
 no_more : (with_value : Bool) (o : Option Span) → cond (with_value && false) o None ≡ None
-no_more true o = refl
-no_more false o = refl
+no_more with_value o = grind arith
 
 module _ (a : Area) (t v : Tx) (bytes : List ℕ) (fits : length v.accesses ≤ 4096) where
   -- root and level were read

@@ -1,5 +1,5 @@
 -- The first block of a region after blocks were taken, and perhaps a new root.
-use Rattle.iso_tree.proofs.Words.{◌≡◌, ◌≢◌, ◌⊎◌, ◌↔◌, ◌∙◌, sym, refl, ap, ℕ, suc, ◌+◌, ◌-◌, ◌*◌, ◌%◌, ◌<◌, ◌≤◌, ◌||◌, ◌==◌, Bool, true, false, cond, IsTrue, List, [], ◌∷◌, ◌++◌, take, drop, length, get_or, replicate, Option, Some, None, arith, inl, inr, eq-eqb, ne_eqb, zero-add, w32, to_be_bytes, bit_at, cases_Bool, cases_eq, or_left, or_right, nat_tests, get_or-take, get_or-drop, get_or_append_left, get_or-append_right, get_or-set_other, length-set, length-take-le, length-drop, length-replicate, Span, Area, covered, in_span, merged, IsIn, bytes_in, laid_at, map_bytes, map_mark, bit_place, map_bit, set_bit, with_bit, merged_at, with_bits, laid_here, length-laid_at, Up, first_spans, first_bytes, head_mark, with_used, last_of, changed_mark, changed_map, kept_1, kept_2, laid_all}
+use Rattle.iso_tree.proofs.Words.{◌≡◌, ◌≢◌, ◌⊎◌, ◌↔◌, ◌∙◌, sym, refl, ap, ℕ, suc, ◌+◌, ◌-◌, ◌*◌, ◌%◌, ◌<◌, ◌≤◌, ◌||◌, ◌==◌, Bool, true, false, IsTrue, List, [], ◌∷◌, ◌++◌, take, drop, length, get_or, replicate, Option, Some, None, arith, inl, inr, eq-eqb, ne_eqb, w32, to_be_bytes, bit_at, cases_eq, or_left, or_right, nat_tests, get_or-take, get_or-drop, get_or_append_left, get_or-append_right, get_or-set_other, length-set, length-take-le, length-drop, length-replicate, Span, Area, covered, in_span, merged, IsIn, bytes_in, laid_at, map_bytes, map_mark, bit_place, map_bit, set_bit, with_bit, merged_at, with_bits, laid_here, length-laid_at, Up, first_spans, first_bytes, head_mark, with_used, last_of, changed_mark, changed_map, kept_1, kept_2, laid_all}
 
 pub up_in : (low : ℕ) (xs : List ℕ) (j : ℕ) → Up low xs → IsIn j xs → low ≤ j
 up_in low [] j up is = absurd is
@@ -126,33 +126,22 @@ module _ (a : Area) (F : List ℕ) (long : length F ≡ a.size) (room : 64 + map
   some_fits r l = let e : length (head_long r l) ≡ 8 = refl in omega (arith, length-changed)
 
   pub length-first : (root : Option (ℕ × ℕ)) → length (first_bytes a first taken root) ≡ a.size
-  length-first None = length-changed
-  length-first (Some root) = length-laid_at 0 (head_long root.0 root.1) (changed_map a first taken) (some_fits root.0 root.1) ∙ length-changed
+  length-first root = grind (arith, length-changed, length-laid_at, some_fits)
 
   bytes_past : (root : Option (ℕ × ℕ)) (p : ℕ) → 64 ≤ p → get_or (first_bytes a first taken root) p 0 ≡ get_or (changed_map a first taken) p 0
   bytes_past None p from = refl
   bytes_past (Some root) p from =
-      let e : length (head_long root.0 root.1) ≡ 8 = refl in
       laid_past 0 (head_long root.0 root.1) (changed_map a first taken) p (some_fits root.0 root.1) (omega arith)
 
   covered_past : (root : Option (ℕ × ℕ)) (p : ℕ) → 64 ≤ p → covered (first_spans taken root) p ≡ in_span p m
   covered_past None p from = elim (in_span p m) as (λ t. (t || false) ≡ t) [ true ↦ refl | false ↦ refl ]
-  covered_past (Some root) p from =
-      let past : in_span p head_mark ≡ false = grind (arith, nat_tests) in
-      ap (λ (t : Bool). in_span p m || (t || false)) past ∙ elim (in_span p m) as (λ t. (t || (false || false)) ≡ t) [ true ↦ refl | false ↦ refl ]
+  covered_past (Some root) p from = grind arith steps 100000
 
   abbrev after : Option (ℕ × ℕ) → List ℕ
   after root = merged (first_spans taken root) 0 F (first_bytes a first taken root)
 
   byte_after : (root : Option (ℕ × ℕ)) (p : ℕ) → 64 ≤ p → p < 64 + map_bytes a.blocks → get_or (after root) p 0 ≡ get_or U p 0
-  byte_after root p from to =
-      merged_at (first_spans taken root) 0 p F (first_bytes a first taken root) (omega arith) (length-first root ∙ sym long)
-      ∙ ap (λ (n : ℕ). cond (covered (first_spans taken root) n) (get_or (first_bytes a first taken root) p 0) (get_or F p 0)) (zero-add p)
-      ∙ ap (λ (t : Bool). cond t (get_or (first_bytes a first taken root) p 0) (get_or F p 0)) (covered_past root p from)
-      ∙ elim (cases_Bool (in_span p m)) [
-        | inl has ↦ ap (λ (t : Bool). cond t (get_or (first_bytes a first taken root) p 0) (get_or F p 0)) has ∙ bytes_past root p from ∙ changed_at p has
-        | inr not ↦ ap (λ (t : Bool). cond t (get_or (first_bytes a first taken root) p 0) (get_or F p 0)) not ∙ kept_at p not from to
-      ]
+  byte_after root p from to = grind (arith, merged_at, length-first, covered_past, bytes_past, changed_at, kept_at) steps 100000
 
   -- THE BITS
   pub bits_after : (root : Option (ℕ × ℕ)) (j : ℕ) → j < 8 * map_bytes a.blocks → IsTrue (map_bit (after root) j) ↔ (IsIn j taken ⊎ IsTrue (map_bit F j))

@@ -1,5 +1,5 @@
 -- A put that takes blocks puts the pair into the region's map.
-use Rattle.iso_tree.proofs.{Words.{◌≡◌, ◌≢◌, ◌∙◌, sym, refl, ap, subst, ℕ, suc, ◌+◌, ◌^◌, ◌<◌, ◌≤◌, ◌==◌, Bool, true, false, cond, List, [], ◌∷◌, ◌++◌, map, take, length, Option, Some, None, arith, inl, inr, eq-eqb, ne_eqb, AllByRecursion, flat_map, append-nil, map-append, length-append, Area, Array, put, IsIn, block_at, bytes_in, store_access, cell_count, is_part, text_of, value_part, map_mark, other_block, Cell, IsBlock, child_of, child_part, used_cells, node_bytes, Tree, tree_at, pairs_in, nodes_in, IsApart, IsOrdered, Put, half, Climb, climb, climb_on, full_row, need_of, root_cells, cells_in, root_of, level_of, IsNode, AreNodes, IsTreeArea, IsTreeRegion, tree_pairs, tree_nodes, first_access, length-part, part_is_part, part_text, all_append, in_front, in_back, in_cases}, Again.{nodes_at, way_is, path_few, nodes_inside}, Blocks.{apart_parts, grown_apart, grown_in}, Bytes.cells_are, Climbs.{Lacks, IsPut, put_is}, Enough.{IsServed, put_served, put_blocks}, Fits.area_block, Fitted.nodes_from, Levels.level_low, Order.not_before_empty, Putting.{HasPut, put_has, nodes_sized, child_part_is}, Regions.{IsNewTree, HasPutInto, taken_apart, kept_root, new_root_put}, Roots.{same_root, new_root}, Shapes.{IsGrown, put_below, written, write_cells, second_kid}, Splits.written_append, Stored.{stored, spots, stored_append, stored_cells, stored_in, block_written, nodes_same, IsRow, row_is_node}, Taking.AreTaken, Ways.{path_below, counts}, Writes.{FitWrite, child_named}}
+use Rattle.iso_tree.proofs.{Words.{◌≡◌, ◌≢◌, ◌∙◌, sym, refl, ap, subst, ℕ, suc, ◌+◌, ◌^◌, ◌<◌, ◌≤◌, ◌==◌, Bool, true, false, cond, List, [], ◌∷◌, ◌++◌, map, take, length, Option, Some, None, arith, inl, inr, eq-eqb, ne_eqb, AllByRecursion, flat_map, append-nil, map-append, length-append, Area, Array, put, IsIn, block_at, bytes_in, store_access, cell_count, is_part, text_of, value_part, map_mark, other_block, Cell, IsBlock, child_of, child_part, used_cells, node_bytes, Tree, tree_at, pairs_in, nodes_in, IsApart, IsOrdered, Put, half, Climb, climb, climb_on, full_row, need_of, root_cells, cells_in, root_of, level_of, IsNode, AreNodes, IsTreeArea, IsTreeRegion, tree_pairs, tree_nodes, first_access, length-part, part_is_part, part_text, all_append, in_front, in_back, in_cases}, Again.{nodes_at, way_is, path_few, nodes_inside}, Blocks.{apart_parts, grown_apart, grown_in}, Bytes.cells_are, Climbs.{Lacks, IsPut, put_is}, Enough.{IsServed, put_served, put_blocks, path_below, counts}, Fits.area_block, Fitted.nodes_from, Levels.level_low, Order.not_before_empty, Putting.{HasPut, put_has, nodes_sized, child_part_is}, Regions.{IsNewTree, HasPutInto, taken_apart, kept_root, new_root_put}, Roots.{same_root, new_root}, Shapes.{IsGrown, put_below, written, write_cells, second_kid}, Splits.written_append, Stored.{stored, spots, stored_append, stored_cells, stored_in, block_written, nodes_same, IsRow, row_is_node, FitWrite, child_named}, Taking.AreTaken}
 
 -- what a key and a value part are
 pub record IsPair (key text : List ℕ) : Type 0 where
@@ -22,13 +22,7 @@ pub record HasSizes (a : Area) : Type 0 where
   pub two : 3 ≤ cell_count a.size
 
 pub sizes_of : (a : Area) → IsTreeArea a → HasSizes a
-sizes_of a area =
-    let sized = area_block a area in
-    let w = sized.whole in
-    let m = sized.most in
-    let l = area.least_size in
-    let b = area.most in
-    record { sized = sized; least = l; most = omega arith; few = omega arith; some = omega arith; less = omega arith; two = omega arith }
+sizes_of a area = search (arith, area_block) steps 100000
 
 no_list : (left : List ℕ) → length left ≡ 0 → left ≡ []
 no_list [] none = refl

@@ -1,6 +1,60 @@
--- Keys in a node: cutting a row of children in two, and putting two in place of one.
-use Rattle.iso_tree.proofs.{Words.{◌≡◌, ◌≢◌, ◌∙◌, sym, refl, ap, subst, ℕ, suc, ◌+◌, true, false, not, cond, IsTrue, List, [], ◌∷◌, ◌++◌, length, Option, Some, None, arith, inl, inr, AllByRecursion, flat_map, nat_cmp, is_lt, Less, Equal, Greater, slice_cmp, nat_list_cmp_total, slice_cmp-IsAntisymmetric, nat_cmp-IsAntisymmetric, and_from, and_parts, cases_Bool, both_ways, append_assoc, append-nil, length-append, flat_map-append, before, Cell, in_range, AreAfter, RiseAfter, Rise, put_after, all_append}, Shapes.{AreFrom, chosen, set_chosen, IsAdded, IsGrown}, Ranges.{before_through, after_not, low_of, range_within, range_cut}}
+-- Keys in the order of bytes, and ranges of keys.
+use Rattle.iso_tree.proofs.{Words.{◌≡◌, ◌∙◌, sym, refl, ap, ℕ, Bool, true, false, not, List, [], ◌∷◌, Option, Some, None, inl, inr, AllByRecursion, nat_cmp, is_lt, ordering_reverse, Ordering, Less, Equal, Greater, slice_cmp, nat_list_cmp_total, and_from, and_parts, cases_Bool, both_ways, before, in_range, ◌≢◌, subst, suc, ◌+◌, cond, IsTrue, ◌++◌, length, arith, flat_map, slice_cmp-IsAntisymmetric, nat_cmp-IsAntisymmetric, append_assoc, append-nil, length-append, flat_map-append, Cell, AreAfter, RiseAfter, Rise, put_after, all_append}, Shapes.{AreFrom, chosen, set_chosen, IsAdded, IsGrown}}
 
+less_only : (o : Ordering) → is_lt o ≡ true → o ≡ Less
+less_only Less e = refl
+less_only Equal e = cc
+less_only Greater e = cc
+
+less_greater : Less ≡ Greater → ⊥
+less_greater e = cc
+
+-- x before y, and y not after z
+pub before_through : (x y z : List ℕ) → before x y ≡ true → before z y ≡ false → before x z ≡ true
+before_through x y z less not_after =
+    elim (slice_cmp nat_cmp y z) as (λ o. slice_cmp nat_cmp y z ≡ o → before x z ≡ true) [
+      | Less ↦ λ e. ap is_lt (nat_list_cmp_total.trans x y z (less_only _ less) e)
+      | Equal ↦ λ e.
+          (let same : slice_cmp nat_cmp y x ≡ slice_cmp nat_cmp z x = nat_list_cmp_total.congr y z x e in
+          ap is_lt (nat_list_cmp_total.antisymm x z ∙ ap ordering_reverse (sym same) ∙ sym (nat_list_cmp_total.antisymm x y) ∙ less_only _ less))
+      | Greater ↦ λ e.
+          (let bad : slice_cmp nat_cmp z y ≡ Less = nat_list_cmp_total.antisymm z y ∙ ap ordering_reverse e in
+          absurd (both_ways (before z y) not_after (ap is_lt bad)))
+    ] refl
+
+-- low not after mid, mid not after key
+pub not_after_through : (low mid key : List ℕ) → before mid low ≡ false → before key mid ≡ false → before key low ≡ false
+not_after_through low mid key a b = grind (arith, before_through) steps 100000
+
+pub not_false : (t : Bool) → not t ≡ true → t ≡ false
+not_false true e = cc
+not_false false e = refl
+
+pub low_of : (low : List ℕ) (high : Option (List ℕ)) (key : List ℕ) → in_range low high key ≡ true → before key low ≡ false
+low_of low None key is = not_false _ is
+low_of low (Some high) key is = not_false _ (and_parts _ _ is).0
+
+-- a range within a range
+pub range_within : (low mid : List ℕ) (high : Option (List ℕ)) (key : List ℕ) → before mid low ≡ false → in_range mid high key ≡ true → in_range low high key ≡ true
+range_within low mid None key le is = ap not (not_after_through low mid key le (not_false _ is))
+range_within low mid (Some high) key le is = grind (arith, not, not_after_through, not_false) steps 100000
+
+pub after_not : (x y : List ℕ) → before x y ≡ true → before y x ≡ false
+after_not x y less = elim (cases_Bool (before y x)) [
+  | inl more ↦ (let e : slice_cmp nat_cmp y x ≡ ordering_reverse Less = nat_list_cmp_total.antisymm y x ∙ ap ordering_reverse (less_only _ less) in let f : slice_cmp nat_cmp y x ≡ Less = less_only _ more in absurd (less_greater (sym f ∙ e)))
+  | inr is ↦ is
+]
+
+-- a range that ends before another's end
+pub range_cut : (low end : List ℕ) (high : Option (List ℕ)) (key : List ℕ) → in_range low high end ≡ true → in_range low (Some end) key ≡ true → in_range low high key ≡ true
+range_cut low end None key inside is = (and_parts _ _ is).0
+range_cut low end (Some high) key inside is = search (arith, before_through, after_not) steps 100000
+
+pub all_weaker : {X : Type 0} (P Q : X → Type 0) (xs : List X) → ((x : X) → P x → Q x) → AllByRecursion P xs → AllByRecursion Q xs
+all_weaker P Q [] h all = tt
+all_weaker P Q (x ∷ xs) h all = (h x all.0, all_weaker P Q xs h all.1)
+
+-- Keys in a node: cutting a row of children in two, and putting two in place of one.
 pub irreflexive : (x : List ℕ) → before x x ≡ false
 irreflexive x = elim (cases_Bool (before x x)) [ inl less ↦ after_not x x less | inr is ↦ is ]
 
@@ -18,10 +72,7 @@ before_trans x y z less more = before_through x y z less (after_not y z more)
 
 -- low not after x, and x before y
 pub through_before : (low x y : List ℕ) → before x low ≡ false → before x y ≡ true → before low y ≡ true
-through_before low x y le less = elim (cases_Bool (before low y)) [
-  | inl is ↦ is
-  | inr not ↦ absurd (both_ways (before x low) le (before_through x y low less not))
-]
+through_before low x y le less = grind (arith, not, before_through) steps 100000
 
 -- not after each other
 pub before_other : (x y : List ℕ) → before x y ≡ false → x ≢ y → before y x ≡ true
@@ -90,8 +141,7 @@ module _ {X : Type 0} (P : List ℕ → Option (List ℕ) → X → Type 0) wher
   after_head : (last low : List ℕ) (high : Option (List ℕ)) (c d : List ℕ × X) (list : List (List ℕ × X)) → before last d.0 ≡ true → in_range low high d.0 ≡ true → P low (Some d.0) c.1
       → head_key list ≡ d.0 → AreFrom P d.0 d.0 high list → AreAfter P last low high c.1 list
   after_head last low high c d [] less inside is same rest = absurd rest
-  after_head last low high c d (h ∷ hs) less inside is same rest =
-      subst (λ (k : List ℕ). AreAfter P last low high c.1 ((k, h.1) ∷ hs)) (sym same) (less, inside, is, rest)
+  after_head last low high c d (h ∷ hs) less inside is same rest = grind arith steps 100000
 
   -- one child replaced by what took its place
   pub set_ordered : (key last low : List ℕ) (high : Option (List ℕ)) (t : X) (more : List (List ℕ × X)) (c : List ℕ × X) (cs : List (List ℕ × X)) → AreAfter P last low high c.1 cs
@@ -121,14 +171,7 @@ cut_rise_after last high (x ∷ xs) d ys is =
 
 pub cut_rise : (low : List ℕ) (high : Option (List ℕ)) (x : Cell) (xs : List Cell) (d : Cell) (ys : List Cell) → Rise low high (x ∷ xs ++ d ∷ ys)
     → IsTrue (before low d.0) × IsTrue (in_range low high d.0) × Rise low (Some d.0) (x ∷ xs) × Rise d.0 high (d ∷ ys)
-cut_rise low high x xs d ys is =
-    let rest = cut_rise_after x.0 high xs d ys is.1 in
-    let inside = range_within low x.0 high d.0 (low_of low high x.0 is.0) rest.1 in (
-      through_before low x.0 d.0 (low_of low high x.0 is.0) rest.0,
-      inside,
-      (range_to low d.0 high x.0 is.0 rest.0, rest.2),
-      (range_from low d.0 high d.0 inside (irreflexive d.0), rest.3),
-    )
+cut_rise low high x xs d ys is = grind (arith, cut_rise_after, range_within, low_of, through_before, range_to, range_from, irreflexive) steps 100000
 
 -- a new cell in a leaf
 no_key : (key : List ℕ) → List Cell → Type 0
@@ -146,11 +189,7 @@ put_rise_after last high key value (d ∷ ds) is less inside other =
 pub put_rise : (low : List ℕ) (high : Option (List ℕ)) (key value : List ℕ) (cs : List Cell) → Rise low high cs → in_range low high key ≡ true
     → AllByRecursion (λ c. key ≢ c.0) cs → Rise low high (put_after key (key, value) cs)
 put_rise low high key value [] is inside other = (inside, tt)
-put_rise low high key value (d ∷ ds) is inside other =
-    elim (before key d.0) as (λ b. before key d.0 ≡ b → Rise low high (cond b ((key, value) ∷ d ∷ ds) (d ∷ put_after key (key, value) ds))) [
-      | true ↦ λ b. (inside, (b, range_from low key high d.0 is.0 (after_not key d.0 b), is.1))
-      | false ↦ λ b. (is.0, put_rise_after d.0 high key value ds is.1 (before_other key d.0 b other.0) (range_from low d.0 high key inside b) other.1)
-    ] refl
+put_rise low high key value (d ∷ ds) is inside other = grind (arith, range_from, after_not, put_rise_after, before_other) steps 100000
 
 -- Lists that grow.
 module _ {Y : Type 0} where

@@ -1,5 +1,5 @@
 -- The bytes of a node pass the tests of a descent.
-use Rattle.iso_tree.proofs.{Words.{◌≡◌, ◌⊎◌, ◌∙◌, sym, refl, ap, ℕ, zero, suc, ◌+◌, ◌-◌, ◌*◌, ◌<◌, ◌≤◌, Bool, true, false, ◌&&◌, ◌||◌, ◌==◌, not, nat_le, List, [], ◌∷◌, ◌++◌, drop, length, get_or, replicate, arith, inl, inr, eq-eqb, ne_eqb, flat_map, list_all, and_from, or_left, or_right, nat_tests, append-nil, drop_at, bytes_in, cell_count, key_mark, is_part, is_zero, text_of, key_at, all_from, is_unused, are_key_parts, key_part, FitCells, before, count_of, has_head, is_node, Cell, first_key, zeros_are}, Bytes.{head_of, keys_of, count_is, key_text, length-key_part, after_part, first_part}}
+use Rattle.iso_tree.proofs.{Words.{◌≡◌, ◌⊎◌, ◌∙◌, sym, refl, ap, ℕ, zero, suc, ◌+◌, ◌-◌, ◌*◌, ◌<◌, ◌≤◌, Bool, true, false, ◌&&◌, ◌||◌, ◌==◌, not, nat_le, List, [], ◌∷◌, ◌++◌, drop, length, get_or, replicate, arith, inl, inr, eq-eqb, ne_eqb, flat_map, list_all, and_from, or_left, or_right, nat_tests, append-nil, drop_at, bytes_in, cell_count, key_mark, is_part, is_zero, text_of, key_at, all_from, is_unused, are_key_parts, key_part, FitCells, before, count_of, has_head, is_node, Cell, first_key, zeros_are, ◌≢◌, cond, and_parts, all_at, nat_lt, all_pass}, Bytes.{head_of, keys_of, count_is, key_text, length-key_part, after_part, first_part}}
 
 -- keys that rise strictly
 abbrev pub StrictFrom : (last : List ℕ) → List Cell → Type 0
@@ -30,9 +30,7 @@ rise_back : (K : List ℕ) (i : ℕ) (c : Cell) (cs : List Cell) (rest : List �
 rise_back K i c [] rest fit k rises = refl
 rise_back K i c (d ∷ ds) rest fit k rises =
     let next = next_here K i c (d ∷ ds) rest fit k in
-    let here = key_here K i c (d ∷ ds) rest fit k in
-    let there = key_here K (i + 1) d ds rest fit.1 next in
-    and_from _ _ ((λ j. before (here j) (there j)) ∙ rises.0) (rise_back K (i + 1) d ds rest fit.1 next rises.1)
+    and_from _ _ ((λ j. before ((key_here K i c (d ∷ ds) rest fit k) j) ((key_here K (i + 1) d ds rest fit.1 next) j)) ∙ rises.0) (rise_back K (i + 1) d ds rest fit.1 next rises.1)
 
 pub zeros_more : (x y : ℕ) → replicate {A = ℕ} (x + y) 0 ≡ replicate x 0 ++ replicate y 0
 zeros_more zero y = ap (λ n. replicate n 0) (Rattle.std.proofs.Common.zero-add y)
@@ -57,11 +55,10 @@ zeros_pass passes pass K i (suc m) k =
     let e : 31 * suc m ≡ 31 + 31 * m = omega arith in
     let split : drop (64 + 31 * i) K ≡ (replicate 31 0 ++ replicate (31 * m) 0) ++ [] =
     k ∙ ap (λ n. replicate n 0) e ∙ zeros_more 31 (31 * m) ∙ sym (append-nil (replicate 31 0 ++ replicate (31 * m) 0)) in
-    let here : bytes_in (key_mark i) K ≡ replicate 31 0 = first_part (64 + 31 * i) 31 K (replicate 31 0) (replicate (31 * m) 0) [] refl split in
     let f : 64 + 31 * i + 31 ≡ 64 + 31 * (i + 1) = omega arith in
     let next : drop (64 + 31 * (i + 1)) K ≡ replicate (31 * m) 0 =
     ap (λ n. drop n K) (sym f) ∙ after_part (64 + 31 * i) 31 K (replicate 31 0) (replicate (31 * m) 0) [] refl split ∙ append-nil (replicate (31 * m) 0) in
-    and_from _ _ (ap passes here ∙ pass) (zeros_pass passes pass K (i + 1) m next)
+    and_from _ _ (ap passes (first_part (64 + 31 * i) 31 K (replicate 31 0) (replicate (31 * m) 0) [] refl split) ∙ pass) (zeros_pass passes pass K (i + 1) m next)
 
 unused_parts : (K : List ℕ) (i m : ℕ) → drop (64 + 31 * i) K ≡ replicate (31 * m) 0 → all_from (λ i. is_unused K i) i m ≡ true
 unused_parts K i m k = zeros_pass (λ part. get_or part 0 0 == 0) refl K i m k
@@ -109,12 +106,10 @@ node_passes size level cs fit few rises kind low =
     let k : drop 64 K ≡ flat_map (λ c. key_part c.0) cs ++ replicate (31 * m) 0 = drop_at (head_of level cs) (keys_of size cs) 64 refl in
     let count : count_of K ≡ length cs = count_is size level cs fit few in
     let all : length cs + m ≡ cell_count size = omega arith in
-    let most : nat_le (count_of K) (cell_count size) ≡ true = ap (λ n. nat_le n (cell_count size)) count ∙ le_is (length cs) (cell_count size) few in
     let parts : are_key_parts size K ≡ true =
     ap (λ n. all_from (λ i. is_part 28 (bytes_in (key_mark i) K)) 0 n) (sym all) ∙ parts_back K 0 m cs fit k in
     let start : 0 + length cs ≡ length cs = omega arith in
     let rest : all_from (λ i. is_unused K i) (length cs) m ≡ true = unused_parts K (length cs) m (ap (λ n. drop (64 + 31 * n) K) (sym start) ∙ skip_keys K 0 cs (replicate (31 * m) 0) fit k) in
-    let unused : all_from (λ i. is_unused K i) (count_of K) (cell_count size - count_of K) ≡ true = ap (λ n. all_from (λ i. is_unused K i) n (cell_count size - n)) count ∙ rest in
     let rise : rises_from K 0 (count_of K - 1) ≡ true = ap (λ n. rises_from K 0 (n - 1)) count ∙ rise_all K cs (replicate (31 * m) 0) fit k rises in
     let least : ((level == 0) || (nat_le 2 (count_of K) && (length (key_at K 0) == 0))) ≡ true =
     elim kind [
@@ -122,5 +117,63 @@ node_passes size level cs fit few rises kind low =
       | inr inner ↦ or_right (level == 0) _ (and_from _ _ (ap (λ n. nat_le 2 n) count ∙ two_le (length cs) inner.0) (first_empty K cs (replicate (31 * m) 0) fit k inner.0 inner.1))
     ] in
     let other : (level == 31) ≡ false = ne_eqb level 31 (λ e. absurd (omega arith)) in
-    let head : has_head size level K ≡ true = and_from _ _ (and_from _ _ (and_from _ _ refl (eq-eqb level level refl)) refl) most in
-    and_from _ _ head (and_from _ _ parts (and_from _ _ (and_from _ _ unused rise) (and_from _ _ least (or_left (not (level == 31)) _ (ap not other)))))
+    let head : has_head size level K ≡ true = and_from _ _ (and_from _ _ (and_from _ _ refl (eq-eqb level level refl)) refl) (ap (λ n. nat_le n (cell_count size)) count ∙ le_is (length cs) (cell_count size) few) in
+    and_from _ _ head (and_from _ _ parts (and_from _ _ (and_from _ _ (ap (λ n. all_from (λ i. is_unused K i) n (cell_count size - n)) count ∙ rest) rise) (and_from _ _ least (or_left (not (level == 31)) _ (ap not other)))))
+
+-- The cells of a node that are seen in one walk.
+-- whether a cell is as it has to be, where the first `count` are used
+abbrev pub fits_in : List ℕ → (count : ℕ) → (cell : ℕ) → Bool
+fits_in keys count cell =
+    is_part 28 (bytes_in (key_mark cell) keys) && cond (nat_lt cell count) ((cell == 0) || before (key_at keys (cell - 1)) (key_at keys cell)) (is_unused keys cell)
+
+same_truth : (x y : Bool) → (x ≡ true → y ≡ true) → (y ≡ true → x ≡ true) → x ≡ y
+same_truth true true there back = refl
+same_truth true false there back = sym (there refl)
+same_truth false true there back = back refl
+same_truth false false there back = refl
+
+pub one_walk : (keys : List ℕ) (n count : ℕ) → count ≤ n
+    → all_from (fits_in keys count) 0 n ≡ (all_from (λ i. is_part 28 (bytes_in (key_mark i) keys)) 0 n
+    && (all_from (λ i. is_unused keys i) count (n - count) && all_from (λ i. before (key_at keys i) (key_at keys (i + 1))) 0 (count - 1)))
+one_walk keys n count few = same_truth _ _ there back
+  where
+    at : (i : ℕ) → all_from (fits_in keys count) 0 n ≡ true → i < n
+        → (is_part 28 (bytes_in (key_mark i) keys) ≡ true) × (cond (nat_lt i count) ((i == 0) || before (key_at keys (i - 1)) (key_at keys i)) (is_unused keys i) ≡ true)
+    at i all below = and_parts _ _ (all_at (fits_in keys count) 0 n i all (omega arith) (omega arith))
+
+    -- behind the first cell the key of the one before counts
+    same_test : (i : ℕ) → ((i + 1 == 0) || before (key_at keys (i + 1 - 1)) (key_at keys (i + 1))) ≡ before (key_at keys i) (key_at keys (i + 1))
+    same_test i = let some : (i + 1 == 0) ≡ false = grind arith in let one : i + 1 - 1 ≡ i = omega arith in rw (some, one) refl
+
+    rises_at : (i : ℕ) → ((i + 1 == 0) || before (key_at keys (i + 1 - 1)) (key_at keys (i + 1))) ≡ true → before (key_at keys i) (key_at keys (i + 1)) ≡ true
+    rises_at i is = sym (same_test i) ∙ is
+
+    there : all_from (fits_in keys count) 0 n ≡ true → (all_from (λ i. is_part 28 (bytes_in (key_mark i) keys)) 0 n
+        && (all_from (λ i. is_unused keys i) count (n - count) && all_from (λ i. before (key_at keys i) (key_at keys (i + 1))) 0 (count - 1))) ≡ true
+    there all =
+        let parts = all_pass (λ i. is_part 28 (bytes_in (key_mark i) keys)) 0 n (λ i low high. (at i all (omega arith)).0) in
+        let unused = all_pass (λ i. is_unused keys i) count (n - count) (λ i low high. let e : nat_lt i count ≡ false = grind arith in (rw e at (at i all (omega arith)).1)) in
+        let rising = all_pass (λ i. before (key_at keys i) (key_at keys (i + 1))) 0 (count - 1) (λ i low high. let e : nat_lt (i + 1) count ≡ true = grind arith in rises_at i (rw e at (at (i + 1) all (omega arith)).1)) in
+        rw (parts, unused, rising) refl
+
+    back : (all_from (λ i. is_part 28 (bytes_in (key_mark i) keys)) 0 n
+        && (all_from (λ i. is_unused keys i) count (n - count) && all_from (λ i. before (key_at keys i) (key_at keys (i + 1))) 0 (count - 1))) ≡ true
+        → all_from (fits_in keys count) 0 n ≡ true
+    back all =
+        let parts = and_parts _ _ all in
+        let others = and_parts _ _ parts.1 in
+        all_pass (fits_in keys count) 0 n (λ i low high.
+        let below : i < n = omega (arith, high) in
+        rw (all_at (λ i. is_part 28 (bytes_in (key_mark i) keys)) 0 n i parts.0 low high) (by_test i (nat_lt i count) refl below others.0 others.1))
+      where
+        by_test : (i : ℕ) (b : Bool) → nat_lt i count ≡ b → i < n → all_from (λ i. is_unused keys i) count (n - count) ≡ true
+            → all_from (λ i. before (key_at keys i) (key_at keys (i + 1))) 0 (count - 1) ≡ true
+            → cond b ((i == 0) || before (key_at keys (i - 1)) (key_at keys i)) (is_unused keys i) ≡ true
+        by_test zero true e below unused rising = refl
+        by_test (suc i) true e below unused rising = let one : suc i ≡ i + 1 = omega arith in rw one (same_test i) ∙ all_at (λ i. before (key_at keys i) (key_at keys (i + 1))) 0 (count - 1) i rising (omega arith) (let less : suc i < count = grind (arith, e) in omega arith)
+        by_test i false e below unused rising = all_at (λ i. is_unused keys i) count (n - count) i unused (let past : count ≤ i = grind (arith, e) in past) (omega arith)
+
+-- the tests of one cell, where the last key is that of the cell before
+pub tests_of : (keys : List ℕ) (count cell : ℕ) (last part : List ℕ) → part ≡ bytes_in (key_mark cell) keys → (cell ≢ 0 → last ≡ key_at keys (cell - 1))
+    → fits_in keys count cell ≡ (is_part 28 part && cond (nat_lt cell count) ((cell == 0) || before last (text_of part)) (get_or part 0 0 == 0))
+tests_of keys count cell last part is before_it = search (arith) steps 100000

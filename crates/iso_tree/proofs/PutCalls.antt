@@ -1,10 +1,9 @@
 -- A put is that of the region's map.
-use Rattle.iso_tree.proofs.{Words.{◌≡◌, ◌≢◌, ◌∙◌, sym, refl, ap, subst, ℕ, suc, ◌+◌, ◌*◌, ◌-◌, ◌<◌, ◌≤◌, Bool, true, false, cond, nat_le, List, [], ◌∷◌, map, take, length, Option, Some, None, Result, Ok, Err, arith, inl, inr, eq-eqb, ne_eqb, nat_lt, AllByRecursion, cases_Bool, cases_eq, leb-true, ltb-true, nat_tests, Area, StoreError, BadKey, BadValue, Broken, NoBlocks, Array, put, own, at_cell, is_key, is_value, put_op, block_at, Program, Done, Store, bytes_in, then_do, accesses_of, answer_of, cell_count, keys_end, value_mark, value_part, block_with, map_mark, free_count, IsCorrect, Cell, cell_of, count_of, head_mark, put_after, AtLeaf, descend, with_head, look_again, climb, store_nodes, first_write, put_writes, with_map, edit_leaf, put_at, put_below_root, put_program, Answer, full_row, need_of, free_list, cells_in, root_of, level_of, IsTreeArea, IsTreeRegion, tree_pairs, tree_map, first_access}, Again.{nodes_at, again_own}, Ending.{at, keys, ends_of, answer_at, own_at}, Facts.{head_parts, node_parts}, Fits.length-cells, NewBlocks.{IsPair, pair_is, empty_does, some_does}, PutLeaf.{lacks, room_does, found_does}, Regions.HasPutInto, Stored.{stored, stored_own}, Taking.{AreTaken, taken_are}, Ways.{path_below, counts}}
+use Rattle.iso_tree.proofs.{Words.{◌≡◌, ◌≢◌, ◌∙◌, sym, refl, ap, subst, ℕ, suc, ◌+◌, ◌*◌, ◌-◌, ◌<◌, ◌≤◌, Bool, true, false, cond, nat_le, List, [], ◌∷◌, map, take, length, Option, Some, None, Result, Ok, Err, arith, inl, inr, eq-eqb, ne_eqb, nat_lt, AllByRecursion, cases_Bool, cases_eq, leb-true, ltb-true, nat_tests, Area, StoreError, BadKey, BadValue, Broken, NoBlocks, Array, put, own, at_cell, is_key, is_value, put_op, block_at, Program, Done, Store, bytes_in, then_do, accesses_of, answer_of, cell_count, keys_end, value_mark, value_part, block_with, map_mark, free_count, IsCorrect, Cell, cell_of, count_of, head_mark, put_after, AtLeaf, descend, with_head, look_again, climb, store_nodes, first_write, put_writes, with_map, edit_leaf, put_at, put_below_root, put_program, Answer, full_row, need_of, free_list, cells_in, root_of, level_of, IsTreeArea, IsTreeRegion, tree_pairs, tree_map, first_access}, Again.{nodes_at, again_own}, Dels.{at, keys, ends_of, answer_at, own_at}, Enough.{path_below, counts}, Facts.{head_parts, node_parts}, Fits.length-cells, NewBlocks.{IsPair, pair_is, empty_does, some_does}, PutLeaf.{lacks, room_does, found_does}, Regions.HasPutInto, Stored.{stored, stored_own}, Taking.{AreTaken, taken_are}}
 
 pub first_own : {R : Type 0} (a : Area) (A : Array) (first taken : List ℕ) (root : Option (ℕ × ℕ)) (next : Program R)
     → own A (accesses_of (first_write a first taken root next) A) ≡ own (put A (first_access a first taken root)) (accesses_of next (put A (first_access a first taken root)))
-first_own a A first taken None next = refl
-first_own a A first taken (Some root) next = refl
+first_own a A first taken root next = grind arith
 
 no_answer : (e : StoreError) (r : Unit {0}) → ◌≡◌ {A = Result (Unit {0}) StoreError} (Err e) (Ok r) → ⊥
 no_answer e r is = cc
@@ -77,12 +76,11 @@ module _ (a : Area) (area : IsTreeArea a) (A : Array) (region : IsTreeRegion a A
   full_does : cell_of key K ≡ None → count_of K ≡ n → (r : Unit {0}) → answer_of (with_map a key text path) A ≡ Ok r → HasPutInto a key text A (own A (accesses_of (with_map a key text path) A))
   full_does none full r is = map_does a area key text A path
       (λ taken are.
-      let pairs_lack = lacks a area A region key text pair below some none in
       let one : 1 ≤ full_row n path = subst (λ (t : Bool). 1 ≤ cond t (suc (full_row n (ends_of a key A region below some).passed)) 0) (sym (eq-eqb (count_of K) n full)) (omega arith) in
       subst (λ (p : List (ℕ × ℕ)). HasPutInto a key text A (stored a (put A (first_access a (bytes_in (map_mark a.blocks) (block_at A a.start)) taken
       (climb n key 0 (key, value) 0 (nodes_at (cells_in a A) (map (λ v. v.0) (take (suc (full_row n p)) p))) taken).root))
       (climb n key 0 (key, value) 0 (nodes_at (cells_in a A) (map (λ v. v.0) (take (suc (full_row n p)) p))) taken).writes)) (sym way)
-      (some_does a area A region key text pair pairs_lack (need_of n path) taken are some below (ap (need_of n) way) (subst (λ (p : List (ℕ × ℕ)). 1 ≤ full_row n p) way one))) r is
+      (some_does a area A region key text pair (lacks a area A region key text pair below some none) (need_of n path) taken are some below (ap (need_of n) way) (subst (λ (p : List (ℕ × ℕ)). 1 ≤ full_row n p) way one))) r is
 
   none_does : cell_of key K ≡ None → (r : Unit {0}) → answer_of (cond (nat_lt (count_of K) n) (edit_leaf a leaf (put_after key (key, value)) (Ok tt)) (with_map a key text path)) A ≡ Ok r
       → HasPutInto a key text A (own A (accesses_of (cond (nat_lt (count_of K) n) (edit_leaf a leaf (put_after key (key, value)) (Ok tt)) (with_map a key text path)) A))

@@ -1,5 +1,5 @@
 -- A put into a leaf that has the key, or room for it.
-use Rattle.iso_tree.proofs.{Words.{◌≡◌, ◌≢◌, ◌∙◌, sym, refl, ap, subst, ℕ, zero, suc, ◌+◌, ◌*◌, ◌<◌, ◌≤◌, Bool, true, false, cond, List, [], ◌∷◌, ◌++◌, length, replicate, Option, Some, None, option_map, arith, inl, inr, AllByRecursion, list_all, nat_list_cmp_total, from_entries, get, insert, get-from_entries, get-insert, same_map, slice_cmp-IsAntisymmetric, nat_cmp-IsAntisymmetric, bytes_eq, cases_Bool, cases_eq, both_ways, or_left, append_assoc, length-replicate, bytes_eq-Decides, Access, Area, Array, merged, put, first_from, Pairs, block_at, bytes_in, store_access, cell_count, keys_end, keys_mark, value_mark, is_zero, is_part, text_of, value_part, key_at, block_with, length-block_put, written_block, other_block, laid_here, length-laid_at, Cell, FitCells, IsBlock, count_of, is_node, cell_of, cells_by, node_bytes, in_range, Rise, RiseAfter, put_after, cells_in, root_of, level_of, IsNode, IsTreeArea, IsTreeRegion, tree_pairs, tree_map, kept_1, laid_all, found_in, ties, first_passes}, Climbs.leaf_added, Dels.{IsLeafEdit, leaf_written, edit_region, edit_pairs, edit_found, swapped_found}, Edits.{leaf_pairs, IsSwapped}, Ending.{at, order_of, ends_of, found_of}, Fits.{area_block, cells_fit, rise_strict}, Gets.{leaf_finds, parts_all}, Leaves.leaf_rises, NewBlocks.IsPair, Order.{length-put_after, all_put_after, put_rise}, Regions.{HasPutInto, lacks_from}, Roots.map_put, Shapes.IsAdded}
+use Rattle.iso_tree.proofs.{Words.{◌≡◌, ◌≢◌, ◌∙◌, sym, refl, ap, subst, ℕ, zero, suc, ◌+◌, ◌*◌, ◌<◌, ◌≤◌, Bool, true, false, cond, List, [], ◌∷◌, ◌++◌, length, replicate, Option, Some, None, option_map, arith, inl, inr, AllByRecursion, list_all, nat_list_cmp_total, from_entries, get, insert, get-from_entries, get-insert, same_map, slice_cmp-IsAntisymmetric, nat_cmp-IsAntisymmetric, bytes_eq, cases_Bool, cases_eq, both_ways, or_left, append_assoc, length-replicate, bytes_eq-Decides, Access, Area, Array, merged, put, first_from, Pairs, block_at, bytes_in, store_access, cell_count, keys_end, keys_mark, value_mark, is_zero, is_part, text_of, value_part, key_at, block_with, length-block_put, written_block, other_block, laid_here, length-laid_at, Cell, FitCells, IsBlock, count_of, is_node, cell_of, cells_by, node_bytes, in_range, Rise, RiseAfter, put_after, cells_in, root_of, level_of, IsNode, IsTreeArea, IsTreeRegion, tree_pairs, tree_map, kept_1, laid_all, found_in, ties, first_passes}, Climbs.leaf_added, Dels.{IsLeafEdit, leaf_written, edit_region, edit_pairs, edit_found, swapped_found, at, order_of, ends_of, found_of}, Edits.{leaf_pairs, IsSwapped}, Fits.{area_block, cells_fit, rise_strict}, Gets.{leaf_finds, parts_all}, NewBlocks.IsPair, Order.{length-put_after, all_put_after, put_rise}, Regions.{HasPutInto, lacks_from}, Roots.map_put, Shapes.IsAdded}
 
 -- A pair that came into a part that was swapped came into the whole.
 swapped_added : {Y : Type 0} (y : Y) (ms ms' old new : List Y) → IsAdded y ms ms' → IsSwapped ms ms' old new → IsAdded y old new
@@ -98,7 +98,6 @@ module _ (a : Area) (area : IsTreeArea a) (A : Array) (region : IsTreeRegion a A
 
       strict : Rattle.iso_tree.proofs.Passes.Strict cs
       strict =
-          let range = leaf_rises (cells_in a A) key (level_of a A) (root_of a A) [] None (order_of a key A region below some) in
           let inside = Rattle.iso_tree.proofs.Putting.leaf_range (cells_in a A) key (level_of a A) (root_of a A) [] None (order_of a key A region below some) (ap Rattle.std.specs.Prelude.not (Rattle.iso_tree.proofs.Order.not_before_empty key)) in
           rise_strict inside.0 inside.1 cs (keeps inside.0 inside.1 inside.2 inside.3)
 

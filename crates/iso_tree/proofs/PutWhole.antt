@@ -1,5 +1,5 @@
 -- A put writes whole blocks, on whatever array, and is local.
-use Rattle.iso_tree.proofs.{Words.{◌≡◌, ◌∙◌, sym, refl, ap, subst, ℕ, zero, suc, ◌+◌, ◌-◌, ◌*◌, ◌<◌, ◌≤◌, ◌==◌, ◌&&◌, Bool, true, false, cond, nat_le, List, [], ◌∷◌, ◌++◌, map, take, drop, length, replicate, Option, Some, None, Result, Ok, Err, IfOk, arith, inl, inr, nat_lt, AllByRecursion, cases_Bool, and_parts, leb-true, ltb-true, nat_tests, take-append-drop, length-take, length-drop, length-replicate, Access, Area, StoreError, BadKey, BadValue, Broken, NoBlocks, Array, put, own, at_cell, is_key, is_value, IsIn, put_op, block_at, Program, Done, Store, bytes_in, further_bytes, store_access, then_do, accesses_of, answer_of, IsLocal, cell_count, keys_end, keys_mark, value_mark, value_part, block_with, map_bytes, map_mark, free_count, length-laid_at, Tx, IsTx, HasRun, IsLocalCall, AreWhole, accesses_then, own_reads, whole_reads, local_from, run_local, Cell, FitCells, IsBlock, cell_of, count_of, is_node, is_child, child_of, child_part, is_head, head_mark, node_bytes, Put, put_after, first_key, emptied, half, halves, fit, Descent, AtLeaf, AtBroken, descend, leaf_further, inner_further, with_head, look_again, climb, climb_on, placed, store_nodes, first_write, put_writes, with_map, edit_leaf, put_at, put_below_root, put_program, Answer, full_row, need_of, free_list, cells_in, root_of, level_of, IsTreeArea, IsTreeRegion, tree_map, first_access, HasBlocks, whole_append, blocks_of, length-emptied, all_append, length-placed}, Again.{nodes_at, again_whole}, Bytes.length-node_bytes, Facts.{head_parts, child_below, cell_used, node_parts}, Fits.{cells_fit, cells_few, length-cells}, Gets.descend_reads, MapBits.length-first, NewBlocks.{IsPair, pair_is, HasSizes, sizes_of}, Order.{all_left, all_right, length-put_after, all_put_after}, PutCalls.put_correct, Taking.{AreTaken, taken_are}, Writes.FitWrite, Shapes.same_some}
+use Rattle.iso_tree.proofs.{Words.{◌≡◌, ◌∙◌, sym, refl, ap, subst, ℕ, zero, suc, ◌+◌, ◌-◌, ◌*◌, ◌<◌, ◌≤◌, ◌==◌, ◌&&◌, Bool, true, false, cond, nat_le, List, [], ◌∷◌, ◌++◌, map, take, drop, length, replicate, Option, Some, None, Result, Ok, Err, IfOk, arith, inl, inr, nat_lt, AllByRecursion, cases_Bool, and_parts, leb-true, ltb-true, nat_tests, take-append-drop, length-take, length-drop, length-replicate, Area, StoreError, BadKey, BadValue, Broken, NoBlocks, Array, put, own, at_cell, is_key, is_value, IsIn, put_op, block_at, Program, Done, Store, bytes_in, further_bytes, store_access, then_do, accesses_of, answer_of, IsLocal, cell_count, keys_end, keys_mark, value_mark, value_part, block_with, map_bytes, map_mark, free_count, length-laid_at, Tx, IsTx, HasRun, IsLocalCall, AreWhole, accesses_then, own_reads, whole_reads, local_from, run_local, Cell, FitCells, IsBlock, cell_of, count_of, is_node, is_child, child_of, child_part, is_head, head_mark, node_bytes, Put, put_after, first_key, emptied, half, halves, fit, Descent, AtLeaf, AtBroken, descend, leaf_further, inner_further, with_head, look_again, climb, climb_on, placed, store_nodes, first_write, put_writes, with_map, edit_leaf, put_at, put_below_root, put_program, Answer, full_row, need_of, free_list, cells_in, root_of, level_of, IsTreeArea, IsTreeRegion, tree_map, first_access, HasBlocks, whole_append, blocks_of, length-emptied, all_append, length-placed}, Again.{nodes_at, again_whole}, Bytes.length-node_bytes, Facts.{head_parts, child_below, cell_used, node_parts}, Fits.{cells_fit, cells_few, length-cells}, Gets.descend_reads, MapBits.length-first, NewBlocks.{IsPair, pair_is, HasSizes, sizes_of}, Order.{all_left, all_right, length-put_after, all_put_after}, PutCalls.put_correct, Shapes.same_some, Stored.FitWrite, Taking.{AreTaken, taken_are}}
 
 -- NODES OF A WAY UP
 pub record IsFitNode (a : Area) (w : ℕ × List Cell) : Type 0 where
@@ -63,7 +63,6 @@ climb_fit a key zero new below [] (r ∷ news) some less two is nodes_fit all = 
 climb_fit a key (suc level) new below [] (r ∷ news) some less two is nodes_fit all = ((((omega arith, refl), (is, tt)), omega arith, all.0), tt)
 climb_fit a key level new below (node ∷ nodes) news some less two is nodes_fit all =
     let n = cell_count a.size in
-    let few = nodes_fit.0.few in
     let q = fit n level node.0 (placed level key new node.1) news in
     let fits = fit_fit a level node.0 (placed level key new node.1) news some less nodes_fit.0.below (placed_fit level key new node.1 is nodes_fit.0.fit) (omega (arith, length-placed level key new node.1)) all in
     elim q.second as (λ o. q.second ≡ o → AllByRecursion (FitWrite a) (climb_on q (λ s. climb n key (suc level) (s.0, child_part s.1) node.0 nodes q.left) o).writes) [
@@ -91,8 +90,7 @@ end_if a A p broken true is = is refl
 end_if a A p broken false is = tt
 
 fit_at : (a : Area) (A : Array) (level block : ℕ) → IsBlock a.size → HasBlocks a A → block < a.blocks → is_node a.size level (bytes_in (keys_mark a.size) (block_at A (a.start + block))) ≡ true → IsFitNode a (block, cells_in a A block)
-fit_at a A level block sized shape below node =
-    record { below = below; fit = cells_fit a.size level (block_at A (a.start + block)) sized (shape block below) node; few = cells_few a.size level (block_at A (a.start + block)) node }
+fit_at a A level block sized shape below node = grind (arith, cells_fit, cells_few)
 
 descend_ends : (a : Area) (A : Array) (key : List ℕ) (level block : ℕ) (path : List (ℕ × ℕ)) → IsBlock a.size → HasBlocks a A → block < a.blocks → ArePassed a A path → HasEnd a A (answer_of (descend a key false level block path) A)
 descend_ends a A key zero block path sized shape below passed =
@@ -162,7 +160,6 @@ module _ (a : Area) (area : IsTreeArea a) (A : Array) (shape : HasBlocks a A) (k
           | inr enough ↦
               (let le : need ≤ free = grind (arith, nat_tests) in
               let are = taken_are a first need (let l = area.least in omega arith) le in
-              let three = sizes.two in
               let fits = climb_fit a key 0 (key, value_part text) 0 (nodes_at (cells_in a A) blocks) taken sizes.some sizes.less (omega arith) (pair.short, pair.whole) (nodes_fit a A (suc (full_row n path)) path passed) (below_all a taken are.below) in
               subst (λ (t : Bool). AreWhole A (accesses_of (cond t (Done (Err (NoBlocks need free))) (look_again a blocks f)) A)) (sym enough)
               (again_whole a A blocks f
@@ -173,7 +170,6 @@ module _ (a : Area) (area : IsTreeArea a) (A : Array) (shape : HasBlocks a A) (k
 
   value_long : (i : ℕ) → i < n → length (block_with a.size (keys_end a.size + 33 * i) (value_part text)) ≡ a.size
   value_long i below =
-      let w = sizes.sized.whole in
       length-laid_at (keys_end a.size + 33 * i) (value_part text) (replicate a.size 0) (omega (arith, pair.whole, length-replicate {A = ℕ} a.size 0)) ∙ length-replicate {A = ℕ} a.size 0
 
   full_some : (leaf count : ℕ) (path : List (ℕ × ℕ)) → count ≡ n → 1 ≤ need_of n ((leaf, count) ∷ path)
@@ -187,7 +183,6 @@ module _ (a : Area) (area : IsTreeArea a) (A : Array) (shape : HasBlocks a A) (k
       let here : ℕ → Program Answer = λ i. Store (a.start + leaf) (value_mark a.size i ∷ []) (block_with a.size (keys_end a.size + 33 * i) (value_part text)) (Done (Ok tt)) in
       let add : Program Answer = edit_leaf a leaf (put_after key (key, value_part text)) (Ok tt) in
       let grow : Program Answer = with_map a key text ((leaf, count_of keys) ∷ path) in
-      let few = (node_parts a.size 0 keys end.node).few in
       let long = length-cells (bytes_in (keys_mark a.size) (block_at A (a.start + leaf))) (λ i. bytes_in (value_mark a.size i) (block_at A (a.start + leaf))) 0 (count_of (bytes_in (keys_mark a.size) (block_at A (a.start + leaf)))) in
       let count : length (cells_in a A leaf) ≡ count_of keys = long ∙ ap count_of (sym end.keys_are) in
       elim (cell_of key keys) as (λ o. cell_of key keys ≡ o → AreWhole A (accesses_of (at_cell o here (cond (nat_lt (count_of keys) n) add grow)) A)) [
@@ -215,9 +210,8 @@ module _ (a : Area) (area : IsTreeArea a) (A : Array) (shape : HasBlocks a A) (k
         | true ↦ map_whole [] tt (omega arith)
         | false ↦
             (let reads = accesses_of (descend a key false level root []) A in
-            let same : own A reads ≡ A = own_reads A reads (descend_reads a key false level root [] A) in
             let d = answer_of (descend a key false level root []) A in
-            subst (AreWhole A) (sym (accesses_then (descend a key false level root []) (put_at a key text) A ∙ ap (λ (C : Array). reads ++ accesses_of (put_at a key text d) C) same))
+            subst (AreWhole A) (sym (accesses_then (descend a key false level root []) (put_at a key text) A ∙ ap (λ (C : Array). reads ++ accesses_of (put_at a key text d) C) (own_reads A reads (descend_reads a key false level root [] A))))
             (whole_append A reads (accesses_of (put_at a key text d) A) (whole_reads A reads (descend_reads a key false level root [] A))
             (at_whole d (descend_ends a A key level root [] sizes.sized shape below tt))))
       ]

@@ -1,5 +1,5 @@
 -- A put below a node leaves nodes.
-use Rattle.iso_tree.proofs.{Words.{◌≡◌, ◌⊎◌, ◌∙◌, sym, refl, ap, subst, ℕ, zero, suc, ◌+◌, ◌^◌, ◌<◌, ◌≤◌, true, false, cond, List, [], ◌∷◌, ◌++◌, length, replicate, Option, Some, None, arith, inl, inr, AllByRecursion, flat_map, and_parts, and_from, map-append, Area, Array, IsIn, block_at, bytes_in, cell_count, keys_mark, value_mark, is_part, before, Cell, FitCells, IsBlock, child_of, child_part, count_of, is_child, used_cells, in_range, tree_at, nodes_in, put_after, IsApart, AreAfter, AreChildren, IsOrdered, Put, half, fit, cells_in, is_part_at, IsNode, AreNodes, all_append, in_front, in_back, in_cases}, Blocks.{apart_parts, chosen_in}, Climbs.{Lacks, IsPut, put_is, rows_apart, child_apart, child_lacks, child_enough}, Facts.{child_below, inner_many}, Fits.{cells_fit, cells_few, length-cells}, Fitted.{ArePartsAt, fit_has}, Gets.{parts_all, child_holds}, Order.{all_put_after, range_from, range_to}, Shapes.{kids, chosen, child_for, after_child, put_below, written, second_kid, IsSized, AreSized, length-kids}, Splits.written_append, Stored.{stored, spots, stored_append, stored_kept, stored_cells, stored_in, row_kept}, Writes.{FitWrite, child_named}}
+use Rattle.iso_tree.proofs.{Words.{◌≡◌, ◌⊎◌, ◌∙◌, sym, refl, ap, subst, ℕ, zero, suc, ◌+◌, ◌^◌, ◌<◌, ◌≤◌, true, false, cond, List, [], ◌∷◌, ◌++◌, length, replicate, Option, Some, None, arith, inl, inr, AllByRecursion, flat_map, and_parts, map-append, Area, Array, IsIn, block_at, bytes_in, cell_count, keys_mark, value_mark, is_part, before, Cell, FitCells, IsBlock, child_of, child_part, count_of, is_child, used_cells, in_range, tree_at, nodes_in, put_after, IsApart, AreAfter, AreChildren, IsOrdered, Put, half, fit, cells_in, is_part_at, IsNode, AreNodes, all_append, in_front, in_back, in_cases}, Blocks.{apart_parts, chosen_in}, Climbs.{Lacks, IsPut, put_is, rows_apart, child_apart, child_lacks, child_enough}, Facts.{child_below, inner_many}, Fits.{cells_fit, cells_few, length-cells}, Fitted.{ArePartsAt, fit_has}, Gets.{parts_all, child_holds}, Order.{all_put_after, range_from, range_to}, Shapes.{kids, chosen, child_for, after_child, put_below, written, second_kid, IsSized, AreSized, length-kids}, Splits.written_append, Stored.{stored, spots, stored_append, stored_kept, stored_cells, stored_in, row_kept, FitWrite, child_named}}
 
 -- the child of a key, with a range that has it
 chosen_range : {X : Type 0} (P : List ℕ → Option (List ℕ) → X → Type 0) (key last low : List ℕ) (high : Option (List ℕ)) (c : X) (cs : List (List ℕ × X)) → AreAfter P last low high c cs → in_range low high key ≡ true
@@ -54,9 +54,7 @@ node_parts_at a A level block sized shape below node =
     (parts_all (λ p. is_part_at a level p ≡ true) K (λ i. bytes_in (value_mark a.size i) B) 0 (count_of K) (λ j from to. node.used j (omega arith)))
 
 pub nodes_sized : (a : Area) (A : Array) → IsBlock a.size → HasShape a A → (level block : ℕ) → block < a.blocks → AreNodes a A level block → IsSized (cell_count a.size) level (tree_at (cells_in a A) level block)
-nodes_sized a A sized shape zero block below node =
-    let B = block_at A (a.start + block) in
-    (cells_few a.size 0 B node.keys, cells_fit a.size 0 B sized (shape block below) node.keys)
+nodes_sized a A sized shape zero block below node = grind (arith, cells_few, cells_fit) steps 100000
 nodes_sized a A sized shape (suc level) block below nodes =
     let B = block_at A (a.start + block) in
     let K = bytes_in (keys_mark a.size) B in
@@ -76,11 +74,7 @@ zeros_all zero = refl
 zeros_all (suc n) = zeros_all n
 
 pub child_part_is : (blocks b : ℕ) → 1 ≤ b → b < blocks → blocks ≤ 2 ^ 32 → is_child blocks (child_part b) ≡ true
-child_part_is blocks b some below low =
-    let named : child_of (child_part b) ≡ b = child_named b (omega arith) in
-    let one : Rattle.std.proofs.Common.nat_le 1 (child_of (child_part b)) ≡ true = ap (Rattle.std.proofs.Common.nat_le 1) named ∙ grind (arith, Rattle.std.proofs.lemmas.Bool.Decides.nat_tests) in
-    let two : Rattle.std.specs.Prelude.nat_lt (child_of (child_part b)) blocks ≡ true = ap (λ (k : ℕ). Rattle.std.specs.Prelude.nat_lt k blocks) named ∙ grind (arith, Rattle.std.proofs.lemmas.Bool.Decides.nat_tests) in
-    and_from _ _ (and_from _ _ (and_from _ _ refl one) two) (zeros_all 28)
+child_part_is blocks b some below low = grind (arith, child_named, zeros_all) steps 100000
 
 -- what a put below a node leaves
 pub record HasPut (a : Area) (level : ℕ) (A : Array) (block : ℕ) (p : Put) : Type 0 where
@@ -156,11 +150,7 @@ module _ (a : Area) (sized : IsBlock a.size) (least : 256 ≤ a.size) (most : a.
       rows2 = (rows1.0, all_put_after (λ (c : Cell). AreNodes a A1 level (child_of c.1)) key (s.0, child_part s.1) cs (subst (AreNodes a A1 level) (sym named) (has.second s e)) rows1.1)
 
       parts2 : ArePartsAt a (suc level) (c ∷ cs) → ArePartsAt a (suc level) rest_cells
-      parts2 parts = (
-        parts.0,
-        all_put_after (λ (c : Cell). (length c.1 ≡ 33) × (is_part_at a (suc level) c.1 ≡ true)) key (s.0, child_part s.1) cs
-            (refl, child_part_is a.blocks s.1 (inside s.1 in_news).0 (inside s.1 in_news).1 most) parts.1,
-      )
+      parts2 parts = grind (arith, all_put_after, child_part_is, in_news)
 
       apart2 : IsApart ((block ∷ flat_map (λ c. nodes_in level c.1) (kids (cells_in a A1) level rest_cells)) ++ p.left)
       apart2 = subst (λ (f : ℕ → List Cell). IsApart ((block ∷ flat_map (λ c. nodes_in level c.1) (kids f level rest_cells)) ++ p.left)) (sym cells1_are)
@@ -215,8 +205,7 @@ module _ (a : Area) (sized : IsBlock a.size) (least : 256 ≤ a.size) (most : a.
       → IsPut n (suc level) cells (written cells (after_child n child_part key level block cs p p.second).writes) block (block, kids cells level cs) key value news (after_child n child_part key level block cs p p.second)
       → HasPut a (suc level) A block (after_child n child_part key level block cs p p.second)
   at_has level block [] news p here below low_level node rows apart is has inside low high within order short whole old parts enough w = absurd order
-  at_has level block (c ∷ cs) news p here below low_level node rows apart is has inside low high within order short whole old parts enough w =
-      inner_has level block c cs news p here below low_level node rows apart is has inside low high within order short whole old parts enough w
+  at_has level block (c ∷ cs) news p here below low_level node rows apart is has inside low high within order short whole old parts enough w = search (arith, inner_has) steps 100000
 
   -- What a put below a node leaves.
   pub put_has : length key ≤ 28 → length value ≡ 33 → is_part 32 value ≡ true → 1 < half n → half n ≤ n → (level block : ℕ) (news : List ℕ) (low : List ℕ) (high : Option (List ℕ))

@@ -1,5 +1,5 @@
 -- A region whose tree has a new pair is well formed, and its map has the pair.
-use Rattle.iso_tree.proofs.{Words.{◌≡◌, ◌≢◌, ◌⊎◌, ◌∙◌, sym, refl, ap, subst, ℕ, ◌+◌, ◌*◌, ◌%◌, ◌^◌, ◌<◌, ◌≤◌, ◌||◌, ◌==◌, not, Bool, true, false, cond, nat_le, List, [], ◌∷◌, ◌++◌, take, length, Option, Some, None, arith, inl, inr, ne_eqb, nat_lt, AllByRecursion, list_all, w32, to_be_bytes, from_be_bytes, bit_at, nat_cmp, eq_by_cmp, slice_cmp, insert, and_from, or_left, both_ways, cases_eq, cases_Bool, nat_tests, append-nil, take_at, drop_at, get_or-take, from_be_bytes-to_be_bytes_4, bytes_eq-Decides, Area, Array, merged, put, IsIn, block_at, bytes_in, store_access, word_at, is_zero, map_bytes, map_bit, map_mark, bit_place, length-block_put, written_block, other_block, Cell, head_mark, is_head, node_bytes, used_cells, tree_at, pairs_in, nodes_in, IsApart, IsOrdered, cells_in, root_of, level_of, AreNodes, IsTreeArea, IsTreeRegion, tree_pairs, tree_nodes, tree_map, first_spans, first_bytes, first_access, found_in, ties, in_front, in_back, in_cases}, Blocks.{grown_apart, grown_in, apart_join, tree_same}, MapBits.{bits_after, zeros_after, head_kept, head_new}, Roots.map_put, Shapes.{IsAdded, IsGrown}, Stored.{stored, spots, stored_kept, stored_shape, nodes_same}, Taking.{AreTaken, up_apart}}
+use Rattle.iso_tree.proofs.{Words.{◌≡◌, ◌≢◌, ◌⊎◌, ◌∙◌, sym, refl, ap, subst, ℕ, ◌+◌, ◌*◌, ◌%◌, ◌^◌, ◌<◌, ◌≤◌, ◌==◌, not, Bool, true, false, cond, nat_le, List, [], ◌∷◌, ◌++◌, length, Option, Some, None, arith, inl, inr, ne_eqb, nat_lt, AllByRecursion, list_all, w32, to_be_bytes, from_be_bytes, bit_at, nat_cmp, eq_by_cmp, slice_cmp, insert, and_from, or_left, both_ways, cases_eq, cases_Bool, nat_tests, append-nil, take_at, get_or-take, from_be_bytes-to_be_bytes_4, bytes_eq-Decides, Area, Array, merged, put, IsIn, block_at, bytes_in, store_access, word_at, is_zero, map_bytes, map_bit, map_mark, bit_place, length-block_put, written_block, other_block, Cell, head_mark, is_head, node_bytes, used_cells, tree_at, pairs_in, nodes_in, IsApart, IsOrdered, cells_in, root_of, level_of, AreNodes, IsTreeArea, IsTreeRegion, tree_pairs, tree_nodes, tree_map, first_spans, first_bytes, first_access, found_in, ties, in_front, in_back, in_cases}, Blocks.{grown_apart, grown_in, apart_join, tree_same}, MapBits.{bits_after, zeros_after, head_kept, head_new}, Roots.map_put, Shapes.{IsAdded, IsGrown}, Stored.{stored, spots, stored_kept, stored_shape, nodes_same}, Taking.{AreTaken, up_apart}}
 
 added_has : (x k : ℕ) (old new : List ℕ) → IsAdded x old new → (x ≡ k) ⊎ IsIn k old → IsIn k new
 added_has x k old new is has = subst (λ (l : List ℕ). IsIn k l) (sym is.3) (elim has [
@@ -38,9 +38,7 @@ root_word : (r l : ℕ) → r < 2 ^ 32 → word_at 0 (to_be_bytes w32 r ++ to_be
 root_word r l low = ap (from_be_bytes w32) (take_at (to_be_bytes w32 r) (to_be_bytes w32 l) 4 refl) ∙ from_be_bytes-to_be_bytes_4 r low
 
 level_word : (r l : ℕ) → l < 2 ^ 32 → word_at 4 (to_be_bytes w32 r ++ to_be_bytes w32 l) ≡ l
-level_word r l low =
-    ap (λ (x : List ℕ). from_be_bytes w32 (take 4 x)) (drop_at (to_be_bytes w32 r) (to_be_bytes w32 l) 4 refl ∙ sym (append-nil (to_be_bytes w32 l)))
-    ∙ ap (from_be_bytes w32) (take_at (to_be_bytes w32 l) [] 4 refl) ∙ from_be_bytes-to_be_bytes_4 l low
+level_word r l low = grind (arith, from_be_bytes-to_be_bytes_4) steps 100000
 
 some_none : (x : List ℕ) → ◌≡◌ {A = Option (List ℕ)} (Some x) None → ⊥
 some_none x e = cc
@@ -64,9 +62,8 @@ taken_apart a A area region need taken are =
     let first = bytes_in (map_mark a.blocks) F in
     apart_join (tree_nodes a A) taken region.once (up_apart 1 taken are.up) (λ j old is.
     let low : j < 8 * map_bytes a.blocks = let b = are.below j is in omega arith in
-    let set : map_bit F j ≡ true = (region.bits j low).1 old in
     let same : map_bit first j ≡ map_bit F j = ap (λ (x : ℕ). bit_at x (j % 8) == 1) (get_or-take (64 + map_bytes a.blocks) F (bit_place j) 0 (omega arith)) in
-    both_ways (map_bit first j) (are.free j is) (same ∙ set))
+    both_ways (map_bit first j) (are.free j is) (same ∙ ((region.bits j low).1 old)))
 
 module _ (a : Area) (area : IsTreeArea a) (A : Array) (region : IsTreeRegion a A) (key text : List ℕ) (lacks : AllByRecursion (λ (pair : List ℕ × List ℕ). key ≢ pair.0) (tree_pairs a A))
     (k : ℕ) (ks : List ℕ) (are : AreTaken a (bytes_in (map_mark a.blocks) (block_at A a.start)) (length (k ∷ ks)) (k ∷ ks))
@@ -151,13 +148,9 @@ module _ (a : Area) (area : IsTreeArea a) (A : Array) (region : IsTreeRegion a A
 
     head_good : is_head a (bytes_in head_mark (block_at C a.start)) ≡ true
     head_good =
-        let p = new.past in
-        let b = new.below in
-        let l = new.low in
         let one : nat_lt (root_of a C) a.blocks ≡ true = ap (λ (n : ℕ). nat_lt n a.blocks) root_is ∙ grind (arith, nat_tests) in
         let two : nat_le (level_of a C) 31 ≡ true = ap (λ (n : ℕ). nat_le n 31) level_is ∙ grind (arith, nat_tests) in
-        let three : (not (root_of a C == 0) || (level_of a C == 0)) ≡ true = or_left (not (root_of a C == 0)) _ (ap (λ (n : ℕ). not (n == 0)) root_is ∙ ap not some) in
-        and_from _ _ (and_from _ _ one two) three
+        and_from _ _ (and_from _ _ one two) (or_left (not (root_of a C == 0)) _ (ap (λ (n : ℕ). not (n == 0)) root_is ∙ ap not some))
 
     region_C : IsTreeRegion a C
     region_C = record {
@@ -203,6 +196,4 @@ pub new_root_put : (a : Area) (area : IsTreeArea a) (A : Array) (region : IsTree
 new_root_put a area A region key text lacks k ks are ws away r l new inside most =
     let first_is = C_first a area A region key text lacks k ks are (Some (r, l)) ws away in
     let head = ap (bytes_in head_mark) first_is ∙ head_new a (block_at A a.start) (long a area A region key text lacks k ks are (Some (r, l)) ws away) (room a area A region key text lacks k ks are (Some (r, l)) ws away) k ks are.up are.below r l in
-    let small = new.below in
-    let low = new.low in
     put_into a area A region key text lacks k ks are (Some (r, l)) ws away l r new inside (ap (word_at 0) head ∙ root_word r l (omega arith)) (ap (word_at 4) head ∙ level_word r l (omega arith))

@@ -1,5 +1,5 @@
 -- The nodes of a put are read once more.
-use Rattle.iso_tree.proofs.{Words.{◌≡◌, ◌∙◌, sym, refl, ap, subst, ℕ, suc, ◌+◌, ◌*◌, ◌≤◌, List, [], ◌∷◌, ◌++◌, length, map, take, drop, Result, Ok, Err, OnOk, IfErr, arith, take_at, take-take, length-take-le, Area, StoreError, TxError, Array, own, laid_at, Program, bytes_in, look_access, laid_here, Tx, Device, with_accesses, IsCut, IsCause, HasRun, own_reads, IsAt, at_join, at_start, at_look_whole, own_append, run_from, Cell, used_cells, nodes_from, AreShownUsable, AreUsable, IsUsable, look_again, Answer, AreBytesOf, piece_of}, Removing.cut_at_whole}
+use Rattle.iso_tree.proofs.{Words.{◌≡◌, ◌∙◌, sym, refl, ap, subst, ℕ, ◌+◌, ◌*◌, ◌≤◌, List, [], ◌∷◌, ◌++◌, length, map, take, drop, Result, Ok, Err, OnOk, IfErr, arith, take_at, take-take, length-take-le, Area, StoreError, TxError, Array, own, laid_at, Program, bytes_in, look_access, laid_here, Tx, Device, with_accesses, IsCut, IsCause, HasRun, own_reads, IsAt, at_join, at_start, at_look_whole, own_append, run_from, Cell, used_cells, nodes_from, AreShownUsable, AreUsable, IsUsable, look_again, Answer, AreBytesOf, piece_of}, Getting.cut_at_whole}
 
 pub map_ok : {X E P Q : Type 0} (r : Result X E) → (P → Q) → OnOk r P → OnOk r Q
 map_ok (Ok x) f h = f h
@@ -66,11 +66,11 @@ before_after size i bytes old mid new fits laid kept =
     ∙ take_at (take (i * size) old) (bytes ++ drop (i * size + length bytes) old) (i * size) (length-take-le (i * size) old (omega arith))
 
 pub path_room : (size i many : ℕ) (block count : ℕ) (rest path : List (ℕ × ℕ)) → path ≡ (block, count) ∷ rest → (i + length path) * size ≤ many → (i * size + size ≤ many) × ((i + 1 + length rest) * size ≤ many)
-path_room size i many block count rest path is fits =
-    let h : (i + suc (length rest)) * size ≤ many = subst (λ (p : List (ℕ × ℕ)). (i + length p) * size ≤ many) is fits in
-    let e : i + suc (length rest) ≡ i + 1 + length rest = omega arith in
-    (omega arith, subst (λ (k : ℕ). k * size ≤ many) e h)
+path_room size i many block count rest path is fits = grind arith steps 100000
 
 pub usable_more : (size i : ℕ) (block count : ℕ) (rest path : List (ℕ × ℕ)) (nodes bytes : List ℕ) → path ≡ (block, count) ∷ rest → bytes_in (record { off = i * size; len = size }) nodes ≡ bytes → IsUsable size bytes count → AreUsable size nodes (i + 1) rest → AreUsable size nodes i path
-usable_more size i block count rest path nodes bytes is here first others =
-    subst (AreUsable size nodes i) (sym is) (subst (λ (b : List ℕ). IsUsable size b count) (sym here) first, others)
+usable_more size i block count rest path nodes bytes is here first others = grind arith steps 100000
+
+-- nodes of so many bytes are few
+pub few_nodes : (i size many : ℕ) → 256 ≤ size → i * size + size ≤ many → many ≤ 1048576 → i ≤ 1048576
+few_nodes i size many least room short = let le : i * 1 ≤ i * size = Rattle.std.proofs.Math.Nat.mul-le-mul_left i (omega arith) in omega arith

@@ -1,5 +1,5 @@
 -- A put at the root: the tree that the region holds after it, and its map.
-use Rattle.iso_tree.proofs.{Words.{◌≡◌, ◌≢◌, ◌∙◌, sym, refl, ap, subst, ℕ, suc, false, cond, not, List, [], ◌∷◌, ◌++◌, Option, Some, None, inl, inr, flat_map, AllByRecursion, nat_cmp, eq_by_cmp, slice_cmp, nat_list_cmp_total, FinMap, from_entries, insert, get-from_entries, get-insert, same_map, slice_cmp-IsAntisymmetric, nat_cmp-IsAntisymmetric, cases_Bool, bytes_eq-Decides, append-nil, or_else, text_of, Cell, child_of, Tree, tree_at, pairs_in, nodes_in, IsApart, AreAfter, IsOrdered, Put, IsIn, found_in, find_append, ties, not_bytes_eq, in_front, in_back}, Shapes.{kids, IsAdded, IsGrown, write_cells, second_kid}, Order.{grown_more, not_before_empty}, Blocks.{apart_parts, grown_apart, tree_same}, Splits.{write_here, write_other}, Climbs.IsPut}
+use Rattle.iso_tree.proofs.{Words.{◌≡◌, ◌≢◌, ◌∙◌, sym, refl, ap, subst, ℕ, suc, cond, not, List, [], ◌∷◌, ◌++◌, Option, Some, None, inl, inr, flat_map, AllByRecursion, nat_cmp, eq_by_cmp, slice_cmp, nat_list_cmp_total, FinMap, from_entries, insert, get-from_entries, get-insert, same_map, slice_cmp-IsAntisymmetric, nat_cmp-IsAntisymmetric, cases_Bool, bytes_eq-Decides, append-nil, or_else, text_of, Cell, child_of, Tree, tree_at, pairs_in, nodes_in, IsApart, AreAfter, IsOrdered, Put, IsIn, found_in, find_append, ties, not_bytes_eq, in_front, in_back}, Shapes.{kids, IsAdded, IsGrown, write_cells, second_kid}, Order.{grown_more, not_before_empty}, Blocks.{apart_parts, grown_apart, tree_same}, Splits.{write_here, write_other}, Climbs.IsPut}
 
 -- what a put leaves at the root
 pub record IsRooted (old_level : ℕ) (old : Tree old_level) (level : ℕ) (new : Tree level) (key value : List ℕ) (taken : List ℕ) : Type 0 where
@@ -54,8 +54,7 @@ new_root n level part cells cells' root r rest s t key value news p old apart is
 lacks_found : (key : List ℕ) (pairs : List (List ℕ × List ℕ)) → AllByRecursion (λ (pair : List ℕ × List ℕ). key ≢ pair.0) pairs → found_in key pairs ≡ None
 lacks_found key [] all = refl
 lacks_found key (pair ∷ pairs) all =
-    let not : eq_by_cmp (slice_cmp nat_cmp) key pair.0 ≡ false = ties key pair.0 ∙ not_bytes_eq key pair.0 all.0 in
-    rw not (lacks_found key pairs all.1)
+    rw (ties key pair.0 ∙ not_bytes_eq key pair.0 all.0) (lacks_found key pairs all.1)
 
 or_else_some : (o : Option (List ℕ)) (q : Option (List ℕ)) → o ≡ None → or_else o q ≡ q
 or_else_some o q e = ap (λ x. or_else x q) e
@@ -70,8 +69,7 @@ pub find_added : (key text q : List ℕ) (old new : List (List ℕ × List ℕ))
 find_added key text q old new lacks is =
     let xs = is.0 in
     let ys = is.1 in
-    let parts : or_else (found_in key xs) (found_in key ys) ≡ None = sym (find_append key xs ys) ∙ ap (found_in key) (sym is.2) ∙ lacks in
-    let none : found_in key xs ≡ None = first_none (found_in key xs) (found_in key ys) parts in
+    let none : found_in key xs ≡ None = first_none (found_in key xs) (found_in key ys) (sym (find_append key xs ys) ∙ ap (found_in key) (sym is.2) ∙ lacks) in
     ap (found_in q) is.3 ∙ find_append q xs ((key, text) ∷ ys)
     ∙ elim (cases_Bool (eq_by_cmp (slice_cmp nat_cmp) q key)) [
       | inl here ↦

@@ -1,10 +1,86 @@
--- A scan finds the first pairs of its range.
-use Rattle.iso_tree.proofs.{Words.{◌≡◌, ◌∙◌, sym, refl, ap, subst, ℕ, zero, suc, ◌+◌, ◌-◌, ◌<◌, ◌≤◌, Bool, true, ◌&&◌, cond, List, [], ◌∷◌, ◌++◌, length, map, take, drop, Option, Some, Ok, Err, arith, AllByRecursion, flat_map, list_all, and_from, append-nil, Area, Broken, Array, own, block_at, AreReads, Program, Done, bytes_in, further_bytes, accesses_of, answer_of, is_part, key_at, keys_mark, value_mark, accesses_then, answer_then, own_reads, reads_append, below_from, cells_by, count_of, is_child, is_node, place_from, Cell, child_of, tree_at, pairs_in, AreAfter, AreChildren, IsOrdered, and_then, first_in, many_in, parts_of, pairs_with, scan_children, scan_from, scan_further, Scanned, cells_in, AreNodes, cond_reads, row_less, take-nil}, Edits.leaf_pairs, Enlarging.all_taken, Gets.ordered_in, ScanNodes.{below_same, place_same, upto_few, cells_cut, values_are, pairs_are, parts_hold}, Scans.{within, below_list, upto_list, row_within, visited}, Shapes.kids}
+-- What a scan reads of a node are the cells that it visits.
+use Rattle.iso_tree.proofs.{Words.{◌≡◌, ◌∙◌, sym, refl, ap, ℕ, zero, suc, ◌+◌, ◌-◌, ◌*◌, ◌<◌, ◌≤◌, ◌==◌, Bool, true, false, not, ◌&&◌, cond, List, ◌∷◌, map, take, drop, Some, None, arith, inl, inr, ne_eqb, list_all, and_from, cases_eq, take-take, drop-take, drop-drop, Area, key_at, keys_end, text_of, value_mark, bytes_in, further_bytes, before, below_from, cells_by, is_node, place_from, Cell, first_in, many_in, pairs_with, parts_of, scan_further, subst, [], ◌++◌, length, Option, Ok, Err, AllByRecursion, flat_map, append-nil, Broken, Array, own, block_at, AreReads, Program, Done, accesses_of, answer_of, is_part, keys_mark, accesses_then, answer_then, own_reads, reads_append, count_of, is_child, child_of, tree_at, pairs_in, AreAfter, AreChildren, IsOrdered, and_then, scan_children, scan_from, Scanned, cells_in, AreNodes, cond_reads, row_less, take-nil}, Edits.leaf_pairs, Enlarging.all_taken, Gets.ordered_in, Scans.{below_list, upto_list, within, row_within, visited}, Shapes.kids}
 use Rattle.std.proofs.Common.{append_assoc}
 
+-- COUNTS
+pub below_same : (key keys : List ℕ) (value : ℕ → List ℕ) (i n : ℕ) → below_from key keys i n ≡ below_list key (cells_by keys value i n)
+below_same key keys value i zero = refl
+below_same key keys value i (suc n) = ap (λ (k : ℕ). cond (before (key_at keys i) key) (suc k) 0) (below_same key keys value (i + 1) n)
+
+pub place_same : (key keys : List ℕ) (value : ℕ → List ℕ) (j i n : ℕ) → i ≡ j + 1 → place_from key keys j i n ≡ j + upto_list key (cells_by keys value i n)
+place_same key keys value j i zero next = omega arith
+place_same key keys value j i (suc n) next =
+    elim (before key (key_at keys i)) as (λ t. cond t j (place_from key keys i (i + 1) n) ≡ j + cond t 0 (suc (upto_list key (cells_by keys value (i + 1) n)))) [
+      | true ↦ omega arith
+      | false ↦ (let rest = place_same key keys value i (i + 1) n refl in omega arith)
+    ]
+
+pub upto_few : (key keys : List ℕ) (value : ℕ → List ℕ) (i n : ℕ) → upto_list key (cells_by keys value i n) ≤ n
+upto_few key keys value i zero = omega arith
+upto_few key keys value i (suc n) = elim (before key (key_at keys i)) as (λ t. cond t 0 (suc (upto_list key (cells_by keys value (i + 1) n))) ≤ suc n) [
+  | true ↦ omega arith
+  | false ↦ (let rest = upto_few key keys value (i + 1) n in omega arith)
+]
+
+-- CELLS IN A ROW
+drop_by : (d : ℕ) (keys : List ℕ) (value : ℕ → List ℕ) (i n : ℕ) → drop d (cells_by keys value i n) ≡ cells_by keys value (i + d) (n - d)
+drop_by zero keys value i zero = refl
+drop_by zero keys value i (suc n) = let e : i ≡ i + 0 = omega arith in let f : suc n ≡ suc n - 0 = omega arith in (λ j. cells_by keys value (e j) (f j))
+drop_by (suc d) keys value i zero = let e : 0 ≡ 0 - suc d = omega arith in ap (cells_by keys value (i + suc d)) e
+drop_by (suc d) keys value i (suc n) =
+    let e : i + 1 + d ≡ i + suc d = omega arith in
+    let f : n - d ≡ suc n - suc d = omega arith in
+    drop_by d keys value (i + 1) n ∙ (λ j. cells_by keys value (e j) (f j))
+
+take_by : (k : ℕ) (keys : List ℕ) (value : ℕ → List ℕ) (i n : ℕ) → k ≤ n → take k (cells_by keys value i n) ≡ cells_by keys value i k
+take_by zero keys value i zero le = refl
+take_by zero keys value i (suc n) le = refl
+take_by (suc k) keys value i zero le = absurd (omega arith)
+take_by (suc k) keys value i (suc n) le = ap (λ l. (key_at keys i, value i) ∷ l) (take_by k keys value (i + 1) n (omega arith))
+
+pub cells_cut : (keys : List ℕ) (value : ℕ → List ℕ) (first many n : ℕ) → many ≤ n - first → take many (drop first (cells_by keys value 0 n)) ≡ cells_by keys value first many
+cells_cut keys value first many n le = grind (arith, drop_by, take_by) steps 100000
+
+-- VALUE PARTS
+parts_are : (size off : ℕ) (block keys : List ℕ) (first many : ℕ) → off ≡ keys_end size + 33 * first
+    → parts_of (take (33 * many) (drop off block)) many ≡ map (λ c. c.1) (cells_by keys (λ i. bytes_in (value_mark size i) block) first many)
+parts_are size off block keys first zero at = refl
+parts_are size off block keys first (suc many) at =
+    let X = drop off block in
+    let sum : 33 * suc many ≡ 33 + 33 * many = omega arith in
+    let head : take 33 (take (33 * suc many) X) ≡ take 33 (drop (keys_end size + 33 * first) block) = take-take 33 (33 * suc many) X (omega arith) ∙ ap (λ (o : ℕ). take 33 (drop o block)) at in
+    let rest : drop 33 (take (33 * suc many) X) ≡ take (33 * many) (drop (off + 33) block) =
+    ap (λ (k : ℕ). drop 33 (take k X)) sum ∙ drop-take 33 (33 * many) X ∙ ap (take (33 * many)) (drop-drop 33 off block) in
+    (λ i. head i ∷ parts_of (rest i) many)
+    ∙ ap (λ l. take 33 (drop (keys_end size + 33 * first) block) ∷ l) (parts_are size (off + 33) block keys (first + 1) many (omega arith))
+
+pub values_are : (a : Area) (level : ℕ) (from to keys block : List ℕ) → is_node a.size level keys ≡ true
+    → parts_of (further_bytes (scan_further a level from to keys) block) (many_in level from to keys)
+    ≡ map (λ c. c.1) (cells_by keys (λ i. bytes_in (value_mark a.size i) block) (first_in level from keys) (many_in level from to keys))
+values_are a level from to keys block node =
+    let many = many_in level from to keys in
+    let first = first_in level from keys in
+    elim (cases_eq many 0) [
+      | inl none ↦
+          ap (parts_of (further_bytes (scan_further a level from to keys) block)) none ∙ sym (ap (λ (k : ℕ). map (λ (c : Cell). c.1) (cells_by keys (λ i. bytes_in (value_mark a.size i) block) first k)) none)
+      | inr other ↦
+          (let test : (many == 0) ≡ false = ne_eqb many 0 other in
+          (λ i. parts_of (further_bytes (cond (node i && not (test i)) (Some (record { off = keys_end a.size + 33 * first; len = 33 * many })) None) block) many)
+          ∙ parts_are a.size (keys_end a.size + 33 * first) block keys first many refl)
+    ]
+
+-- the pairs of a leaf's cells
+pub pairs_are : (keys : List ℕ) (value : ℕ → List ℕ) (first many : ℕ) → pairs_with keys first (map (λ c. c.1) (cells_by keys value first many)) ≡ leaf_pairs (cells_by keys value first many)
+pairs_are keys value first zero = refl
+pairs_are keys value first (suc many) = ap (λ l. (key_at keys first, text_of (value first)) ∷ l) (pairs_are keys value (first + 1) many)
+
+pub parts_hold : (p : List ℕ → Bool) (keys : List ℕ) (value : ℕ → List ℕ) (first many : ℕ) → ((i : ℕ) → first ≤ i → i < first + many → p (value i) ≡ true) → list_all p (map (λ c. c.1) (cells_by keys value first many)) ≡ true
+parts_hold p keys value first zero each = refl
+parts_hold p keys value first (suc many) each = and_from _ _ (each first (omega arith) (omega arith)) (parts_hold p keys value (first + 1) many (λ i low high. each i (omega arith) (omega arith)))
+
+-- A scan finds the first pairs of its range.
 pub take_zero : {X : Type 0} (xs : List X) → ◌≡◌ {A = List X} (take 0 xs) []
-take_zero [] = refl
-take_zero (x ∷ xs) = refl
+take_zero xs = grind arith
 
 take_join : {X : Type 0} (n : ℕ) (xs ys : List X) → take n xs ++ take (n - length (take n xs)) ys ≡ take n (xs ++ ys)
 take_join zero [] ys = refl
@@ -33,13 +109,7 @@ children_read scan A each (child ∷ children) (suc most) found =
     (then_reads (answer_of p A) next A (λ pairs. children_read scan A each children (suc most - length pairs) (found ++ pairs)))))
 
 pub scan_reads : (a : Area) (from to : List ℕ) (level block most : ℕ) (A : Array) → AreReads (accesses_of (scan_from a from to level block most) A)
-scan_reads a from to zero block most A =
-    let B = block_at A (a.start + block) in
-    let K = bytes_in (keys_mark a.size) B in
-    let parts = parts_of (further_bytes (scan_further a 0 from to K) B) (many_in 0 from to K) in (
-      refl,
-      cond_reads (is_node a.size 0 K && list_all (is_part 32) parts) (Done (Ok (take most (pairs_with K (first_in 0 from K) parts)))) (Done (Err (Broken (a.start + block)))) A tt tt,
-    )
+scan_reads a from to zero block most A = grind (arith, cond_reads) steps 100000
 scan_reads a from to (suc level) block most A =
     let B = block_at A (a.start + block) in
     let K = bytes_in (keys_mark a.size) B in
@@ -60,8 +130,7 @@ children_find scan A g reads [] most found all = ap (λ l. Ok l) (sym (ap (λ l.
 children_find scan A g reads (c ∷ cs) zero found all = ap (λ l. Ok l) (sym (ap (λ l. found ++ l) (take_zero (flat_map (λ c. g (child_of c.1)) (c ∷ cs))) ∙ append-nil found))
 children_find scan A g reads (c ∷ cs) (suc most) found all =
     let p = scan (child_of c.1) (suc most) in
-    let children = map child_of (map (λ (c : Cell). c.1) cs) in
-    let f : Scanned → Program Scanned = λ r. and_then r (λ pairs. scan_children scan children (suc most - length pairs) (found ++ pairs)) in
+    let f : Scanned → Program Scanned = λ r. and_then r (λ pairs. scan_children scan (map child_of (map (λ (c : Cell). c.1) cs)) (suc most - length pairs) (found ++ pairs)) in
     let pairs = take (suc most) (g (child_of c.1)) in
     let rest = flat_map (λ (c : Cell). g (child_of c.1)) cs in
     answer_then p f A
@@ -152,8 +221,7 @@ scan_finds a from to A zero block most low high nodes order =
     row_within from to low high (cells_by K V 0 n) order
     ∙ (λ i. leaf_pairs (take (sym (below_same to K V 0 n) i - sym (below_same from K V 0 n) i) (drop (sym (below_same from K V 0 n) i) (cells_by K V 0 n))))
     ∙ ap leaf_pairs (cells_cut K V first many n (omega arith)) in
-    ap (λ (t : Bool). answer_of (cond t (Done (Ok (take most (pairs_with K first parts)))) (Done (Err (Broken (a.start + block))))) A) good
-    ∙ ap (λ l. Ok (take most l)) (ap (pairs_with K first) vals ∙ pairs_are K V first many ∙ sym rows)
+    grind (arith, pairs_are)
 scan_finds a from to A (suc level) block most low high nodes order =
     let B = block_at A (a.start + block) in
     let K = bytes_in (keys_mark a.size) B in
@@ -169,10 +237,9 @@ scan_finds a from to A (suc level) block most low high nodes order =
     and_from _ _ nodes.0.keys (ap (list_all (is_child a.blocks)) vals ∙ parts_hold (is_child a.blocks) K V first many (λ i low high. nodes.0.used i (are.fits i high low))) in
     let g : ℕ → List (List ℕ × List ℕ) = λ child. within from to (pairs_in level (tree_at cells level child)) in
     let scan = scan_from a from to level in
-    let ranges : AllByRecursion (λ (c : Cell). (lo : List ℕ) × (hi : Option (List ℕ)) × Below cells level lo hi c.1) (cells_by K V 0 n) = are.ranges in
     let each : AllByRecursion (Finds scan A g) (cells_by K V 0 n) =
     all_zip (λ (c : Cell). AreNodes a A level (child_of c.1)) (λ (c : Cell). (lo : List ℕ) × (hi : Option (List ℕ)) × Below cells level lo hi c.1) (Finds scan A g) (cells_by K V 0 n)
-    (λ c below range m. scan_finds a from to A level (child_of c.1) m range.0 range.1 below range.2) nodes.1 ranges in
+    (λ c below range m. scan_finds a from to A level (child_of c.1) m range.0 range.1 below range.2) nodes.1 are.ranges in
     let here : AllByRecursion (Finds scan A g) (cells_by K V first many) =
     subst (AllByRecursion (Finds scan A g)) are.row (all_taken (Finds scan A g) many (drop first (cells_by K V 0 n)) (all_dropped (Finds scan A g) first (cells_by K V 0 n) each)) in
     ap (λ (t : Bool). answer_of (cond t (scan_children scan (map child_of parts) most []) (Done (Err (Broken (a.start + block))))) A) good

@@ -1,5 +1,5 @@
 -- A scan, node by node.
-use Rattle.iso_tree.proofs.{Words.{◌≡◌, ◌⊎◌, inl, inr, ◌∙◌, sym, refl, ap, subst, ℕ, zero, suc, ◌+◌, ◌-◌, ◌<◌, ◌&&◌, Bool, true, false, cond, List, [], ◌∷◌, ◌++◌, length, map, take, Result, Ok, Err, IfOk, arith, eq-eqb, ne_eqb, list_all, AllByRecursion, and_parts, append-nil, Area, StoreError, is_key, Program, Done, Look, LookWhole, Reserve, Store, then_do, is_part, keys_mark, child_of, is_child, is_node, and_then, first_in, many_in, pairs_with, parts_of, scan_below, scan_children, scan_from, scan_further, scan_program, with_head, Scanned, scan_op, tree_map, IsTreeRegion, Tx, Ran, HasEnded, HasRun, IsLocalCall, WantsMemory, IsAt, at_start, at_then, began_at, ran_at, began_from, ended_from, run_from, scanned_ok, Visit, keys_of, node_read, scan_nodes, values_of, visit_program, AreIn, HasScanned, IsVisited, head_program, at_as, refused_then}, Getting.head_at, ScanCalls.scan_call, Visiting.{children_in, inner_parts, parts_are}}
+use Rattle.iso_tree.proofs.{Words.{◌≡◌, ◌⊎◌, inl, inr, ◌∙◌, sym, refl, ap, subst, ℕ, zero, suc, ◌+◌, ◌-◌, ◌<◌, ◌&&◌, Bool, true, false, cond, List, [], ◌∷◌, ◌++◌, length, map, take, Result, Ok, Err, IfOk, arith, ne_eqb, AllByRecursion, and_parts, append-nil, Area, StoreError, is_key, Program, Done, Look, LookWhole, Reserve, Store, then_do, child_of, and_then, first_in, many_in, pairs_with, parts_of, scan_below, scan_children, scan_from, scan_program, with_head, Scanned, scan_op, tree_map, IsTreeRegion, Tx, Ran, HasEnded, HasRun, IsLocalCall, WantsMemory, IsAt, at_start, at_then, began_at, ran_at, ran_done, began_from, ended_from, run_from, scanned_ok, Visit, keys_of, node_read, scan_nodes, values_of, visit_program, AreIn, HasScanned, IsVisited, head_program, at_as, refused_then}, Getting.head_at, ScanCalls.scan_call, Visiting.{children_in, inner_parts, parts_are}}
 use Rattle.std.proofs.Common.{append_assoc, length-append}
 use Rattle.store_model.specs.declared.stores.StoreError.TheVariants as store
 use Rattle.store_model.specs.declared.stores.TxError.TheVariants as error
@@ -30,20 +30,15 @@ module _ (a : Area) (from to : List ℕ) where
   leaf_same : (most block : ℕ) (keys values : List ℕ) (c : Bool)
       → cond c (Done (Ok (take most (pairs_with keys (first_in 0 from keys) (parts_of values (many_in 0 from to keys)))))) (Done (Err (store.Broken (a.start + block))))
       ≡ after_visit zero most (cond c (Ok (keys, values)) (Err (store.Broken (a.start + block))))
-  leaf_same most block keys values true = refl
-  leaf_same most block keys values false = refl
+  leaf_same most block keys values c = grind arith
 
   inner_same : (level most block : ℕ) (keys values : List ℕ) (c : Bool)
       → cond c (scan_children (scan_from a from to level) (map child_of (parts_of values (many_in (suc level) from to keys))) most []) (Done (Err (store.Broken (a.start + block))))
       ≡ after_visit (suc level) most (cond c (Ok (keys, values)) (Err (store.Broken (a.start + block))))
-  inner_same level most block keys values true = refl
-  inner_same level most block keys values false = refl
+  inner_same level most block keys values c = grind arith
 
   visit_as : (level block most : ℕ) → scan_from a from to level block most ≡ then_do (visit_program a from to level block) (after_visit level most)
-  visit_as zero block most = λ i. Look (a.start + block) (keys_mark a.size) (scan_further a 0 from to)
-      (λ keys values. leaf_same most block keys values (is_node a.size 0 keys && list_all (is_part 32) (parts_of values (many_in 0 from to keys))) i)
-  visit_as (suc level) block most = λ i. Look (a.start + block) (keys_mark a.size) (scan_further a (suc level) from to)
-      (λ keys values. inner_same level most block keys values (is_node a.size (suc level) keys && list_all (is_child a.blocks) (parts_of values (many_in (suc level) from to keys))) i)
+  visit_as level block most = grind (arith, leaf_same, inner_same)
 
   -- what follows the scan of a node
   abbrev then_nodes : List (ℕ × ℕ) → (most : ℕ) → List (List ℕ × List ℕ) → Scanned → Program Scanned
@@ -59,13 +54,10 @@ module _ (a : Area) (from to : List ℕ) where
 
   next_as : (level block : ℕ) (nodes : List (ℕ × ℕ)) (most : ℕ) (found : List (List ℕ × List ℕ)) → 0 < most
       → scan_nodes a from to ((level, block) ∷ nodes) most found ≡ then_do (visit_program a from to level block) (on_visit level nodes most found)
-  next_as level block nodes most found some =
-      nodes_as level block nodes most found some ∙ ap (λ (p : Program Scanned). then_do p (then_nodes nodes most found)) (visit_as level block most)
-      ∙ then_assoc (visit_program a from to level block) (after_visit level most) (then_nodes nodes most found)
+  next_as level block nodes most found some = grind (arith, nodes_as, visit_as, then_assoc) steps 100000
 
   on_refusal : (level : ℕ) (nodes : List (ℕ × ℕ)) (most : ℕ) (found : List (List ℕ × List ℕ)) (e : StoreError) → on_visit level nodes most found (Err e) ≡ Done (Err e)
-  on_refusal zero nodes most found e = refl
-  on_refusal (suc level) nodes most found e = refl
+  on_refusal level nodes most found e = grind arith
 
   -- no pair is wanted any more, or no node is left
   pub none_wanted : (nodes : List (ℕ × ℕ)) (found : List (List ℕ × List ℕ)) → scan_nodes a from to nodes 0 found ≡ Done (Ok found)
@@ -194,13 +186,11 @@ module _ (a : Area) (from to : List ℕ) (whole : Program Scanned) (t u : Tx) wh
   walk_ends nodes left found now none = ran_at whole t u (Ok found) (at_as whole _ _ t u (ap (λ (ns : List (ℕ × ℕ)). scan_nodes a from to ns left found) none) now)
 
   pub walk_full : (nodes : List (ℕ × ℕ)) (left : ℕ) (found : List (List ℕ × List ℕ)) → IsAt whole (scan_nodes a from to nodes left found) t u → left ≡ 0 → Ran whole t u (Ok found)
-  walk_full nodes left found now none =
-      ran_at whole t u (Ok found) (at_as whole _ _ t u (ap (λ (n : ℕ). scan_nodes a from to nodes n found) none ∙ none_wanted a from to nodes found) now)
+  walk_full nodes left found now none = grind (arith, ran_at, at_as, none_wanted) steps 100000
 
 -- THE CALL
 each_done : (r : Scanned) → and_then r (λ pairs. Done (Ok pairs)) ≡ Done r
-each_done (Ok pairs) = refl
-each_done (Err e) = refl
+each_done r = grind arith
 
 below_as : (a : Area) (from to : List ℕ) (most root level : ℕ) → (root ≡ 0 → ⊥) → 0 < most → scan_nodes a from to ((level, root) ∷ []) most [] ≡ scan_below a from to most root level
 below_as a from to most root level some wanted =
@@ -209,13 +199,7 @@ below_as a from to most root level some wanted =
 
 pub below_run : (a : Area) (from to : List ℕ) (most root level : ℕ) (t u : Tx) (result : Scanned) (nodes : List (ℕ × ℕ)) → (root ≡ 0 → ⊥) → 0 < most → nodes ≡ (level, root) ∷ []
     → HasScanned (scan_nodes a from to nodes most []) t u result → HasScanned (scan_below a from to most root level) t u result
-below_run a from to most root level t u result nodes some wanted is run =
-    subst (λ (p : Program Scanned). HasScanned p t u result) (ap (λ (ns : List (ℕ × ℕ)). scan_nodes a from to ns most []) is ∙ below_as a from to most root level some wanted) run
-
-pub below_empty : (a : Area) (from to : List ℕ) (most root level : ℕ) (t : Tx) → root ≡ 0 → Ran (scan_below a from to most root level) t t (Ok [])
-below_empty a from to most root level t none =
-    let p = scan_below a from to most root level in
-    ran_at p t t (Ok []) (at_as p p _ t t (ap (λ (b : Bool). cond b (Done (Ok [])) (scan_from a from to level root most)) (eq-eqb root 0 none)) (at_start p t))
+below_run a from to most root level t u result nodes some wanted is run = grind (arith, below_as) steps 100000
 
 pub below_memory : (a : Area) (from to : List ℕ) (most root level : ℕ) (t : Tx) (e : StoreError) → e ≡ store.Tx error.Memory → HasScanned (scan_below a from to most root level) t t (Err e)
 below_memory a from to most root level t e is = let p = scan_below a from to most root level in inr (ap (λ x. Err x) is, began_at p p t t t (at_start p t) refl)
@@ -226,7 +210,7 @@ scan_run a from to most t u result are run = rw are run
 
 pub bad_keys : (a : Area) (from to : List ℕ) (most : ℕ) (t : Tx) → (is_key from && is_key to) ≡ false → Ran (scan_program a from to most) t t (Err store.BadKey)
 unfolding scan_program
-bad_keys a from to most t not = rw not (ran_at (Done (Err store.BadKey)) t t (Err store.BadKey) (at_start (Done (Err store.BadKey)) t))
+bad_keys a from to most t not = rw not (ran_done (Err store.BadKey) t)
 
 -- what was a part of the call is the call, or its buffer was not had
 pub scan_ended : (a : Area) (from to : List ℕ) (most : ℕ) (t u : Tx) (result : Scanned) → HasScanned (scan_program a from to most) t u result

@@ -1,5 +1,5 @@
 -- The pairs of a range lie in the cells that a scan visits.
-use Rattle.iso_tree.proofs.{Words.{◌≡◌, ◌∙◌, sym, refl, ap, ℕ, zero, suc, ◌+◌, ◌-◌, Bool, true, false, not, ◌&&◌, cond, List, [], ◌∷◌, ◌++◌, take, drop, Option, Some, arith, inl, inr, AllByRecursion, filter, flat_map, and_from, and_parts, cases_Bool, append-nil, filter-append, text_of, before, Cell, in_range, Rise, RiseAfter, AreAfter, is_within}, Edits.leaf_pairs, Gets.{pairs_after, rise_in}, Order.{irreflexive, range_from}, Ranges.{before_through, low_of, not_after_through}}
+use Rattle.iso_tree.proofs.{Words.{◌≡◌, ◌∙◌, sym, refl, ap, ℕ, zero, suc, ◌+◌, ◌-◌, Bool, true, false, not, ◌&&◌, cond, List, [], ◌∷◌, ◌++◌, take, drop, Option, Some, arith, inl, inr, AllByRecursion, filter, flat_map, and_from, and_parts, cases_Bool, append-nil, filter-append, text_of, before, Cell, in_range, Rise, RiseAfter, AreAfter, is_within}, Edits.leaf_pairs, Gets.{pairs_after, rise_in}, Order.{irreflexive, range_from, before_through, low_of, not_after_through}}
 
 -- the pairs of a range
 abbrev pub within : (from to : List ℕ) → List (List ℕ × List ℕ) → List (List ℕ × List ℕ)
@@ -15,8 +15,7 @@ upto_list key [] = 0
 upto_list key (c ∷ cs) = cond (before key c.0) 0 (suc (upto_list key cs))
 
 and_false : (t : Bool) → (t && false) ≡ false
-and_false true = refl
-and_false false = refl
+and_false t = grind arith
 
 take_none : {X : Type 0} (n : ℕ) (xs : List X) → n ≡ 0 → ◌≡◌ {A = List X} (take n xs) []
 take_none zero [] none = refl
@@ -38,15 +37,13 @@ module _ (from to : List ℕ) where
       → ◌≡◌ {A = List (List ℕ × List ℕ)} (within from to pairs) []
   none_above low high [] past all = refl
   none_above low high (pair ∷ pairs) past all =
-      let out : is_within from to pair.0 ≡ false = late_out pair.0 (not_after_through to low pair.0 past (low_of low high pair.0 all.0)) in
-      ap (λ (t : Bool). cond t (pair ∷ within from to pairs) (within from to pairs)) out ∙ none_above low high pairs past all.1
+      ap (λ (t : Bool). cond t (pair ∷ within from to pairs) (within from to pairs)) (late_out pair.0 (not_after_through to low pair.0 past (low_of low high pair.0 all.0))) ∙ none_above low high pairs past all.1
 
   pub none_below : (low end : List ℕ) (pairs : List (List ℕ × List ℕ)) → before from end ≡ false → AllByRecursion (λ (pair : List ℕ × List ℕ). in_range low (Some end) pair.0 ≡ true) pairs
       → ◌≡◌ {A = List (List ℕ × List ℕ)} (within from to pairs) []
   none_below low end [] past all = refl
   none_below low end (pair ∷ pairs) past all =
-      let out : is_within from to pair.0 ≡ false = early_out pair.0 (before_through pair.0 end from (and_parts _ _ all.0).1 past) in
-      ap (λ (t : Bool). cond t (pair ∷ within from to pairs) (within from to pairs)) out ∙ none_below low end pairs past all.1
+      ap (λ (t : Bool). cond t (pair ∷ within from to pairs) (within from to pairs)) (early_out pair.0 (before_through pair.0 end from (and_parts _ _ all.0).1 past)) ∙ none_below low end pairs past all.1
 
   -- A LEAF
   rise_of : (last : List ℕ) (high : Option (List ℕ)) (cs : List Cell) → RiseAfter last high cs → Rise last high cs
@@ -75,14 +72,13 @@ module _ (from to : List ℕ) where
       → within from to (leaf_pairs cs) ≡ leaf_pairs (take (below_list to cs - below_list from cs) (drop (below_list from cs) cs))
   row_within low high [] is = refl
   row_within low high (c ∷ cs) is =
-      let pair : List ℕ × List ℕ = (c.0, text_of c.1) in
       let bf = below_list from cs in
       let bt = below_list to cs in
       let rest = rise_of c.0 high cs is.1 in
       let goal : (f t : ℕ) → List (List ℕ × List ℕ) = λ f t. leaf_pairs (take (t - f) (drop f (c ∷ cs))) in
       elim (cases_Bool (before c.0 from)) [
         | inl early ↦
-            (let out = ap (λ (t : Bool). cond t (pair ∷ within from to (leaf_pairs cs)) (within from to (leaf_pairs cs))) (early_out c.0 early) in
+            (let out = ap (λ (t : Bool). cond t (((c.0, text_of c.1)) ∷ within from to (leaf_pairs cs)) (within from to (leaf_pairs cs))) (early_out c.0 early) in
             out
             ∙ elim (cases_Bool (before c.0 to)) [
               | inl more ↦

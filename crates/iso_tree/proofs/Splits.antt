@@ -79,9 +79,8 @@ leaf_halves n cells block cs (new ∷ news) some less apart long e =
       new = λ s is. inl (ap (λ p. p.1) (same_some _ s is));
       sized = λ is.
           let all : AllByRecursion IsFitCell (L ++ R) = subst (AllByRecursion IsFitCell) (sym whole) is.1 in
-          let left = all_left IsFitCell L R all in
           let right = all_right IsFitCell L R all in (
-            subst (λ (l : List Cell). IsSized n zero (block, l)) (sym here) (omega (arith, length-take m cs), left),
+            subst (λ (l : List Cell). IsSized n zero (block, l)) (sym here) (omega (arith, length-take m cs), (all_left IsFitCell L R all)),
             ((first_fits R right (omega (arith, length-drop m cs)), subst (λ (l : List Cell). IsSized n zero (new, l)) (sym there) (omega (arith, length-drop m cs, is.0), right)), tt),
           );
     }
@@ -105,8 +104,7 @@ fit_leaf n cells block cs news some less apart enough =
     ] refl enough
 
 length-without : (R : List Cell) → length (without_first R) ≡ length R
-length-without [] = refl
-length-without (d ∷ ys) = refl
+length-without R = grind arith
 
 sized_without : (n : ℕ) (cells : ℕ → List Cell) (level : ℕ) (R : List Cell) → AreSized n level (kids cells level R) → AreSized n level (kids cells level (without_first R))
 sized_without n cells level [] all = tt
@@ -134,8 +132,7 @@ inner_halves cells level low high (c ∷ x ∷ xs) (d ∷ ys) some more is =
     (cut_above P [] low high (kid c).1 (kid x) (kids cells level xs) (kid d) (kids cells level ys) row, parts.1, (is.0, parts.2), (refl, parts.3))
 
 flat_without : {Y : Type 0} (cells : ℕ → List Cell) (level : ℕ) (f : Tree level → List Y) (R : List Cell) → flat_map (λ c. f c.1) (kids cells level R) ≡ flat_map (λ c. f c.1) (kids cells level (without_first R))
-flat_without cells level f [] = refl
-flat_without cells level f (d ∷ ys) = refl
+flat_without cells level f R = grind arith
 
 flat_halves : {Y : Type 0} (cells : ℕ → List Cell) (level : ℕ) (f : Tree level → List Y) (L R cs : List Cell) → L ++ R ≡ cs
     → flat_map (λ c. f c.1) (kids cells level cs) ≡ flat_map (λ c. f c.1) (kids cells level L) ++ flat_map (λ c. f c.1) (kids cells level (without_first R))

@@ -30,8 +30,7 @@ module _ (a : Area) (A B : Array) (area : IsTreeArea a) (same : (b : ℕ) → in
   -- each block of the tree is one of the area
   kept : root ≢ 0 → (k : ℕ) → IsIn k (nodes_in level (tree_at (cells_in a A) level root)) → block_at B (a.start + k) ≡ block_at A (a.start + k)
   kept some k is =
-      let below = (head_parts a (bytes_in head_mark (block_at A a.start)) region.head).root in
-      same_block a A B same k (nodes_inside a A k level root (nodes_are some) (omega (arith, some)) below is).1
+      same_block a A B same k (nodes_inside a A k level root (nodes_are some) (omega (arith, some)) ((head_parts a (bytes_in head_mark (block_at A a.start)) region.head).root) is).1
 
   same_tree : root ≢ 0 → tree_at (cells_in a B) level root ≡ tree_at (cells_in a A) level root
   same_tree some = tree_same (cells_in a A) (cells_in a B) level root (λ k is. ap (used_cells a.size) (kept some k is))

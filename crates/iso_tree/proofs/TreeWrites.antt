@@ -1,5 +1,5 @@
 -- The calls of the tree store write blocks of its area alone.
-use Rattle.iso_tree.proofs.{Words.{ℕ, zero, suc, ◌-◌, ◌<◌, ◌==◌, ◌&&◌, Bool, true, false, cond, nat_le, List, [], ◌∷◌, length, map, take, Option, Some, None, Result, Ok, refl, inl, inr, arith, nat_lt, AllByRecursion, and_parts, nat_tests, Area, StoreError, cell_count, value_part, free_count, is_key, is_value, IsIn, Done, Program, then_do, AtBroken, AtLeaf, Climb, Descent, climb, climb_on, del_at, del_below, del_program, descend, first_write, free_list, full_row, look_again, placed, put_at, put_below_root, put_new, put_program, put_writes, store_nodes, with_head, with_map, Cell, cell_of, child_of, child_part, count_of, is_child, is_head, is_node, used_cells, IsTreeArea, Put, fit, halves, in_area, in_its_area, start_in, Answers, StoresIn, answers_cond, stores_cell, stores_cond, stores_if, stores_then, all_append}, Facts.{child_below, head_parts}, Taking.taken_are}
+use Rattle.iso_tree.proofs.{Words.{ℕ, zero, suc, ◌-◌, ◌<◌, ◌==◌, ◌&&◌, Bool, false, List, [], ◌∷◌, map, take, Option, Some, None, Result, Ok, refl, inl, inr, arith, nat_lt, AllByRecursion, and_parts, nat_tests, Area, StoreError, cell_count, value_part, free_count, is_key, is_value, IsIn, Done, Program, then_do, AtBroken, AtLeaf, Climb, Descent, climb, climb_on, del_at, del_below, del_program, descend, first_write, free_list, full_row, look_again, placed, put_at, put_below_root, put_new, put_program, put_writes, store_nodes, with_head, with_map, Cell, cell_of, child_of, child_part, count_of, is_child, is_head, is_node, used_cells, IsTreeArea, Put, fit, halves, in_area, in_its_area, start_in, Answers, StoresIn, answers_cond, stores_cell, stores_cond, stores_if, stores_then, all_append}, Facts.{child_below, head_parts}, Taking.taken_are}
 
 -- blocks of the area: of a path, of nodes, and of writes
 abbrev PathIn : Area → List (ℕ × ℕ) → Type 0
@@ -50,11 +50,7 @@ halves_inside a n level block cs [] below free = record { writes = tt; left = tt
 halves_inside a n level block cs (new ∷ news) below free = record { writes = (below, (free.0, tt)); left = free.1 }
 
 fit_inside : (a : Area) (n level block : ℕ) (cs : List Cell) (news : List ℕ) → block < a.blocks → BlocksIn a news → IsInside a (fit n level block cs news)
-fit_inside a n level block cs news below free =
-    elim (nat_le (length cs) n) as (λ t. IsInside a (cond t (record { writes = (block, level, cs) ∷ []; second = None; taken = []; left = news; enough = true }) (halves n level block cs news))) [
-      | true ↦ record { writes = (below, tt); left = free }
-      | false ↦ halves_inside a n level block cs news below free
-    ]
+fit_inside a n level block cs news below free = grind (arith, halves_inside) steps 100000
 
 on_inside : (a : Area) (q : Put) (on : List ℕ × ℕ → Climb) (o : Option (List ℕ × ℕ)) → WritesIn a q.writes → ((s : List ℕ × ℕ) → WritesIn a (on s).writes) → WritesIn a (climb_on q on o).writes
 on_inside a q on None writes each = writes
@@ -97,7 +93,6 @@ all_in a (k ∷ blocks) each = (each k (inl refl), all_in a blocks (λ j is. eac
 
 new_stores : (a : Area) (key value : List ℕ) (path : List (ℕ × ℕ)) (first : List ℕ) (need : ℕ) → IsTreeArea a → PathIn a path → StoresIn (in_area a) (put_new a key value path first need)
 new_stores a key value path first need area passed =
-    let least = area.least in
     let n = cell_count a.size in
     let taken = take need (free_list a first) in
     let way : List (ℕ × List Cell) → Climb = λ nodes. climb n key 0 (key, value_part value) 0 nodes taken in

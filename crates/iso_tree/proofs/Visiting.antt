@@ -1,5 +1,5 @@
 -- The read of a node that a scan visits, and what follows from its bytes.
-use Rattle.iso_tree.proofs.{Words.{◌≡◌, ◌∙◌, sym, refl, ap, ℕ, zero, suc, ◌+◌, ◌-◌, ◌*◌, ◌<◌, ◌≤◌, ◌&&◌, ◌==◌, not, Bool, true, false, cond, List, [], ◌∷◌, ◌++◌, length, take, drop, slice_index, nat_le, Option, Some, None, Ok, Err, arith, inl, inr, eq-eqb, ne_eqb, list_all, AllByRecursion, ForSome, and_parts, cases_eq, leb-true, append-nil, drop-drop, Access, Span, Area, TxError, own, marked, block_at, Done, bytes_in, further_bytes, with_further, look_access, is_part, is_zero, key_at, keys_mark, text_of, is_child, is_node, child_of, first_in, many_in, pairs_with, parts_of, scan_further, is_part_at, Tx, Device, with_accesses, Ran, IsCause, IsCut, marked_access, at_start, cut_at_look, keys_of, node_read, values_mark, visit_program, are_key_parts, cell_count, count_of, take-nil}, Facts.{child_below, inner_many, node_parts}, Looking.{looked, looked_so}, ScanTrees.take_zero}
+use Rattle.iso_tree.proofs.{Words.{◌≡◌, ◌∙◌, sym, refl, ap, ℕ, zero, suc, ◌+◌, ◌-◌, ◌*◌, ◌<◌, ◌≤◌, ◌&&◌, ◌==◌, not, Bool, true, cond, List, [], ◌∷◌, ◌++◌, length, take, drop, slice_index, nat_le, Option, Some, None, Ok, Err, arith, inl, inr, eq-eqb, ne_eqb, list_all, AllByRecursion, ForSome, and_parts, cases_eq, leb-true, append-nil, drop-drop, Access, Span, Area, TxError, own, marked, block_at, Done, bytes_in, further_bytes, with_further, look_access, is_part, is_zero, key_at, keys_mark, text_of, is_child, is_node, child_of, first_in, many_in, pairs_with, parts_of, scan_further, is_part_at, Tx, Device, with_accesses, Ran, IsCause, IsCut, marked_access, at_start, cut_at_look, keys_of, node_read, values_mark, visit_program, are_key_parts, cell_count, count_of, take-nil}, Facts.{child_below, inner_many, node_parts}, Looking.{looked}, ScanTrees.take_zero}
 use Rattle.std.proofs.Common.{append_assoc, length-append}
 use Rattle.store_model.specs.declared.stores.StoreError.TheVariants as store
 
@@ -20,8 +20,7 @@ parts_step values i many below =
     ap (parts_of (drop (33 * i) values)) next ∙ ap (λ v. take 33 (drop (33 * i) values) ∷ parts_of v (many - (i + 1))) (drop-drop 33 (33 * i) values ∙ ap (λ (k : ℕ). drop k values) at)
 
 pub parts_first : (values : List ℕ) (many : ℕ) → parts_of values many ≡ parts_of (drop (33 * 0) values) (many - 0)
-parts_first [] many = let e : many ≡ many - 0 = omega arith in ap (parts_of []) e
-parts_first (x ∷ values) many = let e : many ≡ many - 0 = omega arith in ap (parts_of (x ∷ values)) e
+parts_first values many = grind arith
 
 pub parts_last : (values : List ℕ) (i many : ℕ) → many ≤ i → parts_of values (many - i) ≡ []
 parts_last values i many all = let e : many - i ≡ 0 = omega arith in ap (parts_of values) e
@@ -32,10 +31,7 @@ children_in a level [] are = tt
 children_in a level (part ∷ parts) are = let two = and_parts (is_child a.blocks part) (list_all (is_child a.blocks) parts) are in ((child_below a.blocks part two.0).below, children_in a level parts two.1)
 
 same_parts : (span : Span) (n : ℕ) (bytes : List ℕ) → parts_of (further_bytes (cond (not (n == 0)) (Some span) None) bytes) n ≡ parts_of (bytes_in span bytes) n
-same_parts span zero bytes = refl
-same_parts span (suc n) bytes =
-    let test : (suc n == 0) ≡ false = ne_eqb (suc n) 0 (λ e. absurd (omega arith)) in
-    ap (λ (t : Bool). parts_of (further_bytes (cond (not t) (Some span) None) bytes) (suc n)) test
+same_parts span n bytes = grind (arith, not)
 
 -- THE READ
 -- a read with the marks that it has
@@ -79,14 +75,6 @@ module _ (a : Area) (from to : List ℕ) (level block : ℕ) (t v : Tx) where
       cut_at_look (visit_program a from to level block) (a.start + block) (keys_mark a.size) (scan_further a level from to) _ t t v before now e (at_start (visit_program a from to level block) t) same cause
 
   module _ (bytes : List ℕ) (bytes_are : ForSome t.base (λ A. bytes ≡ block_at (own A t.accesses) (a.start + block))) (fits : length v.accesses ≤ 4096) where
-    -- head and key parts are not well formed
-    pub visit_not_node : v ≡ with_accesses t (look_access (a.start + block) (keys_mark a.size ∷ []) ∷ []) → is_node a.size level (keys_of a bytes) ≡ false
-        → Ran (visit_program a from to level block) t v (Err (store.Broken (a.start + block)))
-    visit_not_node is fails =
-        looked_so (a.start + block) (keys_mark a.size) (scan_further a level from to) _ t v bytes None (Err (store.Broken (a.start + block))) bytes_are fits
-        (ap (λ (b : Bool). cond (b && not (many_in level from to (keys_of a bytes) == 0)) (Some (values_mark a.size (first_in level from (keys_of a bytes)) (many_in level from to (keys_of a bytes)))) None) fails) is
-        (ap (λ (b : Bool). Done (cond (b && list_all (is_part_at a level) (parts_of [] (many_in level from to (keys_of a bytes)))) (Ok (keys_of a bytes, [])) (Err (store.Broken (a.start + block))))) fails)
-
     -- the node was read, with its value parts
     pub visit_end : (first many : ℕ) (good : Bool) → is_node a.size level (keys_of a bytes) ≡ true → first ≡ first_in level from (keys_of a bytes) → many ≡ many_in level from to (keys_of a bytes)
         → v ≡ with_accesses t (look_access (a.start + block) (keys_mark a.size ∷ with_further (cond (not (many == 0)) (Some (values_mark a.size first many)) None)) ∷ [])
@@ -136,8 +124,7 @@ pairs_begin keys values first many max found = let at : first + 0 ≡ first = om
 -- what the next part and the others pass
 pub parts_pass : (test : List ℕ → Bool) (values : List ℕ) (i many : ℕ) → i < many → list_all test (parts_of (drop (33 * i) values) (many - i)) ≡ true
     → (test (take 33 (drop (33 * i) values)) ≡ true) × (list_all test (parts_of (drop (33 * (i + 1)) values) (many - (i + 1))) ≡ true)
-parts_pass test values i many below all =
-    and_parts (test (take 33 (drop (33 * i) values))) (list_all test (parts_of (drop (33 * (i + 1)) values) (many - (i + 1)))) (ap (list_all test) (sym (parts_step values i many below)) ∙ all)
+parts_pass test values i many below all = grind (arith, parts_step) steps 100000
 
 -- a text is not longer than its part
 pub text_fits : (part : List ℕ) → is_part 32 part ≡ true → slice_index part 0 ≤ 32

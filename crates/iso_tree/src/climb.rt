@@ -27,33 +27,6 @@ fn place_in(size: usize, level: u8, key: &[u8], node: &[u8]) -> usize
     1 + upto(size, key, keys, 1)
 }
 
-// A node of the last cells of a row; in an inner node the first key becomes empty.
-fn fill_right(
-    into: &mut [u8],
-    level: u8,
-    node: &[u8],
-    place: usize,
-    key: &[u8],
-    part: &[u8],
-    from: usize,
-    count: usize,
-)
-    requires size { IsBlock (length node.now) }
-    requires least { 256 ≤ length node.now }
-    requires into { length into.old ≡ length node.now }
-    requires gets { GetsCell (length node.now) node.now place (key.now, part.now) }
-    requires inside { from + count ≤ cell_count (length node.now) + 1 }
-    requires some { 1 ≤ count }
-    requires count { count ≤ cell_count (length node.now) }
-    ensures { into.new ≡ node_bytes (length node.now) level (emptied level (row_from (length node.now) node.now place (key.now, part.now) from count)) }
-{
-    fill_row(into, level, node, place, key, part, from, count);
-    if level == 0 {
-        return;
-    }
-    empty_first(into);
-}
-
 /// The first node of a path, and the others.
 pub fn first_node(path: &[(u32, u32)]) -> Option<((u32, u32), &[(u32, u32)])>
     ensures some { IfSome result (λ x. path.now ≡ x.0 ∷ x.1.now) }
@@ -129,7 +102,8 @@ fn store_halves<T: TxBlocks>(
     if let Err(e) = store_next(tx, area.start + block, into) {
         return Err(e);
     }
-    fill_right(into, level, node, place, key, part, half, others);
+    fill_row(into, level, node, place, key, part, half, others);
+    empty_first(into, level);
     store_next(tx, area.start + new, into)
 }
 

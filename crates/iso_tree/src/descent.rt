@@ -6,20 +6,10 @@ ghost use Rattle.iso_tree.specs.{Rows.AreInside, Walks.{child_program, head_prog
 
 use crate::node::NodeView;
 use crate::path::Path;
-use iso_alloc::{Region, cell_count, piece, word_at};
+use iso_alloc::{cell_count, piece, region_of, word_at};
 use iso_model::Span;
 use store_model::{Area, StoreError};
 use tx_blocks::{TxBlocks, look, mark};
-
-/// The region of an area.
-pub fn region_of(area: Area) -> Region
-    ensures { result ≡ record { start = area.start; size = area.blocks } }
-{
-    Region {
-        start: area.start,
-        size: area.blocks,
-    }
-}
 
 /// The mark over head and key parts.
 pub fn keys_mark(size: u32) -> Span

@@ -5,10 +5,9 @@ ghost use Rattle.tx_blocks.specs.Runs.{HasArea, Behaves, HasRun};
 ghost use Rattle.iso_tree.specs.{FirstBlock.Up, Rows.{nodes_from, AreBlocks, AreInside, AreUsable, NeedsBlocks}};
 
 use crate::climb::{climb, first_node};
-use crate::descent::region_of;
 use crate::first::store_first;
 use crate::grow::{look_nodes, take_blocks};
-use iso_alloc::{buffer, cell_count, free_blocks, value_part};
+use iso_alloc::{buffer, cell_count, free_blocks, map_span, region_of, value_part};
 use iso_model::Span;
 use std::alloc::Global;
 use store_model::{Area, StoreError, TxError};
@@ -169,10 +168,7 @@ pub fn map_mark(area: Area) -> Span
     requires { IsTreeArea area }
     ensures { result ≡ map_mark area.blocks }
 {
-    Span {
-        off: 0,
-        len: (64 + (area.blocks + 7) / 8) as u16,
-    }
+    map_span(area.blocks)
 }
 
 /// Puts a key that is in no leaf, once its leaf is full, or where the tree is empty; the path has the leaf first. It takes a buffer for

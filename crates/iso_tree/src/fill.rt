@@ -1,6 +1,6 @@
 // The bytes of nodes that get a new cell.
 ghost use Rattle.std.specs.Prelude.{◌≡◌, ◌+◌, ◌-◌, ◌*◌, ◌<◌, ◌≤◌, ℕ, List, length, take, [], ◌∷◌, true};
-ghost use Rattle.store_model.specs.{Cells.{are_key_parts, cell_count, keys_end}, TreeNodes.{child_part, count_of, node_bytes, Cell, IsBlock}, TreeCalls.root_cells};
+ghost use Rattle.store_model.specs.{Cells.{are_key_parts, cell_count, keys_end}, TreeNodes.{child_part, count_of, node_bytes, Cell, FitCells, IsBlock}, TreeCalls.root_cells, Trees.emptied};
 ghost use Rattle.iso_tree.specs.Rows.{key_in_row, part_in_row, row_from, upto_from, GetsCell};
 
 use crate::build::{add_cell, empty_node};
@@ -99,11 +99,14 @@ pub fn fill_row(
     }
 }
 
-/// Makes the first key of a node empty.
-pub fn empty_first(into: &mut [u8])
+/// Makes the first key of an inner node empty.
+pub fn empty_first(into: &mut [u8], level: u8)
     requires least { 256 ≤ length into.old }
-    ensures { (size level : ℕ) → (key part : List ℕ) → (cs : List Cell) → into.old ≡ node_bytes size level ((key, part) ∷ cs) → length key ≤ 28 → into.new ≡ node_bytes size level (([], part) ∷ cs) }
+    ensures { (size : ℕ) → (cs : List Cell) → into.old ≡ node_bytes size level cs → 1 ≤ length cs → FitCells cs → into.new ≡ node_bytes size level (emptied level cs) }
 {
+    if level == 0 {
+        return;
+    }
     lay(into, 64, &[0u8; 31]);
 }
 

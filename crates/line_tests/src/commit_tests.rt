@@ -7,8 +7,11 @@ use std::alloc::Global;
 use std::process::Abort;
 use std::test::Fail;
 
-// A client with these replies, the first to line number `first`.
-fn part<R: Abort>(rt: &R, alloc: Global, client: u8, first: u64, replies: [Reply; 3]) -> Part {
+// A client, its first line, and its replies to that and to the next two.
+type Told = (u8, u64, [Reply; 3]);
+
+fn part<R: Abort>(rt: &R, alloc: Global, told: Told) -> Part {
+    let (client, first, replies) = told;
     let mut told = Items::empty(alloc);
     let mut line = first;
     for reply in replies {
@@ -22,10 +25,11 @@ fn part<R: Abort>(rt: &R, alloc: Global, client: u8, first: u64, replies: [Reply
     }
 }
 
-fn printed<R: Abort>(rt: &R, alloc: Global, first: Part, second: Part) -> Bytes {
+// The text of two clients.
+fn printed<R: Abort>(rt: &R, alloc: Global, first: Told, second: Told) -> Bytes {
     let mut parts = Vec::new(alloc);
-    parts.push(first).expect(rt, "memory");
-    parts.push(second).expect(rt, "memory");
+    parts.push(part(rt, alloc, first)).expect(rt, "memory");
+    parts.push(part(rt, alloc, second)).expect(rt, "memory");
     match par_text(alloc, parts.as_slice()) {
         Ok(text) => text,
         Err(_) => panic!(rt; "memory"),
@@ -35,20 +39,8 @@ fn printed<R: Abort>(rt: &R, alloc: Global, first: Part, second: Part) -> Bytes 
 #[test]
 fn replies_come_before_commits(rt: HostRuntime) -> Result<(), Fail> {
     let alloc = rt.alloc();
-    let first = part(
-        &rt,
-        alloc,
-        1,
-        1,
-        [Reply::Began(0), Reply::Done, Reply::Done],
-    );
-    let second = part(
-        &rt,
-        alloc,
-        2,
-        6,
-        [Reply::Began(0), Reply::Done, Reply::Committed(1)],
-    );
+    let first = (1, 1, [Reply::Began(0), Reply::Done, Reply::Done]);
+    let second = (2, 6, [Reply::Began(0), Reply::Done, Reply::Committed(1)]);
     let text = printed(&rt, alloc, first, second);
     assert!(rt;
         text.as_slice()
@@ -60,16 +52,12 @@ fn replies_come_before_commits(rt: HostRuntime) -> Result<(), Fail> {
 #[test]
 fn commits_rise(rt: HostRuntime) -> Result<(), Fail> {
     let alloc = rt.alloc();
-    let first = part(
-        &rt,
-        alloc,
+    let first = (
         1,
         1,
         [Reply::Committed(2), Reply::Done, Reply::Committed(10)],
     );
-    let second = part(
-        &rt,
-        alloc,
+    let second = (
         64,
         3,
         [Reply::Committed(3), Reply::ReadOnly, Reply::Committed(9)],
@@ -95,20 +83,12 @@ fn a_group_has_a_line_for_each_commit(rt: HostRuntime) -> Result<(), Fail> {
     ] {
         answers.push(answer).expect(&rt, "memory");
     }
-    let first = part(
-        &rt,
-        alloc,
+    let first = (
         1,
         1,
         [Reply::Done, Reply::Committed(4), Reply::Committed(1)],
     );
-    let second = part(
-        &rt,
-        alloc,
-        2,
-        7,
-        [Reply::Done, Reply::Grouped(answers), Reply::Done],
-    );
+    let second = (2, 7, [Reply::Done, Reply::Grouped(answers), Reply::Done]);
     let text = printed(&rt, alloc, first, second);
     assert!(rt;
         text.as_slice().ends_with(

@@ -170,39 +170,37 @@ const SCRIPT: &[u8] = b"1 begin\n1 end\n1 begin\n1 put 2 5 abcd\n1 end\n";
 
 const REPLIES: &[u8] = b"1 ok begin 0\n1 ok read-only\n1 ok begin 0\n1 ok\n1 ok commit 1\n";
 
-#[test]
-fn a_script_is_answered(rt: HostRuntime) -> Result<(), Fail> {
-    let ran = run_in_pieces(rt.alloc(), SCRIPT, 4096)?;
-    same(&rt, ran.end, RunEnd::Done);
-    same(&rt, ran.output.as_slice(), REPLIES);
-    Ok(())
+/// Inputs, each with the name of what it shows, how its run ends and what is written.
+const RUNS: &[(&str, &[u8], RunEnd, &[u8])] = &[
+    ("a_script_is_answered", SCRIPT, RunEnd::Done, REPLIES),
+    (
+        "a_carriage_return_a_comment_and_a_last_line",
+        b"1 begin\r\n# x\n1 end",
+        RunEnd::Done,
+        b"1 ok begin 0\n1 ok read-only\n",
+    ),
+    (
+        "a_bad_line_is_named",
+        b"1 begin\n1 jump\n",
+        RunEnd::BadLine(BadLine { line: 2, cause: 2 }),
+        b"1 ok begin 0\n",
+    ),
+];
+
+// Whether a run ended so, and wrote this.
+fn has_told(ran: &Ran, end: RunEnd, output: &[u8]) -> bool {
+    ran.end == end && ran.output.as_slice() == output
 }
 
 #[test]
 fn lines_cross_the_pieces(rt: HostRuntime) -> Result<(), Fail> {
-    let ran = run_in_pieces(rt.alloc(), SCRIPT, 3)?;
-    same(&rt, ran.end, RunEnd::Done);
-    same(&rt, ran.output.as_slice(), REPLIES);
-    Ok(())
-}
-
-#[test]
-fn a_carriage_return_a_comment_and_a_last_line(rt: HostRuntime) -> Result<(), Fail> {
-    let ran = run_in_pieces(rt.alloc(), b"1 begin\r\n# x\n1 end", 4096)?;
-    same(&rt, ran.end, RunEnd::Done);
-    same(
-        &rt,
-        ran.output.as_slice(),
-        b"1 ok begin 0\n1 ok read-only\n".as_slice(),
-    );
-    Ok(())
-}
-
-#[test]
-fn a_bad_line_is_named(rt: HostRuntime) -> Result<(), Fail> {
-    let ran = run_in_pieces(rt.alloc(), b"1 begin\n1 jump\n", 4096)?;
-    same(&rt, ran.end, RunEnd::BadLine(BadLine { line: 2, cause: 2 }));
-    same(&rt, ran.output.as_slice(), b"1 ok begin 0\n".as_slice());
+    let alloc = rt.alloc();
+    for (name, input, end, output) in RUNS {
+        let whole = run_in_pieces(alloc, input, 4096)?;
+        let cut = run_in_pieces(alloc, input, 3)?;
+        assert!(rt; has_told(&whole, *end, output), "{name}");
+        assert!(rt; has_told(&cut, *end, output), "{name} in pieces");
+    }
     Ok(())
 }
 

@@ -35,67 +35,66 @@ fn cause(alloc: Global, line: &[u8]) -> Option<u8> {
     cause_of(parse_line(alloc, line))
 }
 
-#[test]
-fn the_first_test_that_a_line_fails(rt: HostRuntime) {
-    let lines: [(&[u8], u8); 19] = [
-        (b"65 begin", 1),
-        (b"01 begin", 1),
-        (b"0 begin", 1),
-        (b"x jump y", 1),
-        (b"1", 2),
-        (b"1 jump", 2),
-        (b"1 Begin", 2),
-        (b"1 jump 00", 2),
-        (b"1 put 00 0", 3),
-        (b"1 read", 3),
-        (b"1 put 00 0 aa", 4),
-        (b"1 put x 0 a", 4),
-        (b"1 put 0 4294967296 a", 4),
-        (b"1 read -1", 4),
-        (b"1 put 0 0 a", 5),
-        (b"1 put 0 0 ag", 5),
-        (b"1\tbegin", 8),
-        (b" # x", 1),
-        (b"1 begin\r", 8),
-    ];
-    for (line, wanted) in lines.iter() {
-        same(&rt, cause(rt.alloc(), line), Some(*wanted));
-    }
-}
+/// Lines with the cause of the first test that each fails.
+const FAILING: &[(&[u8], u8)] = &[
+    (b"65 begin", 1),
+    (b"01 begin", 1),
+    (b"0 begin", 1),
+    (b"x jump y", 1),
+    (b"1", 2),
+    (b"1 jump", 2),
+    (b"1 Begin", 2),
+    (b"1 jump 00", 2),
+    (b"1 put 00 0", 3),
+    (b"1 read", 3),
+    (b"1 put 00 0 aa", 4),
+    (b"1 put x 0 a", 4),
+    (b"1 put 0 4294967296 a", 4),
+    (b"1 read -1", 4),
+    (b"1 put 0 0 a", 5),
+    (b"1 put 0 0 ag", 5),
+    (b"1\tbegin", 8),
+    (b" # x", 1),
+    (b"1 begin\r", 8),
+];
+
+/// Lines with an argument that is wrong, and the cause of the first one.
+const WRONG: &[(&[u8], u8)] = &[
+    (b"1 begin x", 10),
+    (b"1 begin serial x", 3),
+    (b"1 begin Serial", 10),
+    (b"1 get 1 2", 3),
+    (b"1 get 1 2 03", 4),
+    (b"1 write 1", 3),
+    (b"1 fill 1 1", 5),
+    (b"1 mark 0", 3),
+    (b"1 release A", 6),
+    (b"1 takeover a b", 3),
+    (b"1 await abcdefghij0123456", 6),
+    (b"1 group", 3),
+    (b"1 group a B c", 6),
+    (b"1 group a b c d e f g h i j k l m n o p q", 3),
+    (b"1 group A b c d e f g h i j k l m n o p q r", 3),
+    (b"1 trim 1", 3),
+    (b"1 upgrade 1", 3),
+    (b"1 fnew", 3),
+    (b"1 fnew 6", 5),
+    (b"1 fwrite 61 0", 3),
+    (b"1 fwrite 6 x aa", 5),
+    (b"1 fwrite 61 x a", 4),
+    (b"1 fwrite 61 0 -", 5),
+    (b"1 fread 61 0", 3),
+    (b"1 fread 61 0 4294967296", 4),
+    (b"1 fmove 61", 3),
+    (b"1 fdel 61 62", 3),
+];
 
 #[test]
-fn the_first_argument_that_is_wrong(rt: HostRuntime) {
-    let lines: [(&[u8], u8); 27] = [
-        (b"1 begin x", 10),
-        (b"1 begin serial x", 3),
-        (b"1 begin Serial", 10),
-        (b"1 get 1 2", 3),
-        (b"1 get 1 2 03", 4),
-        (b"1 write 1", 3),
-        (b"1 fill 1 1", 5),
-        (b"1 mark 0", 3),
-        (b"1 release A", 6),
-        (b"1 takeover a b", 3),
-        (b"1 await abcdefghij0123456", 6),
-        (b"1 group", 3),
-        (b"1 group a B c", 6),
-        (b"1 group a b c d e f g h i j k l m n o p q", 3),
-        (b"1 group A b c d e f g h i j k l m n o p q r", 3),
-        (b"1 trim 1", 3),
-        (b"1 upgrade 1", 3),
-        (b"1 fnew", 3),
-        (b"1 fnew 6", 5),
-        (b"1 fwrite 61 0", 3),
-        (b"1 fwrite 6 x aa", 5),
-        (b"1 fwrite 61 x a", 4),
-        (b"1 fwrite 61 0 -", 5),
-        (b"1 fread 61 0", 3),
-        (b"1 fread 61 0 4294967296", 4),
-        (b"1 fmove 61", 3),
-        (b"1 fdel 61 62", 3),
-    ];
-    for (line, wanted) in lines.iter() {
-        same(&rt, cause(rt.alloc(), line), Some(*wanted));
+fn the_first_test_that_a_line_fails_and_the_first_argument_that_is_wrong(rt: HostRuntime) {
+    for lines in [FAILING, WRONG] {
+        for (line, wanted) in lines {
+            same(&rt, cause(rt.alloc(), line), Some(*wanted));
+        }
     }
 }
 

@@ -97,37 +97,39 @@ fn commands_with_their_values(rt: HostRuntime) -> Result<(), Fail> {
     Ok(())
 }
 
+/// Lines that are outside the grammar.
+const OUTSIDE: &[&str] = &[
+    "isotope",
+    "isotope help",
+    "isotope par",
+    "isotope par a b",
+    "isotope new",
+    "isotope new a b",
+    "isotope par a --tree 4",
+    "isotope new a --tree 1",
+    "isotope new a --tree 2 --block-size 128",
+    "isotope new a --hash 512 --tree 513",
+    "isotope new a --hash 2",
+    "isotope new a --hash 8 --mode snapshot",
+    "isotope new a --block 64",
+    "isotope new a --log 64 --log=64",
+    "isotope new a --log",
+    "isotope new a --log ",
+    "isotope new a --log 063",
+    "isotope new a --log -5",
+    "isotope new a --log=-5",
+    "isotope new a --blocks 16385",
+    "isotope new a --mode both",
+    "isotope run a --log 64",
+    "isotope --log 64 run a",
+    "isotope bench a 18446744073709551616 1",
+    "isotope bench a 1 100001",
+];
+
 #[test]
 fn words_outside_the_grammar(rt: HostRuntime) -> Result<(), Fail> {
-    let alloc = rt.alloc();
-    for line in [
-        "isotope",
-        "isotope help",
-        "isotope par",
-        "isotope par a b",
-        "isotope new",
-        "isotope new a b",
-        "isotope par a --tree 4",
-        "isotope new a --tree 1",
-        "isotope new a --tree 2 --block-size 128",
-        "isotope new a --hash 512 --tree 513",
-        "isotope new a --hash 2",
-        "isotope new a --hash 8 --mode snapshot",
-        "isotope new a --block 64",
-        "isotope new a --log 64 --log=64",
-        "isotope new a --log",
-        "isotope new a --log ",
-        "isotope new a --log 063",
-        "isotope new a --log -5",
-        "isotope new a --log=-5",
-        "isotope new a --blocks 16385",
-        "isotope new a --mode both",
-        "isotope run a --log 64",
-        "isotope --log 64 run a",
-        "isotope bench a 18446744073709551616 1",
-        "isotope bench a 1 100001",
-    ] {
-        assert!(rt; is_refused(alloc, line)?, "{line}");
+    for line in OUTSIDE {
+        assert!(rt; is_refused(rt.alloc(), line)?, "{line}");
     }
     Ok(())
 }

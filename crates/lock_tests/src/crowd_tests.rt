@@ -1,6 +1,6 @@
 //! A crowd. Nearly all threads sleep at once, and they went to sleep in another order than that of their tickets: a lock that
 //! wakes one of all sleepers, or one at the wrong door, stands still here.
-ghost use Rattle.std.specs.Prelude.{◌≡◌, ◌<◌};
+ghost use Rattle.std.specs.Prelude.{◌≡◌, ◌<◌, ◌≤◌};
 ghost use denote.Param.Send.{IsSync};
 ghost use Rattle.turn_lock.specs.{Lock.lock_id, Pass.{view, HasNoTurn}};
 
@@ -28,105 +28,34 @@ fn held<R: Wait + Abort + Clock>(rt: &R, lock: &TurnLock<Log>, pass: Pass<Log>) 
     pass
 }
 
-// Two threads with these turns each.
-fn two_hold<R: Threads + Wait + Abort + Sync + Clock>(
+// So many threads with these turns each: two at once, each of half a crowd.
+fn crowd<R: Threads + Wait + Abort + Sync + Clock>(
     rt: &R,
     lock: &TurnLock<Log>,
     pass: Pass<Log>,
+    threads: u64,
 ) -> Pass<Log>
-    requires { (pass.table_id ≡ lock_id lock.now) × HasNoTurn pass × (1 < (view pass).units) }
+    requires pass { (pass.table_id ≡ lock_id lock.now) × HasNoTurn pass × (threads ≤ (view pass).units) }
+    requires some { 0 < threads }
     ensures { (result.table_id ≡ lock_id lock.now) × HasNoTurn result × ((view result).units ≡ (view pass).units) }
 {
+    if threads == 1 {
+        return held(rt, lock, pass);
+    }
+    let half = threads / 2;
+    let rest = threads - half;
     let mut first = pass;
-    let second = lock.split(&mut first, None, 1);
+    let second = lock.split(&mut first, None, half);
     let (mut left, right) = join(
         rt,
         || -> Pass<Log>
-            requires { IsSync R.row × (first.table_id ≡ lock_id lock.now) × HasNoTurn first × (0 < (view first).units) }
+            requires { IsSync R.row × (first.table_id ≡ lock_id lock.now) × HasNoTurn first × (rest ≤ (view first).units) × (0 < rest) }
             ensures { (result.table_id ≡ lock_id lock.entry.now) × HasNoTurn result × ((view result).units ≡ (view first).units) }
-        { held(rt, lock, first) },
+        { crowd(rt, lock, first, rest) },
         || -> Pass<Log>
-            requires { IsSync R.row × (second.table_id ≡ lock_id lock.now) × HasNoTurn second × (0 < (view second).units) }
+            requires { IsSync R.row × (second.table_id ≡ lock_id lock.now) × HasNoTurn second × (half ≤ (view second).units) × (0 < half) }
             ensures { (result.table_id ≡ lock_id lock.entry.now) × HasNoTurn result × ((view result).units ≡ (view second).units) }
-        { held(rt, lock, second) },
-    );
-    lock.join(&mut left, right);
-    left
-}
-
-// Four threads, likewise.
-fn four_hold<R: Threads + Wait + Abort + Sync + Clock>(
-    rt: &R,
-    lock: &TurnLock<Log>,
-    pass: Pass<Log>,
-) -> Pass<Log>
-    requires { (pass.table_id ≡ lock_id lock.now) × HasNoTurn pass × (3 < (view pass).units) }
-    ensures { (result.table_id ≡ lock_id lock.now) × HasNoTurn result × ((view result).units ≡ (view pass).units) }
-{
-    let mut first = pass;
-    let second = lock.split(&mut first, None, 2);
-    let (mut left, right) = join(
-        rt,
-        || -> Pass<Log>
-            requires { IsSync R.row × (first.table_id ≡ lock_id lock.now) × HasNoTurn first × (1 < (view first).units) }
-            ensures { (result.table_id ≡ lock_id lock.entry.now) × HasNoTurn result × ((view result).units ≡ (view first).units) }
-        { two_hold(rt, lock, first) },
-        || -> Pass<Log>
-            requires { IsSync R.row × (second.table_id ≡ lock_id lock.now) × HasNoTurn second × (1 < (view second).units) }
-            ensures { (result.table_id ≡ lock_id lock.entry.now) × HasNoTurn result × ((view result).units ≡ (view second).units) }
-        { two_hold(rt, lock, second) },
-    );
-    lock.join(&mut left, right);
-    left
-}
-
-// Eight threads.
-fn eight_hold<R: Threads + Wait + Abort + Sync + Clock>(
-    rt: &R,
-    lock: &TurnLock<Log>,
-    pass: Pass<Log>,
-) -> Pass<Log>
-    requires { (pass.table_id ≡ lock_id lock.now) × HasNoTurn pass × (7 < (view pass).units) }
-    ensures { (result.table_id ≡ lock_id lock.now) × HasNoTurn result × ((view result).units ≡ (view pass).units) }
-{
-    let mut first = pass;
-    let second = lock.split(&mut first, None, 4);
-    let (mut left, right) = join(
-        rt,
-        || -> Pass<Log>
-            requires { IsSync R.row × (first.table_id ≡ lock_id lock.now) × HasNoTurn first × (3 < (view first).units) }
-            ensures { (result.table_id ≡ lock_id lock.entry.now) × HasNoTurn result × ((view result).units ≡ (view first).units) }
-        { four_hold(rt, lock, first) },
-        || -> Pass<Log>
-            requires { IsSync R.row × (second.table_id ≡ lock_id lock.now) × HasNoTurn second × (3 < (view second).units) }
-            ensures { (result.table_id ≡ lock_id lock.entry.now) × HasNoTurn result × ((view result).units ≡ (view second).units) }
-        { four_hold(rt, lock, second) },
-    );
-    lock.join(&mut left, right);
-    left
-}
-
-// Sixteen threads.
-fn sixteen_hold<R: Threads + Wait + Abort + Sync + Clock>(
-    rt: &R,
-    lock: &TurnLock<Log>,
-    pass: Pass<Log>,
-) -> Pass<Log>
-    requires { (pass.table_id ≡ lock_id lock.now) × HasNoTurn pass × (15 < (view pass).units) }
-    ensures { (result.table_id ≡ lock_id lock.now) × HasNoTurn result × ((view result).units ≡ (view pass).units) }
-{
-    let mut first = pass;
-    let second = lock.split(&mut first, None, 8);
-    let (mut left, right) = join(
-        rt,
-        || -> Pass<Log>
-            requires { IsSync R.row × (first.table_id ≡ lock_id lock.now) × HasNoTurn first × (7 < (view first).units) }
-            ensures { (result.table_id ≡ lock_id lock.entry.now) × HasNoTurn result × ((view result).units ≡ (view first).units) }
-        { eight_hold(rt, lock, first) },
-        || -> Pass<Log>
-            requires { IsSync R.row × (second.table_id ≡ lock_id lock.now) × HasNoTurn second × (7 < (view second).units) }
-            ensures { (result.table_id ≡ lock_id lock.entry.now) × HasNoTurn result × ((view result).units ≡ (view second).units) }
-        { eight_hold(rt, lock, second) },
+        { crowd(rt, lock, second, half) },
     );
     lock.join(&mut left, right);
     left
@@ -135,7 +64,7 @@ fn sixteen_hold<R: Threads + Wait + Abort + Sync + Clock>(
 #[test]
 fn sixteen_threads_hold_their_turns_for_a_while(rt: HostRuntime) -> Result<(), Fail> {
     let (lock, pass) = made(&rt, rt.alloc());
-    let all = sixteen_hold(&rt, &lock, pass);
+    let all = crowd(&rt, &lock, pass, 16);
     let log = lock.close(all);
     assert!(rt; log.entries.len() == 16 * TURNS as usize && counts_up(&log));
     Ok(())

@@ -1,2 +1,1 @@
-pub mod TestCores
 pub mod TestMachines

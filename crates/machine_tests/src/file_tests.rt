@@ -1,49 +1,28 @@
 // Scripts on files of a new image of eight blocks of 256 bytes, of which the first three are a tree store.
-ghost use Rattle.std.specs.Prelude.{◌≡◌, replicate, IfOk, IsTrue};
+ghost use Rattle.std.specs.Prelude.{IfOk};
 ghost use Rattle.iso_memdisk.specs.MemDisk.{state_of};
-ghost use Rattle.iso_model.specs.Geometry.{is_valid, image_size};
 ghost use Rattle.machine_tests.specs.TestMachines.{IsUp};
 
-use crate::tests::{run_on, same};
+use crate::tests::{answered, machine_of};
 use iso_machine::Machine;
 use iso_memdisk::MemDisk;
-use iso_model::{Geometry, Memory, Mode};
-use iso_recover::format_image;
-use script_runner::RunEnd;
-use std::alloc::{AllocError, Global};
+use iso_model::{Geometry, Memory};
+use std::alloc::Global;
 use std::test::Fail;
-
-#[tactic(auto, unfolding(iso_model::specs::Geometry::is_valid))]
-fn with_files() -> Geometry
-    ensures valid { IsTrue (is_valid result) }
-    ensures size { image_size result ≡ 12416 }
-{
-    Geometry {
-        block: 256,
-        blocks: 8,
-        log: 4096,
-        mode: Mode::Serial,
-        hash: 0,
-        tree: 3,
-        form: 1,
-    }
-}
-
-fn zeros(alloc: Global) -> Result<Vec<u8>, AllocError>
-    ensures { IfOk result (λ v. v.items ≡ replicate 12416 0) }
-{
-    Ok(vec![in alloc; 0; 12416]?)
-}
+use test_images::with_long_logs;
 
 /// A machine over a new image with files.
+#[tactic(auto, unfolding(iso_model::specs::Geometry::is_valid))]
 fn made(alloc: Global) -> Result<Machine<MemDisk>, Memory>
     ensures { IfOk result (λ m. IsUp state_of m) }
 {
-    let bytes = zeros(alloc)?;
-    match format_image(alloc, MemDisk::new(alloc, bytes), &with_files()) {
-        Ok(core) => Ok(Machine::over(alloc, core)),
-        Err((_error, _disk)) => Err(Memory),
-    }
+    let with_files = Geometry {
+        block: 256,
+        blocks: 8,
+        tree: 3,
+        ..with_long_logs()
+    };
+    machine_of(alloc, &with_files)
 }
 
 #[test]
@@ -54,9 +33,7 @@ fn a_client_goes_on_with_the_files_of_another(rt: HostRuntime) -> Result<(), Fai
     let replies =
         b"1 ok begin 0\n1 ok\n1 ok\n1 ok\n2 ok begin 0\n2 ok 02\n2 ok\n2 ok commit 1\n1 ok begin 1\n1 ok\n1 ok\n1 ok begin 1\n1 ok none\n1 ok 0102\n1 ok read-only\n";
     let machine = made(alloc)?;
-    let ran = run_on(alloc, machine, script)?;
-    same(&rt, ran.end, RunEnd::Done);
-    same(&rt, ran.replies.as_slice(), replies.as_slice());
+    assert!(rt; answered(alloc, machine, script, replies)?);
     Ok(())
 }
 
@@ -69,8 +46,6 @@ fn a_full_region_keeps_what_it_has(rt: HostRuntime) -> Result<(), Fail> {
     let replies =
         b"1 ok begin 0\n1 ok\n1 ok\n1 ok\n1 ok\n1 no-blocks need 1 free 0\n1 ok 01\n1 ok 02\n1 ok none\n1 ok commit 1\n";
     let machine = made(alloc)?;
-    let ran = run_on(alloc, machine, script)?;
-    same(&rt, ran.end, RunEnd::Done);
-    same(&rt, ran.replies.as_slice(), replies.as_slice());
+    assert!(rt; answered(alloc, machine, script, replies)?);
     Ok(())
 }

@@ -1,7 +1,7 @@
 // Scripts on a new image of four blocks of 64 bytes with logs of 256 bytes: what each line is answered.
-ghost use Rattle.std.specs.Prelude.{◌≡◌, replicate, IfOk, IsTrue};
+ghost use Rattle.std.specs.Prelude.{IfOk, IsTrue};
 ghost use Rattle.iso_memdisk.specs.MemDisk.{state_of};
-ghost use Rattle.iso_model.specs.Geometry.{is_valid, image_size};
+ghost use Rattle.iso_model.specs.Geometry.{is_valid};
 ghost use Rattle.machine_tests.specs.TestMachines.{IsUp};
 
 use iso_core::Stat;
@@ -9,58 +9,43 @@ use iso_io::{MemSink, MemSource};
 use iso_machine::Machine;
 use iso_memdisk::MemDisk;
 use iso_model::{Geometry, Memory, Mode};
-use iso_recover::{format_image, open_image};
 use script_runner::{RunEnd, run};
 use std::alloc::{AllocError, Global};
 use std::fmt::Debug;
 use std::process::Abort;
 use std::test::Fail;
+use test_cores::{new_core, opened as opened_core};
+use test_images::small;
 
 // Two values that are to be the same. Each test that compared them itself would prove what is printed where they differ.
 pub(crate) fn same<T: PartialEq + Debug + Drop>(rt: &impl Abort, found: T, wanted: T) {
     assert_eq!(rt; found, wanted);
 }
 
+/// A machine over a new image of this geometry.
+pub(crate) fn machine_of(alloc: Global, geometry: &Geometry) -> Result<Machine<MemDisk>, Memory>
+    requires { IsTrue (is_valid geometry.now) }
+    ensures { IfOk result (λ m. IsUp state_of m) }
+{
+    let core = new_core(alloc, geometry)?;
+    Ok(Machine::over(alloc, core))
+}
+
+/// A machine over a new image of this mode.
 #[tactic(auto, unfolding(iso_model::specs::Geometry::is_valid))]
-fn small(mode: Mode) -> Geometry
-    ensures valid { IsTrue (is_valid result) }
-    ensures size { image_size result ≡ 1152 }
-{
-    Geometry {
-        block: 64,
-        blocks: 4,
-        log: 256,
-        mode,
-        hash: 0,
-        tree: 0,
-        form: 1,
-    }
-}
-
-fn zeros(alloc: Global) -> Result<Vec<u8>, AllocError>
-    ensures { IfOk result (λ v. v.items ≡ replicate 1152 0) }
-{
-    Ok(vec![in alloc; 0; 1152]?)
-}
-
-/// A machine over a new image.
 pub(crate) fn made(alloc: Global, mode: Mode) -> Result<Machine<MemDisk>, Memory>
     ensures { IfOk result (λ m. IsUp state_of m) }
 {
-    let bytes = zeros(alloc)?;
-    match format_image(alloc, MemDisk::new(alloc, bytes), &small(mode)) {
-        Ok(core) => Ok(Machine::over(alloc, core)),
-        Err((_error, _disk)) => Err(Memory),
-    }
+    machine_of(alloc, &Geometry { mode, ..small() })
 }
 
 /// A machine over a disk that is opened.
 pub(crate) fn opened(alloc: Global, disk: MemDisk) -> Result<Machine<MemDisk>, MemDisk>
     ensures { IfOk result (λ m. IsUp state_of m) }
 {
-    match open_image(alloc, disk) {
+    match opened_core(alloc, disk) {
         Ok(core) => Ok(Machine::over(alloc, core)),
-        Err((_error, disk)) => Err(disk),
+        Err(disk) => Err(disk),
     }
 }
 
@@ -99,6 +84,19 @@ pub(crate) fn run_on(
     })
 }
 
+/// Whether a machine answers a script so, all of it.
+pub(crate) fn answered(
+    alloc: Global,
+    machine: Machine<MemDisk>,
+    script: &[u8],
+    replies: &[u8],
+) -> Result<bool, Memory>
+    requires { IsUp state_of machine }
+{
+    let ran = run_on(alloc, machine, script)?;
+    Ok(ran.end == RunEnd::Done && ran.replies.as_slice() == replies)
+}
+
 /// Whether a new image answers a script so, all of it.
 pub(crate) fn answers(
     alloc: Global,
@@ -107,8 +105,7 @@ pub(crate) fn answers(
     replies: &[u8],
 ) -> Result<bool, Memory> {
     let machine = made(alloc, mode)?;
-    let ran = run_on(alloc, machine, script)?;
-    Ok(ran.end == RunEnd::Done && ran.replies.as_slice() == replies)
+    answered(alloc, machine, script, replies)
 }
 
 /// Texts with a block of zeros in print between each two.

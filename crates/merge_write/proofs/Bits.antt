@@ -1,13 +1,8 @@
 -- Bits of a row of masks, a word at a time.
-use Rattle.merge_write.proofs.Words.{◌≡◌, ◌≢◌, ◌∙◌, refl, sym, ap, ℕ, zero, suc, not, w64, ◌+◌, ◌-◌, ◌*◌, ◌/◌, ◌%◌, ◌^◌, ◌<◌, ◌≤◌, ◌==◌, ◌&&◌, ◌||◌, Bool, true, false, max, List, length, get_or, set, inl, inr, arith, bit_or, get_or-set_same, get_or-set_other, nat_le, nat_lt, cases_eq, cases_lt, nat_tests, bit_at_or, bit_at_not, bit_at_ones, bit_at_above, bit_at-lt, bit_at-trailing_zeros, bit_at_mask_inside, bit_at_mask_below, bit_at_mask_above, and-false, or_assoc, shr-shr, shr_le, bit_at, trailing_zeros, is_set}
+use Rattle.merge_write.proofs.Words.{rules, ◌≡◌, ◌≢◌, ◌∙◌, refl, sym, ap, ℕ, zero, suc, not, w64, ◌+◌, ◌-◌, ◌*◌, ◌/◌, ◌%◌, ◌^◌, ◌<◌, ◌≤◌, ◌==◌, ◌&&◌, ◌||◌, Bool, true, false, max, List, length, get_or, set, inl, inr, arith, bit_or, get_or-set_other, nat_le, nat_lt, cases_eq, cases_lt, nat_tests, bit_at_or, bit_at_not, bit_at_ones, bit_at_above, bit_at-lt, bit_at-trailing_zeros, bit_at_mask_inside, bit_at_mask_below, bit_at_mask_above, and-false, or_assoc, shr-shr, shr_le, bit_at, trailing_zeros, is_set}
 
 either_bit : (a b : ℕ) → a < 2 → b < 2 → (max a b == 1) ≡ ((b == 1) || (a == 1))
-either_bit a b small tiny = elim (cases_eq a 0) [
-  | inl none ↦ (elim (cases_eq b 0) [ inl nothing ↦ rw (none, nothing) refl | inr some ↦ (let one : b ≡ 1 = omega arith in rw (none, one) refl) ])
-  | inr some ↦ (
-      let one : a ≡ 1 = omega arith in
-      elim (cases_eq b 0) [ inl nothing ↦ rw (one, nothing) refl | inr more ↦ (let same : b ≡ 1 = omega arith in rw (one, same) refl) ])
-]
+either_bit a b small tiny = search (rules, arith)
 
 -- a bit of two words together
 pub joined_bit : (m n k : ℕ) → (bit_at (bit_or m n) k == 1) ≡ ((bit_at n k == 1) || (bit_at m k == 1))
@@ -34,8 +29,7 @@ with_word masks word bits = set masks word (bit_or (get_or masks word 0) bits)
 -- its bits: those of that word are either's
 pub with_word_here : (masks : List ℕ) (word bits k : ℕ) → word < length masks → k / 64 ≡ word
     → is_set (with_word masks word bits) k ≡ ((bit_at bits (k % 64) == 1) || is_set masks k)
-with_word_here masks word bits k inside here =
-    rw (here, get_or-set_same masks word (bit_or (get_or masks word 0) bits) 0 inside) (joined_bit (get_or masks word 0) bits (k % 64))
+with_word_here masks word bits k inside here = search (rules, arith, joined_bit)
 
 -- and the others stay
 pub with_word_apart : (masks : List ℕ) (word bits k : ℕ) → k / 64 ≢ word → is_set (with_word masks word bits) k ≡ is_set masks k
@@ -73,10 +67,7 @@ two_stretches from at end k le more = grind (arith, nat_tests)
 
 pub stretch_more : (from at end k : ℕ) (before now first : Bool) → from ≤ at → at ≤ end → now ≡ ((nat_le at k && nat_lt k end) || before)
     → before ≡ ((nat_le from k && nat_lt k at) || first) → now ≡ ((nat_le from k && nat_lt k end) || first)
-stretch_more from at end k before now first le more step old =
-    step ∙ ap (λ (b : Bool). (nat_le at k && nat_lt k end) || b) old
-    ∙ sym (or_assoc (nat_le at k && nat_lt k end) (nat_le from k && nat_lt k at) first)
-    ∙ ap (λ (b : Bool). b || first) (two_stretches from at end k le more)
+stretch_more from at end k before now first le more step old = search (rules, arith, or_assoc, two_stretches)
 
 -- all bits of the word of ones
 pub all_ones : (k : ℕ) → k < 64 → (bit_at 18446744073709551615 k == 1) ≡ true

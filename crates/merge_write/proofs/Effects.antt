@@ -1,13 +1,11 @@
 -- Setting the writes of a block in order gives what they write there, and its runs.
-use Rattle.merge_write.proofs.Words.{◌≡◌, ◌∙◌, sym, refl, ap, ℕ, zero, suc, ◌+◌, ◌<◌, Bool, true, false, ◌==◌, cond, List, [], ◌∷◌, ◌++◌, length, get_or, drop, map, replicate, Option, Some, None, arith, drop_more, Access, Write, Run, Span, covered, same_kind, covers, or_else, effect_at, effects_from, joined, runs_from, written, piece}
+use Rattle.merge_write.proofs.Words.{◌≡◌, ◌∙◌, sym, refl, ap, ℕ, zero, suc, ◌+◌, ◌<◌, Bool, true, ◌==◌, cond, List, [], ◌∷◌, ◌++◌, length, get_or, drop, map, replicate, Option, Some, None, arith, drop_more, Access, Write, Run, Span, covered, same_kind, covers, or_else, effect_at, effects_from, joined, runs_from, written, piece}
 
 or_none : (v : Option ℕ) → or_else v None ≡ v
-or_none None = refl
-or_none (Some x) = refl
+or_none v = grind arith
 
 or_assoc : (u v w : Option ℕ) → or_else (or_else u v) w ≡ or_else u (or_else v w)
-or_assoc None v w = refl
-or_assoc (Some x) v w = refl
+or_assoc u v w = grind arith
 
 effect_more : (accesses : List Access) (a : Access) (b p : ℕ)
     → effect_at (accesses ++ a ∷ []) b p ≡ or_else (cond (covers Write b p a) (Some (get_or a.bytes p 0)) None) (effect_at accesses b p)
@@ -17,8 +15,7 @@ effect_more (x ∷ accesses) a b p =
     ∙ or_assoc (cond (covers Write b p a) (Some (get_or a.bytes p 0)) None) (effect_at accesses b p) (cond (covers Write b p x) (Some (get_or x.bytes p 0)) None)
 
 or_cond : (test : Bool) (y : ℕ) (v : Option ℕ) → or_else (cond test (Some y) None) v ≡ cond test (Some y) v
-or_cond true y v = refl
-or_cond false y v = refl
+or_cond test y v = grind arith
 
 pub written_effects : (accesses : List Access) (a : Access) (b p n : ℕ) → p + n ≡ length a.bytes → same_kind Write a.kind ≡ true → (a.block == b) ≡ true
     → written a.spans p (effects_from accesses b p n) (drop p a.bytes) ≡ effects_from (accesses ++ a ∷ []) b p n
@@ -44,11 +41,7 @@ joined_pieces p value (x ∷ xs) =
 
 joined_is : (b p value : ℕ) (runs : List Run) → map piece (joined b p value runs) ≡ joined_pieces p value (map piece runs)
 unfolding joined_pieces
-joined_is b p value [] = refl
-joined_is b p value (run ∷ runs) =
-    elim (run.off == p + 1) as (λ t.
-    map piece (cond t (record { block = b; off = p; bytes = value ∷ run.bytes } ∷ runs) (record { block = b; off = p; bytes = value ∷ [] } ∷ run ∷ runs))
-    ≡ cond t ((record { off = p; len = length (value ∷ run.bytes) }, value ∷ run.bytes) ∷ map piece runs) ((record { off = p; len = 1 }, value ∷ []) ∷ piece run ∷ map piece runs)) [ true ↦ refl | false ↦ refl ]
+joined_is b p value runs = grind arith
 
 -- the pieces are the same in each block
 pub pieces_of_any_block : (b c p : ℕ) (values : List (Option ℕ)) → map piece (runs_from b p values) ≡ map piece (runs_from c p values)

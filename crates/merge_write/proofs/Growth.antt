@@ -1,5 +1,5 @@
 -- What one access more, or a list more, makes of the effect; and pieces as runs.
-use Rattle.merge_write.proofs.Words.{laid_is, ◌≡◌, ◌≢◌, ◌∙◌, sym, refl, ap, ℕ, zero, suc, ◌+◌, ◌<◌, Bool, true, false, ◌==◌, cond, List, [], ◌∷◌, ◌++◌, length, get_or, map, Option, Some, None, unwrap_or, arith, IsTrue, ne_eqb, AllByRecursion, Access, Write, Run, Array, is_write, covers, or_else, effect_at, effects_from, joined, runs_from, own, block_at, HasBytes, own_at, length-block_own, length-effects, effects_at, or_else_none, or_else_assoc, laid, followed, piece, run_of}
+use Rattle.merge_write.proofs.Words.{rules, laid_is, ◌≡◌, ◌≢◌, ◌∙◌, sym, refl, ap, ℕ, zero, suc, ◌+◌, Bool, true, false, ◌==◌, cond, List, [], ◌∷◌, ◌++◌, length, get_or, map, Option, Some, None, arith, IsTrue, ne_eqb, AllByRecursion, Access, Write, Run, Array, is_write, covers, or_else, effect_at, effects_from, joined, runs_from, own, block_at, HasBytes, own_at, length-block_own, length-effects, effects_at, or_else_none, or_else_assoc, laid, followed, piece, run_of}
 
 -- an access that is no write of the block
 misses : (b p : ℕ) (a : Access) (t : Bool) → is_write a ≡ t → (IsTrue t → a.block ≢ b) → covers Write b p a ≡ false
@@ -14,8 +14,7 @@ effect_kept (x ∷ accesses) a b p none =
 pub effects_kept : (accesses : List Access) (a : Access) (b p n : ℕ) → (IsTrue (is_write a) → a.block ≢ b)
     → effects_from (accesses ++ a ∷ []) b p n ≡ effects_from accesses b p n
 effects_kept accesses a b p zero other = refl
-effects_kept accesses a b p (suc n) other =
-    rw (effect_kept accesses a b p (misses b p a (is_write a) refl other), effects_kept accesses a b (p + 1) n other) refl
+effects_kept accesses a b p (suc n) other = search (rules, arith, effect_kept, misses)
 
 effect_append : (xs ys : List Access) (b p : ℕ) → effect_at (xs ++ ys) b p ≡ or_else (effect_at ys b p) (effect_at xs b p)
 effect_append [] ys b p = sym (or_else_none (effect_at ys b p))
@@ -29,25 +28,12 @@ effects_followed xs ys b p (suc n) = rw (effect_append xs ys b p, effects_follow
 
 pub effects_shown : (A : Array) (accesses : List Access) (b size : ℕ) → AllByRecursion (HasBytes size) accesses → length (block_at A b) ≡ size
     → laid (effects_from accesses b 0 size) (block_at A b) ≡ block_at (own A accesses) b
-effects_shown A accesses b size whole long =
-    let same : length (effects_from accesses b 0 size) ≡ length (block_at A b) = length-effects accesses b 0 size ∙ sym long in
-    sym (laid_is (effects_from accesses b 0 size) (block_at A b) (block_at (own A accesses) b) same (length-block_own A accesses b)
-    (λ k below.
-    let inside : k < size = omega arith in
-    let e : 0 + k ≡ k = omega arith in
-    let value : get_or (effects_from accesses b 0 size) k None ≡ effect_at accesses b k = effects_at accesses b 0 size k inside ∙ ap (effect_at accesses b) e in
-    own_at A accesses b k size whole long inside ∙ ap (λ (v : Option ℕ). unwrap_or v (get_or (block_at A b) k 0)) (sym value)))
+effects_shown A accesses b size whole long = search (rules, arith, length-effects, laid_is, length-block_own, effects_at, own_at)
 
 -- the runs of a block are its pieces
 joined_back : (b p value : ℕ) (runs : List Run) → map (run_of b) (map piece runs) ≡ runs → map (run_of b) (map piece (joined b p value runs)) ≡ joined b p value runs
 joined_back b p value [] same = refl
-joined_back b p value (run ∷ runs) same =
-    elim (run.off == p + 1) as (λ t.
-    map (run_of b) (map piece (cond t (record { block = b; off = p; bytes = value ∷ run.bytes } ∷ runs) (record { block = b; off = p; bytes = value ∷ [] } ∷ run ∷ runs)))
-    ≡ cond t (record { block = b; off = p; bytes = value ∷ run.bytes } ∷ runs) (record { block = b; off = p; bytes = value ∷ [] } ∷ run ∷ runs)) [
-      | true ↦ (let rest : map (run_of b) (map piece runs) ≡ runs = cc in ap (λ (l : List Run). record { block = b; off = p; bytes = value ∷ run.bytes } ∷ l) rest)
-      | false ↦ ap (λ (l : List Run). record { block = b; off = p; bytes = value ∷ [] } ∷ l) same
-    ]
+joined_back b p value (run ∷ runs) same = search (rules, arith)
 
 pub runs_back : (b p : ℕ) (values : List (Option ℕ)) → map (run_of b) (map piece (runs_from b p values)) ≡ runs_from b p values
 runs_back b p [] = refl

@@ -1,5 +1,5 @@
 -- What the runs of bytes and masks begin with.
-use Rattle.merge_write.proofs.Words.{◌≡◌, ◌∙◌, refl, ap, ℕ, zero, suc, ◌+◌, ◌-◌, ◌<◌, ◌≤◌, true, false, ◌==◌, cond, List, [], ◌∷◌, length, take, drop, Option, Some, None, arith, map, Run, joined, runs_from, common_steps, drop-drop, drop_all, length-drop, length-take-le, is_set, values_from, piece}
+use Rattle.merge_write.proofs.Words.{rules, ◌≡◌, ◌∙◌, refl, ap, ℕ, zero, suc, ◌+◌, ◌-◌, ◌<◌, ◌≤◌, true, false, List, [], ◌∷◌, length, take, drop, Option, Some, None, arith, map, Run, joined, runs_from, drop-drop, drop_all, length-drop, length-take-le, is_set, values_from, piece}
 
 -- the first run begins at p or later
 abbrev BeginsFrom : (p : ℕ) → List Run → Type 0
@@ -11,8 +11,7 @@ begins_later p q [] le from = tt
 begins_later p q (run ∷ runs) le from = omega arith
 
 joined_from : (b p value : ℕ) (runs : List Run) → BeginsFrom p (joined b p value runs)
-joined_from b p value [] = omega arith
-joined_from b p value (run ∷ runs) = elim (run.off == p + 1) as (λ t. BeginsFrom p (cond t (record { block = b; off = p; bytes = value ∷ run.bytes } ∷ runs) (record { block = b; off = p; bytes = value ∷ [] } ∷ run ∷ runs))) [ true ↦ omega arith | false ↦ omega arith ]
+joined_from b p value runs = grind arith
 
 runs_from_begin : (b p : ℕ) (values : List (Option ℕ)) → BeginsFrom p (runs_from b p values)
 runs_from_begin b p [] = tt
@@ -22,16 +21,12 @@ runs_from_begin b p (Some value ∷ values) = joined_from b p value (runs_from b
 -- a byte before runs that begin behind its neighbour stands alone
 joined_apart : (b p value : ℕ) (runs : List Run) → BeginsFrom (p + 2) runs → joined b p value runs ≡ record { block = b; off = p; bytes = value ∷ [] } ∷ runs
 joined_apart b p value [] from = refl
-joined_apart b p value (run ∷ runs) from =
-    let apart : (run.off == p + 1) ≡ false = grind (arith, common_steps) in
-    rw apart refl
+joined_apart b p value (run ∷ runs) from = search (rules, arith)
 
 -- a byte directly before a run joins it
 joined_before : (b p value : ℕ) (run : Run) (runs : List Run) → run.off ≡ p + 1
     → joined b p value (run ∷ runs) ≡ record { block = b; off = p; bytes = value ∷ run.bytes } ∷ runs
-joined_before b p value run runs next =
-    let same : (run.off == p + 1) ≡ true = grind (arith, common_steps) in
-    rw same refl
+joined_before b p value run runs next = search (rules, arith)
 
 -- bytes that are not set have no run
 pub skipped : (b p n : ℕ) (masks bytes : List ℕ) → n ≤ length bytes → ((k : ℕ) → p ≤ k → k < p + n → is_set masks k ≡ false)
@@ -46,8 +41,7 @@ skipped b p (suc n) masks (x ∷ bytes) room none =
 -- the runs behind a byte that is not set, or at the end
 alone : (b p q : ℕ) (masks bytes : List ℕ) → q ≡ p + 1 → (0 < length bytes → is_set masks q ≡ false) → BeginsFrom (p + 2) (runs_from b q (values_from masks q bytes))
 alone b p q masks [] e end = tt
-alone b p q masks (x ∷ bytes) e end =
-    rw (end (omega arith)) (begins_later (q + 1) (p + 2) (runs_from b (q + 1) (values_from masks (q + 1) bytes)) (omega arith) (runs_from_begin b (q + 1) (values_from masks (q + 1) bytes)))
+alone b p q masks (x ∷ bytes) e end = search (rules, arith, begins_later, runs_from_begin)
 
 -- set bytes up to one that is not set, or to the end, are the first run
 pub front_run : (b p n : ℕ) (masks bytes : List ℕ) → 0 < n → n ≤ length bytes
@@ -62,9 +56,7 @@ front_run b p (suc (suc n)) masks (x ∷ bytes) some room all end =
     let e : p + suc (suc n) ≡ p + 1 + suc n = omega arith in
     let rest = front_run b (p + 1) (suc n) masks bytes (omega arith) (omega arith) (λ k from below. all k (omega arith) (omega arith))
     (λ more. rw e at (end (omega arith))) in
-    rw (all p (omega arith) (omega arith), e)
-    (ap (joined b p x) rest
-    ∙ joined_before b p x (record { block = b; off = p + 1; bytes = take (suc n) bytes }) (runs_from b (p + 1 + suc n) (values_from masks (p + 1 + suc n) (drop (suc n) bytes))) refl)
+    grind (arith, joined_before)
 
 -- no byte from a place on is set
 pub none_left : (at : ℕ) (masks bytes : List ℕ) → at ≤ length bytes → ((k : ℕ) → at ≤ k → k < length bytes → is_set masks k ≡ false)

@@ -65,8 +65,7 @@ followed_is values later new same kept each = ext_get_or None new (followed valu
     (λ k below. let inside : k < length values = omega arith in each k inside ∙ sym (followed_at values later k same inside))
 
 pub unwrap_cond : (test : Bool) (y x : ℕ) → unwrap_or (cond test (Some y) None) x ≡ cond test y x
-unwrap_cond true y x = refl
-unwrap_cond false y x = refl
+unwrap_cond test y x = grind arith
 
 -- a write on a blank patch, laid over a block
 pub laid_written : (spans : List Span) (p n : ℕ) (old new : List ℕ) → length old ≡ n → length new ≡ n
@@ -81,14 +80,7 @@ laid_written spans p (suc n) (x ∷ old) (y ∷ new) same other =
 -- a value of a range that was gone through
 pub ranged : (from to k : ℕ) (new old value : Option ℕ) → (from ≤ k → k < to → new ≡ value) → (k < from → new ≡ old) → (to ≤ k → new ≡ old)
     → new ≡ cond (nat_le from k && nat_lt k to) value old
-ranged from to k new old value inside below above = elim (cases_lt k from) [
-  | inr le ↦
-      (elim (cases_lt k to) [
-        | inl lt ↦ (let a : nat_le from k ≡ true = grind (arith, common_steps) in let b : nat_lt k to ≡ true = grind (arith, common_steps) in rw (a, b) (inside le lt))
-        | inr past ↦ (let b : nat_lt k to ≡ false = grind (arith, common_steps) in rw (b, and-false (nat_le from k)) (above past))
-      ])
-  | inl lt ↦ (let a : nat_le from k ≡ false = grind (arith, common_steps) in rw a (below lt))
-]
+ranged from to k new old value inside below above = search (rules, arith, and-false)
 
 either : (a b : Bool) (x v w new : Option ℕ) → w ≡ cond a x v → new ≡ cond b x w → new ≡ cond (a || b) x v
 either true true x v w new old more = more

@@ -1,21 +1,9 @@
 -- Two sides that were just made.
-use Rattle.mirror_disk.proofs.{Words.{◌≡◌, inl, inr, ℕ, ◌+◌, ◌-◌, List, [], ◌++◌, drop, replicate, Option, Some, None, refl, sym, ◌∙◌, ap, subst, arith, IfNone, IfSome, ForSome, cases_lt, drop-replicate, DiskState, IsLawful, IsSettled, Splices, settled_write, First, Used, blank_header, body, chosen, epoch, both_tell, ChosenOf, chosen_told, mirrored, HasEpoch, ArePair, AreBoth, IsPair, state_in}, Adopted.both_alike, Alone.first_pair, Mirrored.state_pair, Epochs.{chosen_first, chosen_second}}
+use Rattle.mirror_disk.proofs.{Words.{◌≡◌, inl, inr, ℕ, ◌+◌, ◌-◌, List, [], ◌++◌, drop, replicate, Option, Some, None, sym, ◌∙◌, ap, subst, arith, IfNone, IfSome, ForSome, cases_lt, drop-replicate, DiskState, IsLawful, IsSettled, Splices, settled_write, First, Used, blank_header, body, chosen, epoch, both_tell, ChosenOf, chosen_told, mirrored, HasEpoch, ArePair, AreBoth, IsPair, state_in}, Adopted.both_alike, Alone.first_pair, Mirrored.state_pair, Epochs.{chosen_first, chosen_second}}
 
 -- a blank header has epoch 1 in the first slot
 pub blank_mark : (rest : List ℕ) → HasEpoch First 1 (blank_header ++ rest)
-blank_mark rest = record {
-  epoch_is = refl;
-  slot_is = refl;
-  header = record {
-    size = omega arith;
-    begins = refl;
-    gap = refl;
-    first = record { zeros = λ _. refl; least = λ _. omega arith; most = λ _. omega arith };
-    second = record { zeros = λ is. absurd (cc is); least = λ is. absurd (cc is); most = λ is. absurd (cc is) };
-    end = refl;
-    has_epoch = omega arith;
-  };
-}
+blank_mark rest = grind arith
 
 -- an image of a side that was made
 pub blank_image : (mid new : DiskState) (w : ℕ) → ForSome mid.contents (λ c. c ≡ replicate (w + 64) 0) → Splices 0 blank_header mid new → IsSettled new → (x : List ℕ) → new.now x → x ≡ blank_header ++ replicate w 0
@@ -59,9 +47,7 @@ module _ (a b : DiskState) (w : ℕ) (law_a : IsLawful a) (law_b : IsLawful b) (
 
 -- what both names name is what both sides tell, once they were bound and adopted
 pub named_taken : (o p m n q r : Option (List ℕ)) → ForSome o (λ c. m ≡ Some c) → ForSome p (λ c. n ≡ Some c) → chosen_told q r ≡ chosen_told m n → ForSome (chosen_told o p) (λ c. chosen_told q r ≡ Some c)
-named_taken o p m n q r first second same c told =
-    let t = both_tell o p c told in
-    same ∙ (λ i. chosen_told (first t.first t.of_first i) (second t.second t.of_second i)) ∙ ap Some (sym t.is)
+named_taken o p m n q r first second same c told = grind arith
 
 module _ (used : Used) (is : IsPair used) (a b : DiskState) (past : List (ℕ × ℕ)) (f m : ℕ) where
   -- the state of a mirror that was bound, with a size or with none

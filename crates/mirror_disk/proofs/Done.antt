@@ -1,5 +1,5 @@
 -- What a mirror tells after a call on its sides in use, and why the call failed.
-use Rattle.mirror_disk.proofs.{Words.{◌≡◌, ◌≢◌, ◌⊎◌, inl, inr, ⊎_elim, ℕ, ◌+◌, ◌-◌, ◌≤◌, Bool, true, false, List, ◌∷◌, length, take, drop, Option, Some, None, Result, Ok, Err, OnOk, OnErr, is_ok, refl, sym, ◌∙◌, ap, arith, slice_range, option_map, drop-drop, DiskState, IsLawful, IsSettled, Torn, Splices, spliced, length-contents, HasCause, Rose, Slot, Becomes, MirrorBecomes, Used, Plain, Both, OnlyFirst, OnlySecond, Broken, Unbound, BothAsked, HasEnded, AllFailed, CannotLeave, HasFailed, HasLeft, body, chosen, both_tell, chosen_told, mirrored, KeepsBody, ArePair, AreBoth, FirstLeads, SecondLeads}, Alone.{settled_both, settled_first, settled_second}, Epochs.{chosen_first, chosen_second}, Stands.{now_from_a, now_from_b}, Telling.{becomes_raised, becomes_spliced, becomes_torn, told_alike, told_first, told_second, splices_of}}
+use Rattle.mirror_disk.proofs.{Words.{◌≡◌, ◌≢◌, ◌⊎◌, inl, inr, ⊎_elim, ℕ, ◌+◌, ◌-◌, ◌≤◌, Bool, true, false, List, ◌∷◌, length, take, drop, Option, Some, Result, Ok, Err, OnOk, OnErr, is_ok, refl, sym, ◌∙◌, ap, arith, slice_range, option_map, drop-drop, DiskState, IsLawful, IsSettled, Torn, Splices, spliced, length-contents, HasCause, Rose, Slot, Becomes, MirrorBecomes, Used, Plain, Both, OnlyFirst, OnlySecond, Broken, Unbound, BothAsked, HasEnded, AllFailed, CannotLeave, HasFailed, HasLeft, body, chosen, both_tell, chosen_told, mirrored, KeepsBody, ArePair, AreBoth, FirstLeads, SecondLeads}, Alone.{settled_both, settled_first, settled_second}, Epochs.{chosen_first, chosen_second}, Stands.{now_from_a, now_from_b}, Telling.{becomes_raised, becomes_spliced, becomes_torn, told_alike, told_first, told_second, splices_of}}
 
 -- a call that was done, or was not
 pub by_done : {T E P : Type 0} (r : Result T E) → is_ok r ≡ true → OnOk r P → P
@@ -27,12 +27,7 @@ rose_in_all old mid new r is cause later failed = ⊎_elim (λ not. rose_before 
 
 pub breaks : {T E : Type 0} (a b mid_a mid_b new_a new_b : DiskState) {used : Used} {e : ℕ} (r s : Result T E) {p q : Bool} → p ≡ is_ok r → q ≡ is_ok s → HasCause a.faults mid_a.faults r → HasCause b.faults mid_b.faults s
     → HasLeft mid_a mid_b new_a new_b used e p q → used ≡ Broken → AllFailed Both a.faults new_a.faults b.faults new_b.faults ⊎ CannotLeave Both e a.faults new_a.faults b.faults new_b.faults
-breaks a b mid_a mid_b new_a new_b r s is_r is_s cause_a cause_b left is =
-    let broken = left.broken is in
-    ⊎_elim
-    (λ last. inr (refl, last, ⊎_elim (λ not. inl (rose_before _ _ _ (rose_of r (sym is_r ∙ not) cause_a) left.later_a)) (λ not. inr (rose_before _ _ _ (rose_of s (sym is_s ∙ not) cause_b) left.later_b)) broken.0))
-    (λ both. inl (rose_in_all a mid_a new_a r is_r cause_a left.later_a both.0, rose_in_all b mid_b new_b s is_s cause_b left.later_b both.1))
-    broken.1
+breaks a b mid_a mid_b new_a new_b r s is_r is_s cause_a cause_b left is = grind (arith, rose_before, rose_of, rose_in_all)
 
 becomes_kept : {old new : DiskState} → KeepsBody old new → Becomes (λ c d. d ≡ c) old.contents new.contents
 becomes_kept keeps = record { told = keeps.told; untold = keeps.untold }
@@ -42,8 +37,7 @@ becomes_same o = record { told = λ x is. (x, is, refl); untold = λ is. is }
 
 -- a write of no bytes
 pub contents_of : (o p : Option (List ℕ)) → MirrorBecomes (Torn 0 0) o p → p ≡ o
-contents_of (Some c) p becomes = let d = becomes.told c refl in d.1 ∙ ap Some d.2.after
-contents_of None p becomes = becomes.untold refl
+contents_of o p becomes = grind arith
 
 -- who is chosen of what the sides tell, by which of them leads
 module _ {a b : DiskState} {past : List (ℕ × ℕ)} (law_a : IsLawful a) (law_b : IsLawful b) (pair : ArePair a b past) where

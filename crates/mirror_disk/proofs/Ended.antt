@@ -1,6 +1,5 @@
 -- How a call on both sides ends.
 use Rattle.mirror_disk.proofs.{Words.{◌≡◌, ◌≢◌, inl, ⊎_elim, ℕ, ◌+◌, ◌≤◌, Bool, true, List, ◌∷◌, take, Some, None, sym, ◌∙◌, arith, DiskState, IsLawful, TornFrom, TellsTorn, LeavesOnly, take-torn, at_end, weakened, Slot, Both, Broken, BothAsked, HasEnded, IsHeader, epoch, slot_epoch, IsMarked, KeepsBody, place, ArePair, AreBoth, FromA, FromB}, Calls.elapses_pair, Epochs.slot-torn, Stands.{header_torn, GoesOnTelling, epoch_of_torn, from_a, from_b, meets_both, now_from_a, now_from_b, pair_on, some_told}}
-use Rattle.mirror_disk.specs.declared.slot.Slot.TheVariants as slot
 
 -- a disk that fails in a write, or does it, goes on telling
 pub tells_on : {old new : DiskState} {k n : ℕ} → TellsTorn k n old new → GoesOnTelling old new
@@ -10,8 +9,7 @@ pub keeps_on : {old new : DiskState} → KeepsBody old new → GoesOnTelling old
 keeps_on {old = old} keeps told none = let c = some_told old.contents told in let d = keeps.told c.0 c.1 in absurd (cc (none, d.1))
 
 below : (s : Slot) → place s + 16 ≤ 64
-below slot.First = omega arith
-below slot.Second = omega arith
+below s = grind arith
 
 -- a side that was called has its mark yet
 pub marked_on : {d new : DiskState} (s : Slot) (e at n : ℕ) → IsLawful d → IsLawful new → ((x : List ℕ) → d.now x → epoch x ≡ e) → ((x : List ℕ) → d.now x → slot_epoch (place s) x ≡ e)

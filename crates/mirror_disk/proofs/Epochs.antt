@@ -1,5 +1,5 @@
 -- One image while a slot is written.
-use Rattle.mirror_disk.proofs.{Words.{◌≡◌, ◌⊎◌, inl, inr, ⊎_elim, ◌≤◌, ◌<◌, ◌+◌, ℕ, List, take, drop, refl, ◌∙◌, ap, arith, nat_lt, ◌==◌, cond, slice_index, w64, from_be_bytes, cases_eq, cases_Bool, cases_lt, cond-true, cond-false, lt-ltb, le-ltb, eqb-true, eq-eqb, Torn, slice-torn, get_or-torn, drop-torn, IsClosed, IsOpen, Slot, First, Second, IsHeader, last_epoch, number_at, slot_epoch, larger, epoch, body, chosen, place, other, HasEpoch, HoldsEpoch}, Headers.{header_slot, slot_closed, slot_held, slot_in, slot_shut}}
+use Rattle.mirror_disk.proofs.{Words.{◌≡◌, ◌⊎◌, inl, inr, ⊎_elim, ◌≤◌, ◌<◌, ◌+◌, ℕ, List, take, drop, ◌∙◌, ap, arith, nat_lt, ◌==◌, cond, slice_index, w64, from_be_bytes, cases_eq, cases_Bool, cases_lt, cond-true, cond-false, lt-ltb, le-ltb, eqb-true, eq-eqb, Torn, slice-torn, get_or-torn, drop-torn, IsClosed, IsOpen, Slot, First, Second, IsHeader, last_epoch, number_at, slot_epoch, larger, epoch, body, chosen, place, other, HasEpoch, HoldsEpoch}, Headers.{header_slot, slot_closed, slot_held, slot_in, slot_shut}}
 
 -- the larger of two numbers
 pub larger_left : (m n : ℕ) → n ≤ m → larger m n ≡ m
@@ -61,8 +61,7 @@ other_below First e x has = omega (arith, has.epoch_is, (larger_above (slot_epoc
 other_below Second e x has = omega (arith, has.epoch_is, (larger_above (slot_epoch 16 x) (slot_epoch 32 x)).0)
 
 other_other : (slot : Slot) → other (other slot) ≡ slot
-other_other First = refl
-other_other Second = refl
+other_other slot = grind arith
 
 -- the range of a slot is outside the other one
 apart : (slot : Slot) (k n : ℕ) → place (other slot) ≤ k → k + n ≤ place (other slot) + 16 → (place slot + 16 ≤ k) ⊎ (k + n ≤ place slot)

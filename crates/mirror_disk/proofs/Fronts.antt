@@ -1,5 +1,5 @@
 -- The header of an image is in its first 64 bytes.
-use Rattle.mirror_disk.proofs.Words.{◌≡◌, ◌≤◌, ◌+◌, ◌-◌, ◌<◌, ℕ, List, length, take, drop, Option, Some, None, sym, ◌∙◌, ap, subst, arith, length-take-le, cond, slice_index, ◌==◌, IfSome, IfNone, w64, from_be_bytes, drop-take, get_or-take, take-take, DiskState, IsLawful, IsSettled, Mark, Slot, First, Second, IsHeader, IsSlot, epoch, larger, last_epoch, number_at, slot_epoch, HasEpoch, place}
+use Rattle.mirror_disk.proofs.Words.{◌≡◌, ◌≤◌, ◌+◌, ◌-◌, ◌<◌, ℕ, List, length, take, drop, Option, Some, None, sym, ◌∙◌, ap, subst, arith, length-take-le, cond, slice_index, ◌==◌, IfSome, IfNone, w64, from_be_bytes, drop-take, get_or-take, take-take, DiskState, IsLawful, IsSettled, Mark, Slot, IsHeader, IsSlot, epoch, larger, last_epoch, number_at, slot_epoch, HasEpoch, place}
 
 -- a part of it
 part : (x : List ℕ) (k n : ℕ) → k + n ≤ 64 → take n (drop k (take 64 x)) ≡ take n (drop k x)
@@ -63,8 +63,7 @@ front_of_header x header = record {
 }
 
 slot_in_front : (slot : Slot) (x : List ℕ) → slot_epoch (place slot) (take 64 x) ≡ slot_epoch (place slot) x
-slot_in_front First x = front_epoch x 16 (omega arith)
-slot_in_front Second x = front_epoch x 32 (omega arith)
+slot_in_front slot x = grind (arith, front_epoch)
 
 pub has_of_front : (slot : Slot) (e : ℕ) (x : List ℕ) → 64 ≤ length x → HasEpoch slot e (take 64 x) → HasEpoch slot e x
 has_of_front slot e x long has = record { epoch_is = sym (epoch_of_front x) ∙ has.epoch_is; slot_is = sym (slot_in_front slot x) ∙ has.slot_is; header = header_of_front x long has.header }

@@ -1,5 +1,5 @@
 -- The header of an image, while bytes of it are written.
-use Rattle.mirror_disk.proofs.Words.{◌≡◌, ◌⊎◌, inl, inr, ⊎_elim, ◌≤◌, ◌+◌, ℕ, List, take, drop, sym, ◌∙◌, ap, arith, slice_index, w64, from_be_bytes, Torn, slice-torn, get_or-torn, IsClosed, IsOpen, Slot, First, Second, IsHeader, IsSlot, epoch, last_epoch, number_at, HoldsEpoch, place}
+use Rattle.mirror_disk.proofs.Words.{◌≡◌, ◌⊎◌, inl, inr, ⊎_elim, ◌≤◌, ◌+◌, ℕ, List, take, drop, ◌∙◌, ap, arith, slice_index, w64, from_be_bytes, Torn, slice-torn, get_or-torn, IsClosed, IsOpen, Slot, First, Second, IsHeader, IsSlot, epoch, last_epoch, number_at, HoldsEpoch, place}
 
 -- a slot outside of what is torn
 pub slot_stands : {k n : ℕ} {x y : List ℕ} (at : ℕ) → IsSlot at x → Torn k n x y → (at + 16 ≤ k) ⊎ (k + n ≤ at) → IsSlot at y
@@ -7,11 +7,7 @@ slot_stands {k = k} {n = n} {x = x} {y = y} at slot torn outside =
     let gate : slice_index y at ≡ slice_index x at = get_or-torn torn at 0 (⊎_elim (λ (before : at + 16 ≤ k). inl (omega (arith, before))) (λ (behind : k + n ≤ at). inr behind) outside) in
     let zeros : take 7 (drop (at + 1) y) ≡ take 7 (drop (at + 1) x) = slice-torn torn (at + 1) 7 (⊎_elim (λ (before : at + 16 ≤ k). inl (omega (arith, before))) (λ (behind : k + n ≤ at). inr (omega (arith, behind))) outside) in
     let number : number_at (at + 8) y ≡ number_at (at + 8) x = ap (from_be_bytes w64) (slice-torn torn (at + 8) 8 (⊎_elim (λ (before : at + 16 ≤ k). inl (omega (arith, before))) (λ (behind : k + n ≤ at). inr (omega (arith, behind))) outside)) in
-    record {
-      zeros = λ is. zeros ∙ slot.zeros (sym gate ∙ is);
-      least = λ is. let le = slot.least (sym gate ∙ is) in omega (arith, le, number);
-      most = λ is. let le = slot.most (sym gate ∙ is) in omega (arith, le, number);
-    }
+    grind arith
 
 -- a closed slot
 pub slot_closed : (at : ℕ) (x : List ℕ) → IsClosed at x → IsSlot at x
@@ -22,22 +18,14 @@ pub slot_shut : {x y : List ℕ} (at : ℕ) → IsSlot at x → IsOpen at x → 
 slot_shut {x = x} {y = y} at slot was torn =
     let zeros : take 7 (drop (at + 1) y) ≡ take 7 (drop (at + 1) x) = slice-torn torn (at + 1) 7 (inr (omega arith)) in
     let number : number_at (at + 8) y ≡ number_at (at + 8) x = ap (from_be_bytes w64) (slice-torn torn (at + 8) 8 (inr (omega arith))) in
-    record {
-      zeros = λ is. zeros ∙ slot.zeros was;
-      least = λ is. let le = slot.least was in omega (arith, le, number);
-      most = λ is. let le = slot.most was in omega (arith, le, number);
-    }
+    grind arith
 
 -- a slot with this epoch behind its gate, which is written
 pub slot_held : {x y : List ℕ} (at e : ℕ) → HoldsEpoch at e x → 1 ≤ e → e ≤ last_epoch → Torn at 1 x y → IsSlot at y
 slot_held {x = x} {y = y} at e holds least most torn =
     let zeros : take 7 (drop (at + 1) y) ≡ take 7 (drop (at + 1) x) = slice-torn torn (at + 1) 7 (inr (omega arith)) in
     let number : number_at (at + 8) y ≡ number_at (at + 8) x = ap (from_be_bytes w64) (slice-torn torn (at + 8) 8 (inr (omega arith))) in
-    record {
-      zeros = λ is. zeros ∙ holds.zeros;
-      least = λ is. omega (arith, least, number, holds.number);
-      most = λ is. omega (arith, most, number, holds.number);
-    }
+    grind arith
 
 pub slot_in : (slot : Slot) {x : List ℕ} → IsHeader x → IsSlot (place slot) x
 slot_in First header = header.first

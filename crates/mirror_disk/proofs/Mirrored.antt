@@ -1,5 +1,5 @@
 -- What a call on both sides comes to in the state of the mirror.
-use Rattle.mirror_disk.proofs.{Words.{◌≡◌, ◌≢◌, ◌⊎◌, inl, inr, ⊎_elim, ℕ, List, ◌∷◌, Result, Ok, Err, OnErr, refl, sym, ◌∙◌, ap, subst, option_map, DiskState, Torn, TornFrom, TellsTorn, Splices, Elapses, spliced, Slot, Used, Plain, Both, OnlyFirst, OnlySecond, Broken, Unbound, MirrorBecomes, HasEnded, chosen_told, mirrored, IsPair, Stands, state_in}, Alone.none_torn}
+use Rattle.mirror_disk.proofs.{Words.{arith, ◌≡◌, ◌≢◌, ◌⊎◌, inl, inr, ⊎_elim, ℕ, List, ◌∷◌, Result, Ok, Err, OnErr, refl, sym, ◌∙◌, ap, subst, option_map, DiskState, Torn, TornFrom, TellsTorn, Splices, Elapses, spliced, Slot, Used, Plain, Both, OnlyFirst, OnlySecond, Broken, Unbound, MirrorBecomes, HasEnded, chosen_told, mirrored, IsPair, Stands, state_in}, Alone.none_torn}
 
 -- these are the states of a pair
 pub of_pair : {used : Used} → (used ≡ Both) ⊎ ((used ≡ OnlyFirst) ⊎ ((used ≡ OnlySecond) ⊎ (used ≡ Broken))) → IsPair used
@@ -53,10 +53,7 @@ module _ {used used' : Used} {a b new_a new_b : DiskState} {past past' : List (�
     parts_splice k bytes written = new_told ∙ written ∙ ap (option_map (λ (c : List ℕ). spliced c k bytes)) (sym old_told)
 
     pub parts_tear : (k l : ℕ) → MirrorBecomes (Torn k l) (chosen_told a.contents b.contents) (chosen_told new_a.contents new_b.contents) → TellsTorn k l (state_in used a b past f m) (state_in used' new_a new_b past' g m)
-    parts_tear k l becomes = record {
-      told = λ c told. let d = becomes.told c (sym old_told ∙ told) in (d.0, new_told ∙ d.1, d.2);
-      untold = λ none. new_told ∙ becomes.untold (sym old_told ∙ none);
-    }
+    parts_tear k l becomes = grind (arith, old_told, new_told)
 
     pub parts_same : chosen_told new_a.contents new_b.contents ≡ chosen_told a.contents b.contents → (state_in used' new_a new_b past' g m).contents ≡ (state_in used a b past f m).contents
     parts_same same = new_told ∙ same ∙ sym old_told

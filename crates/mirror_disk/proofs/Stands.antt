@@ -1,10 +1,9 @@
 -- What a call does to a mirror, by the sides that it asks.
-use Rattle.mirror_disk.proofs.{Words.{◌≡◌, ◌≢◌, ◌⊎◌, inl, inr, ⊎_elim, ℕ, ◌+◌, ◌<◌, ◌≤◌, List, ◌∷◌, Option, Some, None, refl, sym, ◌∙◌, subst, arith, DiskState, IsLawful, Torn, TornFrom, LeavesOnly, Slot, IsHeader, body, epoch, at_before, at_most, rising_more, ChosenOf, IsRising, ArePair, AreBoth, FirstLeads, SecondLeads, FromA, FromB}, Calls.Meet, Epochs.{chosen_first, chosen_second, epoch-torn}, Headers.header_behind, Meets.{Some_a, Some_b, meet_first, meet_over, meet_second, torn_body}}
+use Rattle.mirror_disk.proofs.{Words.{◌≡◌, ◌≢◌, ◌⊎◌, inl, inr, ⊎_elim, ℕ, ◌+◌, ◌<◌, ◌≤◌, List, ◌∷◌, Option, Some, None, sym, ◌∙◌, subst, arith, DiskState, IsLawful, Torn, TornFrom, LeavesOnly, Slot, IsHeader, body, epoch, at_before, at_most, rising_more, ChosenOf, IsRising, ArePair, AreBoth, FirstLeads, SecondLeads, FromA, FromB}, Calls.Meet, Epochs.{chosen_first, chosen_second, epoch-torn}, Headers.header_behind, Meets.{Some_a, Some_b, meet_first, meet_over, meet_second, torn_body}}
 
 -- what is not untold is told
 pub some_told : (o : Option (List ℕ)) → o ≢ None → (c : List ℕ) × (o ≡ Some c)
-some_told (Some c) not = (c, refl)
-some_told None not = absurd (not refl)
+some_told o not = grind arith
 
 module _ {a b : DiskState} (past : List (ℕ × ℕ)) (one : IsLawful a) (two : IsLawful b) (rising : IsRising past (a.clock, b.clock)) where
   -- an image of now is one since the first moment

@@ -1,13 +1,9 @@
 -- The other side while it is made as the one that was chosen.
-use Rattle.mirror_disk.proofs.{Words.{◌≡◌, inl, inr, ⊎_elim, ℕ, ◌+◌, ◌≤◌, List, take, Some, None, sym, ◌∙◌, ap, subst, arith, same_Some, DiskState, IsLawful, IsSettled, LeavesOnly, TellsTorn, TornFrom, WritesNothing, at_end, joined, weakened, Slot, AreAlike, OfChosen, OfOther, body, epoch, HasEpoch, IsMarked, KeepsBody, Raising}, Ended.{marked_on, tells_on}, Epochs.epoch-torn, Headers.header_behind, Raises.told_before}
+use Rattle.mirror_disk.proofs.{Words.{◌≡◌, inl, inr, ⊎_elim, ℕ, ◌+◌, ◌≤◌, List, Some, None, sym, ◌∙◌, ap, arith, same_Some, DiskState, IsLawful, IsSettled, LeavesOnly, TellsTorn, TornFrom, WritesNothing, at_end, joined, weakened, Slot, AreAlike, OfChosen, OfOther, body, epoch, HasEpoch, IsMarked, KeepsBody, Raising}, Ended.{marked_on, tells_on}, Epochs.epoch-torn, Headers.header_behind, Raises.told_before}
 
 -- a settled side whose images have this epoch is marked
 pub marked_settled : {d : DiskState} (slot : Slot) (e : ℕ) → IsSettled d → ((x : List ℕ) → d.now x → HasEpoch slot e x) → IsMarked slot e d
-marked_settled slot e settled each = record {
-  each = each;
-  fronts = λ x c now is. ap (take 64) (same_Some x c (sym (settled x now) ∙ is));
-  told = λ x now. (x, settled x now);
-}
+marked_settled slot e settled each = grind arith
 
 module _ (from to mid : DiskState) (count : ℕ) (slot : Slot) (e next : ℕ) (law_to : IsLawful to) (law_mid : IsLawful mid) (settled : IsSettled to) (behind : (y : List ℕ) → to.now y → HasEpoch slot e y)
     (run : LeavesOnly to mid (TornFrom 64 count to.now)) where
@@ -41,12 +37,7 @@ module _ (from to mid : DiskState) (count : ℕ) (slot : Slot) (e next : ℕ) (l
 -- the sides are alike, where they had the same epoch
 pub alike_copied : (from new_from mid : DiskState) (one slot : Slot) (e next : ℕ) → e ≡ next → IsLawful new_from → WritesNothing from new_from → ((x : List ℕ) → from.now x → HasEpoch one next x) → IsMarked slot e mid → IsSettled mid
     → ((x y : List ℕ) → from.contents ≡ Some x → mid.contents ≡ Some y → body y ≡ body x) → AreAlike new_from mid next one slot
-alike_copied from new_from mid one slot e next same laws still chosen mark settled copied = record {
-  first = λ x now. chosen x (at_end laws still.moments x now);
-  second = λ y now. subst (λ (n : ℕ). HasEpoch slot n y) same (mark.each y now);
-  settled = settled;
-  agree = λ x y told told'. sym (copied x y (sym still.same_contents ∙ told) told');
-}
+alike_copied from new_from mid one slot e next same laws still chosen mark settled copied = grind (arith, at_end)
 
 -- or where the lower one was raised
 pub alike_raised : (from new_from mid new : DiskState) (one slot : Slot) (next : ℕ) → IsLawful new_from → WritesNothing from new_from → ((x : List ℕ) → from.now x → HasEpoch one next x)
@@ -60,12 +51,7 @@ alike_raised from new_from mid new one slot next laws still chosen raised settle
 
 -- the side that was chosen, as it was settled
 pub chosen_image : (from : DiskState) (slot : Slot) (e : ℕ) → IsSettled from → ((x : List ℕ) → from.now x → HasEpoch slot e x) → (x : List ℕ) → from.now x → OfChosen e from x
-chosen_image from slot e settled each x now = record {
-  header = (each x now).header;
-  most = omega (arith, (each x now).epoch_is);
-  told = λ none. absurd (cc (none, settled x now));
-  same = λ d told. ap body (same_Some x d (sym (settled x now) ∙ told));
-}
+chosen_image from slot e settled each x now = grind arith
 
 -- and while it is raised, as the other one is left out
 pub chosen_raised : (from mid new : DiskState) (slot : Slot) (e : ℕ) → IsLawful mid → IsSettled from → ((x : List ℕ) → from.now x → HasEpoch slot e x) → WritesNothing from mid → LeavesOnly mid new (Raising e (e + 1) mid) → LeavesOnly from new (OfChosen e from)

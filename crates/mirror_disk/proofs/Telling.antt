@@ -1,5 +1,5 @@
 -- What a mirror tells after a call.
-use Rattle.mirror_disk.proofs.{Words.{◌≡◌, inl, inr, ℕ, ◌+◌, ◌≤◌, List, length, take, Option, Some, None, refl, sym, ◌∙◌, ap, subst, option_map, cases_lt, drop-drop, DiskState, Torn, TellsTorn, Splices, spliced, spliced_torn, take-drop-spliced, torn_whole, Becomes, MirrorBecomes, body, chosen, epoch, both_tell, chosen_told}, Epochs.{chosen_first, chosen_second}, Meets.torn_body}
+use Rattle.mirror_disk.proofs.{Words.{arith, ◌≡◌, inl, inr, ℕ, ◌+◌, ◌≤◌, List, length, take, Option, Some, None, refl, sym, ◌∙◌, ap, subst, option_map, cases_lt, drop-drop, DiskState, Torn, TellsTorn, Splices, spliced, spliced_torn, take-drop-spliced, torn_whole, Becomes, MirrorBecomes, body, chosen, epoch, both_tell, chosen_told}, Epochs.{chosen_first, chosen_second}, Meets.torn_body}
 
 -- bytes laid behind the header are laid in the mirrored bytes
 pub body-spliced : (c : List ℕ) (at : ℕ) (bytes : List ℕ) → 64 + at + length bytes ≤ length c → body (spliced c (64 + at) bytes) ≡ spliced (body c) at bytes
@@ -17,42 +17,33 @@ none_told {o = o} {p = p} {o' = o'} {p' = p'} one two none = by_cases o p refl r
     by_cases (Some x) None is is' none = ap (chosen_told o') (two.untold is') ∙ no_second o'
     by_cases None r is is' none = ap (λ (q : Option (List ℕ)). chosen_told q p') (one.untold is)
 
--- the first side is chosen before and after
-pub told_first : {o p o' p' : Option (List ℕ)} {R S : List ℕ → List ℕ → Type 0} → Becomes R o o' → Becomes S p p'
-    → ((x y : List ℕ) → o ≡ Some x → p ≡ Some y → chosen x y ≡ body x) → ((x y : List ℕ) → o' ≡ Some x → p' ≡ Some y → chosen x y ≡ body x) → MirrorBecomes R (chosen_told o p) (chosen_told o' p')
-told_first {o = o} {p = p} {R = R} one two before after = record {
+-- what the chosen sides tell, before and after
+told_by : {o p o' p' : Option (List ℕ)} {Q R S : List ℕ → List ℕ → Type 0} → Becomes R o o' → Becomes S p p'
+    → ((x y x' y' : List ℕ) → o ≡ Some x → p ≡ Some y → o' ≡ Some x' → p' ≡ Some y' → R (body x) (body x') → S (body y) (body y') → Q (chosen x y) (chosen x' y')) → MirrorBecomes Q (chosen_told o p) (chosen_told o' p')
+told_by {o = o} {p = p} {Q = Q} one two leads = record {
   told = λ c is.
       let t = both_tell o p c is in
       let x = one.told t.first t.of_first in
       let y = two.told t.second t.of_second in
-      (body x.0, (λ i. chosen_told (x.1 i) (y.1 i)) ∙ ap Some (after x.0 y.0 x.1 y.1), subst (λ (l : List ℕ). R l (body x.0)) (sym (t.is ∙ before t.first t.second t.of_first t.of_second)) x.2);
+      (chosen x.0 y.0, (λ i. chosen_told (x.1 i) (y.1 i)), subst (λ (l : List ℕ). Q l (chosen x.0 y.0)) (sym t.is) (leads t.first t.second x.0 y.0 t.of_first t.of_second x.1 y.1 x.2 y.2));
   untold = none_told one two;
 }
+
+-- the first side is chosen before and after
+pub told_first : {o p o' p' : Option (List ℕ)} {R S : List ℕ → List ℕ → Type 0} → Becomes R o o' → Becomes S p p'
+    → ((x y : List ℕ) → o ≡ Some x → p ≡ Some y → chosen x y ≡ body x) → ((x y : List ℕ) → o' ≡ Some x → p' ≡ Some y → chosen x y ≡ body x) → MirrorBecomes R (chosen_told o p) (chosen_told o' p')
+told_first {R = R} {S = S} one two before after = told_by {Q = R} {R = R} {S = S} one two (λ x y x' y' is is' new new' r s. rw (before x y is is', after x' y' new new') r)
 
 -- the second side is, or before the call the first one, which told the same
 pub told_second : {o p o' p' : Option (List ℕ)} {R S : List ℕ → List ℕ → Type 0} → Becomes S o o' → Becomes R p p'
     → ((x y : List ℕ) → o ≡ Some x → p ≡ Some y → chosen x y ≡ body y) → ((x y : List ℕ) → o' ≡ Some x → p' ≡ Some y → chosen x y ≡ body y) → MirrorBecomes R (chosen_told o p) (chosen_told o' p')
-told_second {o = o} {p = p} {R = R} one two before after = record {
-  told = λ c is.
-      let t = both_tell o p c is in
-      let x = one.told t.first t.of_first in
-      let y = two.told t.second t.of_second in
-      (body y.0, (λ i. chosen_told (x.1 i) (y.1 i)) ∙ ap Some (after x.0 y.0 x.1 y.1), subst (λ (l : List ℕ). R l (body y.0)) (sym (t.is ∙ before t.first t.second t.of_first t.of_second)) y.2);
-  untold = none_told one two;
-}
+told_second {R = R} {S = S} one two before after = told_by {Q = R} {R = S} {S = R} one two (λ x y x' y' is is' new new' s r. rw (before x y is is', after x' y' new new') r)
 
 -- both sides told the same, and each becomes so: whichever is chosen
 pub told_alike : {o p o' p' : Option (List ℕ)} {R : List ℕ → List ℕ → Type 0} → Becomes R o o' → Becomes R p p' → ((x y : List ℕ) → o ≡ Some x → p ≡ Some y → body x ≡ body y) → MirrorBecomes R (chosen_told o p) (chosen_told o' p')
-told_alike {o = o} {p = p} {R = R} one two agree = record {
-  told = λ c is.
-      let t = both_tell o p c is in
-      let x = one.told t.first t.of_first in
-      let y = two.told t.second t.of_second in
-      let same = agree t.first t.second t.of_first t.of_second in
-      let first : c ≡ body t.first = t.is ∙ either t.first t.second same in
-      (chosen x.0 y.0, (λ i. chosen_told (x.1 i) (y.1 i)), subst (λ (l : List ℕ). R l (chosen x.0 y.0)) (sym first) (of_both (body t.first) x.0 y.0 x.2 (subst (λ (l : List ℕ). R l (body y.0)) (sym same) y.2)));
-  untold = none_told one two;
-}
+told_alike {R = R} one two agree = told_by {Q = R} {R = R} {S = R} one two (λ x y x' y' is is' new new' r s.
+    let same = agree x y is is' in
+    rw (either x y same) (of_both (body x) x' y' r (subst (λ (l : List ℕ). R l (body y')) (sym same) s)))
   where
     either : (x y : List ℕ) → body x ≡ body y → chosen x y ≡ body x
     either x y same = elim (cases_lt (epoch x) (epoch y)) [
@@ -68,15 +59,11 @@ told_alike {o = o} {p = p} {R = R} one two agree = record {
 
 -- a write that was done
 pub splices_of : (at : ℕ) (bytes : List ℕ) (o p : Option (List ℕ)) → MirrorBecomes (λ c d. d ≡ spliced c at bytes) o p → p ≡ option_map (λ (c : List ℕ). spliced c at bytes) o
-splices_of at bytes (Some c) p becomes = let d = becomes.told c refl in d.1 ∙ ap Some d.2
-splices_of at bytes None p becomes = becomes.untold refl
+splices_of at bytes o p becomes = grind arith
 
 -- a side that did a write behind its header
 pub becomes_spliced : (old new : DiskState) (at : ℕ) (bytes : List ℕ) → ((c : List ℕ) → old.contents ≡ Some c → 64 + at + length bytes ≤ length c) → Splices (64 + at) bytes old new → Becomes (λ c d. d ≡ spliced c at bytes) old.contents new.contents
-becomes_spliced old new at bytes fits written = record {
-  told = λ x is. (spliced x (64 + at) bytes, written ∙ ap (option_map (λ (c : List ℕ). spliced c (64 + at) bytes)) is, body-spliced x at bytes (fits x is));
-  untold = λ is. written ∙ ap (option_map (λ (c : List ℕ). spliced c (64 + at) bytes)) is;
-}
+becomes_spliced old new at bytes fits written = grind (arith, body-spliced)
 
 -- one that failed in it
 pub becomes_torn : (old new : DiskState) (at n : ℕ) → TellsTorn (64 + at) n old new → Becomes (Torn at n) old.contents new.contents

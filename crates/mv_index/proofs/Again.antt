@@ -1,13 +1,12 @@
 -- Versions that are trimmed again, at a later number, and versions that come behind.
-use Rattle.mv_index.proofs.{Words.{◌≡◌, ◌∙◌, sym, refl, ap, ℕ, zero, suc, ◌+◌, ◌-◌, ◌<◌, ◌≤◌, Bool, true, false, ◌&&◌, ◌||◌, not, cond, nat_le, nat_lt, List, [], ◌∷◌, ◌++◌, length, get_or, arith, AllByRecursion, list_any, range_with_len, and_parts, leb-true, ltb-true, ltb-false, le-leb, lt-leb, le-ltb, list_any_at, list_any-append, length-range_with_len, get_or-range_with_len, Version, has, hides, shown_since, still_shows, or-true, or-false}, Gathers.any_same}
+use Rattle.mv_index.proofs.{Words.{◌≡◌, ◌∙◌, sym, refl, ap, ℕ, zero, suc, ◌+◌, ◌-◌, ◌<◌, ◌≤◌, Bool, true, false, ◌&&◌, ◌||◌, not, cond, nat_le, nat_lt, List, [], ◌∷◌, ◌++◌, length, get_or, arith, AllByRecursion, list_any, range_with_len, and_parts, leb-true, ltb-true, le-leb, lt-leb, list_any_at, list_any-append, length-range_with_len, get_or-range_with_len, Version, has, hides, shown_since, still_shows, or-true, or-false}, Gathers.any_same}
 
 pub or_parts : (a b : Bool) → (a || b) ≡ false → (a ≡ false) × (b ≡ false)
 or_parts true b is = cc
 or_parts false b is = (refl, is)
 
 not_not : (b : Bool) → (not b ≡ true → ⊥) → b ≡ true
-not_not true wrong = refl
-not_not false wrong = absurd (wrong refl)
+not_not b wrong = grind arith
 
 -- each byte of a hidden version is hidden
 pub hidden_at : (t : ℕ) (v : Version) (versions : List Version) (p : ℕ) → list_any (λ p. not (hides t p versions)) (range_with_len v.off v.len) ≡ false → has p v ≡ true → hides t p versions ≡ true
@@ -24,10 +23,7 @@ hidden_at t v versions p none is =
 
 -- what is hidden at t is hidden at a later number
 hides_step : (t later p : ℕ) (v : Version) (versions : List Version) → t ≤ later → (hides t p versions ≡ true → hides later p versions ≡ true) → (here : Bool) → (nat_le v.number t && has p v) ≡ here → (here || hides t p versions) ≡ true → hides later p (v ∷ versions) ≡ true
-hides_step t later p v versions le rest true here_is hidden =
-    let both = and_parts (nat_le v.number t) (has p v) here_is in
-    let under : nat_le v.number later ≡ true = le-leb v.number later (omega (arith, leb-true v.number t both.0)) in
-    λ i. (under i && both.1 i) || hides later p versions
+hides_step t later p v versions le rest true here_is hidden = grind arith
 hides_step t later p v versions le rest false here_is hidden = ap (λ (b : Bool). (nat_le v.number later && has p v) || b) (rest hidden) ∙ or-true (nat_le v.number later && has p v)
 
 pub hides_later : (t later p : ℕ) (versions : List Version) → t ≤ later → hides t p versions ≡ true → hides later p versions ≡ true
@@ -36,8 +32,7 @@ hides_later t later p (v ∷ versions) le hidden = hides_step t later p v versio
 
 -- a hidden version hides nothing more
 absorbed : (here rest : Bool) → (here ≡ true → rest ≡ true) → rest ≡ (here || rest)
-absorbed true rest hid = hid refl
-absorbed false rest hid = refl
+absorbed here rest hid = grind arith
 
 hides_cond : (t later p : ℕ) (v : Version) (versions : List Version) → t ≤ later → hides later p (shown_since t versions) ≡ hides later p versions → (shows : Bool) → still_shows t v versions ≡ shows
     → hides later p (cond shows (v ∷ shown_since t versions) (shown_since t versions)) ≡ hides later p (v ∷ versions)
@@ -61,18 +56,12 @@ any_none t later versions le off (suc len) none =
 
 -- what the later trim says of a version
 shows_again : (t later : ℕ) (v : Version) (versions : List Version) → t ≤ later → still_shows later v (shown_since t versions) ≡ still_shows later v versions
-shows_again t later v versions le =
-    ap (λ (b : Bool). nat_lt later v.number || b) (any_same (λ p. not (hides later p (shown_since t versions))) (λ p. not (hides later p versions)) v.off v.len (λ p from to. ap not (hides_shown t later p versions le)))
+shows_again t later v versions le = grind (arith, any_same, not, hides_shown)
 
 again_cond : (t later : ℕ) (v : Version) (versions : List Version) → t ≤ later → shown_since later (shown_since t versions) ≡ shown_since later versions → (shows : Bool) → still_shows t v versions ≡ shows
     → shown_since later (cond shows (v ∷ shown_since t versions) (shown_since t versions)) ≡ shown_since later (v ∷ versions)
-again_cond t later v versions le same true is =
-    λ i. cond (shows_again t later v versions le i) (v ∷ same i) (same i)
-again_cond t later v versions le same false is =
-    let parts = or_parts (nat_lt t v.number) (list_any (λ p. not (hides t p versions)) (range_with_len v.off v.len)) is in
-    let under : nat_lt later v.number ≡ false = le-ltb later v.number (omega (arith, ltb-false t v.number parts.0)) in
-    let none : still_shows later v versions ≡ false = λ i. under i || any_none t later versions le v.off v.len parts.1 i in
-    same ∙ sym (ap (λ (b : Bool). cond b (v ∷ shown_since later versions) (shown_since later versions)) none)
+again_cond t later v versions le same true is = grind (arith, shows_again)
+again_cond t later v versions le same false is = grind (arith, or_parts, not, any_none)
 
 -- A trim at t and then at a later number is the later trim.
 pub shown_again : (t later : ℕ) (versions : List Version) → t ≤ later → shown_since later (shown_since t versions) ≡ shown_since later versions
@@ -94,12 +83,10 @@ above_none t p (v ∷ more) all =
     λ i. (over i && has p v) || above_none t p more all.1 i
 
 hides_before : (t p : ℕ) (versions more : List Version) → AllByRecursion (λ v. t < v.number) more → hides t p (versions ++ more) ≡ hides t p versions
-hides_before t p versions more all =
-    list_any-append (λ (v : Version). nat_le v.number t && has p v) versions more ∙ ap (λ (b : Bool). hides t p versions || b) (above_none t p more all) ∙ or-false (hides t p versions)
+hides_before t p versions more all = grind (arith, list_any-append, above_none, or-false)
 
 push_cond : (v : Version) (xs more : List Version) (b : Bool) → cond b (v ∷ (xs ++ more)) (xs ++ more) ≡ cond b (v ∷ xs) xs ++ more
-push_cond v xs more true = refl
-push_cond v xs more false = refl
+push_cond v xs more b = grind arith
 
 -- Versions above t come behind those that still show.
 pub shown_more : (t : ℕ) (versions more : List Version) → AllByRecursion (λ v. t < v.number) more → shown_since t (versions ++ more) ≡ shown_since t versions ++ more

@@ -1,5 +1,5 @@
 -- An index has as many versions as the model counts of its history.
-use Rattle.mv_index.proofs.{Words.{◌≡◌, ◌⊎◌, inl, inr, ◌∙◌, sym, refl, ap, ℕ, zero, suc, ◌+◌, ◌-◌, ◌<◌, ◌≤◌, ◌==◌, Bool, true, false, ◌&&◌, ◌||◌, not, cond, nat_le, nat_lt, List, [], ◌∷◌, ◌++◌, Option, Some, None, length, map, get_or, sum_by, arith, subst, AllByRecursion, filter, list_any, range_with_len, is_some, lt-leb, cases_eq, eq-eqb, ne_eqb, eqb-true, list_any-append, sum_by-cons, Commit, Geometry, Write, Run, in_span, or_else, record_length, runs, touches, AreRuns, IsRun, written, value_in, touches_where_effect, value_runs, are_runs, Version, BlockVersions, count_of, has, hides, shown_since, still_shows, versions_in, IsIndexOf, placed, version_of, versions_of, and-false}, Gathers.any_same, Layers.or_else_none}
+use Rattle.mv_index.proofs.{Words.{head_is, tail_are, ◌≡◌, ◌⊎◌, inl, inr, ◌∙◌, sym, refl, ap, ℕ, zero, suc, ◌+◌, ◌-◌, ◌<◌, ◌≤◌, ◌==◌, Bool, true, false, ◌&&◌, ◌||◌, not, cond, nat_le, nat_lt, List, [], ◌∷◌, ◌++◌, Option, Some, None, length, map, get_or, sum_by, arith, subst, AllByRecursion, filter, list_any, range_with_len, is_some, cases_eq, eq-eqb, ne_eqb, eqb-true, list_any-append, sum_by-cons, Commit, Geometry, Write, Run, in_span, or_else, record_length, runs, touches, AreRuns, written, value_in, touches_where_effect, value_runs, are_runs, Version, BlockVersions, count_of, has, hides, shown_since, still_shows, versions_in, IsIndexOf, placed, version_of, versions_of, and-false}, Gathers.any_same, Layers.or_else_none}
 
 -- how many of the runs count
 abbrev tally : (Run → Bool) → List Run → ℕ
@@ -74,19 +74,9 @@ behind_all : (g : Geometry) (x : Run) (rest : List Run) → AreRuns g (x ∷ res
 behind_all g x [] are = tt
 behind_all g x (y ∷ rest) are = far g x.block (x.off + length x.bytes) y rest (elim are.1 [ inl lt ↦ inl lt | inr same ↦ inr (same.0, omega (arith, same.1)) ]) are.2
 
-rest_runs : (g : Geometry) (x : Run) (rest : List Run) → AreRuns g (x ∷ rest) → AreRuns g rest
-rest_runs g x [] are = tt
-rest_runs g x (y ∷ rest) are = are.2
-
-first_run : (g : Geometry) (x : Run) (rest : List Run) → AreRuns g (x ∷ rest) → IsRun g x
-first_run g x [] are = are
-first_run g x (y ∷ rest) are = are.0
-
 -- the runs behind do not hide a byte
 unhidden_step : (t p n at : ℕ) (b : ℕ) (y : Run) (tail : List Version) → hides t p tail ≡ false → (same : Bool) → (y.block == b) ≡ same → (y.block ≡ b → p < y.off) → hides t p (cond same (version_of n at y ∷ tail) tail) ≡ false
-unhidden_step t p n at b y tail rest true is below =
-    let out : nat_le y.off p ≡ false = lt-leb y.off p (below (eqb-true y.block b is)) in
-    (λ i. (nat_le n t && (out i && nat_lt p (y.off + length y.bytes))) || rest i) ∙ ap (λ (x : Bool). x || false) (and-false (nat_le n t))
+unhidden_step t p n at b y tail rest true is below = grind (arith, and-false)
 unhidden_step t p n at b y tail rest false is below = rest
 
 unhidden : (t p n at b end : ℕ) (rest : List Run) → p < end → AllByRecursion (IsBehind b end) rest → hides t p (placed b n at rest) ≡ false
@@ -96,8 +86,7 @@ unhidden t p n at b end (y ∷ rest) lt all =
     (λ is. elim all.0 [ inl more ↦ absurd (omega (arith, is, more)) | inr same ↦ omega (arith, lt, same.1) ])
 
 length_cond : (b : Bool) (v : Version) (xs : List Version) → length (cond b (v ∷ xs) xs) ≡ cond b 1 0 + length xs
-length_cond true v xs = omega arith
-length_cond false v xs = omega arith
+length_cond b v xs = grind arith
 
 -- how many of a record's versions are kept before later ones
 module _ (g : Geometry) (t n b : ℕ) (later : List Version) (W : ℕ → ℕ → Bool) (same : (p : ℕ) → p < g.block → hides t p later ≡ W b p) where
@@ -111,8 +100,7 @@ module _ (g : Geometry) (t n b : ℕ) (later : List Version) (W : ℕ → ℕ �
       ≡ cond (here && counts run) 1 0 + tally (λ run. (run.block == b) && counts run) rest + length (shown_since t later)
   row_step at run rest are counted true is =
       let block : run.block ≡ b = eqb-true run.block b is in
-      let tail : List Version = placed b n (at + (8 + length run.bytes)) rest in
-      let fits = (first_run g run rest are).fits in
+      let fits = (head_is g run rest are).fits in
       let shows : still_shows t (version_of n at run) (placed b n (at + (8 + length run.bytes)) rest ++ later) ≡ counts run =
       ap (λ (x : Bool). nat_lt t n || x) (any_same (λ p. not (hides t p (placed b n (at + (8 + length run.bytes)) rest ++ later))) (λ p. not (W run.block p)) run.off (length run.bytes) (λ p from to.
       ap not (list_any-append (λ (v : Version). nat_le v.number t && has p v) (placed b n (at + (8 + length run.bytes)) rest) later
@@ -126,15 +114,11 @@ module _ (g : Geometry) (t n b : ℕ) (later : List Version) (W : ℕ → ℕ �
 
   row_length : (at : ℕ) (parts : List Run) → AreRuns g parts → length (shown_since t (placed b n at parts ++ later)) ≡ tally (λ run. (run.block == b) && counts run) parts + length (shown_since t later)
   row_length at [] are = omega arith
-  row_length at (run ∷ rest) are = row_step at run rest are (row_length (at + (8 + length run.bytes)) rest (rest_runs g run rest are)) (run.block == b) refl
+  row_length at (run ∷ rest) are = row_step at run rest are (row_length (at + (8 + length run.bytes)) rest (tail_are g run rest are)) (run.block == b) refl
 
 -- what the versions of a record hide
 truth : (le here : Bool) (V : Option ℕ) (x : ℕ) → ((le && here) || (le && is_some V)) ≡ (le && is_some (or_else V (cond here (Some x) None)))
-truth true true None x = refl
-truth true true (Some y) x = refl
-truth true false None x = refl
-truth true false (Some y) x = refl
-truth false here V x = refl
+truth le here V x = grind arith
 
 hides_cond : (t p n at b : ℕ) (run : Run) (tail : List Version) (V : Option ℕ) → hides t p tail ≡ (nat_le n t && is_some V) → (same : Bool)
     → hides t p (cond same (version_of n at run ∷ tail) tail) ≡ (nat_le n t && is_some (or_else V (cond (same && in_span p (record { off = run.off; len = length run.bytes })) (Some (get_or run.bytes (p - run.off) 0)) None)))
@@ -147,7 +131,7 @@ hides_placed t p n at b (run ∷ parts) = hides_cond t p n at b run (placed b n 
 
 pub blocks_below : (g : Geometry) (parts : List Run) → AreRuns g parts → AllByRecursion (λ run. run.block < g.blocks) parts
 blocks_below g [] are = tt
-blocks_below g (x ∷ rest) are = ((first_run g x rest are).block, blocks_below g rest (rest_runs g x rest are))
+blocks_below g (x ∷ rest) are = ((head_is g x rest are).block, blocks_below g rest (tail_are g x rest are))
 
 -- a sum over the rows is one over their numbers
 pub rows_total : (size : List Version → ℕ) (f : ℕ → ℕ) (a : ℕ) (rows : List BlockVersions) → ((i : ℕ) → i < length rows → f (a + i) ≡ size (versions_in rows i)) → sum_by (λ row. size row.versions) rows ≡ total f a (length rows)

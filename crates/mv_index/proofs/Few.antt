@@ -14,11 +14,7 @@ same_test x y z true is = eq-eqb y x (sym (eqb-true x y is))
 same_test x y z false is = elim (cases_eq y x) [ inl same ↦ (let wrong = eq-eqb x y (sym same) in cc) | inr other ↦ ne_eqb y x other ]
 
 is_equal : IsEquivalence ◌==◌
-is_equal = record {
-  refl = λ x. eq-eqb x x refl;
-  symm = λ x y. sym (same_test x y x (x == y) refl);
-  congr = λ x y z is. ap (λ (n : ℕ). n == z) (eqb-true x y is);
-}
+is_equal = grind (arith, same_test)
 
 abbrev Has : List ℕ → ℕ → Type 0
 Has ends s = list_any (λ e. s == e) ends ≡ true

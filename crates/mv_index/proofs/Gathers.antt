@@ -1,5 +1,5 @@
 -- A list that is gathered from its end: what still shows a byte is kept.
-use Rattle.mv_index.proofs.Words.{◌≡◌, ◌≢◌, ◌∙◌, sym, refl, ap, ℕ, zero, suc, ◌+◌, ◌-◌, ◌*◌, ◌<◌, ◌≤◌, Bool, true, false, ◌&&◌, ◌||◌, not, cond, nat_le, nat_lt, List, ◌∷◌, length, drop, get_or, arith, set, length-set, drop_more, drop-set, get_or-set_other, list_any, range_with_len, Version, is_seen, AreWithin, has, hides, no_version, shown_since, still_shows}
+use Rattle.mv_index.proofs.Words.{rules, ◌≡◌, ◌≢◌, ◌∙◌, sym, refl, ap, ℕ, zero, suc, ◌+◌, ◌-◌, ◌*◌, ◌<◌, ◌≤◌, Bool, true, false, ◌&&◌, ◌||◌, not, cond, nat_le, nat_lt, List, ◌∷◌, length, drop, get_or, arith, set, length-set, drop_more, drop-set, get_or-set_other, list_any, range_with_len, Version, is_seen, AreWithin, has, hides, no_version, shown_since, still_shows}
 
 -- The versions from left on have been looked at, those that show a byte stand from kept on, and the bytes that they hide are seen.
 pub record IsGathered (whole versions : List Version) (seen : List ℕ) (t left kept : ℕ) : Type 0 where
@@ -28,9 +28,7 @@ module _ (whole versions : List Version) (old new : List ℕ) (t left kept next 
   it_is = was.same next (omega arith)
 
   split : drop next whole ≡ get_or whole next no_version ∷ drop left whole
-  split =
-      let e : next + 1 ≡ left = omega arith in
-      drop_more whole next no_version (omega (arith, was.order, was.inside)) ∙ ap (λ (k : ℕ). get_or whole next no_version ∷ drop k whole) e
+  split = grind (arith, drop_more)
 
   hidden_now : (p : ℕ) → p < 64 * length new → is_seen new p ≡ hides t p (drop next whole)
   hidden_now p below =
@@ -39,11 +37,7 @@ module _ (whole versions : List Version) (old new : List ℕ) (t left kept next 
 
   -- what the look says is whether it still shows
   pub shows_is : (nat_lt t (get_or versions next no_version).number || list_any (λ p. not (is_seen old p)) (range_with_len (get_or versions next no_version).off (get_or versions next no_version).len)) ≡ still_shows t (get_or whole next no_version) (drop left whole)
-  shows_is =
-      let fits : (get_or whole next no_version).off + (get_or whole next no_version).len ≤ 64 * length old = within next (omega (arith, was.order, was.inside)) in
-      ap (λ (v : Version). nat_lt t v.number || list_any (λ p. not (is_seen old p)) (range_with_len v.off v.len)) it_is
-      ∙ ap (λ (b : Bool). nat_lt t (get_or whole next no_version).number || b)
-      (any_same (λ p. not (is_seen old p)) (λ p. not (hides t p (drop left whole))) (get_or whole next no_version).off (get_or whole next no_version).len (λ p from to. ap not (was.hidden p (omega (arith, fits, to)))))
+  shows_is = search (rules, arith, not, it_is, any_same)
 
   pub gathered_kept : (place : ℕ) → place ≡ kept - 1 → (nat_lt t (get_or versions next no_version).number || list_any (λ p. not (is_seen old p)) (range_with_len (get_or versions next no_version).off (get_or versions next no_version).len)) ≡ true
       → IsGathered whole (set versions place (get_or versions next no_version)) new t next place

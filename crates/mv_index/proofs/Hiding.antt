@@ -1,5 +1,5 @@
 -- What it means that a version is hidden.
-use Rattle.mv_index.proofs.{Words.{◌≡◌, ◌≢◌, ◌∙◌, refl, ap, ℕ, zero, suc, ◌+◌, ◌<◌, ◌≤◌, Bool, true, false, ◌&&◌, ◌||◌, not, nat_le, nat_lt, List, [], ◌∷◌, length, get_or, arith, list_any, range_with_len, and_parts, leb-true, ltb-true, ltb-false, le-leb, le-ltb, Version, IsHidden, has, hides, no_version, still_shows, or-true}, Again.{hidden_at, or_parts}, Orders.has_it}
+use Rattle.mv_index.proofs.{Words.{◌≡◌, ◌≢◌, ◌∙◌, refl, ap, ℕ, zero, suc, ◌+◌, ◌<◌, ◌≤◌, Bool, true, false, ◌&&◌, ◌||◌, not, nat_le, nat_lt, List, [], ◌∷◌, length, get_or, arith, list_any, range_with_len, ltb-false, le-ltb, Version, IsHidden, has, hides, no_version, still_shows, or-true}, Again.{hidden_at, or_parts}, Orders.has_it}
 
 -- a later version that has the byte
 pub record IsCover (t p : ℕ) (later : List Version) (i : ℕ) : Type 0 where
@@ -9,10 +9,7 @@ pub record IsCover (t p : ℕ) (later : List Version) (i : ℕ) : Type 0 where
   pub to : p < (get_or later i no_version).off + (get_or later i no_version).len
 
 cover_step : (t p : ℕ) (v : Version) (later : List Version) → (hides t p later ≡ true → (i : ℕ) × IsCover t p later i) → (b : Bool) → (nat_le v.number t && has p v) ≡ b → (b || hides t p later) ≡ true → (i : ℕ) × IsCover t p (v ∷ later) i
-cover_step t p v later rest true is any =
-    let both = and_parts (nat_le v.number t) (has p v) is in
-    let ends = and_parts (nat_le v.off p) (nat_lt p (v.off + v.len)) both.1 in
-    (0, record { below = omega arith; upto = leb-true v.number t both.0; from = leb-true v.off p ends.0; to = ltb-true p (v.off + v.len) ends.1 })
+cover_step t p v later rest true is any = grind arith
 cover_step t p v later rest false is any =
     let one = rest any in
     (suc one.0, record { below = omega (arith, one.1.below); upto = one.1.upto; from = one.1.from; to = one.1.to })
@@ -23,17 +20,13 @@ cover_of t p (v ∷ later) any = cover_step t p v later (cover_of t p later) (na
 
 hides_of : (t p i : ℕ) (later : List Version) → IsCover t p later i → hides t p later ≡ true
 hides_of t p i [] one = absurd (omega (arith, one.below))
-hides_of t p zero (v ∷ later) one =
-    let under : nat_le v.number t ≡ true = le-leb v.number t one.upto in
-    let own : has p v ≡ true = has_it p v one.from one.to in
-    λ k. (under k && own k) || hides t p later
+hides_of t p zero (v ∷ later) one = grind (arith, has_it)
 hides_of t p (suc i) (v ∷ later) one =
     let rest : hides t p later ≡ true = hides_of t p i later (record { below = omega (arith, one.below); upto = one.upto; from = one.from; to = one.to }) in
     ap (λ (b : Bool). (nat_le v.number t && has p v) || b) rest ∙ or-true (nat_le v.number t && has p v)
 
 is_false : (b : Bool) → b ≢ true → b ≡ false
-is_false true wrong = absurd (wrong refl)
-is_false false wrong = refl
+is_false b wrong = grind arith
 
 not_both : (b : Bool) → b ≡ false → b ≢ true
 not_both true is wrong = cc

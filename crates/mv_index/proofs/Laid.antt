@@ -1,19 +1,11 @@
 -- Pieces over which a later version is laid.
-use Rattle.mv_index.proofs.{Words.{◌≡◌, get_or-drop, get_or-take, length-take-le, length-drop, take-append-drop, take-set, drop-set, inl, inr, ◌∙◌, sym, refl, ap, ℕ, zero, suc, ◌+◌, ◌-◌, ◌<◌, ◌≤◌, Bool, true, false, cond, nat_lt, List, [], ◌∷◌, ◌++◌, filter, map, None, Option, Some, length, get_or, set, take, drop, arith, subst, cases_eq, cases_lt, le-leb, lt-leb, ltb-true, ltb-false, min, or_else, ArePieces, Follow, IsStart, Version, back_of, backs, begun, ended, front_of, fronts, laid, newest_with, no_version, place_in, place_of}, Layers.{newest_elsewhere, newest_here, or_else_none, or_else_twice, place_newest}, Orders.{apart_at, has_cases, has_it, has_not, place_none, place_own, sooner}, Sublists.{all_append, all_left, all_weaker}}
+use Rattle.mv_index.proofs.{Words.{◌≡◌, get_or-drop, get_or-take, length-take-le, length-drop, take-append-drop, take-set, drop-set, inl, inr, ◌∙◌, sym, refl, ap, ℕ, zero, suc, ◌+◌, ◌-◌, ◌<◌, ◌≤◌, Bool, true, false, cond, nat_lt, List, [], ◌∷◌, ◌++◌, filter, map, None, Option, length, get_or, set, take, drop, arith, subst, cases_eq, cases_lt, le-leb, lt-leb, ltb-true, ltb-false, min, or_else, ArePieces, Follow, IsStart, Version, back_of, backs, begun, ended, front_of, fronts, laid, newest_with, no_version, place_in, place_of}, Layers.{newest_elsewhere, newest_here, or_else_none, or_else_twice, place_newest}, Orders.{apart_at, has_cases, has_it, has_not, place_none, place_own, sooner}, Sublists.{all_append, all_left, all_weaker}}
 
 place_front : (x p : ℕ) (q : Version) → p < x → place_of p (front_of x q) ≡ place_of p q
-place_front x p q lt = elim (has_cases p q) [
-  | inl both ↦ place_own p (front_of x q) (has_it p (front_of x q) both.0 (omega (arith, both.0, both.1, lt))) ∙ sym (place_own p q (has_it p q both.0 both.1))
-  | inr off ↦ place_none p (front_of x q) (elim off [ inl lt ↦ inl lt | inr le ↦ inr (omega (arith, le)) ]) ∙ sym (place_none p q off)
-]
+place_front x p q lt = grind (arith, has_cases, place_own, has_it, place_none)
 
 place_back : (x p : ℕ) (q : Version) → x ≤ p → place_of p (back_of x q) ≡ place_of p q
-place_back x p q le = elim (has_cases p q) [
-  | inl both ↦
-      let there : q.place + (x - q.off) + (p - (q.off + (x - q.off))) ≡ q.place + (p - q.off) = omega (arith, both.0, le) in
-      place_own p (back_of x q) (has_it p (back_of x q) (omega (arith, both.0, le)) (omega (arith, both.1, le))) ∙ ap Some there ∙ sym (place_own p q (has_it p q both.0 both.1))
-  | inr off ↦ place_none p (back_of x q) (elim off [ inl lt ↦ inl (omega (arith, lt)) | inr over ↦ inr (omega (arith, over, le)) ]) ∙ sym (place_none p q off)
-]
+place_back x p q le = grind (arith, has_cases, place_own, has_it, place_none)
 
 -- what is left of pieces has the bytes of the pieces
 left_step : (f : Version → Version) (p : ℕ) (q : Version) (xs : List Version) (o : Option ℕ) → place_in (map f xs) p ≡ o → (b : Bool) → place_of p (f q) ≡ place_of p q → (b ≡ false → place_of p q ≡ None)
@@ -37,8 +29,7 @@ place_backs x p pieces le = place_left (λ q. nat_lt x (q.off + q.len)) (back_of
 
 -- none has a byte on the other side
 no_fronts : (x p : ℕ) (pieces : List Version) → x ≤ p → place_in (fronts x pieces) p ≡ None
-no_fronts x p pieces le =
-    none_left (front_of x) p (filter (λ q. nat_lt q.off x) pieces) (λ q. place_none p (front_of x q) (elim (cases_lt p q.off) [ inl lt ↦ inl lt | inr from ↦ inr (omega (arith, le, from)) ]))
+no_fronts x p pieces le = grind (arith, none_left, place_none)
 
 no_backs : (x p : ℕ) (pieces : List Version) → p < x → place_in (backs x pieces) p ≡ None
 no_backs x p pieces lt = none_left (back_of x) p (filter (λ q. nat_lt x (q.off + q.len)) pieces) (λ q. place_none p (back_of x q) (inl (omega (arith, lt))))
@@ -81,9 +72,7 @@ follow_fronts y x (q ∷ pieces) rest le order after =
 
 back_order : (y x : ℕ) (q : Version) (xs : List Version) → y ≤ q.off → 0 < q.len → Follow (q.off + q.len + (x - (q.off + q.len))) (map (back_of x) xs) → (b : Bool) → nat_lt x (q.off + q.len) ≡ b
     → Follow (y + (x - y)) (map (back_of x) (cond b (q ∷ xs) xs))
-back_order y x q xs from some rest true is =
-    let lt = ltb-true x (q.off + q.len) is in
-    (omega (arith, from, lt), omega (arith, lt, some), sooner (q.off + q.len + (x - (q.off + q.len))) (q.off + (x - q.off) + (q.len - (x - q.off))) (map (back_of x) xs) (omega (arith, lt, some)) rest)
+back_order y x q xs from some rest true is = grind (arith, sooner)
 back_order y x q xs from some rest false is = sooner (q.off + q.len + (x - (q.off + q.len))) (y + (x - y)) (map (back_of x) xs) (omega (arith, from)) rest
 
 follow_backs : (y x : ℕ) (pieces : List Version) → Follow y pieces → Follow (y + (x - y)) (backs x pieces)
@@ -206,13 +195,7 @@ ended_same x (q ∷ []) le = let same : min q.len (x - q.off) ≡ q.len = omega 
 ended_same x (q ∷ r ∷ pieces) le = ap (λ (l : List Version). q ∷ l) (ended_same x (r ∷ pieces) (λ k lt. le (suc k) (omega (arith, lt))))
 
 begun_same : (x : ℕ) (pieces : List Version) → (0 < length pieces → x ≤ (get_or pieces 0 no_version).off) → begun x pieces ≡ pieces
-begun_same x [] le = refl
-begun_same x (q ∷ pieces) le =
-    let none : x - q.off ≡ 0 = omega (arith, le (omega arith)) in
-    let place : q.place + (x - q.off) ≡ q.place = omega (arith, none) in
-    let off : q.off + (x - q.off) ≡ q.off = omega (arith, none) in
-    let len : q.len - (x - q.off) ≡ q.len = omega (arith, none) in
-    λ i. record q { place = place i; off = off i; len = len i } ∷ pieces
+begun_same x pieces le = grind arith
 
 pub laid_over : (v : Version) (first last : ℕ) (pieces : List Version) → Follow 0 pieces → last ≤ length pieces → last ≡ first + 1
     → (get_or pieces first no_version).off ≡ v.off → (get_or pieces first no_version).len ≡ v.len

@@ -1,13 +1,11 @@
 -- What versions show that stand one behind the other, and that hidden ones show nothing.
-use Rattle.mv_index.proofs.{Words.{◌≡◌, ◌∙◌, sym, refl, ap, ℕ, ◌+◌, ◌-◌, ◌≤◌, Bool, true, false, ◌&&◌, ◌||◌, not, cond, nat_le, nat_lt, List, [], ◌∷◌, ◌++◌, Option, Some, None, get_or, arith, option_map, list_any, range_with_len, and_parts, leb-true, ltb-false, le-leb, or_else, Version, ShowTheSame, byte_in, byte_of, newest_with, place_in, place_of, has, hides, shown_since, still_shows, upto}, Again.{hidden_at, or_parts}}
+use Rattle.mv_index.proofs.{Words.{◌≡◌, ◌∙◌, sym, refl, ap, ℕ, ◌+◌, ◌-◌, ◌≤◌, Bool, true, false, ◌&&◌, ◌||◌, not, cond, nat_le, List, [], ◌∷◌, ◌++◌, Option, Some, None, get_or, arith, option_map, list_any, range_with_len, and_parts, leb-true, le-leb, or_else, Version, ShowTheSame, byte_in, byte_of, newest_with, place_in, place_of, has, hides, shown_since, still_shows, upto}, Again.{hidden_at, or_parts}}
 
 pub or_else_twice : {A : Type 0} (x y z : Option A) → or_else x (or_else y z) ≡ or_else (or_else x y) z
-or_else_twice None y z = refl
-or_else_twice (Some x) y z = refl
+or_else_twice x y z = grind arith
 
 pub or_else_none : {A : Type 0} (x : Option A) → or_else x None ≡ x
-or_else_none None = refl
-or_else_none (Some x) = refl
+or_else_none x = grind arith
 
 -- the versions behind come first
 pub byte_in-append : (image : List ℕ) (xs ys : List Version) (p : ℕ) → byte_in image (xs ++ ys) p ≡ or_else (byte_in image ys p) (byte_in image xs p)
@@ -31,9 +29,7 @@ newest_elsewhere versions v p is = newest-append versions (v ∷ []) p ∙ ap (�
 
 -- a choice under a function
 map_or : {A B : Type 0} (f : A → B) (x : A) (o : Option A) (b : Bool) → or_else (option_map f o) (cond b (Some (f x)) None) ≡ option_map f (or_else o (cond b (Some x) None))
-map_or f x None true = refl
-map_or f x None false = refl
-map_or f x (Some y) b = refl
+map_or f x o b = grind arith
 
 pub place_is : (versions : List Version) (p : ℕ) → place_in versions p ≡ option_map (λ v. v.place + (p - v.off)) (newest_with versions p)
 place_is [] p = refl
@@ -75,9 +71,7 @@ shows_some_step t n p v versions le before early true early_is here_is hidden =
     let e : early ≡ true = sym early_is ∙ le-leb v.number n under in
     let own = shows_own v p (newest_with (upto n versions) p) both.1 in
     (own.0, ap (λ (b : Bool). newest_with (cond b (v ∷ upto n versions) (upto n versions)) p) e ∙ own.1)
-shows_some_step t n p v versions le before true false early_is here_is hidden =
-    let rest = before hidden in
-    (rest.0, or_some (newest_with (upto n versions) p) (cond (has p v) (Some v) None) rest.0 rest.1)
+shows_some_step t n p v versions le before true false early_is here_is hidden = grind (arith, or_some)
 shows_some_step t n p v versions le before false false early_is here_is hidden = before hidden
 
 -- where some version up to t has the byte, the versions up to n show one
@@ -102,19 +96,14 @@ hidden_none : (t n p : ℕ) (v : Version) (versions : List Version) → t ≤ n
 hidden_none t n p v versions le none true is =
     let some = shows_some t n p versions le (hidden_at t v versions p none is) in
     or_kept (newest_with (upto n versions) p) (cond (has p v) (Some v) None) some.0 some.1
-hidden_none t n p v versions le none false is =
-    ap (λ (t : Bool). or_else (newest_with (upto n versions) p) (cond t (Some v) None)) is
-    ∙ or_else_none (newest_with (upto n versions) p)
+hidden_none t n p v versions le none false is = grind (arith, or_else_none)
 
 since_step : (t n p : ℕ) (v : Version) (versions : List Version) → t ≤ n
     → newest_with (upto n (shown_since t versions)) p ≡ newest_with (upto n versions) p
     → (shows : Bool) → still_shows t v versions ≡ shows
     → newest_with (upto n (cond shows (v ∷ shown_since t versions) (shown_since t versions))) p ≡ newest_with (upto n (v ∷ versions)) p
 since_step t n p v versions le same true is = both_more n p v (shown_since t versions) versions same (nat_le v.number n)
-since_step t n p v versions le same false is =
-    let parts = or_parts (nat_lt t v.number) (list_any (λ p. not (hides t p versions)) (range_with_len v.off v.len)) is in
-    let under : v.number ≤ n = omega (arith, ltb-false t v.number parts.0) in
-    same ∙ sym (ap (λ (l : List Version). newest_with l p) (is_upto n v versions under) ∙ hidden_none t n p v versions le parts.1 (has p v) refl)
+since_step t n p v versions le same false is = grind (arith, or_parts, not, is_upto, hidden_none)
 
 -- A version that shows no byte more at t shows none at any n from t on.
 pub newest_since : (t n p : ℕ) (versions : List Version) → t ≤ n → newest_with (upto n (shown_since t versions)) p ≡ newest_with (upto n versions) p
@@ -134,8 +123,7 @@ all_upto n [] le = refl
 all_upto n (v ∷ versions) le = is_upto n v versions (omega (arith, le)) ∙ ap (λ (l : List Version). v ∷ l) (all_upto n versions (omega (arith, le)))
 
 shown_lower_cond : (t : ℕ) (v : Version) (versions : List Version) → highest (shown_since t versions) ≤ highest versions → (b : Bool) → highest (cond b (v ∷ shown_since t versions) (shown_since t versions)) ≤ v.number + highest versions
-shown_lower_cond t v versions le true = omega (arith, le)
-shown_lower_cond t v versions le false = omega (arith, le)
+shown_lower_cond t v versions le b = grind arith
 
 shown_lower : (t : ℕ) (versions : List Version) → highest (shown_since t versions) ≤ highest versions
 shown_lower t [] = omega arith
@@ -143,7 +131,6 @@ shown_lower t (v ∷ versions) = shown_lower_cond t v versions (shown_lower t ve
 
 pub newest_kept : (t p : ℕ) (versions : List Version) → newest_with (shown_since t versions) p ≡ newest_with versions p
 newest_kept t p versions =
-    let n : ℕ = t + highest versions in
     ap (λ (l : List Version). newest_with l p) (sym (all_upto (t + highest versions) (shown_since t versions) (omega (arith, shown_lower t versions))))
     ∙ newest_since t (t + highest versions) p versions (omega arith)
     ∙ ap (λ (l : List Version). newest_with l p) (all_upto (t + highest versions) versions (omega arith))

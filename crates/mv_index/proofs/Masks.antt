@@ -30,7 +30,4 @@ any_from f a (suc n) first from to none found = elim (cases_lt a first) [
 -- a stretch that is marked may begin at the first byte that was not
 pub widened : (off first end p : ℕ) (seen : Bool) → off ≤ first → (off ≤ p → p < first → seen ≡ true) → ((nat_le first p && nat_lt p end) || seen) ≡ ((nat_le off p && nat_lt p end) || seen)
 widened off first end p true le done = or-true (nat_le first p && nat_lt p end) ∙ sym (or-true (nat_le off p && nat_lt p end))
-widened off first end p false le done = elim (cases_lt p first) [
-  | inl before ↦ (let out : p < off = elim (cases_lt p off) [ inl under ↦ under | inr from ↦ absurd (cc (done from before)) ] in grind (arith, nat_tests))
-  | inr from ↦ grind (arith, nat_tests)
-]
+widened off first end p false le done = grind arith

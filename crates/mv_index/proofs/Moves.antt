@@ -1,5 +1,5 @@
 -- Versions that are moved show what they showed, and their pieces are moved with them.
-use Rattle.mv_index.proofs.{Words.{◌≡◌, ◌⊎◌, inl, inr, ◌∙◌, sym, refl, ap, ℕ, suc, ◌+◌, ◌-◌, ◌^◌, ◌<◌, ◌≤◌, Bool, true, false, cond, nat_lt, List, [], ◌∷◌, None, Option, Some, length, map, get_or, arith, option_map, AllByRecursion, filter, cases_eq, cases_lt, le-leb, lt-leb, ltb-true, or_else, AreSplit, ArePieces, Follow, IsRow, IsStart, AllLie, Lies, Version, moved, moved_to, newest_with, no_version, place_in, has}, Layers.{or_else_none, place_is}, Orders.{has_it, inside_of, none_before, some_at, sooner}, Showing.{IsFrom, from_piece, newest_in}, Sublists.{Rises, all_at, all_left, all_of, rise_of, rises_of}}
+use Rattle.mv_index.proofs.{Words.{◌≡◌, ◌⊎◌, inl, inr, ◌∙◌, sym, refl, ap, ℕ, suc, ◌+◌, ◌-◌, ◌^◌, ◌<◌, ◌≤◌, Bool, true, false, cond, nat_lt, List, [], ◌∷◌, None, Option, Some, length, map, get_or, arith, option_map, AllByRecursion, filter, cases_eq, cases_lt, lt-leb, ltb-true, or_else, AreSplit, ArePieces, Follow, IsRow, IsStart, AllLie, Lies, Version, moved, moved_to, newest_with, no_version, place_in, has}, Layers.{or_else_none, place_is}, Orders.{has_it, inside_of, none_before, some_at, sooner}, Showing.{IsFrom, from_piece, newest_in}, Sublists.{Rises, all_at, all_left, all_of, rise_of, rises_of}}
 
 abbrev kept : ℕ → List Version → List Version
 kept from versions = filter (λ v. nat_lt from v.place) versions
@@ -47,9 +47,7 @@ stays_step : (from to : ℕ) (v : Version) (N : Option Version) (h : Bool) → n
     → or_else (option_map (moved from to) (if_behind from N)) (cond h (Some (moved from to v)) None) ≡ option_map (moved from to) (if_behind from (or_else N (cond h (Some v) None)))
 stays_step from to v None true behind clear = sym (ap (λ (b : Bool). option_map (moved from to) (cond b (Some v) None)) behind)
 stays_step from to v None false behind clear = refl
-stays_step from to v (Some w) true behind clear =
-    let is = le-leb (suc from) w.place (omega (arith, clear w refl refl)) in
-    ap (λ (b : Bool). or_else (option_map (moved from to) (cond b (Some w) None)) (Some (moved from to v))) is ∙ sym (ap (λ (b : Bool). option_map (moved from to) (cond b (Some w) None)) is)
+stays_step from to v (Some w) true behind clear = grind arith
 stays_step from to v (Some w) false behind clear = or_else_none (option_map (moved from to) (if_behind from (Some w)))
 
 drops_step : (from : ℕ) (v : Version) (N : Option Version) → nat_lt from v.place ≡ false → (h : Bool) → if_behind from N ≡ if_behind from (or_else N (cond h (Some v) None))
@@ -60,8 +58,7 @@ drops_step from v (Some w) before h = refl
 newest_step : (from to p : ℕ) (v : Version) (xs : List Version) (N : Option Version) → newest_with (map (moved from to) xs) p ≡ option_map (moved from to) (if_behind from N)
     → ((w : Version) → from < v.place → has p v ≡ true → N ≡ Some w → from < w.place) → (b : Bool) → nat_lt from v.place ≡ b
     → newest_with (map (moved from to) (cond b (v ∷ xs) xs)) p ≡ option_map (moved from to) (if_behind from (or_else N (cond (has p v) (Some v) None)))
-newest_step from to p v xs N rest clear true is =
-    ap (λ (o : Option Version). or_else o (cond (has p v) (Some (moved from to v)) None)) rest ∙ stays_step from to v N (has p v) is (λ w. clear w (ltb-true from v.place is))
+newest_step from to p v xs N rest clear true is = grind (arith, stays_step)
 newest_step from to p v xs N rest clear false is = rest ∙ ap (option_map (moved from to)) (drops_step from v N is (has p v))
 
 newest_moved : (from to p : ℕ) (versions : List Version) → IsClear from versions → newest_with (moved_to from to versions) p ≡ option_map (moved from to) (if_behind from (newest_with versions p))
@@ -69,8 +66,7 @@ newest_moved from to p [] clear = refl
 newest_moved from to p (v ∷ versions) clear = newest_step from to p v (kept from versions) (newest_with versions p) (newest_moved from to p versions clear.1) (clear.0 p) (nat_lt from v.place) refl
 
 moved_is : (from to p : ℕ) (versions : List Version) (v : Version) → IsClear from versions → newest_with versions p ≡ Some v → from < v.place → newest_with (moved_to from to versions) p ≡ Some (moved from to v)
-moved_is from to p versions v clear is behind =
-    newest_moved from to p versions clear ∙ ap (λ (o : Option Version). option_map (moved from to) (if_behind from o)) is ∙ ap (λ (b : Bool). option_map (moved from to) (cond b (Some v) None)) (le-leb (suc from) v.place (omega (arith, behind)))
+moved_is from to p versions v clear is behind = grind (arith, newest_moved)
 
 -- a version that has one byte, and is the last one with another
 none_step : (v : Version) (o : Option Version) (b : Bool) → or_else o (cond b (Some v) None) ≡ None → (o ≡ None) × (b ≡ false)
@@ -99,14 +95,8 @@ IsApart from v = (v.place + v.len ≤ from) ⊎ (from < v.place)
 
 shift_step : (from to p : ℕ) (v : Version) → IsApart from v → (v.off ≤ p) × (p < v.off + v.len)
     → option_map (λ (w : Version). w.place + (p - w.off)) (option_map (moved from to) (if_behind from (Some v))) ≡ shifted from to (Some (v.place + (p - v.off)))
-shift_step from to p v (inl before) own =
-    ap (λ (b : Bool). option_map (λ (w : Version). w.place + (p - w.off)) (option_map (moved from to) (cond b (Some v) None))) (lt-leb (suc from) v.place (omega (arith, before, own)))
-    ∙ sym (ap (λ (b : Bool). cond b (Some (to + (v.place + (p - v.off) - from))) None) (lt-leb (suc from) (v.place + (p - v.off)) (omega (arith, before, own))))
-shift_step from to p v (inr behind) own =
-    let there : to + (v.place - from) + (p - v.off) ≡ to + (v.place + (p - v.off) - from) = omega (arith, behind) in
-    ap (λ (b : Bool). option_map (λ (w : Version). w.place + (p - w.off)) (option_map (moved from to) (cond b (Some v) None))) (le-leb (suc from) v.place (omega (arith, behind)))
-    ∙ ap Some there
-    ∙ sym (ap (λ (b : Bool). cond b (Some (to + (v.place + (p - v.off) - from))) None) (le-leb (suc from) (v.place + (p - v.off)) (omega (arith, behind))))
+shift_step from to p v (inl before) own = grind arith
+shift_step from to p v (inr behind) own = grind arith
 
 place_step : (from to p : ℕ) (versions : List Version) → AllByRecursion (IsApart from) versions → (N : Option Version) → newest_with versions p ≡ N
     → option_map (λ (w : Version). w.place + (p - w.off)) (option_map (moved from to) (if_behind from N)) ≡ shifted from to (option_map (λ (w : Version). w.place + (p - w.off)) N)

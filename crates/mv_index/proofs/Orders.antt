@@ -1,21 +1,15 @@
 -- Pieces in order: no byte is in two of them.
-use Rattle.mv_index.proofs.Words.{◌≡◌, ◌⊎◌, inl, inr, ◌∙◌, sym, refl, ap, ℕ, zero, suc, ◌+◌, ◌-◌, ◌<◌, ◌≤◌, Bool, true, false, ◌&&◌, cond, nat_le, nat_lt, List, [], ◌∷◌, None, Option, Some, length, get_or, arith, count_by, cases_eq, cases_lt, le-leb, lt-leb, sum_by-cons, or_else, Follow, IsNonDecreasingBy, Version, has, no_version, place_in, place_of, and-false}
+use Rattle.mv_index.proofs.Words.{◌≡◌, ◌⊎◌, inl, inr, ◌∙◌, sym, refl, ap, ℕ, zero, suc, ◌+◌, ◌-◌, ◌<◌, ◌≤◌, Bool, true, false, ◌&&◌, cond, List, [], ◌∷◌, None, Option, Some, length, get_or, arith, count_by, cases_eq, cases_lt, le-leb, sum_by-cons, or_else, Follow, IsNonDecreasingBy, Version, has, no_version, place_in, place_of, and-false}
 
 -- a version has a byte, or has it not
 pub has_it : (p : ℕ) (v : Version) → v.off ≤ p → p < v.off + v.len → has p v ≡ true
 has_it p v from to = λ i. le-leb v.off p from i && le-leb (suc p) (v.off + v.len) to i
 
 pub has_not : (p : ℕ) (v : Version) → (p < v.off) ⊎ (v.off + v.len ≤ p) → has p v ≡ false
-has_not p v off = elim off [
-  | inl lt ↦ ap (λ (b : Bool). b && nat_lt p (v.off + v.len)) (lt-leb v.off p lt)
-  | inr le ↦ ap (λ (b : Bool). nat_le v.off p && b) (lt-leb (suc p) (v.off + v.len) (omega (arith, le))) ∙ and-false (nat_le v.off p)
-]
+has_not p v off = grind (arith, and-false)
 
 pub has_cases : (p : ℕ) (v : Version) → ((v.off ≤ p) × (p < v.off + v.len)) ⊎ ((p < v.off) ⊎ (v.off + v.len ≤ p))
-has_cases p v = elim (cases_lt p v.off) [
-  | inl lt ↦ inr (inl lt)
-  | inr from ↦ elim (cases_lt p (v.off + v.len)) [ inl to ↦ inl (from, to) | inr le ↦ inr (inr le) ]
-]
+has_cases p v = grind arith
 
 pub inside_of : (p : ℕ) (v : Version) → has p v ≡ true → (v.off ≤ p) × (p < v.off + v.len)
 inside_of p v own = elim (has_cases p v) [ inl both ↦ both | inr off ↦ (let wrong : true ≡ false = sym own ∙ has_not p v off in cc) ]
@@ -38,8 +32,7 @@ none_before x p (q ∷ pieces) order lt =
     (λ i. or_else (rest.0 i) (cond (off i) (Some (q.place + (p - q.off))) None), sum_by-cons (λ (v : Version). cond (has p v) 1 0) q pieces ∙ (λ i. cond (off i) 1 0 + rest.1 i))
 
 at_most_one : (b : Bool) → cond b 1 0 ≤ 1
-at_most_one true = omega arith
-at_most_one false = omega arith
+at_most_one b = grind arith
 
 pub once : (x p : ℕ) (pieces : List Version) → Follow x pieces → count_by (has p) pieces ≤ 1
 once x p [] order = omega arith

@@ -33,8 +33,7 @@ from_place P versions p x all is = from_step P versions p x all (newest_with ver
 -- the version that shows a byte of a piece
 pub from_piece : (P : Version → Type 0) (pieces versions : List Version) (i p : ℕ) → AllByRecursion P versions → ArePieces pieces versions → i < length pieces → (get_or pieces i no_version).off ≤ p → p < (get_or pieces i no_version).off + (get_or pieces i no_version).len
     → IsFrom P versions p ((get_or pieces i no_version).place + (p - (get_or pieces i no_version).off))
-from_piece P pieces versions i p all are below from to =
-    from_place P versions p ((get_or pieces i no_version).place + (p - (get_or pieces i no_version).off)) all (sym (are.place p) ∙ own_at 0 p i pieces are.order below (has_it p (get_or pieces i no_version) from to))
+from_piece P pieces versions i p all are below from to = grind (arith, from_place, own_at, has_it)
 
 -- Where the versions lie in an image, their pieces do.
 pub pieces_lie : (pieces versions : List Version) (block size : ℕ) → ArePieces pieces versions → AllLie block size versions → AllLie block size pieces

@@ -1,5 +1,5 @@
 -- How many bytes the parts of versions take, of one block and over all blocks.
-use Rattle.mv_index.proofs.{Words.{◌≡◌, inl, inr, ◌∙◌, sym, refl, ap, ℕ, zero, suc, ◌+◌, ◌<◌, ◌≤◌, ◌==◌, Bool, true, false, not, cond, nat_lt, List, [], ◌∷◌, ◌++◌, length, sum_by, arith, AllByRecursion, filter, list_any, range_with_len, cases_eq, eq-eqb, le-leb, le-ltb, ltb-false, ne_eqb, filter-append, sum_by-append, sum_by-cons, Run, Version, placed, version_of, hides, shown_since, still_shows, part_bytes_above}, Again.or_parts, Counts.{total, total_add, total_same, total_zero}}
+use Rattle.mv_index.proofs.{Words.{◌≡◌, inl, inr, ◌∙◌, sym, refl, ap, ℕ, zero, suc, ◌+◌, ◌<◌, ◌≤◌, ◌==◌, Bool, true, false, not, cond, nat_lt, List, [], ◌∷◌, ◌++◌, length, sum_by, arith, AllByRecursion, filter, cases_eq, eq-eqb, le-leb, le-ltb, ne_eqb, filter-append, sum_by-append, sum_by-cons, Run, Version, placed, version_of, shown_since, still_shows, part_bytes_above}, Again.or_parts, Counts.{total, total_add, total_same, total_zero}}
 
 -- how many bytes the part of one version takes
 abbrev pub weight : ℕ → Version → ℕ
@@ -13,18 +13,12 @@ pub weight_first : (n : ℕ) (v : Version) (xs : List Version) → part_bytes_ab
 weight_first n v xs = weight_cond v (filter (λ v. nat_lt n v.number) xs) (nat_lt n v.number)
 
 pub part_bytes_above-append : (n : ℕ) (xs ys : List Version) → part_bytes_above n (xs ++ ys) ≡ part_bytes_above n xs + part_bytes_above n ys
-part_bytes_above-append n xs ys =
-    ap (sum_by (λ (x : Version). 8 + x.len)) (filter-append (λ (v : Version). nat_lt n v.number) xs ys)
-    ∙ sum_by-append (λ (x : Version). 8 + x.len) (filter (λ (v : Version). nat_lt n v.number) xs) (filter (λ (v : Version). nat_lt n v.number) ys)
+part_bytes_above-append n xs ys = grind (arith, filter-append, sum_by-append)
 
 shown_cond : (t n : ℕ) (v : Version) (xs : List Version) → t ≤ n → part_bytes_above n (shown_since t xs) ≡ part_bytes_above n xs → (shows : Bool) → still_shows t v xs ≡ shows
     → part_bytes_above n (cond shows (v ∷ shown_since t xs) (shown_since t xs)) ≡ part_bytes_above n (v ∷ xs)
 shown_cond t n v xs le same true is = weight_first n v (shown_since t xs) ∙ ap (λ (k : ℕ). weight n v + k) same ∙ sym (weight_first n v xs)
-shown_cond t n v xs le same false is =
-    let parts = or_parts (nat_lt t v.number) (list_any (λ p. not (hides t p xs)) (range_with_len v.off v.len)) is in
-    let under : nat_lt n v.number ≡ false = le-ltb n v.number (omega (arith, ltb-false t v.number parts.0)) in
-    let none : weight n v ≡ 0 = ap (λ (b : Bool). cond b (8 + v.len) 0) under in
-    omega (arith, same, none, weight_first n v xs)
+shown_cond t n v xs le same false is = grind (arith, or_parts, not, weight_first)
 
 -- a trim drops none above its number
 pub part_bytes_above-shown_since : (t n : ℕ) (xs : List Version) → t ≤ n → part_bytes_above n (shown_since t xs) ≡ part_bytes_above n xs

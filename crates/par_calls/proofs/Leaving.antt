@@ -31,18 +31,7 @@ module _ (S : SecondStore) (lawful : IsSecond S) (second : SecondGoes S) (g : Ge
   does op.Stat es r own' isop of d = inr (stats S lawful second g valid C shape t told good es r own' d)
   does op.Compact es r own' isop of d = inr (compacts S lawful second g valid C shape t told good es r own' d)
   does op.Upgrade es r own' isop of d = inr (upgrades S lawful second g valid C shape t told good es r own' d)
-  does (op.HashPut key value) es r own' isop of d = inr (store_line S lawful second g valid C shape t told good (op.HashPut key value) tt isop tells all es r own' of d)
-  does (op.HashGet key) es r own' isop of d = inr (store_line S lawful second g valid C shape t told good (op.HashGet key) tt isop tells all es r own' of d)
-  does (op.HashDelete key) es r own' isop of d = inr (store_line S lawful second g valid C shape t told good (op.HashDelete key) tt isop tells all es r own' of d)
-  does (op.TreePut key value) es r own' isop of d = inr (store_line S lawful second g valid C shape t told good (op.TreePut key value) tt isop tells all es r own' of d)
-  does (op.TreeGet key) es r own' isop of d = inr (store_line S lawful second g valid C shape t told good (op.TreeGet key) tt isop tells all es r own' of d)
-  does (op.TreeDelete key) es r own' isop of d = inr (store_line S lawful second g valid C shape t told good (op.TreeDelete key) tt isop tells all es r own' of d)
-  does (op.TreeScan from to most) es r own' isop of d = inr (store_line S lawful second g valid C shape t told good (op.TreeScan from to most) tt isop tells all es r own' of d)
-  does (op.FileNew name) es r own' isop of d = inr (store_line S lawful second g valid C shape t told good (op.FileNew name) tt isop tells all es r own' of d)
-  does (op.FileWrite name off bytes) es r own' isop of d = inr (store_line S lawful second g valid C shape t told good (op.FileWrite name off bytes) tt isop tells all es r own' of d)
-  does (op.FileRead name off len) es r own' isop of d = inr (store_line S lawful second g valid C shape t told good (op.FileRead name off len) tt isop tells all es r own' of d)
-  does (op.FileMove from to) es r own' isop of d = inr (store_line S lawful second g valid C shape t told good (op.FileMove from to) tt isop tells all es r own' of d)
-  does (op.FileDelete name) es r own' isop of d = inr (store_line S lawful second g valid C shape t told good (op.FileDelete name) tt isop tells all es r own' of d)
+  does x es r own' isop of d = inr (store_line S lawful second g valid C shape t told good x tt isop tells all es r own' of d)
 
   pub with_tx : (x : Op) (es : List Entry) (r : Reply) (own' : Option Own) → IsOp x → AllByRecursion (IsOfArray C) es → Did g tells (Some t) x es (Ok r) own' → After x r own'
   with_tx x es r own' isop of (inl d) = does x es r own' isop of d

@@ -1,24 +1,9 @@
 -- The operations on stores of a client alone: one form for all of them.
-use Rattle.par_calls.proofs.{Words.{◌≡◌, refl, ap, ℕ, zero, suc, ◌-◌, ◌+◌, cond, List, [], ◌++◌, length, take, Some, AllByRecursion, Access, Geometry, MAX_ACCESSES, Array, own, all_own, with_accesses, Live, World, attached, Op, Reply, array_of, found_reply, in_store, in_transaction, pairs_reply, removed_reply, file_delete_step, file_move_step, file_new_step, file_read_step, file_write_step, hash_delete_step, hash_get_step, hash_put_step, step, store_step, tree_delete_step, tree_get_step, tree_put_step, tree_scan_step, FileAreas, create_program, read_program, remove_program, rename_program, write_program, filed, is_empty_scan, store_areas, store_blocks, store_ended, stored, Own, alone, blocks_read, live_of, Commit}, Agree.{Same, agrees}}
+use Rattle.par_calls.proofs.{Words.{IsOnStore, ◌≡◌, refl, ap, ℕ, zero, suc, ◌-◌, ◌+◌, cond, List, [], ◌++◌, length, take, Some, AllByRecursion, Access, Geometry, MAX_ACCESSES, Array, own, all_own, with_accesses, Live, World, attached, Op, Reply, array_of, found_reply, in_store, in_transaction, pairs_reply, removed_reply, file_delete_step, file_move_step, file_new_step, file_read_step, file_write_step, hash_delete_step, hash_get_step, hash_put_step, step, store_step, tree_delete_step, tree_get_step, tree_put_step, tree_scan_step, FileAreas, create_program, read_program, remove_program, rename_program, write_program, filed, is_empty_scan, store_areas, store_blocks, store_ended, stored, Own, alone, blocks_read, live_of, Commit}, Agree.{Same, agrees}}
 use Rattle.script_model.specs.declared.script.Op.TheVariants as op
 use Rattle.script_model.specs.declared.script.Reply.TheVariants as reply
 use Rattle.store_model.specs.HashCalls as hash
 use Rattle.store_model.specs.TreeCalls as tree
-
-abbrev pub CallsOne : Op → Type 0
-CallsOne (op.HashPut key value) = Unit {0}
-CallsOne (op.HashGet key) = Unit {0}
-CallsOne (op.HashDelete key) = Unit {0}
-CallsOne (op.TreePut key value) = Unit {0}
-CallsOne (op.TreeGet key) = Unit {0}
-CallsOne (op.TreeDelete key) = Unit {0}
-CallsOne (op.TreeScan from to most) = Unit {0}
-CallsOne (op.FileNew name) = Unit {0}
-CallsOne (op.FileWrite name off bytes) = Unit {0}
-CallsOne (op.FileRead name off len) = Unit {0}
-CallsOne (op.FileMove from to) = Unit {0}
-CallsOne (op.FileDelete name) = Unit {0}
-CallsOne x = ⊥
 
 abbrev pub ended_in : World → Live → Op → List Access × Reply
 ended_in W t x = store_ended (store_areas W.geometry x) x (MAX_ACCESSES - length t.accesses) (array_of W t)
@@ -31,7 +16,7 @@ acted W t x = ((ended_in W t x).1, with_accesses W t (t.accesses ++ (ended_in W 
 abbrev pub on_store : World → Live → Op → Reply × World
 on_store W t x = in_store W t (store_blocks W.geometry x) (cond (is_empty_scan x) (reply.BadRange, W) (acted W t x))
 
-pub stores_step : (W : World) (t : Live) (x : Op) → CallsOne x → attached W 1 ≡ Some t → step W 1 x ≡ on_store W t x
+pub stores_step : (W : World) (t : Live) (x : Op) → IsOnStore x → attached W 1 ≡ Some t → step W 1 x ≡ on_store W t x
 unfolding step hash_put_step hash_get_step hash_delete_step tree_put_step tree_get_step tree_delete_step tree_scan_step file_new_step file_write_step file_read_step file_move_step file_delete_step store_step
 stores_step W t (op.HashPut key value) is at = ap (λ o. in_transaction W o (λ u. hash_put_step W u key value)) at
 stores_step W t (op.HashGet key) is at = ap (λ o. in_transaction W o (λ u. hash_get_step W u key)) at

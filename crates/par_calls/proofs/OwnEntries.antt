@@ -175,18 +175,7 @@ module _ (g : Geometry) (tells : Bool) (r : Result Reply Stop) where
   does (Some t) op.Stat es own' d = stats (Some t) es own' d
   does (Some t) op.Compact es own' d = compacts (Some t) es own' d
   does (Some t) op.Upgrade es own' d = upgrades (Some t) es own' d
-  does (Some t) (op.HashPut key value) es own' d = stored _ t (op.HashPut key value) es own' d
-  does (Some t) (op.HashGet key) es own' d = stored _ t (op.HashGet key) es own' d
-  does (Some t) (op.HashDelete key) es own' d = stored _ t (op.HashDelete key) es own' d
-  does (Some t) (op.TreePut key value) es own' d = stored _ t (op.TreePut key value) es own' d
-  does (Some t) (op.TreeGet key) es own' d = stored _ t (op.TreeGet key) es own' d
-  does (Some t) (op.TreeDelete key) es own' d = stored _ t (op.TreeDelete key) es own' d
-  does (Some t) (op.TreeScan from to most) es own' d = stored _ t (op.TreeScan from to most) es own' d
-  does (Some t) (op.FileNew name) es own' d = stored _ t (op.FileNew name) es own' d
-  does (Some t) (op.FileWrite name off bytes) es own' d = stored _ t (op.FileWrite name off bytes) es own' d
-  does (Some t) (op.FileRead name off len) es own' d = stored _ t (op.FileRead name off len) es own' d
-  does (Some t) (op.FileMove from to) es own' d = stored _ t (op.FileMove from to) es own' d
-  does (Some t) (op.FileDelete name) es own' d = stored _ t (op.FileDelete name) es own' d
+  does (Some t) x es own' d = stored _ t x es own' d
   does None x es own' d = none_of None [] es d.0
 
   pub of_own : (own : Option Own) (x : Op) (es : List Entry) (own' : Option Own) → Did g tells own x es r own' → AreOfOwn own [] es

@@ -86,7 +86,7 @@ module _ (S : SecondStore) where
     noted_is : IsNoted S ⊥ 0 (sound g B o) (only told)
     noted_is = record {
       world = sound_is g B o valid shape good.accesses good.count;
-      each = (record { since = omega arith; made = λ kept. in_form S g 2 B o.accesses o.mode told (good.made kept); by_map = λ q. absurd q }, tt);
+      each = (record { since = omega arith; made = λ kept. in_form S g B o.accesses o.mode told (good.made kept) 2; by_map = λ q. absurd q }, tt);
       low = omega arith;
       by = λ q. absurd q;
       fresh = only_fresh told;
@@ -105,5 +105,5 @@ module _ (S : SecondStore) where
         record {
           accesses = accesses_in h g refl refl l at.world.live.0.accesses;
           count = at.world.live.0.count;
-          made = λ kept. in_form S h g.form B l o.mode (told_more S g op r o.accesses l told (S.answered op r)) (at.each.0.made kept);
+          made = λ kept. in_form S h B l o.mode (told_more S g op r o.accesses l told (S.answered op r)) (at.each.0.made kept) g.form;
         }

@@ -1,19 +1,8 @@
 -- What is known of the transactions of clients, of those under labels and of those that a line's looks found, at a place of the list.
-use Rattle.par_calls.proofs.{Words.{◌≡◌, ◌∙◌, sym, refl, ap, subst, ℕ, ◌<◌, ◌≤◌, Bool, true, false, cond, List, [], ◌∷◌, ◌++◌, bytes_eq, Option, Some, None, arith, AllByRecursion, lookup, remove_entry, Access, Geometry, Array, History, array_at, last, block_at, Live, Extends, Call, Cause, Entry, Posting, State, after_refusal, is_live, is_loose, posting_of, Follows, last_longer, fault_keeps, IsPosting, loose_is, Own, SecondStore, Told, array_extends, if_some, OfOwn}, Sound.IsGood}
+use Rattle.par_calls.proofs.{Words.{known_on, ◌≡◌, ◌∙◌, sym, refl, ap, subst, ℕ, ◌<◌, ◌≤◌, Bool, true, false, cond, List, [], ◌∷◌, ◌++◌, bytes_eq, Option, Some, None, arith, AllByRecursion, lookup, remove_entry, Access, Geometry, Array, History, array_at, last, block_at, Live, Extends, Call, Cause, Entry, Posting, State, after_refusal, is_live, is_loose, posting_of, Follows, last_longer, fault_keeps, IsPosting, loose_is, Own, SecondStore, Told, array_extends, if_some, OfOwn}, Sound.IsGood}
 use Rattle.iso_shared.specs.declared.entry.Cause.TheVariants as cause
 use Rattle.iso_shared.specs.declared.entry.Entry.TheVariants as entry
 use Rattle.iso_shared.specs.States.{live_of}
-
--- what is known of a transaction at a later place
-known_on : (U V : State) (p : Posting) → Follows U V → IsPosting U p → IsPosting V p
-known_on U V p f is =
-    let below : p.number < U.world.next = is.number in
-    let next : U.world.next ≤ V.world.next = f.next in
-    record {
-      number = omega arith;
-      begin = λ live. let was = f.live p.number below live in ap (λ (t : Live). t.begin) was.1 ∙ is.begin was.0;
-      mode = λ live. let was = f.live p.number below live in ap (λ (t : Live). t.mode) was.1 ∙ is.mode was.0;
-    }
 
 -- an entry that is no post, look or sweep leaves the labels
 pub refusal_keeps : (U : State) (c : Call) (why : Cause) → (after_refusal U c why).rack ≡ U.rack

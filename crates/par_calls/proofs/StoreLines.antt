@@ -1,5 +1,5 @@
 -- What is told of a client's transaction stays true by a line that calls a store.
-use Rattle.par_calls.proofs.{Words.{◌≡◌, ◌∙◌, sym, refl, ap, subst, ℕ, ◌-◌, ◌==◌, ◌&&◌, not, Bool, true, false, cond, eq-eqb, IsTrue, List, [], ◌∷◌, ◌++◌, length, map, Option, Some, None, Ok, append_cancel_left, AllByRecursion, Access, Geometry, MAX_ACCESSES, Array, is_serial, is_valid, HasShape, block_at, with_accesses, Live, World, Op, Reply, IsOp, in_store, step, FileAreas, is_empty_scan, store_areas, store_blocks, store_ended, Entry, CallsStore, Fetched, InStore, Own, Says, Where, alone, blocks_read, fetches, live_of, own_after, own_among, refused_fetch, SecondStore, Told, SecondGoes, IsSecond, written}, Agree.Same, Alike.{AreAlike, grows_same, stays, store_in, store_stays}, Lines.{IsNext, by_rules, says}, OnStores.{CallsOne, ended_agrees, shown_alone, stores_step}, Sound.{IsGood, as_first, second_form, sound}}
+use Rattle.par_calls.proofs.{Words.{IsOnStore, ◌≡◌, ◌∙◌, sym, refl, ap, subst, ℕ, ◌-◌, ◌==◌, ◌&&◌, not, Bool, true, false, cond, eq-eqb, IsTrue, List, [], ◌∷◌, ◌++◌, length, map, Option, Some, None, Ok, append_cancel_left, AllByRecursion, Access, Geometry, MAX_ACCESSES, Array, is_serial, is_valid, HasShape, block_at, with_accesses, Live, World, Op, Reply, IsOp, in_store, step, FileAreas, is_empty_scan, store_areas, store_blocks, store_ended, Entry, CallsStore, Fetched, InStore, Own, Says, Where, alone, blocks_read, fetches, live_of, own_after, own_among, refused_fetch, SecondStore, Told, SecondGoes, IsSecond, written}, Agree.Same, Alike.{AreAlike, grows_same, stays, store_in, store_stays}, Lines.{IsNext, by_rules, says}, OnStores.{ended_agrees, shown_alone, stores_step}, Sound.{IsGood, as_first, second_form, sound}}
 use Rattle.script_model.specs.declared.script.Op.TheVariants as op
 use Rattle.script_model.specs.declared.script.Reply.TheVariants as reply
 use Rattle.iso_shared.specs.declared.entry.Entry.TheVariants as entry
@@ -34,7 +34,7 @@ in_store_is W u blocks x there = by (blocks == 0) (is_serial u.mode) there
     by false false is = absurd (cc is)
 
 module _ (S : SecondStore) (lawful : IsSecond S) (second : SecondGoes S) (g : Geometry) (valid : IsTrue (is_valid g)) (C : Array) (shape : HasShape g C) (t : Own) (told : Told S) (good : IsGood S g C t told)
-    (x : Op) (calls : CallsOne x) (isop : IsOp x) where
+    (x : Op) (calls : IsOnStore x) (isop : IsOp x) where
   abbrev there : World
   there = sound g C t
 

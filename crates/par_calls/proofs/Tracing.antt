@@ -1,7 +1,7 @@
 -- What clients were told is a trace, in which the calls that their lines tell answer in order.
-use Rattle.par_calls.proofs.{Words.{◌≡◌, ◌∙◌, sym, refl, ap, subst, ℕ, zero, suc, ◌+◌, ◌≤◌, ◌==◌, ◌||◌, Bool, true, false, cond, List, [], ◌∷◌, ◌++◌, length, map, take, filter, is_some, append_assoc, None, arith, eq-eqb, eqb-true, AllByRecursion, list_any, range_with_len, Geometry, IsWorld, Line, AreLines, RisesFrom, Entry, IsIsolatedAt, Start, Part, ClientLines, FoundSome, entries_of, has_line, lines_of, lines_run, files_answer_at, stores_answer_at, files_second, tree_second, file_goes, tree_goes, the_files, the_tree, SecondStore, IsSecond, SecondGoes, AnswersWithAt, second_store, IsLegal, CallsAnswer, LinesTellCalls, Event, IsOfPart, IsOneOf, IsTrace, Runs, client_of, entries_in, events_of, lines_in}, Clients.{OfClient, client_events}, Events.{AreOps, ops_each, ops_lines, swapped}, Merging.{AreAmong, Dealt, IsDealt, IsMerged, IsOf, merged}, Placed.AreSweeps, Whole.calls_answer}
+use Rattle.par_calls.proofs.{Words.{◌≡◌, ◌∙◌, sym, refl, ap, subst, ℕ, zero, suc, ◌+◌, ◌≤◌, ◌==◌, ◌||◌, Bool, true, false, cond, List, [], ◌∷◌, ◌++◌, length, map, take, filter, is_some, append_assoc, None, arith, eq-eqb, eqb-true, AllByRecursion, list_any, Geometry, IsWorld, Line, AreLines, RisesFrom, Entry, IsIsolatedAt, Start, Part, ClientLines, FoundSome, entries_of, lines_of, lines_run, files_answer_at, stores_answer_at, files_second, tree_second, file_goes, tree_goes, the_files, the_tree, SecondStore, IsSecond, SecondGoes, AnswersWithAt, second_store, IsLegal, CallsAnswer, LinesTellCalls, Event, IsOfPart, IsOneOf, IsTrace, Runs, client_of, entries_in, events_of, lines_in}, Clients.{OfClient, client_events}, Events.{AreOps, ops_each, ops_lines, swapped}, Merging.{AreAmong, Dealt, IsDealt, IsMerged, IsOf, merged}, Placed.AreSweeps, Whole.calls_answer}
+use Rattle.par_script.{proofs.Owners.{clients_rise}, specs.Told.{Told}}
 use Rattle.iso_shared.specs.declared.entry.Entry.TheVariants as entry
-use Rattle.par_script.specs.Told.{Told}
 
 -- some of good lines are good
 good_filter : (q : ℕ × Line → Bool) (lines : List (ℕ × Line)) → AreLines lines → AreLines (filter q lines)
@@ -23,23 +23,6 @@ good_run lines p all = by (is_some p.stop) (good_filter (λ l. l.1.client == p.c
     by : (b : Bool) → AreLines (lines_of p.client lines) → AreLines (cond b (take (length p.told + 1) (lines_of p.client lines)) (lines_of p.client lines))
     by true mine = good_take (length p.told + 1) (lines_of p.client lines) mine
     by false mine = mine
-
--- the clients that have a line rise
-rises_less : (m n : ℕ) (xs : List ℕ) → m ≤ n → RisesFrom n xs → RisesFrom m xs
-rises_less m n [] less all = tt
-rises_less m n (x ∷ xs) less all = ((let from = all.0 in omega arith), all.1)
-
-rises_filter : (q : ℕ → Bool) (k : ℕ) (xs : List ℕ) → RisesFrom k xs → RisesFrom k (filter q xs)
-rises_filter q k [] all = tt
-rises_filter q k (x ∷ xs) all = by (q x) (rises_filter q (suc x) xs all.1)
-  where
-    by : (b : Bool) → RisesFrom (suc x) (filter q xs) → RisesFrom k (cond b (x ∷ filter q xs) (filter q xs))
-    by true rest = (all.0, rest)
-    by false rest = rises_less k (suc x) (filter q xs) (let from = all.0 in omega arith) rest
-
-rises_range : (k n : ℕ) → RisesFrom k (range_with_len k n)
-rises_range k zero = tt
-rises_range k (suc n) = let next : suc k ≡ k + 1 = omega arith in (omega arith, subst (λ m. RisesFrom (suc k) (range_with_len m n)) next (rises_range (suc k) n))
 
 or_false : (a b : Bool) → (a || b) ≡ false → (a ≡ false) × (b ≡ false)
 or_false true b is = absurd (cc is)
@@ -185,7 +168,7 @@ lines_tell A lines parts E sound none isolated good told =
     let one : IsMerged cs told.made V =
     merged cs told.owners told.made V told.each (all_any parts told.owners told.owned) (among_by g A.tells lines told.owners told.made parts all)
     (λ c. dealt_by g A.tells lines told.owners told.made parts all c (none_of parts c told.owners told.made told.owned)) in
-    let rises : RisesFrom 1 cs = subst (RisesFrom 1) (sym told.clients) (rises_filter (has_line lines) 1 (range_with_len 1 64) (rises_range 1 64)) in
+    let rises : RisesFrom 1 cs = subst (RisesFrom 1) (sym told.clients) (clients_rise lines) in
     record {
       events = one.events;
       trace = record {

@@ -1,5 +1,5 @@
 -- The store theorem of clients beside each other, by what their lines tell.
-use Rattle.par_calls.{proofs.Words.{◌≡◌, ◌∙◌, sym, refl, ap, subst, ℕ, ◌-◌, true, List, [], ◌∷◌, ◌++◌, append_assoc, None, Access, Committed, ReadOnly, Conflict, Geometry, History, array_at, HasShape, Extends, IsWorld, array_shape, Entry, MemberEnd, Fits, IsLegal, LegalFrom, Start, State, after_all, opened, state_at, follows_all, after_append, legal_append, opened_sound, AnswersWithAt, AreCallsInOrderAt, CommitsAreByCalls, commit_at, commits_as, world_at, IsOfBoth, ToldInOrder, SecondStore, image_hash, second_store, SecondGoes, IsSecond, begin_array, ToldByMap, IsTrue, OfReads, ReadsByMap, CallsAnswer, CommitsInOrder, CommitsKeep, OfCommits, no_notes, notes_after, Event, Made, Runs, entries_in, events_of, found_in}, specs.Notes.Notes, proofs.Events.{AreOps, entries_joined, ops_front}, proofs.Histories.history_all, proofs.Placed.{members_read, read_told, AreSweeps, IsTold, at_place, end_told, located, member_told, members_told}, proofs.Running.{IsAt, IsClientAt, by_client}}
+use Rattle.par_calls.{proofs.Words.{◌≡◌, ◌∙◌, sym, refl, ap, subst, ℕ, ◌-◌, true, List, [], ◌∷◌, ◌++◌, append_assoc, None, Access, Committed, ReadOnly, Geometry, History, array_at, HasShape, Extends, IsWorld, array_shape, Entry, MemberEnd, Fits, IsLegal, LegalFrom, Start, State, after_all, opened, state_at, follows_all, after_append, legal_append, opened_sound, AnswersWithAt, AreCallsInOrderAt, CommitsAreByCalls, commit_at, commits_as, world_at, IsOfBoth, ToldInOrder, SecondStore, image_hash, second_store, SecondGoes, IsSecond, begin_array, ToldByMap, IsTrue, OfReads, ReadsByMap, CallsAnswer, CommitsInOrder, CommitsKeep, OfCommits, no_notes, notes_after, Event, Made, Runs, entries_in, events_of, found_in}, specs.Notes.Notes, proofs.Events.{AreOps, entries_joined, ops_front}, proofs.Histories.history_all, proofs.Placed.{members_read, read_told, AreSweeps, IsTold, at_place, end_told, located, member_told, members_told}, proofs.Running.{IsAt, IsClientAt, by_client}}
 use Rattle.iso_shared.specs.declared.entry.Entry.TheVariants as entry
 
 module _ (S : SecondStore) (lawful : IsSecond S) (second : SecondGoes S) (A : Start) (E : List Entry) (events : List Event) (tail : List Entry) (sound : IsWorld A.world) (none : A.world.live ≡ []) (legal : IsLegal A E)
@@ -101,20 +101,8 @@ module _ (S : SecondStore) (lawful : IsSecond S) (second : SecondGoes S) (A : St
               (λ first others n k accesses m ends_are told.
               told.answers (array_at H (k - 1)) (array_at H k)
               (order.group_commits (entries_in before) (entries_in later ++ tail) first others n k accesses (split_at before later c e is ∙ ap (λ l. entries_in before ++ entry.EndGroup l ∷ (entries_in later ++ tail)) ends_are) told.of))
-          by (entry.Begin n at mode) is = tt
-          by (entry.Fetch n block bytes) is = tt
-          by (entry.Abort n) is = tt
-          by (entry.Trim n) is = tt
-          by (entry.Compact n) is = tt
-          by (entry.Upgrade n) is = tt
-          by (entry.Stat numbers) is = tt
-          by (entry.Post n label accesses) is = tt
-          by (entry.Look label found) is = tt
-          by (entry.Sweep found) is = tt
-          by (entry.Recent n upto) is = tt
-          by (entry.Refused x why) is = tt
-          by (entry.End n accesses ReadOnly) is = tt
-          by (entry.End n accesses (Conflict d)) is = tt
+          by (entry.End n accesses r) is = tt
+          by e is = tt
 
   reads_by_map : A.tells ≡ true → AreCallsInOrderAt (second_store S g) A E → ReadsByMap S A events
   reads_by_map tells order before later c e is = by e is
@@ -135,20 +123,8 @@ module _ (S : SecondStore) (lawful : IsSecond S) (second : SecondGoes S) (A : St
           (λ n told. IsTrue told.kept → ToldByMap S g told (begin_array (world_at A (entries_in before)) n)) client.runs.0 client.looked (fits_at tells before later c e is).takes place.first (extends_at tells before later c e is)
           (λ first others n accesses m ends_are told kept.
           (told kept).answers (order.group_read_only (entries_in before) (entries_in later ++ tail) first others n accesses (split_at tells before later c e is ∙ ap (λ l. entries_in before ++ entry.EndGroup l ∷ (entries_in later ++ tail)) ends_are) (told kept).by))
-      by (entry.Begin n at mode) is = tt
-      by (entry.Fetch n block bytes) is = tt
-      by (entry.Abort n) is = tt
-      by (entry.Trim n) is = tt
-      by (entry.Compact n) is = tt
-      by (entry.Upgrade n) is = tt
-      by (entry.Stat numbers) is = tt
-      by (entry.Post n label accesses) is = tt
-      by (entry.Look label found) is = tt
-      by (entry.Sweep found) is = tt
-      by (entry.Recent n upto) is = tt
-      by (entry.Refused x why) is = tt
-      by (entry.End n accesses (Committed k)) is = tt
-      by (entry.End n accesses (Conflict d)) is = tt
+      by (entry.End n accesses r) is = tt
+      by e is = tt
 
   pub calls_answer : CallsAnswer S A E events
   calls_answer tells well keep =

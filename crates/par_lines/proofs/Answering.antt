@@ -25,33 +25,16 @@ some_own : (own : Option Own) → IsSome own → (o : Own) × (own ≡ Some o)
 some_own None never = absurd (cc never)
 some_own (Some o) is = (o, refl)
 
-in_tx : (A : Start) → (o : Own) (named : Option Mode) → Does A.world.geometry A.tells (Some o) (op.Begin named) [] (Ok reply.InTx) (Some o)
-unfolding step
-in_tx A o named = (refl, refl, refl)
-
-no_abort : (A : Start) → Does A.world.geometry A.tells None op.Abort [] (Ok reply.NotInTx) None
-unfolding step
-no_abort A = (refl, refl, refl)
-
-no_release : (A : Start) → (label : List ℕ) → Does A.world.geometry A.tells None (op.Release label) [] (Ok reply.NotInTx) None
-unfolding step
-no_release A label = (refl, refl, refl)
-
-no_takeover : (A : Start) → (o : Own) (label : List ℕ) → Does A.world.geometry A.tells (Some o) (op.Takeover label) [] (Ok reply.InTx) (Some o)
-unfolding step
-no_takeover A o label = (refl, refl, refl)
-
--- the check ahead of an end, and the end
-no_end : (A : Start) → Does A.world.geometry A.tells None op.End [] (Ok reply.NotInTx) None
-unfolding step
-no_end A = (refl, refl, refl)
-
 pub same_own : (o p : Own) → Some o ≡ Some p → o ≡ p
 same_own o p is = ap (unwrap_or' o) is
   where
     unwrap_or' : Own → Option Own → Own
     unwrap_or' d None = d
     unwrap_or' d (Some x) = x
+
+-- an operation that is this one, and an answer that is this one
+pub said : {D O : Type 0} {A : Start} {s t : Session D O} {o p : Op} {r q : Result Reply Stop} → o ≡ p → r ≡ q → Answered A s p q t → Answered A s o r t
+said {D} {O} {A} {s} {t} {o} {p} {r} {q} is says answered = subst (λ x. Answered A s x r t) (sym is) (subst (λ x. Answered A s p x t) (sym says) answered)
 
 module _ {D O : Type 0} (A : Start) where
   -- a line of one entry
@@ -74,33 +57,37 @@ module _ {D O : Type 0} (A : Start) where
       })
 
   pub begun : (s t : Session D O) (named : Option Mode) (r : Result ℕ BeginError) → HasBegun A s named r t → Answered A s (op.Begin named) (say.begun r) t
+  unfolding step
   begun s t named (Ok at) h = by_entry s t (op.Begin named) (entry.Begin h.1 at h.2) (Ok (reply.Began at)) None h.0 h.3 (h.4, refl, h.5)
   begun s t named (Err begin.InTx) h =
       let o = some_own (own s) h.0 in
-      by_none s t (op.Begin named) (Ok reply.InTx) (Some o.0) o.1 h.1 (in_tx A o.0 named)
+      by_none s t (op.Begin named) (Ok reply.InTx) (Some o.0) o.1 h.1 (refl, refl, refl)
   begun s t named (Err (begin.Core e)) h =
       by_entry s t (op.Begin named) (entry.Refused (call.Begin named) (cause_of h.2 h.3 e)) (say.refused e) None h.0 h.4 (refl, refused_is h.2 h.3 e, h.1)
 
   pub aborted : (s t : Session D O) (r : Result (Unit {0}) NotInTx) → HasAborted A s r t → Answered A s op.Abort (say.aborted r) t
+  unfolding step
   aborted s t (Ok done) h = by_entry s t op.Abort (entry.Abort h.0.number) (Ok reply.Done) (Some h.0) h.1 h.3 (refl, refl, h.2)
-  aborted s t (Err e) h = by_none s t op.Abort (Ok reply.NotInTx) None h.0 h.1 (no_abort A)
+  aborted s t (Err e) h = by_none s t op.Abort (Ok reply.NotInTx) None h.0 h.1 (refl, refl, refl)
 
   pub posted : (s t : Session D O) (label : List ℕ) (r : Result (Unit {0}) PostTxError) → HasPosted A s label r t → Answered A s (op.Release label) (say.posted r) t
+  unfolding step
   posted s t label (Ok done) h =
       by_entry s t (op.Release label) (entry.Post h.0.number label h.0.accesses) (Ok reply.Done) (Some h.0) h.1 h.3 (refl, refl, refl, refl, h.2)
-  posted s t label (Err post.NotInTx) h = by_none s t (op.Release label) (Ok reply.NotInTx) None h.0 h.1 (no_release A label)
+  posted s t label (Err post.NotInTx) h = by_none s t (op.Release label) (Ok reply.NotInTx) None h.0 h.1 (refl, refl, refl)
   posted s t label (Err post.LabelTaken) h =
       by_entry s t (op.Release label) (entry.Refused (call.Post h.0.number label h.0.accesses) cause.LabelTaken) (Ok reply.LabelTaken) (Some h.0) h.1 h.3 (refl, refl, h.2.is ∙ h.1)
   posted s t label (Err post.Memory) h =
       by_entry s t (op.Release label) (entry.Refused (call.Post h.0.number label h.0.accesses) cause.Memory) (say.posted (Err post.Memory)) (Some h.0) h.1 h.3 (refl, refl, h.2.is ∙ h.1)
 
   pub looked : (s t : Session D O) (label : List ℕ) (r : Result (Option ℕ) InTx) → HasLooked A s label r t → Answered A s (op.Takeover label) (say.looked r) t
+  unfolding step
   looked s t label (Ok (Some at)) h =
       by_entry s t (op.Takeover label) (entry.Look label (Some h.1)) (Ok (reply.Began at)) None h.0 h.4 (refl, ap (λ n. Ok (reply.Began n)) h.3, h.2)
   looked s t label (Ok None) h = by_entry s t (op.Takeover label) (entry.Look label None) (Ok reply.NoHandle) None h.0 h.2 (refl, refl, h.1)
   looked s t label (Err e) h =
       let o = some_own (own s) h.0 in
-      by_none s t (op.Takeover label) (Ok reply.InTx) (Some o.0) o.1 h.1 (no_takeover A o.0 label)
+      by_none s t (op.Takeover label) (Ok reply.InTx) (Some o.0) o.1 h.1 (refl, refl, refl)
 
   -- a line that leaves the transaction, whatever it is
   kept : (s t : Session D O) (o : Op) (e : Entry) (r : Result Reply Stop) → Made A s t e → own t ≡ own s → ((own' : Option Own) → own' ≡ None → Does A.world.geometry A.tells None o (e ∷ []) r own')
@@ -127,7 +114,8 @@ module _ {D O : Type 0} (A : Start) where
   told_numbers s t n m keeps = kept s t op.Stat (entry.Stat (numbers_of n)) (Ok (say.numbers n)) m keeps.is (λ w is. (refl, is)) (λ p w is. (refl, is))
 
   pub unchecked : (s t : Session D O) (e : EndError) → HasChecked A s (Err e) t → Answered A s op.End (say.not_ended e) t
-  unchecked s t end.NotInTx h = by_none s t op.End (Ok reply.NotInTx) None h.0 h.1 (no_end A)
+  unfolding step
+  unchecked s t end.NotInTx h = by_none s t op.End (Ok reply.NotInTx) None h.0 h.1 (refl, refl, refl)
   unchecked s t (end.Core e) h = by_cause h.3
     where
       by_cause : IsCheckCause A s t h.0 e → Answered A s op.End (say.refused e) t

@@ -69,11 +69,7 @@ get_parts g block off len is = record {
 }
 
 same_err : (f e : TxError) → ◌≡◌ {A = Result (Unit {0}) TxError} (Err e) (Err f) → f ≡ e
-same_err f e is = sym (ap (unwrap e) is)
-  where
-    unwrap : TxError → Result (Unit {0}) TxError → TxError
-    unwrap d (Ok done) = d
-    unwrap d (Err x) = x
+same_err f e is = cc
 
 module _ (A : Start) (x : Op) (block : ℕ) (view : List ℕ → List ℕ) (a : Access) (parts : IsReading A.world.geometry x block view a) where
   not_shown : (o : Own) (r : Reply) (es : List Entry) (q : Result Reply Stop) (own' : Option Own) → Refuses A.world.geometry x (Some o) r

@@ -179,17 +179,6 @@ units_more f xs ys x e = ap (sum_by f) e ∙ (sum_by-append f ys (x ∷ []) ∙ 
 pub joined_units : (x v w u rest all s : ℕ) → x ≡ v + w → w ≡ u → all ≡ rest + u → v + all ≡ s → x + rest ≡ s
 joined_units x v w u rest all s a b c d = omega arith
 
-sum_same : {X : Type 0} (f : X → ℕ) (xs ys : List X) → length xs ≡ length ys → ((i : ℕ) (d : X) → i < length xs → f (get_or ys i d) ≡ f (get_or xs i d)) → sum_by f xs ≡ sum_by f ys
-sum_same f [] [] len each = refl
-sum_same f [] (y ∷ ys) len each = absurd (omega arith)
-sum_same f (x ∷ xs) [] len each = absurd (omega arith)
-sum_same f (x ∷ xs) (y ∷ ys) len each =
-    let h : f y ≡ f x = each 0 x (omega arith) in
-    let t = sum_same f xs ys (omega arith) (λ i d lt. each (suc i) d (omega arith)) in
-    let a = sum_by-cons f x xs in
-    let b = sum_by-cons f y ys in
-    omega arith
-
 map_same : {X Y : Type 0} (f : X → Y) (xs ys : List X) → length xs ≡ length ys → ((i : ℕ) (d : X) → i < length xs → f (get_or ys i d) ≡ f (get_or xs i d)) → map f xs ≡ map f ys
 map_same f [] [] len each = refl
 map_same f [] (y ∷ ys) len each = absurd (omega arith)
@@ -198,6 +187,13 @@ map_same f (x ∷ xs) (y ∷ ys) len each =
     let h : f y ≡ f x = each 0 x (omega arith) in
     let t = map_same f xs ys (omega arith) (λ i d lt. each (suc i) d (omega arith)) in
     ap (λ v. v ∷ map f xs) (sym h) ∙ ap (λ l. f y ∷ l) t
+
+summed : {X : Type 0} (f : X → ℕ) (xs : List X) → sum_by f xs ≡ sum_by (λ n. n) (map f xs)
+summed f [] = refl
+summed f (x ∷ xs) = sum_by-cons f x xs ∙ ap (λ n. f x + n) (summed f xs) ∙ sym (sum_by-cons (λ n. n) (f x) (map f xs))
+
+sum_same : {X : Type 0} (f : X → ℕ) (xs ys : List X) → length xs ≡ length ys → ((i : ℕ) (d : X) → i < length xs → f (get_or ys i d) ≡ f (get_or xs i d)) → sum_by f xs ≡ sum_by f ys
+sum_same f xs ys len each = summed f xs ∙ ap (sum_by (λ n. n)) (map_same f xs ys len each) ∙ sym (summed f ys)
 
 -- the clients of the parts, and those of the jobs that are left
 pub clients_more : {K : Type 0} (all : List ℕ) (parts : List Part) (q : Part) (xs ys : List (Job K)) (x : Job K) → xs ≡ ys ++ x ∷ [] → q.client ≡ x.id → all ≡ map (λ p. p.client) parts ++ reverse (map (λ j. j.id) xs)

@@ -57,11 +57,7 @@ module _ {D O : Type 0} (A : Start) (block off : ℕ) (bytes : List ℕ) (inside
       by (Some f) is = refused s t e same (is ∙ ap (λ v. Some v) (same_err f e (subst (λ v. IsRefused {T = Unit {0}} v IsWriteCause (Err e)) is cause)))
         where
           same_err : (f e : TxError) → ◌≡◌ {A = Result (Unit {0}) TxError} (Err e) (Err f) → f ≡ e
-          same_err f e is = sym (ap (unwrap e) is)
-            where
-              unwrap : TxError → Result (Unit {0}) TxError → TxError
-              unwrap d (Ok done) = d
-              unwrap d (Err x) = x
+          same_err f e is = cc
       by None is =
           let memory : e ≡ error.Memory = subst (λ v. IsRefused {T = Unit {0}} v IsWriteCause (Err e)) is cause in
           subst (λ f. Answered A s (op.Put block off bytes) (say.accessed (Err f)) t) (sym memory)

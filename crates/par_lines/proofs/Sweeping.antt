@@ -1,5 +1,5 @@
 -- The sweeps behind all else, and what all clients were told by one legal list.
-use Rattle.par_lines.proofs.Words.{◌≡◌, ◌⊎◌, inl, inr, ⊎_elim, ℕ, zero, suc, ◌+◌, ◌≤◌, ◌==◌, ◌||◌, Bool, true, false, cond, List, [], ◌∷◌, ◌++◌, Some, None, length, map, refl, sym, ap, ◌∙◌, subst, arith, length-append, append_assoc, append-nil, filter, AllByRecursion, list_any, range_with_len, Line, Entry, IsLegal, Start, View, count_up, places, times, AllBelow, AreDistinct, RisesFrom, prefix_whole, rises_less, times_before, Part, ClientLines, clients_in, entries_of, has_line, lines_run, FoundSome, Told, dealt_entries, dealt_times, length-owners, owned_by, owners_of, AreRising, Dealt, ReadsAt, AllTold, Swept}
+use Rattle.par_lines.proofs.Words.{count_snoc, clients_rise, ◌≡◌, ◌⊎◌, inl, inr, ⊎_elim, ℕ, zero, suc, ◌+◌, ◌≤◌, ◌==◌, ◌||◌, true, List, [], ◌∷◌, ◌++◌, Some, None, length, map, refl, sym, ap, ◌∙◌, subst, arith, length-append, append_assoc, append-nil, AllByRecursion, list_any, Line, Entry, IsLegal, Start, View, count_up, places, times, AllBelow, AreDistinct, RisesFrom, prefix_whole, times_before, Part, ClientLines, clients_in, entries_of, lines_run, FoundSome, Told, dealt_entries, dealt_times, length-owners, owned_by, owners_of, AreRising, Dealt, ReadsAt, AllTold, Swept}
 use Rattle.iso_shared.specs.declared.entry.Entry.TheVariants as entry
 use Rattle.iso_shared.specs.Ports.{Made}
 
@@ -16,13 +16,6 @@ room k m (x ∷ xs) le r b = let t = room (suc x) m xs (omega (arith, b.0)) r.1 
 count_length : (k n : ℕ) → length (count_up k n) ≡ n
 count_length k zero = refl
 count_length k (suc n) = ap suc (count_length (suc k) n)
-
-count_snoc : (from n : ℕ) → count_up from n ++ (from + n) ∷ [] ≡ count_up from (n + 1)
-count_snoc from zero = let e : from + 0 ≡ from = omega arith in ap (λ (k : ℕ). k ∷ []) e
-count_snoc from (suc n) =
-    let e : from + suc n ≡ suc from + n = omega arith in
-    let a : suc n + 1 ≡ suc (n + 1) = omega arith in
-    ap (λ (k : ℕ). from ∷ (count_up (suc from) n ++ k ∷ [])) e ∙ ap (λ l. from ∷ l) (count_snoc (suc from) n) ∙ sym (ap (count_up from) a)
 
 places_snoc : (n : ℕ) → places n ++ n ∷ [] ≡ places (n + 1)
 places_snoc n = let e : n ≡ 0 + n = omega arith in ap (λ (k : ℕ). places n ++ k ∷ []) e ∙ count_snoc 0 n
@@ -65,24 +58,12 @@ swept_last A v w x s m all rises below =
     (all_of v w s.all a.1, (s.entries, s.found, a.0 ∙ ap (λ l. l ++ entry.Sweep None ∷ []) s.seen))
 
 -- the clients are distinct
-rises_filter : (q : ℕ → Bool) (k : ℕ) (xs : List ℕ) → RisesFrom k xs → RisesFrom k (filter q xs)
-rises_filter q k [] r = tt
-rises_filter q k (x ∷ xs) r = by (q x) (rises_filter q (suc x) xs r.1)
-  where
-    by : (b : Bool) → RisesFrom (suc x) (filter q xs) → RisesFrom k (cond b (x ∷ filter q xs) (filter q xs))
-    by true rest = (r.0, rest)
-    by false rest = rises_less k (suc x) (filter q xs) (let h = r.0 in omega arith) rest
-
 rises_distinct : (k : ℕ) (xs : List ℕ) → RisesFrom k xs → AreDistinct xs
 rises_distinct k [] r = tt
 rises_distinct k (x ∷ xs) r = (times_before (suc x) x xs (omega arith) r.1, rises_distinct (suc x) xs r.1)
 
-rises_range : (k n : ℕ) → RisesFrom k (range_with_len k n)
-rises_range k zero = tt
-rises_range k (suc n) = let next : suc k ≡ k + 1 = omega arith in (omega arith, subst (λ m. RisesFrom (suc k) (range_with_len m n)) next (rises_range (suc k) n))
-
 distinct_clients : (lines : List (ℕ × Line)) → AreDistinct (clients_in lines)
-distinct_clients lines = rises_distinct 1 (clients_in lines) (rises_filter (has_line lines) 1 (range_with_len 1 64) (rises_range 1 64))
+distinct_clients lines = rises_distinct 1 (clients_in lines) (clients_rise lines)
 
 module _ (A : Start) (lines : List (ℕ × Line)) (E : List Entry) where
   -- the clients with their places

@@ -6,23 +6,14 @@ use Rattle.handle_pass.specs.declared.errors.EndError.TheVariants as end
 use Rattle.handle_pass.specs.declared.errors.PostTxError.TheVariants as post
 use Rattle.iso_core.specs.declared.answers.Stat.{Stat}
 use Rattle.iso_model.specs.{declared.access.EndReply.EndReply, declared.access.GroupReply.GroupReply, declared.core_error.CoreError.CoreError, declared.memory.InTx.InTx, declared.memory.NotInTx.NotInTx}
-use Rattle.iso_model.specs.declared.core_error.CoreError.TheVariants as error
 use Rattle.store_model.specs.declared.stores.TxError.{TxError}
 use Rattle.store_model.specs.declared.stores.TxError.TheVariants as tx
+pub use Rattle.script_model.specs.CoreReplies.{refused}
 use Rattle.script_model.specs.{CoreReplies.as_reply, declared.script.Reply.Reply, declared.stop.Stop.Stop}
 use Rattle.script_model.specs.declared.script.Reply.TheVariants as reply
 use Rattle.iso_shared.specs.{declared.entry.Posting.Posting, Legal.reply_of, Told.numbers_of}
 use Rattle.par_script.specs.Lines.{stat_reply}
 use Rattle.script_model.specs.declared.stop.Stop.TheVariants as stop
-
-abbrev pub refused : CoreError → Result Reply Stop
-refused error.Down = Err stop.Down
-refused error.TooManyTx = Ok reply.TooManyTx
-refused (error.LogFull need free) = Ok (reply.LogFull need free)
-refused error.Disk = Err stop.Disk
-refused error.Memory = Err stop.Memory
-refused (error.Worn at) = Ok reply.Worn
-refused error.ModeFixed = Ok reply.ModeFixed
 
 abbrev pub begun : Result ℕ BeginError → Result Reply Stop
 begun (Ok at) = Ok (reply.Began at)

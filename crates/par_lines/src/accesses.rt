@@ -1,7 +1,6 @@
 // The lines that write and mark, which make no entry.
-ghost use Rattle.std.specs.Prelude.{◌≡◌, ◌+◌, ◌-◌, ◌≤◌, ◌++◌, OnOk, length, replicate};
-ghost use Rattle.script_model.specs.declared.script.Op.TheVariants.{Fill, Mark, Put, Write};
-ghost use Rattle.iso_model.specs.Marks.{is_outside};
+ghost use Rattle.std.specs.Prelude.{◌≡◌, ◌≤◌};
+ghost use Rattle.script_model.specs.declared.script.Op.TheVariants.{Fill, Put, Write};
 ghost use Rattle.handle_pass.specs.{Accesses.{mark_answer, HasMarked}, Sessions.{own, IsSession}};
 ghost use Rattle.tx_blocks.specs.Tx.{IsRefused};
 ghost use Rattle.par_lines.specs.Answers.{Answered};
@@ -10,17 +9,10 @@ ghost use Rattle.par_lines.specs.Replies as spec;
 use crate::replies::accessed;
 use handle_pass::Session;
 use iso_disk::Disk;
-use iso_model::{Geometry, Memory};
+use iso_model::Geometry;
 use iso_shared::Origin;
-use script_model::{Reply, Stop};
+use script_model::{Reply, Stop, fill_up, is_outside, lay_out};
 use store_model::TxError;
-
-/// Whether the bytes from `off` on, so many of them, are none or pass the end of a block.
-pub(crate) fn is_outside(size: u32, off: u32, len: usize) -> bool
-    ensures { result ≡ is_outside size off len }
-{
-    len == 0 || len > size as usize || off as usize + len > size as usize
-}
 
 /// What an access is answered whose bytes are wrong.
 pub(crate) fn wrong_bytes<'a, D: Disk + Drop, O: Origin>(
@@ -55,15 +47,6 @@ pub(crate) fn write<'a, D: Disk + Drop, O: Origin>(
         return Ok(wrong_bytes(session, geometry, block));
     }
     accessed(session.write_block(block, bytes))
-}
-
-/// Makes the buffer a block full of one byte.
-fn fill_up(buffer: &mut Vec<u8>, size: u32, byte: u8) -> Result<(), Memory>
-    ensures { OnOk result (buffer.new.items ≡ replicate size byte) }
-{
-    buffer.clear();
-    buffer.resize(size as usize, byte)?;
-    Ok(())
 }
 
 /// Writes a block full of one byte.
@@ -117,34 +100,6 @@ pub(crate) fn mark_range<'a, D: Disk + Drop, O: Origin>(
         return Err(refused_mark(session));
     }
     session.mark_accessed(off as u16, len as u16)
-}
-
-/// Marks a range of the last access.
-pub(crate) fn mark<'a, D: Disk + Drop, O: Origin>(
-    session: &mut Session<'a, D, O>,
-    geometry: &Geometry,
-    off: u32,
-    len: u32,
-) -> Result<Reply, Stop>
-    requires session { IsSession O.start session.old }
-    requires geometry { geometry.now ≡ O.start.world.geometry }
-    requires small { geometry.now.block ≤ 4096 }
-    ensures session { IsSession O.start session.new }
-    ensures did { Answered O.start session.old (Mark off len) result session.new }
-{
-    accessed(mark_range(session, geometry, off, len))
-}
-
-/// Makes the buffer a block of zeros with these bytes at `off`.
-fn lay_out(buffer: &mut Vec<u8>, size: u32, off: u32, bytes: &[u8]) -> Result<(), Memory>
-    requires { off + length bytes.now ≤ size }
-    ensures { OnOk result (buffer.new.items ≡ replicate off 0 ++ bytes.now ++ replicate (size - (off + length bytes.now)) 0) }
-{
-    buffer.clear();
-    buffer.resize(off as usize, 0)?;
-    buffer.extend_from_slice(bytes)?;
-    buffer.resize(size as usize, 0)?;
-    Ok(())
 }
 
 /// Writes these bytes at `off`, and claims no others.

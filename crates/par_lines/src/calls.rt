@@ -1,56 +1,34 @@
-// The lines that begin, end and abort a client's transaction.
-ghost use Rattle.std.specs.Prelude.{◌<◌};
-ghost use Rattle.script_model.specs.declared.script.Op.TheVariants.{Abort, Begin, End};
-ghost use Rattle.handle_pass.specs.Sessions.{units, IsSession};
+// The line that ends a client's transaction.
+ghost use Rattle.std.specs.Prelude.{◌≡◌, ◌<◌};
+ghost use Rattle.script_model.specs.declared.script.Op.TheVariants.{End};
+ghost use Rattle.handle_pass.specs.Sessions.{IsSession};
 ghost use Rattle.par_lines.specs.Answers.{Answered};
 
-use crate::replies::{aborted, begun, ended, not_ended};
+use crate::replies::{ended, not_ended};
 use handle_pass::Session;
 use iso_disk::Disk;
-use iso_model::Mode;
 use iso_shared::Origin;
 use script_model::{Reply, Stop};
 use std::sync::Wait;
-use step_count::{Ledger, Steps};
+use std::sync::ledger::{Blank, Ledger};
+use step_count::Steps;
 
-/// Begins a transaction.
-pub(crate) fn begin<'a, D: Disk + Drop, O: Origin, R: Wait>(
-    rt: &R,
-    session: &mut Session<'a, D, O>,
-    mode: Option<Mode>,
-) -> Result<Reply, Stop>
-    requires session { IsSession O.start session.old }
-    requires units { 1 < units session.old }
-    ensures session { IsSession O.start session.new }
-    ensures did { Answered O.start session.old (Begin mode) result session.new }
-{
-    begun(session.begin_tx(rt, mode))
-}
-
-/// Aborts the transaction.
-pub(crate) fn abort<'a, D: Disk + Drop, O: Origin, R: Wait>(
-    rt: &R,
-    session: &mut Session<'a, D, O>,
-) -> Result<Reply, Stop>
-    requires session { IsSession O.start session.old }
-    ensures session { IsSession O.start session.new }
-    ensures did { Answered O.start session.old Abort result session.new }
-{
-    aborted(session.abort_tx(rt))
-}
-
-/// Asks for the later commits and compares, and then ends the transaction.
+/// Asks for the later commits and compares, and then ends the transaction, with a count of its steps that nobody asks for.
 pub(crate) fn end<'a, L: Ledger, D: Disk + Drop, O: Origin, R: Wait>(
+    blank: Blank,
     rt: &R,
     session: &mut Session<'a, D, O>,
-    steps: &mut Steps<L>,
 ) -> Result<Reply, Stop>
+    requires name { blank.name ≡ L.name }
+    requires parts { blank.parts ≡ L.parts }
+    requires some { 0 < L.parts }
     requires session { IsSession O.start session.old }
     ensures session { IsSession O.start session.new }
     ensures did { Answered O.start session.old End result session.new }
 {
+    let mut steps = Steps::<L>::start(blank);
     match session.check_tx(rt) {
-        Ok(_) => ended(session.end_tx(rt, steps)),
+        Ok(_) => ended(session.end_tx(rt, &mut steps)),
         Err(error) => not_ended(error),
     }
 }

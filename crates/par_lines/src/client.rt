@@ -2,16 +2,17 @@
 ghost use Rattle.std.specs.Prelude.{◌≡◌, ◌<◌, ◌≤◌, IsTrue};
 ghost use Rattle.iso_model.specs.Geometry.{is_valid};
 ghost use Rattle.handle_pass.specs.Sessions.{device, units, IsSession};
-ghost use Rattle.script_model.specs.declared.script.Op.TheVariants.{End as OfEnd};
 ghost use Rattle.par_lines.specs.Answers.{Answered};
 
-use crate::accesses::{fill, mark, put, write};
-use crate::calls::{abort, begin, end};
+use crate::accesses::{fill, mark_range, put, write};
+use crate::calls::end;
 use crate::groups::group;
-use crate::labels::{await_label, release, takeover};
+use crate::labels::await_label;
 use crate::reads::{get, read};
+use crate::replies::{
+    aborted, accessed, begun, compacted, looked, numbers, posted, trimmed, upgraded,
+};
 use crate::stores::store;
-use crate::upkeep::{compact, stat, trim, upgrade};
 use handle_pass::Session;
 use iso_disk::Disk;
 use iso_model::{Geometry, Reserved};
@@ -21,25 +22,7 @@ use script_model::{Line, Op, Reply, Stop};
 use std::alloc::Global;
 use std::marker::Brand;
 use std::sync::Wait;
-use std::sync::ledger::{Blank, Ledger};
-use step_count::Steps;
-
-/// An end, with a count of its steps that nobody asks for.
-fn end_whole<'a, L: Ledger, D: Disk + Drop, O: Origin, R: Wait>(
-    blank: Blank,
-    rt: &R,
-    session: &mut Session<'a, D, O>,
-) -> Result<Reply, Stop>
-    requires name { blank.name ≡ L.name }
-    requires parts { blank.parts ≡ L.parts }
-    requires some { 0 < L.parts }
-    requires session { IsSession O.start session.old }
-    ensures session { IsSession O.start session.new }
-    ensures did { Answered O.start session.old OfEnd result session.new }
-{
-    let mut steps = Steps::<L>::start(blank);
-    end(rt, session, &mut steps)
-}
+use std::sync::ledger::Blank;
 
 /// What a session answers to an operation.
 pub(crate) fn answer<'a, D: Disk + Drop, O: Origin, R: Wait>(
@@ -61,9 +44,9 @@ pub(crate) fn answer<'a, D: Disk + Drop, O: Origin, R: Wait>(
     ensures did { Answered O.start session.old op.now result session.new }
 {
     match op {
-        Op::Begin { mode } => begin(rt, session, *mode),
-        Op::End => end_whole::<Brand, D, O, R>(Blank::new(1), rt, session),
-        Op::Abort => abort(rt, session),
+        Op::Begin { mode } => begun(session.begin_tx(rt, *mode)),
+        Op::End => end::<Brand, D, O, R>(Blank::new(1), rt, session),
+        Op::Abort => aborted(session.abort_tx(rt)),
         Op::Put { block, off, bytes } => {
             put(session, geometry, buffer, *block, *off, bytes.as_slice())
         }
@@ -73,15 +56,15 @@ pub(crate) fn answer<'a, D: Disk + Drop, O: Origin, R: Wait>(
         ),
         Op::Write { block, bytes } => write(session, geometry, *block, bytes.as_slice()),
         Op::Fill { block, bytes } => fill(session, geometry, buffer, *block, bytes.as_slice()),
-        Op::Mark { off, len } => mark(session, geometry, *off, *len),
-        Op::Release { label } => release(rt, session, label),
-        Op::Takeover { label } => takeover(rt, session, label),
+        Op::Mark { off, len } => accessed(mark_range(session, geometry, *off, *len)),
+        Op::Release { label } => posted(session.post_tx(rt, label.copy())),
+        Op::Takeover { label } => looked(session.look_tx(rt, label)),
         Op::Await { label } => await_label(rt, session, label),
         Op::Group { labels } => group(rt, alloc, shared, session, labels.as_slice()),
-        Op::Trim => trim(rt, session),
-        Op::Stat => Ok(stat(rt, session)),
-        Op::Compact => compact(rt, session),
-        Op::Upgrade => upgrade(rt, session),
+        Op::Trim => trimmed(session.trim(rt)),
+        Op::Stat => Ok(numbers(session.stat(rt))),
+        Op::Compact => compacted(session.compact(rt)),
+        Op::Upgrade => upgraded(session.upgrade(rt)),
         Op::HashPut { .. }
         | Op::HashGet { .. }
         | Op::HashDelete { .. }

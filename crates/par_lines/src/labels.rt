@@ -1,10 +1,9 @@
-// The lines that hand a transaction on under a label.
+// The line that waits for a transaction under a label.
 ghost use Rattle.std.specs.Prelude.{◌<◌};
-ghost use Rattle.script_model.specs.declared.script.Op.TheVariants.{Await, Release, Takeover};
+ghost use Rattle.script_model.specs.declared.script.Op.TheVariants.{Await};
 ghost use Rattle.handle_pass.specs.Sessions.{units, IsSession};
 ghost use Rattle.par_lines.specs.Answers.{Answered};
 
-use crate::replies::{looked, posted};
 use handle_pass::Session;
 use iso_disk::Disk;
 use iso_model::Label;
@@ -12,33 +11,6 @@ use iso_shared::Origin;
 use par_script::MAX_LOOKS;
 use script_model::{Reply, Stop};
 use std::sync::Wait;
-
-/// Puts the transaction under the label.
-pub(crate) fn release<'a, D: Disk + Drop, O: Origin, R: Wait>(
-    rt: &R,
-    session: &mut Session<'a, D, O>,
-    label: &Label,
-) -> Result<Reply, Stop>
-    requires session { IsSession O.start session.old }
-    ensures session { IsSession O.start session.new }
-    ensures did { Answered O.start session.old (Release label.now) result session.new }
-{
-    posted(session.post_tx(rt, label.copy()))
-}
-
-/// Takes the transaction under the label over.
-pub(crate) fn takeover<'a, D: Disk + Drop, O: Origin, R: Wait>(
-    rt: &R,
-    session: &mut Session<'a, D, O>,
-    label: &Label,
-) -> Result<Reply, Stop>
-    requires session { IsSession O.start session.old }
-    requires units { 1 < units session.old }
-    ensures session { IsSession O.start session.new }
-    ensures did { Answered O.start session.old (Takeover label.now) result session.new }
-{
-    looked(session.look_tx(rt, label))
-}
 
 /// Looks for the label until it is held, or so often as an await does, and takes the transaction over.
 pub(crate) fn await_label<'a, D: Disk + Drop, O: Origin, R: Wait>(

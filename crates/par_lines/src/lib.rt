@@ -12,6 +12,5 @@ mod reads;
 mod replies;
 mod run;
 mod stores;
-mod upkeep;
 
 pub use par::{ParEnd, par_lines};

@@ -1,46 +1,21 @@
 // The lines that read.
-ghost use Rattle.std.specs.Prelude.{◌≡◌, ◌+◌, ◌≤◌, IfOk, OnOk, drop, length, take, vec_len};
+ghost use Rattle.std.specs.Prelude.{◌≡◌, ◌≤◌, length, vec_len};
 ghost use Rattle.script_model.specs.declared.script.Op.TheVariants.{Get, Read};
 ghost use Rattle.handle_pass.specs.{Accesses.{access_answer, HasRead, IsReadCause}, Sessions.IsSession};
 ghost use Rattle.tx_blocks.specs.Tx.{IsRefused};
 ghost use Rattle.par_lines.specs.Answers.{Answered};
 ghost use Rattle.par_lines.specs.Replies as spec;
 
-use crate::accesses::{is_outside, mark_range, wrong_bytes};
+use crate::accesses::{mark_range, wrong_bytes};
 use crate::replies::accessed;
 use handle_pass::Session;
 use iso_disk::Disk;
-use iso_model::{Bytes, Geometry, Memory};
+use iso_model::{Bytes, Geometry};
 use iso_shared::Origin;
-use script_model::{Reply, Stop};
+use script_model::{Reply, Stop, copy_from, fit, is_outside, zeros};
 use std::alloc::Global;
 use std::sync::Wait;
 use store_model::TxError;
-
-/// So many zeros.
-fn zeros(alloc: Global, size: u32) -> Result<Vec<u8>, Memory>
-    ensures { IfOk result (λ bytes. length bytes.items ≡ size) }
-{
-    let bytes = vec![in alloc; 0u8; size as usize]?;
-    Ok(bytes)
-}
-
-/// Makes the buffer as long as a block.
-fn fit(buffer: &mut Vec<u8>, size: u32) -> Result<(), Memory>
-    ensures { OnOk result (length buffer.new.items ≡ size) }
-{
-    buffer.resize(size as usize, 0)?;
-    Ok(())
-}
-
-/// Copies the bytes from `off` on, as many as there are places for.
-fn copy_from(bytes: &mut Vec<u8>, block: &[u8], off: u32)
-    requires { off + length bytes.old.items ≤ length block.now }
-    ensures { bytes.new.items ≡ take (length bytes.old.items) (drop off block.now) }
-{
-    let len = bytes.len();
-    bytes.copy_from_slice(&block[off as usize..off as usize + len]);
-}
 
 /// Reads a block into a vector that has as many bytes.
 fn read_into<'a, D: Disk + Drop, O: Origin, R: Wait>(

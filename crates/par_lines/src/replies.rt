@@ -5,23 +5,8 @@ ghost use Rattle.par_lines.specs.Replies as spec;
 use handle_pass::{BeginError, EndError, PostTxError};
 use iso_core::Stat;
 use iso_model::{CoreError, EndReply, InTx, LabelReplies, NotInTx};
-use script_model::{Reply, Stop};
+use script_model::{Reply, Stop, refused};
 use store_model::TxError;
-
-/// A call of the device that was refused.
-pub(crate) fn refused(error: CoreError) -> Result<Reply, Stop>
-    ensures { result ≡ spec.refused error }
-{
-    match error {
-        CoreError::Down => Err(Stop::Down),
-        CoreError::TooManyTx => Ok(Reply::TooManyTx),
-        CoreError::LogFull { need, free } => Ok(Reply::LogFull { need, free }),
-        CoreError::Disk => Err(Stop::Disk),
-        CoreError::Memory => Err(Stop::Memory),
-        CoreError::Worn { .. } => Ok(Reply::Worn),
-        CoreError::ModeFixed => Ok(Reply::ModeFixed),
-    }
-}
 
 pub(crate) fn begun(answer: Result<u64, BeginError>) -> Result<Reply, Stop>
     ensures { result ≡ spec.begun answer }

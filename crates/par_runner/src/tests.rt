@@ -74,10 +74,17 @@ impl Gate for Calls {
     }
 }
 
-// A job of lines 1, 2, 3, of which this one is an `abort`.
-fn job<R: Abort>(rt: &R, alloc: Global, id: u8, halts_at: u64) -> Job<Digits> {
+// A job of lines with these numbers, of which this one is an `abort`.
+pub(crate) fn job<C, R: Abort>(
+    rt: &R,
+    alloc: Global,
+    client: C,
+    id: u8,
+    numbers: [u64; 3],
+    halts_at: u64,
+) -> Job<C> {
     let mut lines = Vec::new(alloc);
-    for number in 1..4 {
+    for number in numbers {
         let op = if number == halts_at {
             Op::Abort
         } else {
@@ -88,18 +95,30 @@ fn job<R: Abort>(rt: &R, alloc: Global, id: u8, halts_at: u64) -> Job<Digits> {
             .expect(rt, "memory");
     }
     Job {
-        client: Digits { digits: 0 },
+        client,
         id,
         lines,
         done: 0,
     }
 }
 
-fn two_jobs<R: Abort>(rt: &R, alloc: Global, halts_at: u64) -> Vec<Job<Digits>> {
+// Both jobs.
+pub(crate) fn both<C: Drop, R: Abort>(
+    rt: &R,
+    alloc: Global,
+    first: Job<C>,
+    second: Job<C>,
+) -> Vec<Job<C>> {
     let mut jobs = Vec::new(alloc);
-    jobs.push(job(rt, alloc, 1, 0)).expect(rt, "memory");
-    jobs.push(job(rt, alloc, 2, halts_at)).expect(rt, "memory");
+    jobs.push(first).expect(rt, "memory");
+    jobs.push(second).expect(rt, "memory");
     jobs
+}
+
+fn two_jobs<R: Abort>(rt: &R, alloc: Global, halts_at: u64) -> Vec<Job<Digits>> {
+    let first = job(rt, alloc, Digits { digits: 0 }, 1, [1, 2, 3], 0);
+    let second = job(rt, alloc, Digits { digits: 0 }, 2, [1, 2, 3], halts_at);
+    both(rt, alloc, first, second)
 }
 
 #[test]

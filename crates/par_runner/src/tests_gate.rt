@@ -1,9 +1,7 @@
 //! When a gate is called, and what it is told.
-use crate::tests::{Digits, same};
-use crate::{Client, Flow, Gate, Job, run_all};
-use script_model::{Line, Op};
-use std::alloc::Global;
-use std::process::Abort;
+use crate::tests::{Digits, both, job, same};
+use crate::{Client, Flow, Gate, run_all};
+use script_model::Line;
 use std::sync::Wait;
 use std::sync::atomic::{AtomicU64, Ordering};
 use std::test::Fail;
@@ -66,34 +64,6 @@ impl<'a> Client for Watcher<'a> {
     }
 }
 
-// A job of lines with these numbers, of which this one is an `abort`.
-fn job<C, R: Abort>(
-    rt: &R,
-    alloc: Global,
-    client: C,
-    id: u8,
-    numbers: [u64; 3],
-    halts_at: u64,
-) -> Job<C> {
-    let mut lines = Vec::new(alloc);
-    for number in numbers {
-        let op = if number == halts_at {
-            Op::Abort
-        } else {
-            Op::Stat
-        };
-        lines
-            .push((number, Line { client: id, op }))
-            .expect(rt, "memory");
-    }
-    Job {
-        client,
-        id,
-        lines,
-        done: 0,
-    }
-}
-
 #[test]
 fn a_gate_is_told_each_line_that_runs_and_its_client(rt: HostRuntime) -> Result<(), Fail> {
     let alloc = rt.alloc();
@@ -103,12 +73,10 @@ fn a_gate_is_told_each_line_that_runs_and_its_client(rt: HostRuntime) -> Result<
         numbers: AtomicU64::new(0),
         products: AtomicU64::new(0),
     };
-    let mut jobs = Vec::new(alloc);
     // the lines 1, 4, 9 of client 2, and of client 7 the lines 2 and 3: it halts there
     let first = job(&rt, alloc, Digits { digits: 0 }, 2, [1, 4, 9], 0);
     let second = job(&rt, alloc, Digits { digits: 0 }, 7, [2, 3, 8], 3);
-    jobs.push(first).expect(&rt, "memory");
-    jobs.push(second).expect(&rt, "memory");
+    let mut jobs = both(&rt, alloc, first, second);
     run_all(&rt, jobs.as_mut_slice(), &gate);
     same(&rt, gate.calls.load(Ordering::SeqCst), 5);
     same(&rt, gate.clients.load(Ordering::SeqCst), 20);
@@ -132,11 +100,9 @@ fn a_step_has_one_call_of_the_gate_before_it(rt: HostRuntime) -> Result<(), Fail
         calls: &gate.second,
         seen: 0,
     };
-    let mut jobs = Vec::new(alloc);
-    jobs.push(job(&rt, alloc, one, 1, [1, 2, 3], 0))
-        .expect(&rt, "memory");
-    jobs.push(job(&rt, alloc, other, 2, [4, 5, 6], 0))
-        .expect(&rt, "memory");
+    let first = job(&rt, alloc, one, 1, [1, 2, 3], 0);
+    let second = job(&rt, alloc, other, 2, [4, 5, 6], 0);
+    let mut jobs = both(&rt, alloc, first, second);
     run_all(&rt, jobs.as_mut_slice(), &gate);
     let [first, second] = jobs.as_slice() else {
         panic!(rt; "two jobs")

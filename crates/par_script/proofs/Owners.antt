@@ -1,5 +1,7 @@
 -- Places that are dealt among clients: each place has one owner, and a client's entries are those at its places.
-use Rattle.par_script.proofs.Words.{◌≡◌, ℕ, zero, suc, ◌+◌, ◌<◌, ◌≤◌, ◌==◌, ◌||◌, Bool, true, false, nat_lt, cond, List, [], ◌∷◌, ◌++◌, get_or, length, map, refl, sym, ap, ◌∙◌, subst, append_assoc, arith, length-append, eq-eqb, length-map, filter, AllByRecursion, list_any, eqb-true, nat_tests, get_or-append_seam, hit, times, total, AreDistinct, RisesFrom, count_up, places, rises_less, times_before, hit_same, hit_other, Entry, entries_of}
+use Rattle.par_script.{proofs.Words.{◌≡◌, ℕ, zero, suc, ◌+◌, ◌<◌, ◌≤◌, ◌==◌, ◌||◌, Bool, true, false, nat_lt, cond, List, [], ◌∷◌, ◌++◌, get_or, length, map, refl, sym, ap, ◌∙◌, subst, append_assoc, arith, length-append, eq-eqb, length-map, filter, AllByRecursion, list_any, eqb-true, nat_tests, get_or-append_seam, hit, times, total, AreDistinct, RisesFrom, count_up, places, rises_less, times_before, hit_same, hit_other, Entry, entries_of}, specs.Told.{clients_in, has_line}}
+use Rattle.std.specs.List.{range_with_len}
+use Rattle.script_model.specs.declared.script.Line.{Line}
 
 -- clients, each with its places
 abbrev pub Dealt : Type 0
@@ -162,6 +164,14 @@ rises_filter q k (x ∷ xs) r = by (q x) (rises_filter q (suc x) xs r.1)
     by : (b : Bool) → RisesFrom (suc x) (filter q xs) → RisesFrom k (cond b (x ∷ filter q xs) (filter q xs))
     by true rest = (r.0, rest)
     by false rest = rises_less k (suc x) (filter q xs) (let le = r.0 in omega arith) rest
+
+rises_range : (k n : ℕ) → RisesFrom k (range_with_len k n)
+rises_range k zero = tt
+rises_range k (suc n) = let next : suc k ≡ k + 1 = omega arith in (omega arith, subst (λ m. RisesFrom (suc k) (range_with_len m n)) next (rises_range (suc k) n))
+
+-- the clients that have a line rise
+pub clients_rise : (lines : List (ℕ × Line)) → RisesFrom 1 (clients_in lines)
+clients_rise lines = rises_filter (has_line lines) 1 (range_with_len 1 64) (rises_range 1 64)
 
 count_rises : (k m : ℕ) → RisesFrom k (count_up k m)
 count_rises k zero = tt

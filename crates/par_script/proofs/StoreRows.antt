@@ -1,5 +1,5 @@
 -- Lines that call the hash store: one that may be, and ones that are refused.
-use Rattle.par_script.proofs.Words.{◌≡◌, ℕ, true, List, [], ◌∷◌, ◌++◌, Option, Some, None, ap, length, length-append, map, replicate, refl, sym, ◌∙◌, arith, AllByRecursion, length-map, Ok, Err, Access, Geometry, Serial, Snapshot, Reply, Array, zeros, keys_mark, get_program, got, walk, walk_of, bucket_of, is_linked, block_at, create_program, file_move_step, file_new_step, file_read_step, hash_area, hash_get_step, step, store_step, Done, look_access, then_do, Cause, CallsStore, Does, Fetched, Own, StopsBy, answer, blocks_read, fetches, own_after, refused_fetch}
+use Rattle.par_script.proofs.Words.{Entry, ◌≡◌, ℕ, true, List, [], ◌∷◌, ◌++◌, Option, Some, None, ap, length, length-append, map, replicate, refl, sym, ◌∙◌, arith, AllByRecursion, length-map, Ok, Err, Access, Geometry, Serial, Snapshot, Reply, Array, zeros, keys_mark, get_program, got, walk, walk_of, bucket_of, is_linked, block_at, create_program, file_move_step, file_new_step, file_read_step, hash_area, hash_get_step, step, store_step, Done, look_access, then_do, Cause, CallsStore, Does, Fetched, Own, StopsBy, answer, blocks_read, fetches, own_after, refused_fetch}
 use Rattle.script_model.specs.declared.script.Op.TheVariants as op
 use Rattle.script_model.specs.declared.script.Reply.TheVariants as reply
 use Rattle.iso_shared.specs.declared.entry.Call.TheVariants as call
@@ -146,20 +146,19 @@ counts n fetched one all =
     let b : length (map (λ f. f.0) fetched) ≡ length fetched = length-map fetched (λ f. f.0) in
     omega (arith, a, b, one, all, length-append (fetches 1 fetched) [])
 
--- a fetch that no read made
-twice : CallsStore stores true before (op.HashGet key) (entry.Fetch 1 1 empty ∷ entry.Fetch 1 1 empty ∷ []) (Ok reply.Missing) (Some after) → ⊥
-twice calls =
+-- the call read one block, and so it made one fetch
+fetched_once : (es : List Entry) → CallsStore stores true before (op.HashGet key) es (Ok reply.Missing) (Some after) → length es ≡ 1
+fetched_once es calls =
     let none = answered_by calls.refused reply.Missing calls.stops in
     let all = ap length (calls.are ∙ ap (λ r. fetches 1 calls.fetched ++ refused_fetch 1 r) none) in
     let done : look ∷ [] ≡ calls.done = ap (λ (o : Option Own). accesses_in o) calls.left in
     let count : 1 ≡ length (map (λ f. f.0) calls.fetched) = ap (λ l. length (blocks_read l)) done ∙ ap length calls.reads in
-    let wrong : 2 ≡ 1 = counts 2 calls.fetched count all in absurd (omega (arith, wrong))
+    counts (length es) calls.fetched count all
+
+-- a fetch that no read made
+twice : CallsStore stores true before (op.HashGet key) (entry.Fetch 1 1 empty ∷ entry.Fetch 1 1 empty ∷ []) (Ok reply.Missing) (Some after) → ⊥
+twice calls = let wrong : 2 ≡ 1 = fetched_once _ calls in absurd (omega (arith, wrong))
 
 -- a read that no fetch made
 never : CallsStore stores true before (op.HashGet key) [] (Ok reply.Missing) (Some after) → ⊥
-never calls =
-    let none = answered_by calls.refused reply.Missing calls.stops in
-    let all = ap length (calls.are ∙ ap (λ r. fetches 1 calls.fetched ++ refused_fetch 1 r) none) in
-    let done : look ∷ [] ≡ calls.done = ap (λ (o : Option Own). accesses_in o) calls.left in
-    let count : 1 ≡ length (map (λ f. f.0) calls.fetched) = ap (λ l. length (blocks_read l)) done ∙ ap length calls.reads in
-    let wrong : 0 ≡ 1 = counts 0 calls.fetched count all in absurd (omega (arith, wrong))
+never calls = let wrong : 0 ≡ 1 = fetched_once _ calls in absurd (omega (arith, wrong))

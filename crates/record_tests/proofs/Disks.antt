@@ -1,7 +1,7 @@
 -- The disk of the tests.
-use Rattle.std.proofs.Common.{◌≡◌, ℕ, List, Some, sym, ◌∙◌, ap, subst}
+use Rattle.std.proofs.Common.{◌≡◌, List, Some, sym, ◌∙◌, ap, subst, ℕ}
 use Rattle.iso_disk.specs.Disk.{IsSettled}
-use Rattle.iso_memdisk.specs.{MemDisk.{IsUntouched, Starts, state_of}, Record.{images_after, written}, declared.disk.MemDisk.MemDisk, declared.record.Call.Call}
+use Rattle.iso_memdisk.{specs.{MemDisk.{IsUntouched, Starts, state_of}, Record.{images_after, written}, declared.disk.MemDisk.MemDisk, declared.record.Call.Call}, proofs.Blank.still_starts}
 
 -- a disk that was just made is settled
 starts_settled : (d : MemDisk) (bytes : List ℕ) → Starts d bytes → IsSettled (state_of d)
@@ -11,4 +11,4 @@ starts_settled d bytes starts c image =
 
 -- so is one whose calls are to fail
 pub failing_settled : (d e : MemDisk) (bytes : List ℕ) → Starts d bytes → IsUntouched d e → IsSettled (state_of e)
-failing_settled d e bytes starts same = starts_settled e bytes (record { first = same.first ∙ starts.first; history = same.history ∙ starts.history })
+failing_settled d e bytes starts same = starts_settled e bytes (still_starts d e bytes same starts)

@@ -2,7 +2,8 @@
 use Rattle.std.proofs.Common.{List, [], ◌∷◌, inl, inr, refl, arith}
 use Rattle.iso_model.specs.{Geometry.is_valid, declared.access.Run.Run}
 use Rattle.iso_format.specs.Writing.{LieInAnImage}
-use Rattle.record_tests.specs.Records.{put, small}
+use Rattle.record_tests.specs.Records.{put}
+use Rattle.test_images.specs.Small.{small}
 
 pub put_lies : LieInAnImage put
 unfolding is_valid

@@ -5,7 +5,8 @@ use Rattle.iso_image.proofs.Logs.{has_log}
 use Rattle.iso_memdisk.specs.{MemDisk.{Starts, state_of}, Record.images_after, declared.disk.MemDisk.MemDisk, declared.record.Call.Call}
 use Rattle.iso_model.specs.{Image.{IsRecord, Written, spell}, declared.access.Mode.TheVariants.Serial, declared.limits.TheConstants.LAST}
 use Rattle.iso_log.specs.{Extent.{Extent, next_place}, Log.{HasTold, IsNext}, Scan.StandAt}
-use Rattle.record_tests.specs.{Ready.IsReady, Records.{put, small}}
+use Rattle.record_tests.specs.{Ready.IsReady, Records.put}
+use Rattle.test_images.specs.Small.{small}
 
 -- ---- the records
 

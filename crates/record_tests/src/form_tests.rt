@@ -1,18 +1,17 @@
 // The bytes of a small image, and of a record in its log.
-ghost use Rattle.std.specs.Prelude.{◌≡◌, ◌<◌, [], length, IfOk, OnOk, IsTrue};
-ghost use Rattle.iso_model.specs.Geometry.{is_valid};
+ghost use Rattle.std.specs.Prelude.{◌≡◌, ◌<◌, [], length, IfOk, OnOk};
 ghost use Rattle.iso_format.specs.Writing.{LieInAnImage};
-ghost use Rattle.record_tests.specs.Records.{small};
 
 use iso_format::{
     FormatError, HalfHeader, PartList, RecordBuffer, SuperError, is_valid, read_half, read_record,
     read_super, record_length, record_window, unclean_place, write_half, write_record, write_super,
 };
-use iso_model::{Geometry, Memory, Mode};
+use iso_model::{Geometry, Memory};
 use std::alloc::Global;
 use std::fmt::Debug;
 use std::process::Abort;
 use std::test::Fail;
+use test_images::small;
 
 // Two values that are to be the same. Each test that compared them itself would prove what is printed where they differ.
 pub(crate) fn same<T: PartialEq + Debug + Drop>(rt: &impl Abort, found: T, wanted: T) {
@@ -26,23 +25,6 @@ fn one_put(alloc: Global) -> Result<PartList, Memory>
     let mut parts = PartList::empty(alloc);
     parts.push(2, 5, &[0xab, 0xcd])?;
     Ok(parts)
-}
-
-/// Four blocks of 64 bytes, and a log of 256.
-#[tactic(auto, unfolding(iso_model::specs::Geometry::is_valid))]
-pub(crate) fn small() -> Geometry
-    ensures same { result ≡ small }
-    ensures valid { IsTrue (is_valid result) }
-{
-    Geometry {
-        block: 64,
-        blocks: 4,
-        log: 256,
-        mode: Mode::Serial,
-        hash: 0,
-        tree: 0,
-        form: 1,
-    }
 }
 
 fn small_superblock() -> [u8; 64] {

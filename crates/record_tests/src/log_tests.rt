@@ -1,27 +1,21 @@
 // What no clause says: that calls succeed with ample memory, and which calls of the disk they make. The log stands at byte
 // 16 of a disk of zeros; each record puts two bytes at byte 5 of block 2, and has 30 bytes.
-ghost use Rattle.std.specs.Prelude.{◌≡◌, ◌+◌, ◌<◌, ◌≤◌, ◌++◌, [], replicate, OnOk, IfOk, IsTrue};
+ghost use Rattle.std.specs.Prelude.{◌≡◌, ◌+◌, ◌<◌, ◌≤◌, ◌++◌, [], OnOk, IfOk, IsTrue};
 ghost use Rattle.iso_model.specs.{Geometry.is_valid, Image.spell};
 ghost use Rattle.iso_memdisk.specs.MemDisk.{state_of};
-ghost use Rattle.record_tests.specs.{Ready.IsReady, Records.{put, small}};
+ghost use Rattle.record_tests.specs.{Ready.IsReady, Records.put};
+ghost use Rattle.test_images.specs.Small.{small};
 
-use crate::form_tests::{same, small};
+use crate::form_tests::same;
 use iso_format::RecordBuffer;
 use iso_log::{Log, LogError, ReadAhead};
 use iso_memdisk::MemDisk;
 use iso_model::{Geometry, LAST, Memory};
 use std::alloc::{AllocError, Global};
 use std::test::Fail;
+use test_images::{small, small_in, zeros};
 
 const PLACE: u64 = 16;
-
-/// The small image in form 2.
-#[tactic(auto, unfolding(iso_model::specs::Geometry::is_valid))]
-fn second_form() -> Geometry
-    ensures { IsTrue (is_valid result) }
-{
-    Geometry { form: 2, ..small() }
-}
 
 /// The record of a commit, behind those of the buffer.
 fn push_put(buffer: &mut RecordBuffer, number: u64) -> Result<(), Memory>
@@ -31,12 +25,6 @@ fn push_put(buffer: &mut RecordBuffer, number: u64) -> Result<(), Memory>
 {
     buffer.push_part(2, 5, &[0xab, 0xcd])?;
     buffer.finish(number, 1)
-}
-
-fn zeros(alloc: Global, count: usize) -> Result<Vec<u8>, AllocError>
-    ensures { IfOk result (λ v. v.items ≡ replicate count 0) }
-{
-    Ok(vec![in alloc; 0; count]?)
 }
 
 /// A disk of zeros with a log of so many bytes.
@@ -268,7 +256,7 @@ fn form_two_has_records_of_either_kind(rt: HostRuntime) -> Result<(), Fail> {
     if let Some(kind) = image.get_mut(17) {
         *kind = 2;
     }
-    same(&rt, count_in(alloc, image, &second_form(), 100), Ok(2));
+    same(&rt, count_in(alloc, image, &small_in(2), 100), Ok(2));
     Ok(())
 }
 

@@ -2,9 +2,10 @@
 ghost use Rattle.std.specs.Prelude.{IsTrue};
 ghost use Rattle.iso_model.specs.Geometry.{is_valid};
 
-use crate::form_tests::{same, small};
+use crate::form_tests::same;
 use iso_image::{HalfPlace, half_place, image_size, kind_of};
 use iso_model::{Geometry, Mode};
+use test_images::small;
 
 #[tactic(auto, unfolding(iso_model::specs::Geometry::is_valid))]
 fn default_geometry() -> Geometry
@@ -14,10 +15,7 @@ fn default_geometry() -> Geometry
         block: 4096,
         blocks: 1024,
         log: 4_194_304,
-        mode: Mode::Serial,
-        hash: 0,
-        tree: 0,
-        form: 1,
+        ..small()
     }
 }
 

@@ -1,11 +1,9 @@
 // What no clause says: that calls succeed with ample memory, and which calls of the disk they make. The image has four
 // blocks of 64 bytes and logs of 256. Its first half, at byte 64, has records of two commits; its second one, at byte 608,
 // is filled with the first of them laid over the base.
-ghost use Rattle.std.specs.Prelude.{◌≡◌, ◌⊎◌, ◌<◌, ◌≤◌, length, IfOk, IsTrue};
-ghost use Rattle.iso_model.specs.Geometry.{is_valid};
+ghost use Rattle.std.specs.Prelude.{◌≡◌, ◌⊎◌, ◌<◌, ◌≤◌, IfOk};
 ghost use Rattle.iso_disk.specs.Disk.{IsSettled};
 ghost use Rattle.iso_memdisk.specs.MemDisk.{state_of};
-ghost use Rattle.record_tests.specs.Records.{small_in};
 
 use crate::form_tests::same;
 use half_switch::{
@@ -14,9 +12,10 @@ use half_switch::{
 use iso_disk::DiskFault;
 use iso_format::HalfHeader;
 use iso_memdisk::MemDisk;
-use iso_model::{Geometry, Memory, Mode};
+use iso_model::Memory;
 use std::alloc::{AllocError, Global};
 use std::test::Fail;
+use test_images::{small_in, zeros};
 
 /// Two bytes at byte 5 of block 2.
 const FIRST: [u8; 30] = [
@@ -27,30 +26,6 @@ const FIRST: [u8; 30] = [
 const SECOND: [u8; 30] = [
     1, 1, 0, 0, 0, 0, 0, 1, 0, 0, 0, 10, 0, 0, 0, 0, 0, 0, 0, 2, 0, 0, 0, 0, 0, 0, 0, 2, 17, 18,
 ];
-
-/// Four blocks of 64 bytes, in this form.
-#[tactic(auto, unfolding(iso_model::specs::Geometry::is_valid))]
-fn small(form: u8) -> Geometry
-    requires { (form ≡ 1) ⊎ (form ≡ 2) }
-    ensures same { result ≡ small_in form }
-    ensures valid { IsTrue (is_valid result) }
-{
-    Geometry {
-        block: 64,
-        blocks: 4,
-        log: 256,
-        mode: Mode::Serial,
-        hash: 0,
-        tree: 0,
-        form,
-    }
-}
-
-fn zeros(alloc: Global, count: usize) -> Result<Vec<u8>, AllocError>
-    ensures { IfOk result (λ v. length v.items ≡ count) }
-{
-    Ok(vec![in alloc; 0u8; count]?)
-}
 
 /// The image, with this gate byte of the second half. The call of the disk with this number fails, from 1.
 fn image(alloc: Global, gate: u8, failing: u64) -> Result<MemDisk, AllocError>
@@ -73,7 +48,7 @@ fn compact(alloc: Global, disk: &mut MemDisk, form: u8) -> Result<(), SwitchErro
     requires settled { IsSettled (state_of disk.old) }
     ensures size { (state_of disk.new).size ≡ 1152 }
 {
-    let geometry = small(form);
+    let geometry = small_in(form);
     let to = half_place(&geometry, 1);
     if let Err(_) = close_half(disk, &to) {
         return Err(SwitchError::Disk);
@@ -92,7 +67,7 @@ fn compact(alloc: Global, disk: &mut MemDisk, form: u8) -> Result<(), SwitchErro
 fn open(disk: &mut MemDisk) -> Result<(), DiskFault>
     requires { (state_of disk.old).size ≡ 1152 }
 {
-    open_half(disk, &half_place(&small(1), 1))
+    open_half(disk, &half_place(&small_in(1), 1))
 }
 
 /// Thirty-two bytes of the disk from a place on.

@@ -1,5 +1,5 @@
 -- The accesses of the calls on files are accesses to the array, whatever its blocks hold.
-use Rattle.script_model.proofs.{Words.{◌≡◌, ◌≢◌, ◌∙◌, refl, ap, subst, inl, inr, ℕ, zero, suc, ◌+◌, ◌-◌, ◌*◌, ◌/◌, ◌%◌, ◌<◌, ◌≤◌, ◌==◌, ◌&&◌, ◌||◌, ◌⊎◌, Bool, true, false, cond, IsTrue, List, [], ◌∷◌, ◌++◌, length, take, drop, replicate, slice_index, Option, Some, None, Result, Ok, Err, nat_le, nat_lt, arith, and_parts, or_parts, eqb-false, leb-true, ltb-false, ltb-true, cases_lt, nat_tests, AllByRecursion, all_append, first_below, Geometry, Area, FileAreas, StoreError, Call, Program, AreBytes, HasShape, IsAccess, IsSpan, block_at, limits, FitsOn, fits_cond, fits_then, IsTreeIn, tree_area_is, tree_get_fits, tree_put_fits, tree_del_fits, blocks_behind, file_blocks, files_area, least, is_key, is_many, goes_on, in_tree, look_map, at_file, create_program, write_program, read_program, rename_program, remove_program, bytes_in, store_access, block_with, bit_mark, bit_place, map_mark, set_bit, clear_bit, without_bit, lowest_free, free_count, free_list, changed_map, changed_mark, first_write, with_used, laid_bytes, length-laid_at, length-append, length-replicate, length-take, length-map-range_with_len, no_bytes, bytes_cons, bytes_drop, bytes_take, replicate_bytes, set_bytes, word_bytes, bit_small, or_lt, xor_lt, and_le_r, to_be_bytes, w32, ◌^◌, Array, is_valid, Span, NoBlocks, refuse, bits_mark, create_at, create_new, empty_writes, high_place, low_place, read_from, read_pieces, remove_file, remove_writes, rename_found, rename_free, with_new, without_bits, write_pieces, write_sized, write_to, blocks_for, bytes_of, data_count, entries_of, entry_at, file_block, is_file, is_number, most_bytes, piece_len, piece_mark}, ProgramAnswers.{Answers, FindsBytes, answers_any, answers_on, get_answers}, TakenBlocks.{AreBelow, RiseIn, count_free, last_rises, rise_below, taken_rise, used_bytes}, FileParts.{IsFileBlock, count_fits, file_block_bytes, file_block_is, length-file_block, piece_is, place_below}}
+use Rattle.script_model.proofs.{Words.{◌≡◌, ◌≢◌, ◌∙◌, refl, inl, inr, ℕ, zero, suc, ◌+◌, ◌-◌, ◌/◌, ◌%◌, ◌<◌, ◌≤◌, ◌&&◌, ◌⊎◌, Bool, true, false, cond, IsTrue, List, [], ◌∷◌, ◌++◌, length, take, drop, replicate, slice_index, Option, Some, None, Result, Ok, Err, nat_le, nat_lt, arith, and_parts, leb-true, ltb-false, ltb-true, cases_lt, nat_tests, AllByRecursion, all_append, first_below, Geometry, Area, FileAreas, StoreError, Call, Program, AreBytes, HasShape, IsAccess, IsSpan, block_at, FitsOn, fits_cond, fits_then, IsTreeIn, tree_get_fits, tree_put_fits, tree_del_fits, file_blocks, files_area, is_key, is_many, goes_on, in_tree, look_map, at_file, create_program, write_program, read_program, rename_program, remove_program, bytes_in, store_access, block_with, bit_mark, bit_place, map_mark, set_bit, clear_bit, without_bit, lowest_free, free_count, free_list, changed_map, changed_mark, first_write, with_used, laid_bytes, length-laid_at, length-append, length-replicate, length-take, length-map-range_with_len, no_bytes, bytes_cons, bytes_drop, bytes_take, replicate_bytes, set_bytes, word_bytes, bit_small, or_lt, xor_lt, and_le_r, to_be_bytes, w32, ◌^◌, Array, is_valid, Span, NoBlocks, refuse, bits_mark, create_at, create_new, empty_writes, high_place, low_place, read_from, read_pieces, remove_file, remove_writes, rename_found, rename_free, with_new, without_bits, write_pieces, write_sized, write_to, blocks_for, bytes_of, data_count, entries_of, entry_at, file_block, is_file, is_number, most_bytes, piece_len, piece_mark}, ProgramAnswers.{Answers, FindsBytes, answers_any, answers_on, get_answers}, TakenBlocks.{AreBelow, RiseIn, count_free, last_rises, rise_below, taken_rise, used_bytes}, FilesPlace.{has_files, least_parts}, FileParts.{IsFileBlock, count_fits, file_block_bytes, file_block_is, length-file_block, piece_is, place_below}}
 use Rattle.store_model.specs.{TreeCalls.{get_program, put_program, del_program}, FileNodes.number_of}
 use Rattle.store_model.specs.declared.files.FsError.TheVariants as fs
 
@@ -8,48 +8,19 @@ pub record IsFilesIn (g : Geometry) (a : FileAreas) (A : Array) : Type 0 where
   pub tree : IsTreeIn g a.tree A
   pub files : IsTreeIn g a.files A
 
-least_parts : (m n : ℕ) → (least m n ≤ m) × (least m n ≤ n)
-least_parts m n = elim (cases_lt m n) [
-  | inl less ↦ (let test : nat_lt m n ≡ true = grind (arith, nat_tests) in
-      let is : least m n ≡ m = ap (λ (t : Bool). cond t m n) test in (omega arith, omega arith))
-  | inr more ↦ (let test : nat_lt m n ≡ false = grind (arith, nat_tests) in
-      let is : least m n ≡ n = ap (λ (t : Bool). cond t m n) test in (omega arith, omega arith))
-]
-
-some_chosen : (t : Bool) (n : ℕ) → cond t 0 n ≢ 0 → t ≡ false
-some_chosen true n some = absurd (some refl)
-some_chosen false n some = refl
-
 -- the files of a valid image that has room for them
 pub files_area_is : (g : Geometry) (A : Array) → IsTrue (is_valid g) → HasShape g A → file_blocks g ≢ 0 → IsFilesIn g (files_area g) A
 files_area_is g A valid shape some =
-    let bounds = limits g valid in
-    let none : ((g.tree == 0) || nat_lt (blocks_behind g) 2) ≡ false = some_chosen _ (blocks_behind g) some in
-    let parts = or_parts (g.tree == 0) (nat_lt (blocks_behind g) 2) none in
-    let there : g.tree ≢ 0 = eqb-false g.tree 0 parts.0 in
-    let same : file_blocks g ≡ blocks_behind g = ap (λ (t : Bool). cond t 0 (blocks_behind g)) none in
-    let two = ltb-false (blocks_behind g) 2 parts.1 in
-    let less = least_parts (g.blocks - (g.hash + g.tree)) (8 * (g.block - 64)) in
-    let area = tree_area_is g valid there in
-    record {
-      tree = record { area = area; size = refl; fits = bounds.regions; shape = shape };
-      files = record {
-        area = record { block_size = area.block_size; least_size = area.least_size; least = omega (arith, two, same); most = omega (arith, same, less.1) };
-        size = refl;
-        fits = omega (arith, same, less.0, bounds.regions);
-        shape = shape;
-      };
-    }
+    let has = has_files g valid some in
+    let tree = has.areas.tree in
+    grind arith
 
 abbrev Whole : {R : Type 0} → R → Array → Type 0
 Whole r B = Unit {0}
 
 -- whatever the array of this shape holds
 at_shape : (g : Geometry) (a : FileAreas) (A B : Array) → IsFilesIn g a A → HasShape g B → IsFilesIn g a B
-at_shape g a A B is shape = record {
-  tree = record { area = is.tree.area; size = is.tree.size; fits = is.tree.fits; shape = shape };
-  files = record { area = is.files.area; size = is.files.size; fits = is.files.fits; shape = shape };
-}
+at_shape g a A B is shape = grind arith
 
 -- a number of the list, or 0
 index_below : (high : ℕ) (xs : List ℕ) (i : ℕ) → 0 < high → AreBelow high xs → slice_index xs i < high
@@ -63,8 +34,7 @@ either_spans size true mark is = (is, tt)
 either_spans size false mark is = tt
 
 either_few : (t : Bool) (mark : Span) → length (cond t (mark ∷ []) []) ≤ 8
-either_few true mark = omega arith
-either_few false mark = omega arith
+either_few t mark = grind arith
 
 -- A call that goes on where a tree call has answered.
 in_tree_fits : {X Y : Type 0} (g : Geometry) (Q : Result X StoreError → Type 0) (p : Program (Result X StoreError)) (next : X → Call Y) (A : Array) → HasShape g A → FitsOn g Whole p A → Answers Q p
@@ -91,19 +61,11 @@ module _ (g : Geometry) (a : FileAreas) (A : Array) (is : IsFilesIn g a A) where
   -- a write of a block of the files
   stored : (block : ℕ) (spans : List Span) (bytes : List ℕ) → block < f.blocks → AllByRecursion (IsSpan g.block) spans → length spans ≤ 8 → length bytes ≡ f.size → AreBytes bytes
       → IsAccess g (store_access (f.start + block) spans bytes)
-  stored block spans bytes below all few long values = record {
-    block = inside block below;
-    spans = all;
-    few = few;
-    bytes = λ write. long ∙ is.files.size;
-    none = λ read. cc;
-    values = values;
-  }
+  stored block spans bytes below all few long values = grind arith
 
   -- a write of the first one
   stored_first : (mark : Span) (bytes : List ℕ) → IsSpan g.block mark → length bytes ≡ f.size → AreBytes bytes → IsAccess g (store_access f.start (mark ∷ []) bytes)
-  stored_first mark bytes span long values =
-      subst (λ (n : ℕ). IsAccess g (store_access n (mark ∷ []) bytes)) (omega arith) (stored 0 (mark ∷ []) bytes zero_block (span, tt) (omega arith) long values)
+  stored_first mark bytes span long values = grind (arith, zero_block)
 
   length-zeros : (at : ℕ) (bytes : List ℕ) → at + length bytes ≤ f.size → length (block_with f.size at bytes) ≡ f.size
   length-zeros at bytes fits =
@@ -120,12 +82,7 @@ module _ (g : Geometry) (a : FileAreas) (A : Array) (is : IsFilesIn g a A) where
   map_span = record { some = omega arith; fits = omega (arith, is.files.size, is.files.area.least_size, is.files.area.most) }
 
   map_fits : {Y : Type 0} (next : List ℕ → Call Y) → ((first : List ℕ) → AreBytes first → FitsOn g Whole (next first) A) → FitsOn g Whole (look_map f next) A
-  map_fits next fit = (
-    omega (arith, inside 0 zero_block),
-    map_span,
-    tt,
-    fit (bytes_in (map_mark f.blocks) (block_at A f.start)) (bytes_take _ _ (bytes_drop 0 _ (is.files.shape.values f.start))),
-  )
+  map_fits next fit = grind (arith, zero_block, map_span, bytes_take, bytes_drop)
 
   -- what is done with the file that a name has
   at_file_fits : {Y : Type 0} (none : Y) (next : ℕ → List ℕ → Call Y)
@@ -158,8 +115,7 @@ module _ (g : Geometry) (a : FileAreas) (A : Array) (is : IsFilesIn g a A) where
       (λ past. tt)
 
   read_file : (off len number : ℕ) (file : List ℕ) → IsFileBlock f file → FitsOn g Whole (read_from f off len number file) A
-  read_file off len number file parts =
-      fits_cond g Whole (nat_le off (bytes_of file)) _ _ A (λ good. pieces_read file parts len off (least (off + len) (bytes_of file)) [] (least_parts (off + len) (bytes_of file)).1) (λ past. tt)
+  read_file off len number file parts = grind (arith, fits_cond, pieces_read, least_parts)
 
   -- CREATE
   empty_fits : (block byte : ℕ) → block < f.blocks → byte < 256 → (B : Array) → FitsOn g Whole (empty_writes a block byte) B

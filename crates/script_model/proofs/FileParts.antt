@@ -1,5 +1,5 @@
 -- What the test of a file block says of its numbers, and the lengths of file blocks and pieces.
-use Rattle.script_model.proofs.{Words.{◌≡◌, refl, ap, inl, inr, ℕ, zero, suc, ◌+◌, ◌-◌, ◌*◌, ◌/◌, ◌%◌, ◌<◌, ◌≤◌, Bool, true, false, cond, List, [], ◌∷◌, ◌++◌, length, flat_map, map, nat_le, nat_lt, arith, subst, AreBytes, range_with_len, Area, and_parts, leb-true, ltb-true, cases_lt, nat_tests, div-lt_iff_lt-mul, div-mul-le_self, le-div, mod-lt, to_be_bytes, w32, bytes_append, bytes_cons, no_bytes, replicate, replicate_bytes, word_bytes, length-append, length-replicate, all_from, are_entries, blocks_for, bytes_of, data_count, entries_of, entry_at, entry_count, file_block, has_zeros, is_file, is_handed, most_bytes, piece_len}, TakenBlocks.AreBelow}
+use Rattle.script_model.proofs.{Words.{◌≡◌, refl, ℕ, zero, suc, ◌+◌, ◌-◌, ◌*◌, ◌/◌, ◌%◌, ◌<◌, ◌≤◌, true, List, [], ◌∷◌, ◌++◌, length, flat_map, map, nat_le, nat_lt, arith, subst, AreBytes, range_with_len, Area, and_parts, leb-true, ltb-true, le-div, to_be_bytes, w32, bytes_append, bytes_cons, no_bytes, replicate, replicate_bytes, word_bytes, length-append, length-replicate, all_from, are_entries, blocks_for, bytes_of, data_count, entries_of, entry_at, entry_count, file_block, has_zeros, is_file, is_handed, most_bytes, piece_len}, TakenBlocks.AreBelow}
 
 -- a file block that passed its test: how many bytes it may have, and that its numbers are those of blocks of the region
 pub record IsFileBlock (a : Area) (file : List ℕ) : Type 0 where
@@ -35,19 +35,11 @@ more_blocks q size = grind arith
 
 -- the numbers of so many bytes have room in a file block
 pub count_fits : (size bytes : ℕ) → 256 ≤ size → bytes ≤ most_bytes size → blocks_for size bytes ≤ entry_count size
-count_fits size bytes least few =
-    let m = (size - 64) / 4 in
-    let sum : (m + 1) * size ≡ m * size + size = more_blocks m size in
-    let less : (bytes + (size - 1)) / size < m + 1 = (div-lt_iff_lt-mul {k = size} {x = bytes + (size - 1)} {y = m + 1} (omega arith)).1 (omega (arith, sum, few)) in
-    omega arith
+count_fits size bytes least few = grind (arith, more_blocks)
 
 -- byte p of a file stands in one of its blocks
 pub place_below : (size bytes p : ℕ) → 0 < size → p < bytes → p / size < blocks_for size bytes
-place_below size bytes p some below =
-    let low = div-mul-le_self p size in
-    let sum : (p / size + 1) * size ≡ p / size * size + size = more_blocks (p / size) size in
-    let next : p / size + 1 ≤ blocks_for size bytes = le-div (p / size + 1) (bytes + (size - 1)) size some (omega (arith, low, sum)) in
-    omega arith
+place_below size bytes p some below = grind (arith, more_blocks, le-div)
 
 -- a piece that has a byte ends in its block
 pub record IsPiece (size from to : ℕ) : Type 0 where
@@ -55,18 +47,7 @@ pub record IsPiece (size from to : ℕ) : Type 0 where
   pub fits : from % size + piece_len size from to ≤ size
 
 pub piece_is : (size from to : ℕ) → 0 < size → from < to → IsPiece size from to
-piece_is size from to some less =
-    let low : from % size < size = mod-lt from some in
-    elim (cases_lt (to - from) (size - from % size)) [
-      | inl short ↦
-          (let test : nat_lt (to - from) (size - from % size) ≡ true = grind (arith, nat_tests) in
-          let is : piece_len size from to ≡ to - from = ap (λ (t : Bool). cond t (to - from) (size - from % size)) test in
-          record { some = omega arith; fits = omega arith })
-      | inr long ↦
-          (let test : nat_lt (to - from) (size - from % size) ≡ false = grind (arith, nat_tests) in
-          let is : piece_len size from to ≡ size - from % size = ap (λ (t : Bool). cond t (to - from) (size - from % size)) test in
-          record { some = omega arith; fits = omega arith })
-    ]
+piece_is size from to some less = grind arith
 
 -- THE BYTES OF A FILE BLOCK
 length-entries : (entries : List ℕ) → length (flat_map (to_be_bytes w32) entries) ≡ 4 * length entries

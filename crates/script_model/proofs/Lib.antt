@@ -17,5 +17,6 @@ pub mod Looks
 mod ProgramAnswers
 mod TakenBlocks
 mod FileParts
+pub mod FilesPlace
 mod FileAccesses
 mod FileRows

@@ -1,14 +1,5 @@
 -- The transactions that a group finds under its labels, and the world in which they have left these.
-use Rattle.script_model.proofs.Words.{◌≡◌, ◌∙◌, refl, ℕ, List, [], ◌∷◌, Option, Some, None, arith, IsWorld, IsLive, LeadsTo, AllByRecursion, World, Live, Place, client, label, held, is_under_label, unattached, all_find, leads_on, live_on, places, stays, after_look, found_ones, looks, placed, AreApart}
-
-nowhere : (place : Place) → AreApart place unattached
-nowhere (client c) = tt
-nowhere (label text) = tt
-nowhere unattached = tt
-
-all_nowhere : (live : List Live) → AllByRecursion (λ u. AreApart u.place unattached) live
-all_nowhere [] = tt
-all_nowhere (t ∷ live) = (nowhere t.place, all_nowhere live)
+use Rattle.script_model.proofs.Words.{all_apart_nowhere, ◌≡◌, ◌∙◌, refl, ℕ, List, [], ◌∷◌, Option, Some, None, arith, IsWorld, IsLive, LeadsTo, AllByRecursion, World, Live, held, is_under_label, unattached, all_find, leads_on, live_on, places, stays, after_look, found_ones, looks, placed}
 
 -- what is found under a label is live
 pub held_live : (W : World) (text : List ℕ) (t : Live) → IsWorld W → held W text ≡ Some t → IsLive W t
@@ -17,7 +8,7 @@ held_live W text t is found = all_find (IsLive W) (λ u. is_under_label text u.p
 -- a look keeps a world sound
 pub look_leads : (W : World) (o : Option Live) → IsWorld W → ((t : Live) → o ≡ Some t → IsLive W t) → LeadsTo W (after_look W o)
 look_leads W None is live = stays W is
-look_leads W (Some t) is live = places W t unattached is (live t refl) tt (all_nowhere W.live)
+look_leads W (Some t) is live = places W t unattached is (live t refl) tt (all_apart_nowhere W.live)
 
 pub looks_lead : (texts : List (List ℕ)) (W : World) → IsWorld W → LeadsTo W (looks W texts).1
 looks_lead [] W is = stays W is
@@ -27,21 +18,19 @@ looks_lead (text ∷ texts) W is =
     leads_on W V (looks V texts).1 one (looks_lead texts V one.world)
 
 -- and changes nothing but the places
-pub looks_history : (texts : List (List ℕ)) (W : World) → (looks W texts).1.history ≡ W.history
-looks_history [] W = refl
-looks_history (text ∷ texts) W = looks_history texts (after_look W (held W text)) ∙ look_history (held W text)
+pub looks_keep : {A : Type 0} (part : World → A) → ((W : World) (t : Live) → part (placed W t unattached) ≡ part W) → (texts : List (List ℕ)) (W : World) → part (looks W texts).1 ≡ part W
+looks_keep part keeps [] W = refl
+looks_keep part keeps (text ∷ texts) W = looks_keep part keeps texts (after_look W (held W text)) ∙ look (held W text)
   where
-    look_history : (o : Option Live) → (after_look W o).history ≡ W.history
-    look_history None = refl
-    look_history (Some t) = refl
+    look : (o : Option Live) → part (after_look W o) ≡ part W
+    look None = refl
+    look (Some t) = keeps W t
+
+pub looks_history : (texts : List (List ℕ)) (W : World) → (looks W texts).1.history ≡ W.history
+looks_history = looks_keep (λ (V : World). V.history) (λ W t. refl)
 
 pub looks_geometry : (texts : List (List ℕ)) (W : World) → (looks W texts).1.geometry ≡ W.geometry
-looks_geometry [] W = refl
-looks_geometry (text ∷ texts) W = looks_geometry texts (after_look W (held W text)) ∙ look_geometry (held W text)
-  where
-    look_geometry : (o : Option Live) → (after_look W o).geometry ≡ W.geometry
-    look_geometry None = refl
-    look_geometry (Some t) = refl
+looks_geometry = looks_keep (λ (V : World). V.geometry) (λ W t. refl)
 
 -- what holds of each that is found holds of the members
 pub first_found : (P : Live → Type 0) (o : Option Live) (found : List (Option Live)) → ((t : Live) → o ≡ Some t → P t) → AllByRecursion P (found_ones found) → AllByRecursion P (found_ones (o ∷ found))

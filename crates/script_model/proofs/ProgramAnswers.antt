@@ -1,5 +1,5 @@
 -- What a program answers where each block that it reads is one of bytes, and the shape of the array that it leaves.
-use Rattle.script_model.proofs.Words.{◌∙◌, ◌&&◌, ◌==◌, ℕ, zero, suc, ◌+◌, Bool, true, false, cond, List, [], Option, Some, None, Result, Ok, Err, Access, Area, Geometry, StoreError, AreBytes, HasShape, IsAccess, block_at, FitsOn, Program, Look, LookWhole, Reserve, Store, bytes_in, further_bytes, store_access, then_do, at_cell, text_of, word_at, is_part, is_key, cell_of, put, no_bytes, bytes_drop, bytes_take, length-block_put, length-put, put_values, AtLeaf, Descent, descend, get_below, is_child, is_head, is_node, with_head, Array, Span, AtBroken, got, Broken, BadKey}
+use Rattle.script_model.proofs.Words.{arith, ◌&&◌, ◌==◌, ℕ, zero, suc, ◌+◌, Bool, true, false, cond, List, [], Option, Some, None, Result, Ok, Err, Access, Area, Geometry, StoreError, AreBytes, HasShape, IsAccess, block_at, FitsOn, Program, Look, LookWhole, Reserve, Store, bytes_in, further_bytes, store_access, then_do, at_cell, text_of, word_at, is_part, is_key, cell_of, put, no_bytes, bytes_drop, bytes_take, length-block_put, length-put, put_values, AtLeaf, Descent, descend, get_below, is_child, is_head, is_node, with_head, Array, Span, AtBroken, got, Broken, BadKey}
 use Rattle.store_model.specs.{Stores.Done, TreeCalls.get_program}
 
 -- each answer has Q, whatever bytes are read
@@ -36,11 +36,7 @@ further_are None block are = no_bytes
 further_are (Some span) block are = span_bytes span block are
 
 shape_put : (g : Geometry) (A : Array) (w : Access) → HasShape g A → IsAccess g w → HasShape g (put A w)
-shape_put g A w shape is = record {
-  blocks = length-put A w ∙ shape.blocks;
-  bytes = λ b below. length-block_put A w b ∙ shape.bytes b below;
-  values = put_values A w shape.values is.values;
-}
+shape_put g A w shape is = grind (arith, length-put, length-block_put, put_values)
 
 -- A program whose accesses are accesses leaves an array of the image's shape, and its answer on this array is one of its answers.
 pub answers_on : {R : Type 0} (g : Geometry) (Q : R → Type 0) (p : Program R) (A : Array) → HasShape g A → FitsOn g (λ r B. Unit {0}) p A → Answers Q p

@@ -1,6 +1,6 @@
 -- The bytes that a script's lines take are bytes.
-use Rattle.script_model.proofs.Words.{ℕ, ◌+◌, ◌<◌, ◌≤◌, Bool, true, false, ◌&&◌, cond, IsTrue, List, Option, Result, Ok, Err, ok_or, nat_le, length, take, subst, arith, and_parts, leb-true, MAX_INPUT, MAX_LINE, Op, Begin, End, Abort, Put, Read, Get, Write, Fill, Mark, Release, Takeover, Await, Group, Trim, Stat, Compact, Upgrade, HashPut, HashGet, HashDelete, TreePut, TreeGet, TreeDelete, TreeScan, FileNew, FileWrite, FileRead, FileMove, FileDelete, AllByRecursion, Line, Parsed, MAX_LABELS, suc, ap, AreBytes, ◌>>=◌, without_return, bad_line, bare, begin_arguments, put_arguments, one_number, two_numbers, three_numbers, number_and_bytes, one_label, group_arguments, labels_of, number_argument, hex_argument, label_argument, mode_argument, operation_of, other_operation, one_key, key_and_value, scan_arguments, write_arguments, read_arguments, store_argument, store_operation, tree_operation, file_operation, said, parse, parse_whole, last_piece, before_script, script_from, script, client_in_range, no_lines, Script, is_empty, pieces, words_of, hex_digit, hex_pair, hex_pairs, hex_of, number_of, is_digit, is_label, label_of, IsOp, AreLines, no_bytes, bytes_cons, Skip, Says}
-use Rattle.std.proofs.Common.{◌≡◌, refl, ◌-◌, ◌*◌, [], ◌∷◌, Some, None}
+use Rattle.script_model.proofs.Words.{ℕ, ◌+◌, ◌<◌, Bool, true, false, ◌&&◌, cond, IsTrue, List, Option, Result, Ok, Err, ok_or, nat_le, length, take, subst, arith, and_parts, leb-true, MAX_INPUT, MAX_LINE, Op, Begin, End, Abort, Put, Read, Get, Write, Fill, Mark, Release, Takeover, Await, Group, Trim, Stat, Compact, Upgrade, TreePut, TreeGet, TreeDelete, TreeScan, FileNew, FileWrite, FileRead, FileMove, FileDelete, AllByRecursion, Line, Parsed, MAX_LABELS, suc, ap, AreBytes, ◌>>=◌, without_return, bad_line, bare, begin_arguments, put_arguments, one_number, two_numbers, three_numbers, number_and_bytes, one_label, group_arguments, labels_of, number_argument, hex_argument, label_argument, mode_argument, operation_of, other_operation, one_key, key_and_value, scan_arguments, write_arguments, read_arguments, store_argument, store_operation, tree_operation, file_operation, said, parse, parse_whole, last_piece, before_script, script_from, script, no_lines, Script, is_empty, pieces, words_of, hex_digit, hex_pair, hex_pairs, hex_of, is_label, label_of, IsOp, AreLines, no_bytes, bytes_cons, Skip, Says}
+use Rattle.std.proofs.Common.{◌≡◌, refl, sym, ◌-◌, ◌*◌, [], ◌∷◌, Some, None}
 
 -- what holds of a value, if there is one
 abbrev IfThere : {A : Type 0} → (A → Type 0) → Option A → Type 0
@@ -30,15 +30,10 @@ given_next P Q (Err cause) next is each = given_none Q cause
 
 -- a hexadecimal digit is below 16
 digit_value : (low high down b : ℕ) → (nat_le low b && nat_le b high) ≡ true → high < down + 16 → b - down < 16
-digit_value low high down b test near =
-    let below : b ≤ high = leb-true b high (and_parts (nat_le low b) (nat_le b high) test).1 in
-    omega arith
+digit_value low high down b test near = grind arith
 
 digit_small : (b : ℕ) → IfThere (λ n. n < 16) (hex_digit b)
-digit_small b =
-    there_cond (λ n. n < 16) (is_digit b) (Some (b - 48)) _ (λ t. digit_value 48 57 48 b t (omega arith))
-    (there_cond (λ n. n < 16) (nat_le 97 b && nat_le b 102) (Some (b - 87)) _ (λ t. digit_value 97 102 87 b t (omega arith))
-    (there_cond (λ n. n < 16) (nat_le 65 b && nat_le b 70) (Some (b - 55)) None (λ t. digit_value 65 70 55 b t (omega arith)) tt))
+digit_small b = grind (arith, there_cond, digit_value)
 
 pair_bytes : (high low : Option ℕ) (rest : Option (List ℕ)) → IfThere (λ n. n < 16) high → IfThere (λ n. n < 16) low → IfThere AreBytes rest → IfThere AreBytes (hex_pair high low rest)
 pair_bytes (Some high) (Some low) (Some bytes) first second rest = bytes_cons (16 * high + low) bytes (omega arith) rest
@@ -66,15 +61,36 @@ pub bare_op : (P : Op → Type 0) (op : Op) (words : List (List ℕ)) → P op �
 bare_op P op [] is = given_one P op is
 bare_op P op (word ∷ words) is = given_none P 3
 
+-- the arguments of an operation that has two, or three: each is read where there are so many
+of_two : (P : Op → Type 0) (read : List (List ℕ) → Result Op ℕ) → read [] ≡ Err 3 → ((a : List ℕ) → read (a ∷ []) ≡ Err 3) → ((a b c : List ℕ) (words : List (List ℕ)) → read (a ∷ b ∷ c ∷ words) ≡ Err 3)
+    → ((a b : List ℕ) → IfGiven P (read (a ∷ b ∷ []))) → (words : List (List ℕ)) → IfGiven P (read words)
+of_two P read none one more two [] = subst (IfGiven P) (sym none) (given_none P 3)
+of_two P read none one more two (a ∷ []) = subst (IfGiven P) (sym (one a)) (given_none P 3)
+of_two P read none one more two (a ∷ b ∷ []) = two a b
+of_two P read none one more two (a ∷ b ∷ c ∷ words) = subst (IfGiven P) (sym (more a b c words)) (given_none P 3)
+
+of_three : (P : Op → Type 0) (read : List (List ℕ) → Result Op ℕ) → read [] ≡ Err 3 → ((a : List ℕ) → read (a ∷ []) ≡ Err 3) → ((a b : List ℕ) → read (a ∷ b ∷ []) ≡ Err 3)
+    → ((a b c d : List ℕ) (words : List (List ℕ)) → read (a ∷ b ∷ c ∷ d ∷ words) ≡ Err 3) → ((a b c : List ℕ) → IfGiven P (read (a ∷ b ∷ c ∷ []))) → (words : List (List ℕ)) → IfGiven P (read words)
+of_three P read none one two more three [] = subst (IfGiven P) (sym none) (given_none P 3)
+of_three P read none one two more three (a ∷ words) = of_two P (λ (rest : List (List ℕ)). read (a ∷ rest)) (one a) (two a) (more a) (three a) words
+
+given_two : {A B : Type 0} (P : A → Type 0) (Q : B → Type 0) (T : Op → Type 0) (op : A → B → Op) (x : Result A ℕ) (y : Result B ℕ) → IfGiven P x → IfGiven Q y → ((a : A) (b : B) → P a → Q b → T (op a b))
+    → IfGiven T (x >>= λ a. y >>= λ b. Ok (op a b))
+given_two P Q T op x y first second is = given_next P T x _ first (λ a a_is. given_next Q T y _ second (λ b b_is. given_one T (op a b) (is a b a_is b_is)))
+
+given_three : {A B C : Type 0} (P : A → Type 0) (Q : B → Type 0) (R : C → Type 0) (T : Op → Type 0) (op : A → B → C → Op) (x : Result A ℕ) (y : Result B ℕ) (z : Result C ℕ) → IfGiven P x → IfGiven Q y → IfGiven R z
+    → ((a : A) (b : B) (c : C) → P a → Q b → R c → T (op a b c)) → IfGiven T (x >>= λ a. y >>= λ b. z >>= λ c. Ok (op a b c))
+given_three P Q R T op x y z first second third is = grind (arith, given_next, given_two)
+
+abbrev Any : {A : Type 0} → A → Type 0
+Any x = Unit {0}
+
+hex_given : (bytes : List ℕ) → IfGiven AreBytes (hex_argument bytes)
+hex_given bytes = or_cause AreBytes (hex_of bytes) 5 (hex_bytes bytes)
+
 pub put_op : (P : Op → Type 0) → ((block off : ℕ) (bytes : List ℕ) → AreBytes bytes → P (Put block off bytes)) → (words : List (List ℕ)) → IfGiven P (put_arguments words)
-put_op P is [] = given_none P 3
-put_op P is (block ∷ []) = given_none P 3
-put_op P is (block ∷ off ∷ []) = given_none P 3
-put_op P is (block ∷ off ∷ bytes ∷ []) =
-    given_next (λ x. Unit {0}) P (number_argument block) _ (any_given (number_argument block)) (λ b any.
-    given_next (λ x. Unit {0}) P (number_argument off) _ (any_given (number_argument off)) (λ o more.
-    given_next AreBytes P (hex_argument bytes) _ (or_cause AreBytes (hex_of bytes) 5 (hex_bytes bytes)) (λ h are. given_one P (Put b o h) (is b o h are))))
-put_op P is (block ∷ off ∷ bytes ∷ more ∷ words) = given_none P 3
+put_op P is = of_three P put_arguments refl (λ a. refl) (λ a b. refl) (λ a b c d words. refl) (λ block off bytes.
+    given_three Any Any AreBytes P Put _ _ _ (any_given (number_argument block)) (any_given (number_argument off)) (hex_given bytes) (λ b o h any more are. is b o h are))
 
 begin_op : (words : List (List ℕ)) → IfGiven IsOp (begin_arguments words)
 begin_op [] = given_one IsOp (Begin None) tt
@@ -87,30 +103,14 @@ one_op P op is (number ∷ []) = given_next (λ x. Unit {0}) P (number_argument 
 one_op P op is (number ∷ more ∷ words) = given_none P 3
 
 two_op : (op : ℕ → ℕ → Op) → ((m n : ℕ) → IsOp (op m n)) → (words : List (List ℕ)) → IfGiven IsOp (two_numbers op words)
-two_op op is [] = given_none IsOp 3
-two_op op is (first ∷ []) = given_none IsOp 3
-two_op op is (first ∷ second ∷ []) =
-    given_next (λ x. Unit {0}) IsOp (number_argument first) _ (any_given (number_argument first)) (λ m any.
-    given_next (λ x. Unit {0}) IsOp (number_argument second) _ (any_given (number_argument second)) (λ n more. given_one IsOp (op m n) (is m n)))
-two_op op is (first ∷ second ∷ third ∷ words) = given_none IsOp 3
+two_op op is = grind (arith, of_two, given_two, any_given)
 
 three_op : (op : ℕ → ℕ → ℕ → Op) → ((l m n : ℕ) → IsOp (op l m n)) → (words : List (List ℕ)) → IfGiven IsOp (three_numbers op words)
-three_op op is [] = given_none IsOp 3
-three_op op is (first ∷ []) = given_none IsOp 3
-three_op op is (first ∷ second ∷ []) = given_none IsOp 3
-three_op op is (first ∷ second ∷ third ∷ []) =
-    given_next (λ x. Unit {0}) IsOp (number_argument first) _ (any_given (number_argument first)) (λ l any.
-    given_next (λ x. Unit {0}) IsOp (number_argument second) _ (any_given (number_argument second)) (λ m more.
-    given_next (λ x. Unit {0}) IsOp (number_argument third) _ (any_given (number_argument third)) (λ n all. given_one IsOp (op l m n) (is l m n))))
-three_op op is (first ∷ second ∷ third ∷ fourth ∷ words) = given_none IsOp 3
+three_op op is = grind (arith, of_three, given_three, any_given)
 
 bytes_op : (op : ℕ → List ℕ → Op) → ((n : ℕ) (bytes : List ℕ) → AreBytes bytes → IsOp (op n bytes)) → (words : List (List ℕ)) → IfGiven IsOp (number_and_bytes op words)
-bytes_op op is [] = given_none IsOp 3
-bytes_op op is (number ∷ []) = given_none IsOp 3
-bytes_op op is (number ∷ bytes ∷ []) =
-    given_next (λ x. Unit {0}) IsOp (number_argument number) _ (any_given (number_argument number)) (λ n any.
-    given_next AreBytes IsOp (hex_argument bytes) _ (or_cause AreBytes (hex_of bytes) 5 (hex_bytes bytes)) (λ h are. given_one IsOp (op n h) (is n h are)))
-bytes_op op is (number ∷ bytes ∷ more ∷ words) = given_none IsOp 3
+bytes_op op is = of_two IsOp (number_and_bytes op) refl (λ a. refl) (λ a b c words. refl) (λ number bytes.
+    given_two Any AreBytes IsOp op _ _ (any_given (number_argument number)) (hex_given bytes) (λ n h any are. is n h are))
 
 label_is : (word : List ℕ) → IfThere (λ text. IsTrue (is_label text)) (label_of word)
 label_is word = there_cond (λ text. IsTrue (is_label text)) (is_label word) (Some word) None (λ t. t) tt
@@ -148,42 +148,19 @@ key_op op is (key ∷ []) = given_next AreBytes IsOp (store_argument key) _ (sto
 key_op op is (key ∷ more ∷ words) = given_none IsOp 3
 
 value_op : (op : List ℕ → List ℕ → Op) → ((key value : List ℕ) → AreBytes key → AreBytes value → IsOp (op key value)) → (words : List (List ℕ)) → IfGiven IsOp (key_and_value op words)
-value_op op is [] = given_none IsOp 3
-value_op op is (key ∷ []) = given_none IsOp 3
-value_op op is (key ∷ value ∷ []) =
-    given_next AreBytes IsOp (store_argument key) _ (store_given key) (λ k k_are.
-    given_next AreBytes IsOp (store_argument value) _ (store_given value) (λ v v_are. given_one IsOp (op k v) (is k v k_are v_are)))
-value_op op is (key ∷ value ∷ more ∷ words) = given_none IsOp 3
+value_op op is = of_two IsOp (key_and_value op) refl (λ a. refl) (λ a b c words. refl) (λ key value. given_two AreBytes AreBytes IsOp op _ _ (store_given key) (store_given value) is)
 
 scan_op : (words : List (List ℕ)) → IfGiven IsOp (scan_arguments words)
-scan_op [] = given_none IsOp 3
-scan_op (from ∷ []) = given_none IsOp 3
-scan_op (from ∷ to ∷ []) = given_none IsOp 3
-scan_op (from ∷ to ∷ most ∷ []) =
-    given_next AreBytes IsOp (store_argument from) _ (store_given from) (λ f f_are.
-    given_next AreBytes IsOp (store_argument to) _ (store_given to) (λ t t_are.
-    given_next (λ n. Unit {0}) IsOp (number_argument most) _ (any_given (number_argument most)) (λ n given. given_one IsOp (TreeScan f t n) tt)))
-scan_op (from ∷ to ∷ most ∷ more ∷ words) = given_none IsOp 3
+scan_op = of_three IsOp scan_arguments refl (λ a. refl) (λ a b. refl) (λ a b c d words. refl) (λ from to most.
+    given_three AreBytes AreBytes Any IsOp TreeScan _ _ _ (store_given from) (store_given to) (any_given (number_argument most)) (λ f t n f_are t_are any. tt))
 
 write_op : (words : List (List ℕ)) → IfGiven IsOp (write_arguments words)
-write_op [] = given_none IsOp 3
-write_op (name ∷ []) = given_none IsOp 3
-write_op (name ∷ off ∷ []) = given_none IsOp 3
-write_op (name ∷ off ∷ bytes ∷ []) =
-    given_next AreBytes IsOp (store_argument name) _ (store_given name) (λ n n_are.
-    given_next (λ x. Unit {0}) IsOp (number_argument off) _ (any_given (number_argument off)) (λ o given.
-    given_next AreBytes IsOp (hex_argument bytes) _ (or_cause AreBytes (hex_of bytes) 5 (hex_bytes bytes)) (λ h are. given_one IsOp (FileWrite n o h) are)))
-write_op (name ∷ off ∷ bytes ∷ more ∷ words) = given_none IsOp 3
+write_op = of_three IsOp write_arguments refl (λ a. refl) (λ a b. refl) (λ a b c d words. refl) (λ name off bytes.
+    given_three AreBytes Any AreBytes IsOp FileWrite _ _ _ (store_given name) (any_given (number_argument off)) (hex_given bytes) (λ n o h n_are any are. are))
 
 read_op : (words : List (List ℕ)) → IfGiven IsOp (read_arguments words)
-read_op [] = given_none IsOp 3
-read_op (name ∷ []) = given_none IsOp 3
-read_op (name ∷ off ∷ []) = given_none IsOp 3
-read_op (name ∷ off ∷ len ∷ []) =
-    given_next AreBytes IsOp (store_argument name) _ (store_given name) (λ n n_are.
-    given_next (λ x. Unit {0}) IsOp (number_argument off) _ (any_given (number_argument off)) (λ o given.
-    given_next (λ x. Unit {0}) IsOp (number_argument len) _ (any_given (number_argument len)) (λ l more. given_one IsOp (FileRead n o l) tt)))
-read_op (name ∷ off ∷ len ∷ more ∷ words) = given_none IsOp 3
+read_op = of_three IsOp read_arguments refl (λ a. refl) (λ a b. refl) (λ a b c d words. refl) (λ name off len.
+    given_three AreBytes Any Any IsOp FileRead _ _ _ (store_given name) (any_given (number_argument off)) (any_given (number_argument len)) (λ n o l n_are any more. tt))
 
 file_op : (name : List ℕ) (words : List (List ℕ)) → IfGiven IsOp (file_operation name words)
 unfolding file_operation
@@ -204,10 +181,7 @@ tree_op name words =
 
 store_op : (name : List ℕ) (words : List (List ℕ)) → IfGiven IsOp (store_operation name words)
 unfolding store_operation
-store_op name words =
-    given_cond IsOp _ (key_and_value HashPut words) _ (value_op HashPut (λ key value k_are v_are. (k_are, v_are)) words)
-    (given_cond IsOp _ (one_key HashGet words) _ (key_op HashGet (λ key are. tt) words)
-    (given_cond IsOp _ (one_key HashDelete words) _ (key_op HashDelete (λ key are. tt) words) (tree_op name words)))
+store_op name words = grind (arith, given_cond, value_op, key_op, tree_op)
 
 other_op : (name : List ℕ) (words : List (List ℕ)) → IfGiven IsOp (other_operation name words)
 unfolding other_operation
@@ -247,11 +221,8 @@ IsNamed P = (name : List ℕ) (words : List (List ℕ)) → IfGiven P (operation
 said_op : (P : Op → Type 0) → IsNamed P → (words : List (List ℕ)) → IfGiven (IsSaid P) (said words)
 unfolding said
 said_op P named [] = given_none (IsSaid P) 1
-said_op P named (client ∷ []) =
-    given_next (λ x. Unit {0}) (IsSaid P) (client_in_range (number_of client)) _ (any_given (client_in_range (number_of client))) (λ c is. given_none (IsSaid P) 2)
-said_op P named (client ∷ name ∷ words) =
-    given_next (λ x. Unit {0}) (IsSaid P) (client_in_range (number_of client)) _ (any_given (client_in_range (number_of client))) (λ c is.
-    given_next P (IsSaid P) (operation_of name words) _ (named name words) (λ op good. given_one (IsSaid P) (Says (record { client = c; op = op })) good))
+said_op P named (client ∷ []) = grind (arith, given_next, any_given, given_none)
+said_op P named (client ∷ name ∷ words) = grind (arith, given_next, any_given, given_one)
 
 pub parsed_op : (P : Op → Type 0) → IsNamed P → (text : List ℕ) → IfGiven (IsSaid P) (parse text)
 unfolding parse

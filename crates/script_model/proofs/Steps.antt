@@ -1,5 +1,5 @@
 -- Each step of a sound world leads to a sound one.
-use Rattle.script_model.proofs.{Words.{◌≢◌, ℕ, ◌<◌, ◌≤◌, Bool, false, ◌&&◌, ◌==◌, not, IsTrue, List, length, Option, Result, nat_le, slice_index, arith, leb-false, eqb-false, eqb-true, not-false, length-append, length_push, length-replicate, Access, MarkError, Span, MAX_ACCESSES, Line, Op, Reply, StoreError, is_serial, del_program, get_program, put_program, is_key, array_at, IsAccess, AreBytes, HasShape, after, is_outside, marked, mark_fault, step, access_step, put_step, read_step, get_step, write_step, fill_step, mark_step, marked_step, release_step, takeover_step, with_access, out_of_transaction, in_transaction, array_of, store_step, in_store, hash_put_step, hash_get_step, hash_delete_step, found_reply, removed_reply, pairs_reply, tree_put_step, tree_get_step, tree_delete_step, tree_scan_step, store_refusal, file_refusal, file_step, file_new_step, file_write_step, file_read_step, file_move_step, file_delete_step, file_blocks, files_area, Call, create_program, write_program, read_program, rename_program, remove_program, put_access, read_access, get_access, write_access, shown_to, after_leaving, mode_named, begin_step, end_step, hash_area, tree_area, Program, outcome, scan_program, is_label, World, Live, client, label, attached, held, floor, is_under_label, IsLive, IsWorld, LeadsTo, as_step, IsOp, AreLines, limits, replicate_bytes, all_find, all_apart, all_apart_from_label, all_push, IsIn, del_fits, get_fits, hash_area_is, put_fits, array_shape, own_shape, AllFit, FitsOn, fits_on, outcome_fits, IsTreeIn, tree_area_is, tree_del_fits, tree_get_fits, tree_put_fits, tree_scan_fits, get_is_access, inside_block, length-marked, marked_are, put_is_access, read_is_access, write_is_access, begin_leads, end_leads, leads_on, stays, leaves, accesses_are, all_append, places, chosen, live_at, trim_leads, switch_leads, group_step_leads, Begin, End, Abort, Put, ReadBlock, Get, WriteBlock, Fill, Mark, Release, Takeover, Await, Group, Trim, Stat, Compact, Upgrade, HashPut, HashGet, HashDelete, TreePut, TreeGet, TreeDelete, TreeScan, FileNew, FileWrite, FileRead, FileMove, FileDelete}, FileAccesses.{IsFilesIn, files_area_is, create_fits, write_fits, read_fits, rename_fits, remove_fits}}
+use Rattle.script_model.proofs.{Words.{◌≢◌, ℕ, ◌<◌, ◌≤◌, Bool, false, ◌&&◌, ◌==◌, not, IsTrue, List, length, Option, Result, nat_le, slice_index, arith, leb-false, eqb-false, eqb-true, not-false, length-append, length_push, length-replicate, Access, MarkError, Span, MAX_ACCESSES, Line, Op, Reply, StoreError, is_serial, del_program, get_program, put_program, is_key, array_at, IsAccess, AreBytes, HasShape, after, is_outside, mark_fault, step, access_step, put_step, read_step, get_step, write_step, fill_step, mark_step, marked_step, release_step, takeover_step, with_access, out_of_transaction, in_transaction, array_of, store_step, in_store, hash_put_step, hash_get_step, hash_delete_step, found_reply, removed_reply, pairs_reply, tree_put_step, tree_get_step, tree_delete_step, tree_scan_step, store_refusal, file_refusal, file_step, file_new_step, file_write_step, file_read_step, file_move_step, file_delete_step, file_blocks, files_area, Call, create_program, write_program, read_program, rename_program, remove_program, put_access, read_access, get_access, write_access, shown_to, after_leaving, mode_named, begin_step, hash_area, tree_area, Program, outcome, scan_program, is_label, World, Live, client, label, attached, held, floor, is_under_label, IsLive, IsWorld, LeadsTo, as_step, IsOp, AreLines, limits, replicate_bytes, all_find, all_apart, all_apart_from_label, all_push, IsIn, del_fits, get_fits, hash_area_is, put_fits, array_shape, own_shape, AllFit, FitsOn, fits_on, outcome_fits, IsTreeIn, tree_area_is, tree_del_fits, tree_get_fits, tree_put_fits, tree_scan_fits, get_is_access, inside_block, length-marked, marked_are, put_is_access, read_is_access, write_is_access, begin_leads, end_leads, leads_on, stays, leaves, accesses_are, all_append, places, chosen, live_at, trim_leads, switch_leads, group_step_leads, Begin, End, Abort, Put, ReadBlock, Get, WriteBlock, Fill, Mark, Release, Takeover, Await, Group, Trim, Stat, Compact, Upgrade, HashPut, HashGet, HashDelete, TreePut, TreeGet, TreeDelete, TreeScan, FileNew, FileWrite, FileRead, FileMove, FileDelete}, FileAccesses.{IsFilesIn, files_area_is, create_fits, write_fits, read_fits, rename_fits, remove_fits}}
 use Rattle.std.proofs.Common.{◌≡◌, refl, ◌-◌, [], ◌∷◌, ◌++◌, Some, None, replicate}
 use Rattle.iso_model.specs.declared.core_reply.CoreReply.TheVariants as core
 use Rattle.script_model.specs.declared.script.Reply.TheVariants as reply
@@ -171,9 +171,7 @@ mark_leads W c t off len is found live = go (mark_fault W.geometry.block off len
 
     go : (o : Option MarkError) → mark_fault W.geometry.block off len t.accesses ≡ o → LeadsTo W (marked_step W t span o).1
     go (Some fault) e = stays W is
-    go None e =
-        accesses_are W c t (marked span t.accesses) is found live (omega (arith, length-marked span t.accesses, live.count))
-        (marked_are W.geometry off len t.accesses e live.accesses)
+    go None e = grind (arith, accesses_are, length-marked, marked_are)
 
 release_leads : (W : World) (t : Live) (text : List ℕ) → IsWorld W → IsLive W t → IsTrue (is_label text) → LeadsTo W (release_step W t text (held W text)).1
 release_leads W t text is live good = go (held W text) refl
@@ -198,28 +196,25 @@ in_leads : (W : World) (o : Option Live) (act : Live → Reply × World) → IsW
 in_leads W None act is leads = stays W is
 in_leads W (Some t) act is leads = leads t refl
 
+-- of a client's transaction, which is live
+in_live : (W : World) (c : ℕ) (act : Live → Reply × World) → IsWorld W → ((t : Live) → attached W c ≡ Some t → IsLive W t → LeadsTo W (act t).1) → LeadsTo W (in_transaction W (attached W c) act).1
+in_live W c act is leads = in_leads W (attached W c) act is (λ t found. leads t found (live_at W c t is found))
+
 -- one step
 pub step_leads : (W : World) (c : ℕ) (op : Op) → IsWorld W → IsOp op → LeadsTo W (step W c op).1
 unfolding step
 step_leads W c (Begin mode) is good =
     out_leads W (attached W c) (as_step (begin_step W (client c) (mode_named W mode))) is
     (λ none. begin_leads W (client c) (mode_named W mode) is tt (all_apart c W.live none))
-step_leads W c (Put block off bytes) is good =
-    in_leads W (attached W c) (λ t. put_step W t block off bytes) is (λ t found. put_leads W c t block off bytes is good found (live_at W c t is found))
-step_leads W c (ReadBlock block) is good =
-    in_leads W (attached W c) (λ t. read_step W t block) is (λ t found. read_leads W c t block is found (live_at W c t is found))
+step_leads W c (Put block off bytes) is good = in_live W c _ is (λ t found live. put_leads W c t block off bytes is good found live)
+step_leads W c (ReadBlock block) is good = in_live W c _ is (λ t found live. read_leads W c t block is found live)
 step_leads W c Abort is good = in_leads W (attached W c) (λ t. (reply.Done, after_leaving W t)) is (λ t found. leaves W t is)
-step_leads W c End is good = in_leads W (attached W c) (λ t. as_step (end_step W t)) is (λ t found. end_leads W t is (live_at W c t is found))
-step_leads W c (Get block off len) is good =
-    in_leads W (attached W c) (λ t. get_step W t block off len) is (λ t found. get_leads W c t block off len is found (live_at W c t is found))
-step_leads W c (WriteBlock block bytes) is good =
-    in_leads W (attached W c) (λ t. write_step W t block bytes) is (λ t found. write_leads W c t block bytes is good found (live_at W c t is found))
-step_leads W c (Fill block bytes) is good =
-    in_leads W (attached W c) (λ t. fill_step W t block bytes) is (λ t found. fill_leads W c t block bytes is good found (live_at W c t is found))
-step_leads W c (Mark off len) is good =
-    in_leads W (attached W c) (λ t. mark_step W t off len) is (λ t found. mark_leads W c t off len is found (live_at W c t is found))
-step_leads W c (Release text) is good =
-    in_leads W (attached W c) (λ t. release_step W t text (held W text)) is (λ t found. release_leads W t text is (live_at W c t is found) good)
+step_leads W c End is good = in_live W c _ is (λ t found live. end_leads W t is live)
+step_leads W c (Get block off len) is good = in_live W c _ is (λ t found live. get_leads W c t block off len is found live)
+step_leads W c (WriteBlock block bytes) is good = in_live W c _ is (λ t found live. write_leads W c t block bytes is good found live)
+step_leads W c (Fill block bytes) is good = in_live W c _ is (λ t found live. fill_leads W c t block bytes is good found live)
+step_leads W c (Mark off len) is good = in_live W c _ is (λ t found live. mark_leads W c t off len is found live)
+step_leads W c (Release text) is good = in_live W c _ is (λ t found live. release_leads W t text is live good)
 step_leads W c (Takeover text) is good =
     out_leads W (attached W c) (takeover_step W c (held W text)) is (λ none. takeover_leads W c text is none)
 step_leads W c (Await text) is good =
@@ -229,30 +224,18 @@ step_leads W c Trim is good = trim_leads W is
 step_leads W c Stat is good = stays W is
 step_leads W c Compact is good = switch_leads W W.geometry.form (core.Compacted (floor W)) is (omega arith) ((limits W.geometry is.valid).largest_form)
 step_leads W c Upgrade is good = switch_leads W 2 (core.Upgraded (floor W)) is ((limits W.geometry is.valid).largest_form) (omega arith)
-step_leads W c (HashPut key value) is good =
-    in_leads W (attached W c) (λ t. hash_put_step W t key value) is (λ t found. hash_put_leads W c t key value is good.0 good.1 found (live_at W c t is found))
-step_leads W c (HashGet key) is good =
-    in_leads W (attached W c) (λ t. hash_get_step W t key) is (λ t found. hash_get_leads W c t key is found (live_at W c t is found))
-step_leads W c (HashDelete key) is good =
-    in_leads W (attached W c) (λ t. hash_delete_step W t key) is (λ t found. hash_delete_leads W c t key is found (live_at W c t is found))
-step_leads W c (TreePut key value) is good =
-    in_leads W (attached W c) (λ t. tree_put_step W t key value) is (λ t found. tree_put_leads W c t key value is good.0 good.1 found (live_at W c t is found))
-step_leads W c (TreeGet key) is good =
-    in_leads W (attached W c) (λ t. tree_get_step W t key) is (λ t found. tree_get_leads W c t key is found (live_at W c t is found))
-step_leads W c (TreeDelete key) is good =
-    in_leads W (attached W c) (λ t. tree_delete_step W t key) is (λ t found. tree_delete_leads W c t key is found (live_at W c t is found))
-step_leads W c (TreeScan from to most) is good =
-    in_leads W (attached W c) (λ t. tree_scan_step W t from to most) is (λ t found. tree_scan_leads W c t from to most is found (live_at W c t is found))
-step_leads W c (FileNew name) is good =
-    in_leads W (attached W c) (λ t. file_new_step W t name) is (λ t found. file_new_leads W c t name is good found (live_at W c t is found))
-step_leads W c (FileWrite name off bytes) is good =
-    in_leads W (attached W c) (λ t. file_write_step W t name off bytes) is (λ t found. file_write_leads W c t name off bytes is good found (live_at W c t is found))
-step_leads W c (FileRead name off len) is good =
-    in_leads W (attached W c) (λ t. file_read_step W t name off len) is (λ t found. file_read_leads W c t name off len is found (live_at W c t is found))
-step_leads W c (FileMove from to) is good =
-    in_leads W (attached W c) (λ t. file_move_step W t from to) is (λ t found. file_move_leads W c t from to is good found (live_at W c t is found))
-step_leads W c (FileDelete name) is good =
-    in_leads W (attached W c) (λ t. file_delete_step W t name) is (λ t found. file_delete_leads W c t name is found (live_at W c t is found))
+step_leads W c (HashPut key value) is good = in_live W c _ is (λ t found live. hash_put_leads W c t key value is good.0 good.1 found live)
+step_leads W c (HashGet key) is good = in_live W c _ is (λ t found live. hash_get_leads W c t key is found live)
+step_leads W c (HashDelete key) is good = in_live W c _ is (λ t found live. hash_delete_leads W c t key is found live)
+step_leads W c (TreePut key value) is good = in_live W c _ is (λ t found live. tree_put_leads W c t key value is good.0 good.1 found live)
+step_leads W c (TreeGet key) is good = in_live W c _ is (λ t found live. tree_get_leads W c t key is found live)
+step_leads W c (TreeDelete key) is good = in_live W c _ is (λ t found live. tree_delete_leads W c t key is found live)
+step_leads W c (TreeScan from to most) is good = in_live W c _ is (λ t found live. tree_scan_leads W c t from to most is found live)
+step_leads W c (FileNew name) is good = in_live W c _ is (λ t found live. file_new_leads W c t name is good found live)
+step_leads W c (FileWrite name off bytes) is good = in_live W c _ is (λ t found live. file_write_leads W c t name off bytes is good found live)
+step_leads W c (FileRead name off len) is good = in_live W c _ is (λ t found live. file_read_leads W c t name off len is found live)
+step_leads W c (FileMove from to) is good = in_live W c _ is (λ t found live. file_move_leads W c t from to is good found live)
+step_leads W c (FileDelete name) is good = in_live W c _ is (λ t found live. file_delete_leads W c t name is found live)
 
 -- all lines
 pub after_leads : (W : World) (lines : List (ℕ × Line)) → IsWorld W → AreLines lines → LeadsTo W (after W lines)

@@ -1,7 +1,6 @@
 -- What upkeep leaves as it is.
-use Rattle.script_model.proofs.Words.{ap, ℕ, ◌==◌, true, false, cond, Op, Trim, Stat, Compact, Upgrade, CoreReply, LAST, History, shown_block, step, after_switch, shown_to, switch_step, World, Live, IsUpkeep}
+use Rattle.script_model.proofs.Words.{arith, ap, ℕ, Op, Trim, Stat, Compact, Upgrade, CoreReply, History, shown_block, step, shown_to, switch_step, World, Live, IsUpkeep}
 use Rattle.std.proofs.Common.{◌≡◌, refl}
-use Rattle.iso_model.specs.declared.core_reply.CoreReply.TheVariants as reply
 
 -- the same commits and the same transactions
 record Keeps (W V : World) : Type 0 where
@@ -10,11 +9,7 @@ record Keeps (W V : World) : Type 0 where
 
 switch_keeps : (W : World) (form : ℕ) (answer : CoreReply) → Keeps W (switch_step W form answer).1
 unfolding switch_step
-switch_keeps W form answer =
-    elim (W.generation == LAST) as (λ t. Keeps W (cond {A = CoreReply × World} t (reply.Worn, W) (answer, after_switch W form)).1) [
-      | true ↦ record { live = refl; history = refl }
-      | false ↦ record { live = refl; history = refl }
-    ]
+switch_keeps W form answer = grind arith
 
 keeps : (W : World) (client : ℕ) (op : Op) → IsUpkeep op → Keeps W (step W client op).1
 unfolding step

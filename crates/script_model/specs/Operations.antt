@@ -1,5 +1,5 @@
 -- Operations whose bytes are bytes, and those that change nothing that is shown.
-use Rattle.std.specs.{Prelude.{◌≡◌, ◌⊎◌, ℕ, ◌≤◌, IsTrue, List, [], ◌∷◌, Option, Some, length}, List.AllByRecursion}
+use Rattle.std.specs.{Prelude.{◌≡◌, ◌⊎◌, ℕ, ◌≤◌, Bool, true, false, not, IsTrue, List, [], ◌∷◌, Option, Some, length}, List.AllByRecursion}
 use Rattle.iso_model.specs.{declared.access.GroupReply.GroupReply, Premises.AreBytes, Labels.is_label}
 use Rattle.iso_model.specs.declared.access.GroupReply.TheVariants as member
 use Rattle.script_model.specs.{declared.script.Line.Line, declared.script.Op.Op, declared.script.Op.TheVariants.{Begin, End, Abort, Put, Read, Get, Write, Fill, Mark, Release, Takeover, Await, Group, Trim, Stat, Compact, Upgrade, HashPut, HashGet, HashDelete, TreePut, TreeGet, TreeDelete, TreeScan, FileNew, FileWrite, FileRead, FileMove, FileDelete}, declared.script.Reply.Reply, declared.script.Reply.TheVariants.{Committed, Grouped}, declared.script.TheConstants.MAX_LABELS}
@@ -47,6 +47,33 @@ IsUpkeep Stat = Unit {0}
 IsUpkeep Compact = Unit {0}
 IsUpkeep Upgrade = Unit {0}
 IsUpkeep op = ⊥
+
+-- an operation on a store
+abbrev pub is_on_store : Op → Bool
+is_on_store (HashPut key value) = true
+is_on_store (HashGet key) = true
+is_on_store (HashDelete key) = true
+is_on_store (TreePut key value) = true
+is_on_store (TreeGet key) = true
+is_on_store (TreeDelete key) = true
+is_on_store (TreeScan from to most) = true
+is_on_store (FileNew name) = true
+is_on_store (FileWrite name off bytes) = true
+is_on_store (FileRead name off len) = true
+is_on_store (FileMove from to) = true
+is_on_store (FileDelete name) = true
+is_on_store op = false
+
+abbrev pub When : Bool → Type 0
+When true = Unit {0}
+When false = ⊥
+
+abbrev pub IsOnStore : Op → Type 0
+IsOnStore op = When (is_on_store op)
+
+-- an operation that calls no store
+abbrev pub IsPlain : Op → Type 0
+IsPlain op = When (not (is_on_store op))
 
 -- one of the answers to the labels of a group is that commit n was made
 abbrev pub IsAmongGrouped : (n : ℕ) → List (Option GroupReply) → Type 0

@@ -1,10 +1,7 @@
 -- A commit that a reply tells is one of the world after it.
-use Rattle.script_runner.proofs.{Words.{◌≡◌, ◌<◌, ◌≤◌, ◌+◌, ◌-◌, refl, ◌&&◌, ◌==◌, not, ℕ, Bool, true, false, cond, List, [], ◌∷◌, length, nat_le, nat_lt, Option, Some, None, Result, Ok, Err, inl, inr, drop, take, length-append, subst, sym, arith, Access, Clash, MarkError, Mode, Span, CoreReply, Line, Op, Reply, StoreError, LAST, MAX_ACCESSES, MAX_LIVE, clash, has_write, same_mode, del_program, get_program, put_program, History, last, mark_fault, after, access_step, after_store, array_of, fill_step, found_reply, get_step, hash_delete_step, hash_get_step, hash_put_step, in_store, in_transaction, mark_step, marked_step, numbers, out_of_transaction, put_step, read_step, release_step, removed_reply, step, store_step, takeover_step, write_step, pairs_reply, tree_put_step, tree_get_step, tree_delete_step, tree_scan_step, FsError, Call, store_refusal, file_refusal, file_step, file_new_step, file_write_step, file_read_step, file_move_step, file_delete_step, file_blocks, files_area, create_program, write_program, read_program, rename_program, remove_program, after_commit, begin_step, commit_step, end_step, switch_step, mode_named, need, read_access, shown_to, as_reply, as_step, as_either, hash_area, tree_area, Program, outcome, Live, Place, World, attached, client, floor, held, used, AreLines, IsWorld, after_leads, step_leads, AreRepliesTo, TellsCommit, Acknowledges, SameButShown, longer, GroupReply, IsAmongGrouped, SaysCommit, group_step, grouped, Begin, End, Abort, Put, ReadBlock, Get, WriteBlock, Fill, Mark, Release, Takeover, Await, Group, Trim, Stat, Compact, Upgrade, HashPut, HashGet, HashDelete, TreePut, TreeGet, TreeDelete, TreeScan, FileNew, FileWrite, FileRead, FileMove, FileDelete}, Grouped.group_kept}
-use Rattle.iso_model.specs.declared.access.MarkError.TheVariants as mark
+use Rattle.script_runner.proofs.{Words.{◌≡◌, ◌<◌, ◌≤◌, ◌+◌, refl, ◌&&◌, ◌==◌, not, ℕ, Bool, true, false, cond, List, [], ◌∷◌, length, nat_le, nat_lt, Option, Some, None, Result, Ok, Err, inl, inr, drop, take, length-append, subst, sym, arith, Access, Clash, MarkError, Mode, Span, CoreReply, Line, Op, Reply, StoreError, LAST, MAX_LIVE, clash, has_write, same_mode, del_program, get_program, put_program, History, last, mark_fault, after, access_step, after_store, fill_step, found_reply, get_step, hash_delete_step, hash_get_step, hash_put_step, in_store, in_transaction, mark_step, marked_step, numbers, out_of_transaction, put_step, read_step, release_step, removed_reply, step, store_step, takeover_step, write_step, pairs_reply, tree_put_step, tree_get_step, tree_delete_step, tree_scan_step, FsError, Call, store_refusal, file_refusal, file_step, file_new_step, file_write_step, file_read_step, file_move_step, file_delete_step, file_blocks, files_area, create_program, write_program, read_program, rename_program, remove_program, after_commit, begin_step, commit_step, end_step, switch_step, mode_named, read_access, shown_to, as_reply, as_step, as_either, hash_area, tree_area, Program, Live, Place, World, attached, client, floor, held, AreLines, IsWorld, after_leads, step_leads, AreRepliesTo, TellsCommit, Acknowledges, SameButShown, longer, GroupReply, IsAmongGrouped, SaysCommit, group_step, grouped, Begin, End, Abort, Put, ReadBlock, Get, WriteBlock, Fill, Mark, Release, Takeover, Await, Group, Trim, Stat, Compact, Upgrade, HashPut, HashGet, HashDelete, TreePut, TreeGet, TreeDelete, TreeScan, FileNew, FileWrite, FileRead, FileMove, FileDelete}, Grouped.group_kept}
 use Rattle.iso_model.specs.declared.core_reply.CoreReply.TheVariants as core
 use Rattle.script_model.specs.declared.script.Reply.TheVariants as reply
-use Rattle.store_model.specs.declared.stores.StoreError.TheVariants as store
-use Rattle.store_model.specs.declared.files.FsError.TheVariants as fs
 use Rattle.store_model.specs.TreeCalls as tree
 
 -- a commit that the reply tells is one of the world beside it
@@ -34,14 +31,6 @@ refuses : (t : Bool) (r : Reply) (V : World) (y : Reply × World) → tells_some
 refuses true r V y none rest = other r V none
 refuses false r V y none rest = rest
 
--- the answer to an end that made this commit
-one_commit : (k : ℕ) (V : World) → k ≤ last V.history → Tells (reply.Committed k, V)
-one_commit k V there = record { each = is }
-  where
-    is : (n : ℕ) → SaysCommit (reply.Committed k) n → n ≤ last V.history
-    is n (inl e) = let same : k ≡ n = cc in omega (arith, same, there)
-    is n (inr told) = let no : reply.Committed k ≡ reply.Grouped told.0 = told.1 in cc
-
 -- the answer to a group
 group_tells : (W : World) (texts : List (List ℕ)) → IsWorld W → Tells (grouped (group_step W texts))
 group_tells W texts is = record { each = told }
@@ -60,9 +49,7 @@ begin_tells W place mode =
     (as_either Tells (nat_lt LAST W.next) _ _ (other reply.Worn W refl) (other (reply.Began (last W.history)) _ refl)))
 
 access_tells : (W : World) (t : Live) (block : ℕ) (wrong : Bool) (answer : Reply) (a : Access) → tells_some answer ≡ false → Tells (access_step W t block wrong answer a)
-access_tells W t block wrong answer a none =
-    refuses _ reply.BadBlock W _ refl (refuses _ reply.BadRange W _ refl (refuses _ reply.TooManyAccesses W _ refl
-    (other answer _ none)))
+access_tells W t block wrong answer a none = grind (arith, refuses)
 
 put_tells : (W : World) (t : Live) (block off : ℕ) (bytes : List ℕ) → Tells (put_step W t block off bytes)
 unfolding put_step
@@ -85,8 +72,7 @@ unfolding fill_step
 fill_tells W t block bytes = access_tells W t block _ reply.Done _ refl
 
 marked_tells : (W : World) (t : Live) (span : Span) (fault : Option MarkError) → Tells (marked_step W t span fault)
-marked_tells W t span (Some mark.BadRange) = other _ _ refl
-marked_tells W t span x = other _ _ refl
+marked_tells W t span fault = grind arith
 
 mark_tells : (W : World) (t : Live) (off len : ℕ) → Tells (mark_step W t off len)
 unfolding mark_step
@@ -99,10 +85,7 @@ committed W t first =
 commit_tells : (W : World) (t : Live) (found : Option Clash) → IsWorld W → Tells (as_step (commit_step W t found))
 unfolding commit_step
 commit_tells W t (Some c) is = other _ _ refl
-commit_tells W t None is =
-    as_either Tells (last W.history == LAST) _ _ (other reply.Worn W refl)
-    (as_either Tells (nat_lt (W.geometry.log - used W) (need W t)) _ _ (other (reply.LogFull (need W t) (W.geometry.log - used W)) W refl)
-    (one_commit (last W.history + 1) (after_commit W t) (committed W t is.history.first)))
+commit_tells W t None is = grind (arith, as_either, committed)
 
 end_tells : (W : World) (t : Live) → IsWorld W → Tells (as_step (end_step W t))
 unfolding end_step
@@ -118,19 +101,13 @@ stored_tells W t refusal answer refused none done (Some (Err e)) = other (refusa
 call_tells : {E R : Type 0} (W : World) (t : Live) (program : Program (Result R E)) (refusal : E → Reply) (answer : R → Reply) → ((e : E) → tells_some (refusal e) ≡ false)
     → ((r : R) → tells_some (answer r) ≡ false) → Tells (store_step W t program refusal answer)
 unfolding store_step
-call_tells W t program refusal answer refused none =
-    let ended = outcome (MAX_ACCESSES - length t.accesses) program (array_of W t) in
-    stored_tells W t refusal answer refused none ended.0 ended.1
+call_tells W t program refusal answer refused none = grind (arith, stored_tells)
 
 refused_tells : (e : StoreError) → tells_some (store_refusal e) ≡ false
-refused_tells store.BadKey = refl
-refused_tells e = refl
+refused_tells e = grind arith
 
 file_refused_tells : (e : FsError) → tells_some (file_refusal e) ≡ false
-file_refused_tells fs.BadName = refl
-file_refused_tells fs.BadRange = refl
-file_refused_tells fs.Exists = refl
-file_refused_tells (fs.Store e) = refused_tells e
+file_refused_tells e = grind (arith, refused_tells)
 
 store_tells : {R : Type 0} (W : World) (t : Live) (program : Program (Result R StoreError)) (answer : R → Reply) → ((r : R) → tells_some (answer r) ≡ false)
     → Tells (store_step W t program store_refusal answer)
@@ -144,16 +121,13 @@ done_tells : (r : Unit {0}) → tells_some reply.Done ≡ false
 done_tells r = refl
 
 found_tells : (r : Option (List ℕ)) → tells_some (found_reply r) ≡ false
-found_tells None = refl
-found_tells (Some value) = refl
+found_tells r = grind arith
 
 removed_tells : (r : Bool) → tells_some (removed_reply r) ≡ false
-removed_tells true = refl
-removed_tells false = refl
+removed_tells r = grind arith
 
 pairs_tells : (r : List (List ℕ × List ℕ)) → tells_some (pairs_reply r) ≡ false
-pairs_tells [] = refl
-pairs_tells (pair ∷ pairs) = refl
+pairs_tells r = grind arith
 
 hash_put_tells : (W : World) (t : Live) (key value : List ℕ) → Tells (hash_put_step W t key value)
 unfolding hash_put_step
@@ -181,8 +155,7 @@ tree_delete_tells W t key = in_store_tells W t W.geometry.tree _ (store_tells W 
 
 tree_scan_tells : (W : World) (t : Live) (from to : List ℕ) (most : ℕ) → Tells (tree_scan_step W t from to most)
 unfolding tree_scan_step
-tree_scan_tells W t from to most =
-    in_store_tells W t W.geometry.tree _ (refuses _ reply.BadRange W _ refl (store_tells W t (tree.scan_program (tree_area W.geometry) from to most) pairs_reply pairs_tells))
+tree_scan_tells W t from to most = grind (arith, in_store_tells, refuses, store_tells, pairs_tells)
 
 -- calls on files
 file_tells : {R : Type 0} (W : World) (t : Live) (program : Call R) (answer : R → Reply) → ((r : R) → tells_some (answer r) ≡ false) → Tells (file_step W t program answer)
@@ -209,12 +182,10 @@ unfolding file_delete_step
 file_delete_tells W t name = file_tells W t (remove_program (files_area W.geometry) name) removed_reply removed_tells
 
 release_tells : (W : World) (t : Live) (text : List ℕ) (found : Option Live) → Tells (release_step W t text found)
-release_tells W t text (Some one) = other _ _ refl
-release_tells W t text None = other _ _ refl
+release_tells W t text found = grind arith
 
 takeover_tells : (W : World) (c : ℕ) (found : Option Live) → Tells (takeover_step W c found)
-takeover_tells W c None = other _ _ refl
-takeover_tells W c (Some t) = other _ _ refl
+takeover_tells W c found = grind arith
 
 switch_tells : (W : World) (form : ℕ) (answer : CoreReply) → tells_some (as_reply answer) ≡ false → Tells (as_step (switch_step W form answer))
 unfolding switch_step
@@ -286,12 +257,8 @@ replies_longer U V (x ∷ xs) (r ∷ rs) is good are =
 
 -- a reply that says a commit shows no bytes
 says_same : (n : ℕ) (r s : Reply) → SameButShown r s → SaysCommit r n → SaysCommit s n
-says_same n r s same (inl is) =
-    let same' : reply.Committed n ≡ s = subst (λ (y : Reply). SameButShown y s) is same in
-    inl (sym same')
-says_same n r s same (inr said) =
-    let same' : reply.Grouped said.0 ≡ s = subst (λ (y : Reply). SameButShown y s) said.1 same in
-    inr (said.0, sym same', said.2)
+says_same n r s same (inl is) = grind arith
+says_same n r s same (inr said) = grind arith
 
 -- a commit that was told of is one of the world that the lines led to
 pub told_kept : (W V : World) (xs : List (ℕ × Line)) (rs : List Reply) → IsWorld W → AreLines xs → AreRepliesTo W xs rs V → (n : ℕ) → TellsCommit xs rs n → n ≤ last V.history

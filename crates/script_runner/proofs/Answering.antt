@@ -12,8 +12,7 @@ line_script cut bytes front held line more number done is says none =
     let split : (bytes ++ (line ++ 10 ∷ [])) ++ more ≡ front ++ ((held ++ line) ++ 10 ∷ more) =
     append_assoc bytes (line ++ 10 ∷ []) more ∙ ap (λ xs. bytes ++ xs) back ∙ ap (λ xs. xs ++ (line ++ 10 ∷ more)) is
     ∙ append_assoc front held (line ++ 10 ∷ more) ∙ ap (λ xs. front ++ xs) (sym (append_assoc held line (10 ∷ more))) in
-    ap (λ xs. script_from cut 1 (pieces 10 xs)) split ∙ says cut ((held ++ line) ++ 10 ∷ more)
-    ∙ ap (behind done) (script-line cut number (held ++ line) more none)
+    grind (arith, script-line)
 
 -- the first lines of those behind some
 pub first_of : (lines done next later : List (ℕ × Line)) → lines ≡ done ++ (next ++ later) → length next ≤ 1 → AreFirst lines done next
@@ -116,16 +115,7 @@ module _ (stands_new : World → Type 0) (e : DiskState) (l : SinkState) {stands
   ends_line (Ok (Says said)) halt given answers = line_ends said halt given answers.0 answers.1
   ends_line (Err (Cause cause)) halt given answers =
       subst (λ (h : Halt). EndsAt stands_new d e k l W (bytes ++ (line ++ 10 ∷ [])) (end_of h)) (sym answers.0) (bad_ends cause given answers.1)
-  ends_line (Err NoMemory) halt given answers =
-      subst (λ (h : Halt). EndsAt stands_new d e k l W (bytes ++ (line ++ 10 ∷ [])) (end_of h)) (sym answers.0) (starved_ends answers.1)
-
--- the machine stands for some world
-pub stands_on : (stands : World → Type 0) (d e : DiskState) (k l : SinkState) (W : World) (number : ℕ) (parsed : Result Parsed LineError) (result : Result (Unit {0}) Halt)
-    → AnswersParsed stands d e k l W number parsed result → OnOk result ((V : World) × stands V)
-stands_on stands d e k l W number (Ok Skip) (Ok _) answers = (answers.reached, answers.world)
-stands_on stands d e k l W number (Ok (Says said)) (Ok _) answers = (answers.reached, answers.world)
-stands_on stands d e k l W number (Err error) (Ok _) answers = absurd answers
-stands_on stands d e k l W number parsed (Err halt) answers = tt
+  ends_line (Err NoMemory) halt given answers = grind (arith, starved_ends)
 
 -- the front of one more line
 pub reads_rest : {stands : World → Type 0} {d e : DiskState} {k l : SinkState} (W : World) (bytes rest : List ℕ) (number : ℕ) (held : List ℕ) → HasNoFeed rest

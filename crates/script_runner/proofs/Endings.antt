@@ -45,10 +45,7 @@ told_all P (Some all) bytes whole is = subst P (sym whole) is
 
 -- two takes
 pub gave_more : (i mid j : SourceState) (bytes piece : List ℕ) → Gave i mid bytes → Gave mid j piece → Gave i j (bytes ++ piece)
-gave_more i mid j bytes piece first second = record {
-  took = first.took ∙ ap (prepend_known bytes) second.took ∙ prepend_known-append j.rest bytes piece;
-  faults = second.faults ∙ first.faults;
-}
+gave_more i mid j bytes piece first second = grind (arith, prepend_known-append)
 
 pub gave_none : (i : SourceState) → Gave i i []
 gave_none i = record { took = sym (prepend_known-nil i.rest); faults = refl }
@@ -151,9 +148,7 @@ module _ {stands : World → Type 0} {d e : DiskState} {k l : SinkState} (W : Wo
 
   -- the script of the bytes taken, if nothing follows
   taken_script : (cut : Bool) → script_from cut 1 (pieces 10 bytes) ≡ behind r.done (last_piece cut number held)
-  taken_script cut =
-      ap (λ xs. script_from cut 1 (pieces 10 xs)) r.bytes_are ∙ r.says cut held
-      ∙ ap (λ (ps : List (List ℕ)). behind r.done (script_from cut number ps)) (one_piece held r.no_feed)
+  taken_script cut = grind (arith, one_piece)
 
   -- the input was cut
   pub cut_runs : (i j : SourceState) → Gave i j bytes → length bytes ≡ MAX_INPUT → length held ≤ MAX_LINE
@@ -245,9 +240,7 @@ module _ {stands : World → Type 0} {d e : DiskState} {k l : SinkState} (W : Wo
       (ended_here W r.done end.Done tt r.ran)
 
   last_script : 0 < length held → script_from false 1 (pieces 10 bytes) ≡ behind r.done (before_script number (parse held) no_lines)
-  last_script some =
-      let piece : last_piece false number held ≡ before_script number (parse held) no_lines = rw (not_empty held some) refl in
-      taken_script false ∙ ap (behind r.done) piece
+  last_script some = grind (arith, not_empty, taken_script)
 
   module _ (i j : SourceState) (gave : Gave i j bytes) (met : MetEnd i j bytes) (few : length bytes < MAX_INPUT) (some : 0 < length held)
       (stands_new : World → Type 0) (f : DiskState) (m : SinkState) where
@@ -300,8 +293,7 @@ module _ {stands : World → Type 0} {d e : DiskState} {k l : SinkState} (W : Wo
     last_runs (Ok (Says said)) halt given answers = last_halts said halt given answers.0 answers.1
     last_runs (Err (Cause cause)) halt given answers =
         subst (λ (h : Halt). HasRun stands_new d f i j k m W (end_of h)) (sym answers.0) (last_bad cause given answers.1)
-    last_runs (Err NoMemory) halt given answers =
-        subst (λ (h : Halt). HasRun stands_new d f i j k m W (end_of h)) (sym answers.0) (last_starved answers.1)
+    last_runs (Err NoMemory) halt given answers = grind (arith, last_starved)
 
 -- before the first byte
 pub reads_none : {stands : World → Type 0} {d : DiskState} {k : SinkState} (W : World) → IsLawful d → IsWorld W → stands W

@@ -1,5 +1,5 @@
 -- The lines of a text, from its front on.
-use Rattle.script_runner.proofs.Words.{◌≡◌, ◌≢◌, ℕ, Bool, true, false, cond, nat_eq, List, [], ◌∷◌, ◌++◌, refl, ap, append-nil, inl, inr, ⊎_elim, sym, ◌∙◌, ◌<◌, get_or, arith, subst, eqb_tells, Contains-append_right, Contains-append_cases, Contains, pieces, before_piece, in_front, HasNoFeed}
+use Rattle.script_runner.proofs.Words.{◌≡◌, ◌≢◌, ℕ, Bool, cond, List, [], ◌∷◌, ◌++◌, refl, ap, append-nil, inl, inr, ⊎_elim, sym, ◌∙◌, ◌<◌, get_or, arith, subst, eqb_tells, Contains-append_right, Contains-append_cases, Contains, pieces, before_piece, in_front, HasNoFeed}
 
 -- that some list of pieces has a first one
 pub record HasFirst (all : List (List ℕ)) : Type 0 where
@@ -8,27 +8,21 @@ pub record HasFirst (all : List (List ℕ)) : Type 0 where
   pub is : all ≡ piece ∷ more
 
 before_piece-first : (b : ℕ) (all : List (List ℕ)) → HasFirst (before_piece b all)
-before_piece-first b [] = record { piece = b ∷ []; more = []; is = refl }
-before_piece-first b (piece ∷ more) = record { piece = b ∷ piece; more = more; is = refl }
+before_piece-first b all = grind arith
 
 first_of_either : (b : Bool) (xs ys : List (List ℕ)) → HasFirst xs → HasFirst ys → HasFirst (cond b xs ys)
-first_of_either true xs ys h k = h
-first_of_either false xs ys h k = k
+first_of_either b xs ys h k = grind arith
 
 -- there is always a piece
 pub pieces-first : (s : ℕ) (text : List ℕ) → HasFirst (pieces s text)
 pieces-first s [] = record { piece = []; more = []; is = refl }
-pieces-first s (b ∷ text) =
-    first_of_either (nat_eq b s) ([] ∷ pieces s text) (before_piece b (pieces s text))
-    (record { piece = []; more = pieces s text; is = refl }) (before_piece-first b (pieces s text))
+pieces-first s (b ∷ text) = grind (arith, first_of_either, before_piece-first)
 
 in_front-nothing : (all : List (List ℕ)) → HasFirst all → all ≡ in_front [] all
-in_front-nothing [] h = cc
-in_front-nothing (piece ∷ more) h = refl
+in_front-nothing all h = grind arith
 
 before-front : (b : ℕ) (text : List ℕ) (all : List (List ℕ)) → before_piece b (in_front text all) ≡ in_front (b ∷ text) all
-before-front b text [] = refl
-before-front b text (piece ∷ more) = refl
+before-front b text all = grind arith
 
 -- a byte that is no separator stands in front of the first piece
 pieces-other : (b : ℕ) (text : List ℕ) → b ≢ 10 → pieces 10 (b ∷ text) ≡ before_piece b (pieces 10 text)

@@ -1,5 +1,5 @@
 -- The commits that the reply to a group tells are among those of the world after it.
-use Rattle.script_runner.proofs.Words.{◌≡◌, ◌∙◌, ◌⊎◌, sym, refl, ap, subst, ℕ, ◌+◌, ◌<◌, ◌≤◌, List, [], ◌∷◌, length, Option, Some, None, inl, inr, arith, length-append, same_Some, GroupReply, Follow, ahead, decided, found_ones, group, group_is, group_step, label_replies, leave_all, looks, looks_history, made_by, member_reply, numbers_told, consecutive, History, last, after_leaving, end_step, World, Live, IsAmongGrouped}
+use Rattle.script_runner.proofs.Words.{◌≡◌, ◌⊎◌, sym, refl, subst, ℕ, ◌+◌, ◌<◌, ◌≤◌, List, [], ◌∷◌, length, Option, Some, None, inl, inr, arith, length-append, same_Some, GroupReply, Follow, ahead, decided, found_ones, group, group_is, group_step, label_replies, leave_all, looks, looks_history, made_by, member_reply, numbers_told, consecutive, History, last, after_leaving, end_step, World, Live, IsAmongGrouped}
 use Rattle.iso_model.specs.declared.access.GroupReply.TheVariants as member
 
 -- one of the numbers
@@ -15,8 +15,7 @@ within n m (k ∷ numbers) follow (inr later) = let rest = within n k numbers fo
 
 -- as many commits are made as are told
 made_count : (t : Live) (answer : GroupReply) (replies : List GroupReply) → length (numbers_told (answer ∷ replies)) ≡ length (made_by t answer) + length (numbers_told replies)
-made_count t (member.Committed number) replies = omega arith
-made_count t x replies = omega arith
+made_count t answer replies = grind arith
 
 decided_count : (W : World) (members : List Live) → 0 < W.history.first → last (decided W members).1.history ≡ last W.history + length (numbers_told (decided W members).0)
 decided_count W [] first = omega arith
@@ -32,9 +31,7 @@ left_history [] W = refl
 left_history (t ∷ members) W = left_history members (after_leaving W t)
 
 group_count : (W : World) (members : List Live) → 0 < W.history.first → last (group W members).1.history ≡ last W.history + length (numbers_told (group W members).0)
-group_count W members first =
-    subst (λ (x : List GroupReply × World). last x.1.history ≡ last W.history + length (numbers_told x.0)) (sym (group_is W members))
-    (ap (λ (H : History). last H) (left_history members (decided W members).1) ∙ decided_count W members first)
+group_count W members first = grind (arith, group_is, left_history, decided_count)
 
 -- the numbers that labels are told are numbers of the group
 told_first : (n : ℕ) (answer : GroupReply) (replies : List GroupReply) → answer ≡ member.Committed n → IsOneOf n (numbers_told (answer ∷ replies))

@@ -1,5 +1,5 @@
 -- What the small image answers to the script of the tests.
-use Rattle.script_runner.proofs.Words.{◌≡◌, ℕ, ◌+◌, List, [], ◌∷◌, Option, Some, None, false, length, get_or, refl, sym, subst, arith, is_some, Mode, begin_step, commit_step, end_step, Op, Begin, End, Put, Reply, put, clash, runs, put_step, step, World, rehearsed}
+use Rattle.script_runner.proofs.Words.{◌≡◌, ℕ, ◌+◌, List, [], ◌∷◌, Option, Some, None, false, length, get_or, refl, arith, is_some, Mode, begin_step, commit_step, end_step, Op, Begin, End, Put, Reply, put, clash, runs, put_step, step, World, rehearsed}
 use Rattle.script_model.specs.declared.script.Reply.TheVariants as reply
 
 abbrev Answers : (n : ℕ) → (client : ℕ) → Op → Reply → Type 0
@@ -7,8 +7,7 @@ Answers n client op r = let both : Reply × World = (r, rehearsed (n + 1)) in st
 
 -- at the values that the code found
 pub answers_at : (n done client : ℕ) (op asked : Op) (r : Reply) → done ≡ n → client ≡ 1 → asked ≡ op → Answers n 1 op r → Answers done client asked r
-answers_at n done client op asked r at one same answers =
-    subst (λ d. Answers d client asked r) (sym at) (subst (λ c. Answers n c asked r) (sym one) (subst (λ o. Answers n 1 o r) (sym same) answers))
+answers_at n done client op asked r at one same answers = grind arith
 
 pub first_begin : Answers 0 1 (Begin None) (reply.Began 0)
 unfolding step begin_step

@@ -1,5 +1,5 @@
 -- What no run puts of the script of the tests, whatever its disk tells.
-use Rattle.script_runner.proofs.{Words.{◌≡◌, ◌∙◌, ℕ, List, [], ◌∷◌, ◌++◌, Some, None, ap, subst, get_or, arith, codes, digits, same_Some, DiskState, SinkState, World, Line, End, Reply, reply_text, Done, rehearsed, AreRepliesTo, text_of, Answered, SameButShown}, Rehearsals.second_end}
+use Rattle.script_runner.proofs.{Words.{◌≡◌, ◌∙◌, ℕ, List, [], ◌∷◌, ◌++◌, Some, None, ap, subst, get_or, arith, codes, digits, DiskState, SinkState, World, Line, End, Reply, reply_text, Done, rehearsed, AreRepliesTo, text_of, Answered, SameButShown}, Rehearsals.second_end}
 use Rattle.script_model.specs.declared.script.Reply.TheVariants as reply
 
 -- the line that makes the first commit
@@ -31,6 +31,4 @@ not_given (r ∷ s ∷ rest) V are same = are.2
 
 -- the first commit is told as commit 1, and as no other, also where the disk tells nothing
 not_commit_two : (stands : World → Type 0) (d e : DiskState) → d.contents ≡ None → Answered stands d e (told_text []) (told_text other_text) (rehearsed 4) Done ending [] → ⊥
-not_commit_two stands d e untold a =
-    let put = a.on_any_disk in
-    not_given put.given a.reached put.are (same_Some other_text (text_of ending put.given) put.put)
+not_commit_two stands d e untold a = grind (arith, not_given)

@@ -1,5 +1,5 @@
 -- The replies of a run, and their text.
-use Rattle.script_runner.proofs.Words.{◌≡◌, ℕ, List, [], ◌∷◌, ◌++◌, inr, take, ap, refl, sym, subst, ◌∙◌, append_assoc, append-nil, append_known, DiskState, SinkState, Wrote, append_known-append, append_known-nil, World, IsWorld, Line, Reply, answers_to, replies, step, reply_line, RunEnd, AreRepliesTo, AreSameButShown, IfCut, IsReplyTo, PutReplies, PutRepliesBy, Replied, text_of, ArePlain, IsPlain, SameButShown, StandsSo, Disk, Output}
+use Rattle.script_runner.proofs.Words.{arith, ◌≡◌, ℕ, List, [], ◌∷◌, ◌++◌, inr, take, ap, refl, sym, subst, ◌∙◌, append_assoc, append-nil, append_known, DiskState, SinkState, Wrote, append_known-append, append_known-nil, World, IsWorld, Line, Reply, answers_to, replies, step, reply_line, RunEnd, AreRepliesTo, AreSameButShown, IfCut, IsReplyTo, PutReplies, PutRepliesBy, Replied, text_of, ArePlain, IsPlain, SameButShown, StandsSo, Disk, Output}
 
 -- the text of one reply
 pub reply_is : (W : World) (number : ℕ) (said : Line) (answer : Reply) (given set : List ℕ) → given ≡ set → set ≡ reply_line said.client answer
@@ -35,9 +35,7 @@ cut_on Output P Q on cut = on cut
 cut_on x P Q on cut = tt
 
 quiet_cut : (end : RunEnd) (P : Type 0) → IsQuiet end → IfCut end P
-quiet_cut Disk P quiet = absurd quiet
-quiet_cut Output P quiet = absurd quiet
-quiet_cut x P quiet = tt
+quiet_cut end P quiet = grind arith
 
 -- the text of one reply that was made
 pub made_is : (number : ℕ) (said : Line) (answer : Reply) (given set : List ℕ) → given ≡ set → set ≡ reply_line said.client answer → given ≡ text_of ((number, said) ∷ []) (answer ∷ [])

@@ -1,5 +1,5 @@
 -- What a line says is an operation that a machine may be asked.
-use Rattle.script_runner.proofs.{Words.{◌≡◌, refl, ap, ◌∙◌, subst, ℕ, ◌≤◌, IfOk, Bool, true, false, ◌&&◌, cond, List, [], ◌∷◌, Option, Some, None, Result, Ok, Err, nat_le, nat_lt, length, take, arith, and_parts, leb-true, ltb-false, lt-leb, take_all, list_all, MAX_INPUT, MAX_LINE, Line, LineError, Parsed, Script, before_script, client_in_range, is_printable, is_skipped, no_lines, operation_of, parse, parse_whole, said, script, script_from, without_return, is_empty, number_of, pieces, words_of, AreLines, IsOp, IfGiven, any_given, given_next, given_none, given_one, script_lines, Gives, IsLine, SaysLine, HasNoFeed, Skip, Says}, Feeds.{no_feed-cons, no_feed-nil, one_piece}}
+use Rattle.script_runner.proofs.{Words.{◌≡◌, refl, ap, ◌∙◌, subst, ℕ, ◌≤◌, IfOk, Bool, true, false, ◌&&◌, cond, List, [], ◌∷◌, Option, Some, None, Result, Ok, Err, nat_le, nat_lt, length, take, arith, and_parts, leb-true, ltb-false, lt-leb, take_all, list_all, MAX_INPUT, MAX_LINE, Line, LineError, Parsed, Script, before_script, client_in_range, is_printable, is_skipped, no_lines, parse, parse_whole, said, script, script_from, without_return, is_empty, pieces, words_of, AreLines, IsOp, IfGiven, any_given, given_next, given_none, given_one, script_lines, Gives, IsLine, SaysLine, HasNoFeed, Skip, Says}, Feeds.{no_feed-cons, no_feed-nil, one_piece}}
 
 record InRange (client : ℕ) : Type 0 where
   least : 1 ≤ client
@@ -23,11 +23,8 @@ client_given (Some n) = go (nat_le 1 n && nat_le n 64) refl
 said_client : (words : List (List ℕ)) → IfGiven OfClient (said words)
 unfolding said OfClient
 said_client [] = given_none OfClient 1
-said_client (client ∷ []) =
-    given_next (λ x. Unit {0}) OfClient (client_in_range (number_of client)) _ (any_given (client_in_range (number_of client))) (λ c is. given_none OfClient 2)
-said_client (client ∷ name ∷ words) =
-    given_next InRange OfClient (client_in_range (number_of client)) _ (client_given (number_of client)) (λ c is.
-    given_next (λ x. Unit {0}) OfClient (operation_of name words) _ (any_given (operation_of name words)) (λ op good. given_one OfClient (Says (record { client = c; op = op })) is))
+said_client (client ∷ []) = grind (arith, given_next, OfClient, any_given, given_none)
+said_client (client ∷ name ∷ words) = grind (arith, given_next, OfClient, client_given, any_given, given_one)
 
 -- a line that says something passed all tests
 record Passed (text : List ℕ) (line : Line) : Type 0 where

@@ -1,5 +1,5 @@
 -- Lines that are answered one after the other.
-use Rattle.script_runner.proofs.{Words.{◌≡◌, ◌≤◌, ℕ, List, [], ◌∷◌, ◌++◌, ap, refl, sym, subst, ◌∙◌, inl, inr, ⊎_elim, append_assoc, append-nil, IsSome, AllByRecursion, append_known, Rose, DiskState, IsLawful, LeavesOnly, started, weakened, at_end, SinkState, CountsStand, Wrote, append_known-nil, Geometry, Line, History, last, Shows, replies, after, step, reply_line, World, AreLines, IsOp, Extends, IsWorld, KeepsGeometry, LeadsTo, after_leads, step_leads, RunEnd, ShowsEither, ShowsBetween, DiskCount, SinkCounts, Ran, IfTold, IsPlain, StandsSo, PutReplies, PutRepliesBy, Replied, Answered, IfUp, IsBehind, leads_on, Disk, Output, Memory}, Acknowledged.all_kept, Replying.{IsQuiet, put_halted, put_more, put_none, put_quiet, quiet_replies, replied_on, wrote_on}, Histories.{between_since, runs_joined, shows_last, step_between}}
+use Rattle.script_runner.proofs.{Words.{arith, ◌≡◌, ℕ, List, [], ◌∷◌, ◌++◌, ap, refl, sym, subst, ◌∙◌, inl, inr, append_assoc, append-nil, IsSome, AllByRecursion, append_known, Rose, DiskState, IsLawful, LeavesOnly, started, weakened, at_end, SinkState, CountsStand, Wrote, append_known-nil, Line, last, Shows, replies, after, step, reply_line, World, AreLines, IsOp, IsWorld, LeadsTo, after_leads, step_leads, RunEnd, ShowsEither, ShowsBetween, DiskCount, SinkCounts, Ran, IfTold, IsPlain, StandsSo, PutReplies, PutRepliesBy, Replied, Answered, IfUp, IsBehind, leads_on, Disk, Output, Memory}, Acknowledged.all_kept, Replying.{IsQuiet, put_halted, put_more, put_none, put_quiet, quiet_replies, replied_on, wrote_on}, Histories.{between_since, runs_joined, shows_last, step_between}}
 
 pub after-append : (W : World) (xs ys : List (ℕ × Line)) → after W (xs ++ ys) ≡ after (after W xs) ys
 after-append W [] ys = refl
@@ -32,16 +32,7 @@ all_others P (x ∷ xs) ys all = all_others P xs ys all.1
 
 -- the world behind lines, and then behind more of them
 behind_on : (d mid : DiskState) (W V U : World) (xs ys : List (ℕ × Line)) → IfTold d (IsSome mid.contents) → IsBehind d W xs V → IsBehind mid V ys U → IsBehind d W (xs ++ ys) U
-behind_on d mid W V U xs ys tells first second =
-    let P = λ (line : ℕ × Line). IsPlain line.1.op in
-    record {
-      known = λ how.
-          ⊎_elim
-          (λ told. second.known (inl (tells told)) ∙ ap (λ (X : World). after X ys) (first.known (inl told)) ∙ sym (after-append W xs ys))
-          (λ plain. second.known (inr (all_others P xs ys plain)) ∙ ap (λ (X : World). after X ys) (first.known (inr (all_first P xs ys plain))) ∙ sym (after-append W xs ys))
-          how;
-      leads = leads_on W V U first.leads second.leads;
-    }
+behind_on d mid W V U xs ys tells first second = grind (arith, after-append, all_others, all_first, leads_on)
 
 -- behind no line
 behind_none : (d : DiskState) (W : World) → IsWorld W → IsBehind d W [] W
@@ -50,17 +41,7 @@ behind_none d W is = record { known = λ how. refl; leads = after_leads W [] is 
 -- behind one line that the machine has run
 pub behind_one : {stands : World → Type 0} {d : DiskState} (W : World) (x : ℕ × Line) → IsWorld W → IsOp x.1.op
     → (so : StandsSo stands d (IsPlain x.1.op) (step W x.1.client x.1.op).1) → IsWorld so.world → IsBehind d W (x ∷ []) so.world
-behind_one W x is good so sound =
-    let U = (step W x.1.client x.1.op).1 in
-    let leads = step_leads W x.1.client x.1.op is good in
-    record {
-      known = λ how. so.known (⊎_elim inl (λ plain. inr plain.0) how);
-      leads = record {
-        world = sound;
-        geometry = subst (λ (g : Geometry). KeepsGeometry W.geometry g) (sym so.geometry) leads.geometry;
-        history = subst (λ (H : History). Extends W.history H) (sym so.history) leads.history;
-      };
-    }
+behind_one W x is good so sound = grind (arith, step_leads)
 
 -- behind one line that it may have run
 pub behind_step : {d : DiskState} (W : World) (x : ℕ × Line) → IsWorld W → IsOp x.1.op → IsBehind d W (x ∷ []) (step W x.1.client x.1.op).1
@@ -87,12 +68,7 @@ module _ {stands : World → Type 0} {d : DiskState} {k : SinkState} (W : World)
 
 -- an image shows a history, whatever its world is
 between_same : (W U V : World) → V.history ≡ U.history → V.geometry ≡ U.geometry → (c : List ℕ) → ShowsBetween W U c → ShowsBetween W V c
-between_same W U V history geometry c shown = record {
-  at = shown.at;
-  from = shown.from;
-  to = subst (λ (H : History). shown.at ≤ last H) (sym history) shown.to;
-  shows = subst (λ (g : Geometry). Shows c g V.history shown.at) (sym geometry) (subst (λ (H : History). Shows c U.geometry H shown.at) (sym history) shown.shows);
-}
+between_same W U V history geometry c shown = grind arith
 
 -- the moments of one line
 line_moments : {d e : DiskState} (W : World) (x : ℕ × Line) → IsWorld W → IsOp x.1.op → (V : World) → V.history ≡ (step W x.1.client x.1.op).1.history

@@ -1,7 +1,8 @@
 -- What a machine's disk tells of its bytes, and so what is known of its replies and its worlds.
 use Rattle.std.specs.{Prelude.{◌≡◌, ◌⊎◌, ℕ, List, IsSome}, List.AllByRecursion}
 use Rattle.iso_disk.specs.Disk.{DiskState}
-use Rattle.script_model.specs.{declared.script.Line.Line, declared.script.Op.Op, declared.script.Op.TheVariants.{HashPut, HashGet, HashDelete, TreePut, TreeGet, TreeDelete, TreeScan, FileNew, FileWrite, FileRead, FileMove, FileDelete}, declared.script.Reply.Reply, declared.script.Reply.TheVariants.Shown}
+pub use Rattle.script_model.specs.Operations.{IsPlain}
+use Rattle.script_model.specs.{declared.script.Line.Line, declared.script.Reply.Reply, declared.script.Reply.TheVariants.Shown}
 use Rattle.iso_model.specs.World.{World}
 
 -- what holds where the disk tells its bytes; a real file tells none, so what a read of it gives is not known
@@ -12,22 +13,6 @@ IfTold d P = IsSome d.contents → P
 abbrev pub SameButShown : Reply → Reply → Type 0
 SameButShown (Shown xs) (Shown ys) = Unit {0}
 SameButShown r s = r ≡ s
-
--- an operation that calls no store
-abbrev pub IsPlain : Op → Type 0
-IsPlain (HashPut key value) = ⊥
-IsPlain (HashGet key) = ⊥
-IsPlain (HashDelete key) = ⊥
-IsPlain (TreePut key value) = ⊥
-IsPlain (TreeGet key) = ⊥
-IsPlain (TreeDelete key) = ⊥
-IsPlain (TreeScan from to most) = ⊥
-IsPlain (FileNew name) = ⊥
-IsPlain (FileWrite name off bytes) = ⊥
-IsPlain (FileRead name off len) = ⊥
-IsPlain (FileMove from to) = ⊥
-IsPlain (FileDelete name) = ⊥
-IsPlain op = Unit {0}
 
 -- lines that call no store
 abbrev pub ArePlain : List (ℕ × Line) → Type 0

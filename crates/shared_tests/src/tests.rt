@@ -1,16 +1,15 @@
 // Runs over a device in memory: threads, and what the calls answer through the lock. The image has four blocks of 64 bytes and
 // logs of 4,096 bytes.
-ghost use Rattle.std.specs.Prelude.{◌≡◌, ◌+◌, ◌<◌, replicate, IfSome, IsTrue};
+ghost use Rattle.std.specs.Prelude.{◌≡◌, ◌+◌, ◌<◌, IfSome};
 ghost use denote.Param.Send.{IsSync};
-ghost use Rattle.iso_model.specs.{declared.limits.TheConstants.LAST, Geometry.is_valid};
+ghost use Rattle.iso_model.specs.declared.limits.TheConstants.{LAST};
 ghost use Rattle.iso_memdisk.specs.MemDisk.{state_of};
 ghost use Rattle.iso_shared.specs.{Ports.{IsPort, IsTx, port_view, tx_view}, TestImage.{small, MayStart}};
 ghost use Rattle.shared_tests.specs.Starts.{IsNew};
 
 use iso_core::{Core, Stat};
 use iso_memdisk::{CallKind, MemDisk};
-use iso_model::{CoreError, EndReply, Geometry, Mode};
-use iso_recover::format_image;
+use iso_model::{CoreError, EndReply};
 use iso_shared::{Origin, Port, Shared, Tx};
 use std::alloc::Global;
 use std::fmt::Debug;
@@ -21,47 +20,24 @@ use std::sync::ledger::{Blank, Ledger};
 use std::test::Fail;
 use std::thread::{Threads, join};
 use step_count::Steps;
+use test_cores::core_on;
+use test_images::{blank, with_long_logs};
 
 // Two values that are to be the same. Each test that compared them itself would prove what is printed where they differ.
 pub(crate) fn same<T: PartialEq + Debug + Drop>(rt: &impl Abort, found: T, wanted: T) {
     assert_eq!(rt; found, wanted);
 }
 
-#[tactic(auto, unfolding(iso_model::specs::Geometry::is_valid))]
-fn small() -> Geometry
-    ensures same { result ≡ small }
-    ensures valid { IsTrue (is_valid result) }
-{
-    Geometry {
-        block: 64,
-        blocks: 4,
-        log: 4096,
-        mode: Mode::Serial,
-        hash: 0,
-        tree: 0,
-        form: 1,
-    }
-}
-
-fn zeros(alloc: Global) -> Option<Vec<u8>>
-    ensures { IfSome result (λ v. v.items ≡ replicate 8832 0) }
-{
-    match vec![in alloc; 0; 8832] {
-        Ok(bytes) => Some(bytes),
-        Err(_) => None,
-    }
-}
-
 /// A core over a new image, on a disk of which the call of this kind with this number fails alone.
 pub(crate) fn core_failing(alloc: Global, kind: CallKind, number: u64) -> Option<Core<MemDisk>>
     ensures { IfSome result IsNew }
 {
-    let bytes = zeros(alloc)?;
-    let mut disk = MemDisk::new(alloc, bytes);
+    let geometry = with_long_logs();
+    let mut disk = blank(alloc, &geometry).ok()?;
     disk.fail_kind(kind, number);
-    match format_image(alloc, disk, &small()) {
+    match core_on(alloc, disk, &geometry) {
         Ok(core) => Some(core),
-        Err((_error, _disk)) => None,
+        Err(_) => None,
     }
 }
 

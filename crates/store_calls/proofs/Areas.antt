@@ -1,14 +1,9 @@
 -- Where the stores of a valid image are.
-use Rattle.store_calls.proofs.Words.{◌≡◌, ◌≢◌, ◌+◌, ◌-◌, ◌*◌, ◌≤◌, ◌==◌, ◌||◌, ℕ, Bool, true, false, cond, nat_lt, IsTrue, arith, nat_tests, cases_lt, eqb-false, ltb-false, or_parts, refl, ap, inl, inr, Geometry, Op, Begin, End, Abort, Put, Read, Get, Write, Fill, Mark, Release, Takeover, Await, Group, Trim, Stat, Compact, Upgrade, HashPut, HashGet, HashDelete, TreePut, TreeGet, TreeDelete, TreeScan, FileNew, FileWrite, FileRead, FileMove, FileDelete, is_valid, limits, hash_area_is, tree_area_is, AreFileAreas, blocks_behind, file_blocks, files_area, least, AreStoreAreas, store_areas, store_blocks}
+use Rattle.store_calls.proofs.Words.{◌≡◌, ◌≢◌, ◌+◌, ◌-◌, ◌*◌, ◌≤◌, ◌==◌, ◌||◌, ℕ, Bool, true, false, cond, nat_lt, IsTrue, arith, nat_tests, eqb-false, ltb-false, or_parts, refl, ap, Geometry, Op, Begin, End, Abort, Put, Read, Get, Write, Fill, Mark, Release, Takeover, Await, Group, Trim, Stat, Compact, Upgrade, HashPut, HashGet, HashDelete, TreePut, TreeGet, TreeDelete, TreeScan, FileNew, FileWrite, FileRead, FileMove, FileDelete, is_valid, limits, hash_area_is, tree_area_is, AreFileAreas, blocks_behind, file_blocks, files_area, least, AreStoreAreas, store_areas, store_blocks}
 
 -- the lesser of two numbers is neither above the one nor above the other
 least_of : (m n : ℕ) → (least m n ≤ m) × (least m n ≤ n)
-least_of m n = elim (cases_lt m n) [
-  | inl less ↦ (let test : nat_lt m n ≡ true = grind (arith, nat_tests) in
-      let is : least m n ≡ m = ap (λ (t : Bool). cond t m n) test in (omega arith, omega arith))
-  | inr more ↦ (let test : nat_lt m n ≡ false = grind (arith, nat_tests) in
-      let is : least m n ≡ n = ap (λ (t : Bool). cond t m n) test in (omega arith, omega arith))
-]
+least_of m n = grind (arith, nat_tests)
 
 -- the files have all blocks behind the stores that the map has bits for, or none
 chosen : (t : Bool) (n : ℕ) → (cond t 0 n ≢ 0 → t ≡ false) × (cond t 0 n ≤ n)

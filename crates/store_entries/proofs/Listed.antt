@@ -4,9 +4,7 @@ use Rattle.iso_shared.specs.declared.entry.Entry.TheVariants as entry
 
 -- a transaction that an end takes back is live
 ends_live : (S : State) (e : Entry) → Fits S e → (k : ℕ) (accesses : List Access) (r : EndReply) → e ≡ entry.End k accesses r → is_live k S.world.live ≡ true
-ends_live S e fits k accesses r is =
-    let f : Fits S (entry.End k accesses r) = subst (Fits S) is fits in
-    (and_parts (is_live k S.world.live) (times k (racked S.rack) == 0) f.takes.0).0
+ends_live S e fits k accesses r is = grind arith
 
 -- so is each member that a group takes back
 member_among : (S : State) (first others : List MemberEnd) (e : MemberEnd) → AreLoose (member_numbers (members_of (first ++ e ∷ others))) S → is_live e.number S.world.live ≡ true
@@ -97,13 +95,10 @@ module _ (t : MapStore) (two : IsOfItsBlocks t) (A : Start) (es : List Entry) (s
 
   -- the history at a place of the list is the beginning of the whole one
   leads_on : (before later : List Entry) → es ≡ before ++ later → Extends (world_at A before).history H
-  leads_on before later are =
-      subst (λ (S : State). Extends (world_at A before).history S.world.history) (sym (after_append (opened A) before later) ∙ ap (state_at A) (sym are))
-      (follows_all (state_at A before) later).history
+  leads_on before later are = grind (arith, after_append, follows_all)
 
   same_array : (before later : List Entry) → es ≡ before ++ later → (k : ℕ) → k ≤ last (world_at A before).history → array_at H k ≡ array_at (world_at A before).history k
-  same_array before later are k low =
-      array_extends (world_at A before).history H k (by_front before later are).first (leads_on before later are) low
+  same_array before later are k low = grind (arith, array_extends, by_front, leads_on)
 
   -- a transaction that is live at a place began between the start and that place
   began : (before later : List Entry) → es ≡ before ++ later → (m : ℕ) → is_live m (world_at A before).live ≡ true → IsSince n (last (world_at A before).history) (live_of m (world_at A before).live)
@@ -140,9 +135,7 @@ module _ (t : MapStore) (two : IsOfItsBlocks t) (A : Start) (es : List Entry) (s
 
   -- the history behind an entry is the beginning of the whole one
   leads_behind : (before later : List Entry) (e : Entry) → es ≡ before ++ e ∷ later → Extends (after (state_at A before) e).world.history H
-  leads_behind before later e are =
-      subst (λ (S : State). Extends (after (state_at A before) e).world.history S.world.history) (sym (after_append (opened A) before (e ∷ later)) ∙ ap (state_at A) (sym are))
-      (follows_all (after (state_at A before) e) later).history
+  leads_behind before later e are = grind (arith, after_append, follows_all)
 
   commit_in_order : (before later : List Entry) (m k : ℕ) (accesses : List Access) → es ≡ before ++ entry.End m accesses (Committed k) ∷ later
       → (of : IsOfBoth s t (world_at A before).history (commit_at (world_at A before) m accesses)) → BothInOrder s t of.parts (array_at H (k - 1)) (array_at H k)
@@ -155,9 +148,7 @@ module _ (t : MapStore) (two : IsOfItsBlocks t) (A : Start) (es : List Entry) (s
 
   -- what a group decides, as its entry tells it
   group_decides : (before later : List Entry) (ends : List MemberEnd) → es ≡ before ++ entry.EndGroup ends ∷ later → (decides (world_at A before) (world_at A before) ends).0 ≡ replies_of ends
-  group_decides before later ends are =
-      let V = world_at A before in
-      sym (ap (λ (x : List GroupReply × World). x.0) (group_is V (txs_of V (members_of ends)))) ∙ (fits_here before later (entry.EndGroup ends) are).answers.2
+  group_decides before later ends are = grind (arith, group_is, fits_here)
 
   member_in_order : (before later : List Entry) (first others : List MemberEnd) (m k : ℕ) (accesses : List Access) → es ≡ before ++ entry.EndGroup (first ++ commits_as m k accesses ∷ others) ∷ later
       → (of : IsOfBoth s t (world_at A before).history (commit_at (world_at A before) m accesses)) → IsInPlace t A es k of.parts

@@ -149,9 +149,7 @@ module _ (s t : MapStore) (n : ℕ) where
   pub by_next : (S : State) (e : Entry) → ((k m : ℕ) (accesses : List Access) → e ≡ entry.End k accesses (Committed m) → IsOfBoth s t S.world.history (commit_at S.world k accesses))
       → ((ends : List MemberEnd) → e ≡ entry.EndGroup ends → AllByRecursion (IsOf s t S.world.history) (lost_commits S.world (members_of ends)))
       → ((k : ℕ) (accesses : List Access) (r : EndReply) → e ≡ entry.End k accesses r → is_live k S.world.live ≡ true) → IsByAt S → IsByAt (after S e)
-  by_next S (entry.Begin k at mode) of grouped live by =
-      by_txs s t n S.world.history S.world.live _ by
-      (all_push (IsSince n (last S.world.history)) S.world.live _ by.each (by.within, let l : ℕ = last S.world.history in omega arith))
+  by_next S (entry.Begin k at mode) of grouped live by = grind (arith, by_txs, all_push)
   by_next S (entry.Fetch k block bytes) of grouped live by = by
   by_next S (entry.End k accesses r) of grouped live by =
       by_end S k accesses r (live k accesses r refl) (λ m is. of k m accesses (ap (λ (x : EndReply). entry.End k accesses x) is)) by

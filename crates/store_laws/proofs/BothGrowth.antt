@@ -1,5 +1,5 @@
 -- A transaction grows by calls of two stores and by other accesses.
-use Rattle.store_laws.proofs.{Words.{◌≡◌, ◌⊎◌, ◌∙◌, sym, refl, ap, subst, List, [], ◌∷◌, ◌++◌, append_assoc, append-nil, Some, Access, Commit, Serial, Array, own, History, array_at, added_is, own_append, HasRead, IsLocalCall, Tx, added, with_accesses, AreMixed, First, IsOfBoth, Mixed, MixedParts, Neither, Second, firsts, seconds, IsMadeOfBoth, accesses_in, calls_in, MapStore, SpareRegion}, Growth.reads_spare}
+use Rattle.store_laws.proofs.{Words.{arith, ◌≡◌, ◌⊎◌, ◌∙◌, sym, refl, ap, subst, List, [], ◌∷◌, ◌++◌, append_assoc, append-nil, Some, Access, Commit, Serial, Array, own, History, array_at, added_is, own_append, HasRead, IsLocalCall, Tx, added, with_accesses, AreMixed, First, IsOfBoth, Mixed, MixedParts, Neither, Second, firsts, seconds, IsMadeOfBoth, accesses_in, calls_in, MapStore, SpareRegion}, Growth.reads_spare}
 
 module _ (s t : MapStore) where
   abbrev pub accesses_of_all : MixedParts s t → List Access
@@ -29,11 +29,7 @@ module _ (s t : MapStore) where
 
   grown : (A : Array) (x y : Tx) (parts : MixedParts s t) (part : Mixed s.Call s.Answer t.Call t.Answer) (done : List Access) → IsMadeOfBoth s t A x parts → y ≡ with_accesses x done
       → accesses_of_all (part ∷ []) ≡ done → AreMixed s t (own A x.accesses) (part ∷ []) → IsMadeOfBoth s t A y (parts ++ part ∷ [])
-  grown A x y parts part done is more has made = record {
-    base = ap (λ (v : Tx). v.base) more ∙ is.base;
-    are = mixed_append parts (part ∷ []) ∙ ap (λ (xs : List Access). xs ++ accesses_of_all (part ∷ [])) is.are ∙ ap (λ (ys : List Access). x.accesses ++ ys) has ∙ sym (ap (λ (v : Tx). v.accesses) more);
-    made = made_append A parts (part ∷ []) is.made (subst (λ (xs : List Access). AreMixed s t (own A xs) (part ∷ [])) (sym is.are) made);
-  }
+  grown A x y parts part done is more has made = grind (arith, mixed_append, made_append) steps 100000
 
   pub first_called : (A : Array) (x y : Tx) (parts : MixedParts s t) (call : s.Call) (answer : s.Answer) (done : List Access) → IsMadeOfBoth s t A x parts → y ≡ with_accesses x done
       → IsLocalCall s.IsWellFormed s.map_of (s.act call) x y answer → SpareRegion t (added x y) → IsMadeOfBoth s t A y (parts ++ First call (added x y) answer ∷ [])

@@ -1,5 +1,5 @@
 -- A call of the hash store or of the file store, as a part of a transaction that calls both in disjoint areas; calls that read alone.
-use Rattle.store_laws.proofs.{Words.{◌≡◌, ◌∙◌, sym, ap, subst, ℕ, ◌||◌, Bool, true, false, List, [], ◌∷◌, ◌++◌, Result, Ok, inl, inr, both_ways, Area, StoreError, Array, Program, HasEnded, IsLocalCall, Tx, added, First, Second, AreDisjoint, KeyCall, StoreAnswer, in_area, hash_store, WriteWithin, AreReads, MapStore, MixedParts, Neither, accesses_of, added_is, own, whole_run, with_accesses, cases_Bool, FileAreas, Call, HasRun, Ran, Mixed, FileAnswer, FileCall, file_store, in_areas, IsMadeOfBoth}, BothCalls.disjoint_blocks, BothGrowth.{both_other, first_called, second_called}, Growth.reads_spare, Programs.spare_where_apart}
+use Rattle.store_laws.proofs.{Words.{arith, ◌≡◌, ◌∙◌, sym, ap, subst, ℕ, ◌||◌, Bool, true, false, List, [], ◌∷◌, ◌++◌, Result, Ok, Area, StoreError, Array, Program, HasEnded, IsLocalCall, Tx, added, First, Second, AreDisjoint, KeyCall, StoreAnswer, in_area, hash_store, WriteWithin, AreReads, MapStore, MixedParts, Neither, accesses_of, added_is, own, whole_run, with_accesses, FileAreas, Call, HasRun, Ran, Mixed, FileAnswer, FileCall, file_store, in_areas, IsMadeOfBoth}, BothCalls.disjoint_blocks, BothGrowth.{both_other, first_called, second_called}, Growth.reads_spare, Programs.spare_where_apart}
 
 -- a call that read alone, as other accesses of a transaction that calls two stores
 pub reads_beside : {E X : Type 0} (s t : MapStore) (p : Program (Result X E)) (A : Array) (x y : Tx) (parts : MixedParts s t) (r : X) → ((B : Array) → AreReads (accesses_of p B))
@@ -19,10 +19,7 @@ module _ (a : Area) (b : FileAreas) (one : AreDisjoint a b.tree) (two : AreDisjo
       neither x y first second = rw (first, second) Rattle.std.proofs.Common.refl
 
   not_in : (k : ℕ) → in_areas b k ≡ true → in_area a k ≡ false
-  not_in k has = elim (cases_Bool (in_area a k)) [
-    | inl is ↦ absurd (both_ways (in_areas b k) (none_of k is) has)
-    | inr other ↦ other
-  ]
+  not_in k has = grind (arith, none_of) steps 100000
 
 module _ {X : Type 0} (a : Area) (b : FileAreas) where
   pub hash_beside : (p : Program (Result X StoreError)) (A : Array) (t u : Tx) (parts : Parts) (call : KeyCall) (answer : StoreAnswer) (r : X) → AreDisjoint a b.tree → AreDisjoint a b.files

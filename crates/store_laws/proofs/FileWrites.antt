@@ -1,5 +1,5 @@
 -- The calls of the file store write blocks of its areas alone.
-use Rattle.store_laws.proofs.{Words.{◌≡◌, refl, sym, ap, subst, ℕ, zero, suc, ◌+◌, ◌-◌, ◌<◌, ◌&&◌, ◌||◌, Bool, true, false, cond, nat_le, nat_lt, List, [], ◌∷◌, ◌++◌, length, take, Option, Some, None, Result, Ok, Err, arith, inl, inr, and_parts, both_ways, nat_tests, get_or, get_or_past, StoreError, Access, Span, Array, IsIn, Program, Done, Look, LookWhole, Reserve, Store, accesses_of, bytes_in, further_bytes, store_access, then_do, own, put, is_write, is_key, free_list, get_reads, taken_are, in_area, in_its_area, start_in, StoresIn, whole_run, Tx, added, WriteWithin, all_append, block_at, lowest_free, free_count, cases_lt, or_right, first_below, answer_of, FileAreas, blocks_for, bytes_of, data_count, entries_of, entry_at, is_file, is_handed, is_number, most_bytes, number_of, Call, at_file, create_at, create_new, create_program, goes_on, in_tree, is_many, read_program, remove_file, remove_program, remove_writes, rename_found, rename_free, rename_program, with_new, write_pieces, write_program, write_sized, write_to, AreFileAreas, accesses_then, del_program_stores, put_program_stores, HasRun, place_in, read_reads, entry_handed, file_parts, handed_is, in_range_map, file_store, in_areas}, Programs.{reads_within, writes_within}}
+use Rattle.store_laws.proofs.{Words.{◌≡◌, refl, sym, ap, subst, ℕ, zero, suc, ◌+◌, ◌-◌, ◌<◌, ◌&&◌, ◌||◌, Bool, true, false, cond, nat_le, nat_lt, List, [], ◌∷◌, ◌++◌, length, take, Option, Some, None, Result, Ok, Err, arith, inl, inr, both_ways, nat_tests, get_or, get_or_past, StoreError, Access, Span, Array, IsIn, Program, Done, Look, LookWhole, Reserve, Store, accesses_of, bytes_in, further_bytes, store_access, then_do, own, put, is_key, free_list, get_reads, taken_are, in_area, in_its_area, start_in, StoresIn, whole_run, Tx, added, WriteWithin, all_append, block_at, lowest_free, free_count, cases_lt, or_right, first_below, FileAreas, blocks_for, bytes_of, data_count, entries_of, entry_at, is_file, most_bytes, Call, at_file, create_at, create_new, create_program, goes_on, in_tree, is_many, read_program, remove_file, remove_program, remove_writes, rename_found, rename_free, rename_program, with_new, write_pieces, write_program, write_sized, write_to, AreFileAreas, accesses_then, del_program_stores, put_program_stores, HasRun, place_in, read_reads, entry_handed, file_parts, handed_is, in_range_map, file_store, in_areas}, Programs.{reads_within, writes_within}}
 use Rattle.store_model.specs.TreeCalls.{del_program, get_program, put_program}
 
 -- on each array it writes blocks of the areas alone
@@ -19,12 +19,7 @@ module _ (a : FileAreas) where
   done_in r = record { within = λ B. tt }
 
   then_in : {R S : Type 0} (p : Program R) (f : R → Program S) → WritesIn a p → ((r : R) → WritesIn a (f r)) → WritesIn a (then_do p f)
-  then_in p f one each = record {
-    within = λ B.
-        let r = answer_of p B in
-        subst (WriteWithin (file_store a)) (sym (accesses_then p f B))
-        (all_append (λ (x : Access). is_write x ≡ true → in_areas a x.block ≡ true) (accesses_of p B) (accesses_of (f r) (own B (accesses_of p B))) (one.within B) ((each r).within (own B (accesses_of p B))));
-  }
+  then_in p f one each = grind (arith, accesses_then, all_append) steps 100000
 
   goes_in : {X Y : Type 0} (next : X → Call Y) → ((x : X) → WritesIn a (next x)) → (r : Result X StoreError) → WritesIn a (goes_on next r)
   goes_in next each (Ok x) = each x
@@ -84,11 +79,7 @@ module _ (a : FileAreas) where
     -- THE FILE BLOCK
     found_in : {Y : Type 0} (none : Y) (next : ℕ → List ℕ → Call Y) → ((number : ℕ) (file : List ℕ) → number < a.files.blocks → is_file a.files file ≡ true → WritesIn a (next number file)) → (o : Option (List ℕ)) → WritesIn a (at_file a none next o)
     found_in none next each None = done_in _
-    found_in none next each (Some value) =
-        cond_in (is_number a.files value) _ _
-        (λ named. whole_in (a.files.start + number_of value) _ (λ file.
-        cond_in (is_file a.files file) _ _ (λ good. each (number_of value) file (handed_is a.files.blocks (number_of value) (and_parts _ (is_handed a.files.blocks (number_of value)) named).1).below good) (λ bad. done_in _)))
-        (λ bad. done_in _)
+    found_in none next each (Some value) = grind (arith, cond_in, whole_in, handed_is, done_in) steps 100000
 
     -- WRITE
     item_below : (E : List ℕ) → ((k : ℕ) → IsIn k E → k < a.files.blocks) → (i : ℕ) → get_or E i 0 < a.files.blocks

@@ -1,5 +1,5 @@
 -- A transaction grows by calls of a store and by other accesses.
-use Rattle.store_laws.proofs.Words.{◌≡◌, ◌∙◌, sym, refl, ap, subst, List, [], ◌∷◌, ◌++◌, append_assoc, append-nil, Some, both_ways, Access, Array, is_write, own, AreReads, HasRead, IsLocalCall, Tx, added, with_accesses, IsMadeOf, AreMade, Called, Other, Part, accesses_in, SpareRegion, MapStore, added_is, own_append}
+use Rattle.store_laws.proofs.Words.{arith, ◌≡◌, ◌∙◌, sym, refl, ap, subst, List, [], ◌∷◌, ◌++◌, append_assoc, append-nil, Some, both_ways, Access, Array, is_write, own, AreReads, HasRead, IsLocalCall, Tx, added, with_accesses, IsMadeOf, AreMade, Called, Other, Part, accesses_in, SpareRegion, MapStore, added_is, own_append}
 
 -- the accesses of parts, and of parts after them
 pub accesses_append : (s : MapStore) (parts more : List (Part s.Call s.Answer)) → accesses_in (parts ++ more) ≡ accesses_in parts ++ accesses_in more
@@ -21,11 +21,7 @@ begun s A t base none = record { base = base; are = sym none; made = tt }
 
 grown : (s : MapStore) (A : Array) (t u : Tx) (parts : List (Part s.Call s.Answer)) (part : Part s.Call s.Answer) (done : List Access) → IsMadeOf s A t parts → u ≡ with_accesses t done
     → accesses_in (part ∷ []) ≡ done → AreMade s (own A t.accesses) (part ∷ []) → IsMadeOf s A u (parts ++ part ∷ [])
-grown s A t u parts part done is further has made = record {
-  base = ap (λ (v : Tx). v.base) further ∙ is.base;
-  are = accesses_append s parts (part ∷ []) ∙ ap (λ (xs : List Access). xs ++ accesses_in (part ∷ [])) is.are ∙ ap (λ (ys : List Access). t.accesses ++ ys) has ∙ sym (ap (λ (v : Tx). v.accesses) further);
-  made = made_append s A parts (part ∷ []) is.made (subst (λ (xs : List Access). AreMade s (own A xs) (part ∷ [])) (sym is.are) made);
-}
+grown s A t u parts part done is further has made = grind (arith, accesses_append, made_append) steps 100000
 
 pub called : (s : MapStore) (A : Array) (t u : Tx) (parts : List (Part s.Call s.Answer)) (call : s.Call) (answer : s.Answer) (done : List Access) → IsMadeOf s A t parts → u ≡ with_accesses t done
     → IsLocalCall s.IsWellFormed s.map_of (s.act call) t u answer → IsMadeOf s A u (parts ++ Called call (added t u) answer ∷ [])

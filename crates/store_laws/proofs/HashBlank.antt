@@ -1,5 +1,5 @@
 -- A region of zeros is a well-formed hash region, and its map is empty.
-use Rattle.store_laws.proofs.{Words.{◌≡◌, ◌∙◌, sym, refl, ap, subst, ℕ, zero, suc, ◌+◌, ◌<◌, ◌≤◌, true, false, ◌==◌, cond, List, [], ◌∷◌, ◌++◌, length, get_or, take, replicate, arith, inl, inr, flat_map, list_all, range_with_len, from_be_bytes, w32, empty, from_entries, and_from, both_ways, length-replicate, take-replicate, Area, Array, are_key_parts, cell_count, is_part, is_unused, is_zero, key_mark, keys_end, keys_mark, value_mark, word_at, map_bit, AreLinked, IsHashArea, IsHashRegion, IsIn, IsOverflow, Stands, bucket_pairs, buckets, chain, chain_from, hash_map, is_linked, last_position, next_of, pairs_from, view_of, block_at, bytes_in, all_pass, piece_zero}, Zeros.no_bit_in_zeros}
+use Rattle.store_laws.proofs.{Words.{◌≡◌, ◌∙◌, sym, refl, ap, subst, ℕ, zero, suc, ◌+◌, ◌<◌, ◌≤◌, true, false, ◌==◌, List, [], ◌∷◌, ◌++◌, length, get_or, take, replicate, arith, inl, inr, flat_map, list_all, range_with_len, from_be_bytes, w32, empty, from_entries, and_from, both_ways, length-replicate, take-replicate, Area, Array, are_key_parts, cell_count, is_part, is_unused, is_zero, key_mark, keys_end, keys_mark, value_mark, word_at, map_bit, AreLinked, IsHashArea, IsHashRegion, IsIn, IsOverflow, Stands, bucket_pairs, buckets, chain, hash_map, is_linked, last_position, next_of, pairs_from, view_of, block_at, bytes_in, all_pass, piece_zero}, Zeros.no_bit_in_zeros}
 
 no_pairs : (keys : List ℕ) (value : ℕ → List ℕ) (i n : ℕ) → ((j : ℕ) → i ≤ j → j < i + n → is_unused keys j ≡ true) → pairs_from keys value i n ≡ []
 no_pairs keys value i zero unused = refl
@@ -58,8 +58,7 @@ module _ (a : Area) (A : Array) (area : IsHashArea a) (blank : (k : ℕ) → k <
   one_block : (b : ℕ) → b < buckets a → chain a (view_of a A).keys b ≡ (1 + b) ∷ []
   one_block b below =
       let e : last_position a + 1 ≡ suc (last_position a) = omega arith in
-      ap (λ (n : ℕ). chain_from (view_of a A).keys n (1 + b)) e
-      ∙ ap (λ (n : ℕ). (1 + b) ∷ cond (n == 0) [] (chain_from (view_of a A).keys (last_position a) n)) (next_zero (1 + b) (bucket_in b below))
+      grind (arith, next_zero, bucket_in)
 
   is_bucket : (b k : ℕ) → b < buckets a → IsIn k (chain a (view_of a A).keys b) → k ≡ 1 + b
   is_bucket b k below has = elim (subst (IsIn k) (one_block b below) has) [ inl e ↦ sym e | inr none ↦ absurd none ]
@@ -73,8 +72,7 @@ module _ (a : Area) (A : Array) (area : IsHashArea a) (blank : (k : ℕ) → k <
       (ap (λ (keys : List ℕ). is_unused keys i) (blank_keys k (in_region b k stands.bucket_is stands.block_is)) ∙ unused i stands.cell_is)
 
   linked : (b : ℕ) → b < buckets a → AreLinked a (view_of a A).keys b 0 (chain a (view_of a A).keys b) (1 + b) 0
-  linked b below = subst (λ (blocks : List ℕ). AreLinked a (view_of a A).keys b 0 blocks (1 + b) 0) (sym (one_block b below))
-      (refl, omega arith, ap (is_linked a b 0) (blank_keys (1 + b) (bucket_in b below)) ∙ linked_zeros b, next_zero (1 + b) (bucket_in b below))
+  linked b below = grind (arith, one_block, blank_keys, bucket_in, linked_zeros, next_zero) steps 100000
 
   no_bit : (k : ℕ) → map_bit (view_of a A).first k ≡ false
   no_bit k = ap (λ (first : List ℕ). map_bit first k) blank_first ∙ no_bit_in_zeros a.size k

@@ -1,5 +1,5 @@
 -- The calls of the hash store write blocks of its area alone.
-use Rattle.store_laws.proofs.{Words.{◌≡◌, refl, ℕ, zero, suc, ◌+◌, ◌<◌, Bool, true, false, ◌==◌, not, List, Option, Some, None, IfSome, Ok, arith, eqb-false, Area, Spot, Array, cell_with, unused_cell, lowest_free, map_bit, AtBroken, AtCell, AtEnd, Walked, at_cell, del_at, del_program, get_program, got, is_spent, put_at, put_new, put_program, spare_in, spot_in, walk, walk_from, IsHashArea, bucket_of, buckets, is_linked, last_position, next_of, Done, Program, HasEnded, Tx, added, head_of, next_in, bucket_below, first_below, in_its_area, start_in, in_area, hash_store, WriteWithin, Answers, StoresIn, answers_cond, stores_cell, stores_cond, stores_then}, Programs.ended_within}
+use Rattle.store_laws.proofs.{Words.{◌≡◌, refl, ℕ, zero, suc, ◌+◌, ◌<◌, Bool, true, false, ◌==◌, not, List, Option, Some, None, IfSome, Ok, arith, eqb-false, Area, Spot, Array, cell_with, unused_cell, lowest_free, AtBroken, AtCell, AtEnd, Walked, at_cell, del_at, del_program, get_program, got, put_at, put_new, put_program, spare_in, spot_in, walk, walk_from, IsHashArea, bucket_of, buckets, is_linked, last_position, next_of, Done, Program, HasEnded, Tx, added, head_of, next_in, bucket_below, first_below, in_its_area, start_in, in_area, hash_store, WriteWithin, Answers, StoresIn, answers_cond, stores_cell, stores_cond, stores_then}, Programs.ended_within}
 
 -- where a walk ends lies in the area
 abbrev EndsIn : Area → Walked → Type 0
@@ -55,10 +55,7 @@ after_walk a key with_value f area each =
 new_stores : (a : Area) (key value : List ℕ) (last place : ℕ) (map : List ℕ) (o : Option ℕ) → IsHashArea a → last < a.blocks
     → lowest_free map (buckets a + 1) (last_position a) ≡ o → StoresIn (in_area a) (put_new a key value last place map o)
 new_stores a key value last place map None area below found = tt
-new_stores a key value last place map (Some block) area below found =
-    let high = first_below (λ k. not (map_bit map k)) (buckets a + 1) (last_position a) block found in
-    let least = area.least in
-    (start_in a (omega arith), (in_its_area a block (omega arith), (in_its_area a last below, tt)))
+new_stores a key value last place map (Some block) area below found = grind (arith, first_below, not, start_in, in_its_area)
 
 put_stores : (a : Area) (key value : List ℕ) (w : Walked) → IsHashArea a → EndsIn a w → StoresIn (in_area a) (put_at a key value w)
 put_stores a key value (AtCell s before ks v) area ends = (in_its_area a s.block ends.0, tt)
@@ -67,8 +64,7 @@ put_stores a key value (AtEnd None last place) area ends = λ map none. new_stor
 put_stores a key value (AtBroken block) area ends = tt
 
 del_stores : (a : Area) (w : Walked) → IsHashArea a → EndsIn a w → StoresIn (in_area a) (del_at a w)
-del_stores a (AtCell s before ks v) area ends =
-    stores_cond (in_area a) (is_spent a s ks) _ _ (λ map none. (start_in a (let least = area.least in omega arith), (in_its_area a before ends.1, tt))) (in_its_area a s.block ends.0, tt)
+del_stores a (AtCell s before ks v) area ends = grind (arith, stores_cond, start_in, in_its_area)
 del_stores a (AtEnd spare last place) area ends = tt
 del_stores a (AtBroken block) area ends = tt
 
@@ -78,9 +74,7 @@ get_program_stores a key area = stores_cond (in_area a) (Rattle.store_model.spec
 
 pub put_program_stores : (a : Area) (key value : List ℕ) → IsHashArea a → StoresIn (in_area a) (put_program a key value)
 unfolding put_program
-put_program_stores a key value area =
-    stores_cond (in_area a) (Rattle.store_model.specs.HashCalls.is_key key) _ _
-    (stores_cond (in_area a) (Rattle.store_model.specs.HashCalls.is_value value) _ _ (after_walk a key false (put_at a key value) area (λ w ends. put_stores a key value w area ends)) tt) tt
+put_program_stores a key value area = grind (arith, stores_cond, after_walk, put_stores)
 
 pub del_program_stores : (a : Area) (key : List ℕ) → IsHashArea a → StoresIn (in_area a) (del_program a key)
 unfolding del_program

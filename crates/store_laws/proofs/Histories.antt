@@ -1,12 +1,9 @@
 -- A history of commits that write a region by calls alone, and transactions without writes.
-use Rattle.store_laws.proofs.{Words.{◌≡◌, ◌⊎◌, ◌∙◌, sym, refl, ap, subst, ℕ, zero, suc, ◌+◌, ◌-◌, ◌<◌, ◌≤◌, Bool, true, false, ◌||◌, cond, IfSome, List, [], ◌∷◌, ◌++◌, length, map, Option, Some, None, slice_get, arith, inl, inr, Access, Commit, Geometry, Mode, Array, put, IsSerialAt, has_write, is_write, own, History, array_at, last, HasSeen, IsIsolatedAt, IsOfItsBlocks, MapStore, AnswerInOrder, AreMade, Called, IsByCalls, IsOfCalls, Other, Part, accesses_in, answers_in, calls_in}, InOrder.{commit_by, live_in_order, same_shape}}
+use Rattle.store_laws.proofs.{Words.{◌≡◌, ◌⊎◌, ◌∙◌, sym, refl, ap, subst, ℕ, zero, suc, ◌+◌, ◌-◌, ◌<◌, ◌≤◌, Bool, true, false, ◌||◌, cond, IfSome, List, [], ◌∷◌, ◌++◌, length, map, Option, Some, None, slice_get, arith, Access, Commit, Geometry, Array, put, IsSerialAt, has_write, is_write, own, History, array_at, last, HasSeen, IsOfItsBlocks, MapStore, AnswerInOrder, AreMade, Called, IsByCalls, IsOfCalls, Other, Part, accesses_in, answers_in, calls_in}, InOrder.{commit_by, live_in_order, same_shape}}
 
 -- a commit that has seen what it should, and makes no calls or is serial
 mode_serial : (s : MapStore) (g : Geometry) (H : History) (k : ℕ) (c : Commit) (of : IsOfCalls s H c) → HasSeen g H k c → (calls_in of.parts ≡ []) ⊎ IsSerialAt H k
-mode_serial s g H k c of seen = elim of.mode [
-  | inl none ↦ inl none
-  | inr serial ↦ inr (subst (λ (mode : Mode). IsIsolatedAt g H mode k) serial seen.isolated)
-]
+mode_serial s g H k c of seen = grind arith steps 100000
 
 pub commit_follows : (s : MapStore) → IsOfItsBlocks s → (g : Geometry) (H : History) (k : ℕ) (c : Commit) → 0 < H.first → H.first ≤ k → slice_get H.commits (k - H.first) ≡ Some c
     → HasSeen g H k c → (of : IsOfCalls s H c) → s.IsWellFormed (array_at H (k - 1)) → AnswerInOrder s of.parts (array_at H (k - 1)) (array_at H k)

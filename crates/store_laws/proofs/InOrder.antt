@@ -1,5 +1,5 @@
 -- The calls of a transaction answer as one thread's calls on a map.
-use Rattle.store_laws.proofs.{Words.{◌≡◌, ◌⊎◌, ◌∙◌, sym, refl, ap, subst, ℕ, ◌-◌, ◌<◌, ◌≤◌, Bool, true, false, cond, IsTrue, List, [], ◌∷◌, ◌++◌, Some, slice_get, inl, inr, both_ways, Access, Commit, Array, put, IsSerialAt, is_write, own, History, array_at, block_at, SameShape, other_block, own_append, IsOfItsBlocks, SameRegion, SpareRegion, MapStore, AnswerInOrder, AreMade, Called, Other, Part, accesses_in, calls_in, run}, SameReads.{SameReads, agree_where, array_next, next, reads_split, same_shape_at, same_shape_own, serial_reads}}
+use Rattle.store_laws.proofs.{Words.{arith, ◌≡◌, ◌⊎◌, ◌∙◌, sym, refl, ap, subst, ℕ, ◌-◌, ◌<◌, ◌≤◌, Bool, true, false, cond, IsTrue, List, [], ◌∷◌, ◌++◌, Some, slice_get, inl, inr, both_ways, Access, Commit, Array, put, IsSerialAt, is_write, own, History, array_at, block_at, SameShape, other_block, own_append, IsOfItsBlocks, SameRegion, SpareRegion, MapStore, AnswerInOrder, AreMade, Called, Other, Part, accesses_in, calls_in, run}, SameReads.{SameReads, agree_where, array_next, next, reads_split, same_shape_at, same_shape_own, serial_reads}}
 
 spare_access : (s : MapStore) (a : Access) (test : Bool) (A : Array) (b : ℕ) → (IsTrue test → s.has_block a.block ≡ false) → s.has_block b ≡ true
     → block_at (cond test (put A a) A) b ≡ block_at A b
@@ -55,11 +55,7 @@ in_order s regional (Other accesses ∷ parts) A B shape made same well =
     let stays = region_stays s accesses B made.0 in
     let map_is : s.map_of B ≡ s.map_of (own B accesses) = sym (regional.map_is B (own B accesses) stays well) in
     let ih = in_order s regional parts (own A accesses) (own B accesses) (same_shape_own A B accesses shape) made.1 (later_reads s accesses parts A B same) (regional.well_formed B (own B accesses) stays well) in
-    end_at s (Other accesses ∷ parts) B (own (own B accesses) (accesses_in parts)) (own B (accesses ++ accesses_in parts)) (sym (own_append B accesses (accesses_in parts))) (record {
-      answers = ap (λ (m : s.Map). (run s m (calls_in parts)).0) map_is ∙ ih.answers;
-      ends = ap (λ (m : s.Map). (run s m (calls_in parts)).1) map_is ∙ ih.ends;
-      well_formed = ih.well_formed;
-    })
+    grind (arith, end_at, own_append)
 
 -- A transaction's calls answer by the map of the array that it is shown.
 pub live_in_order : (s : MapStore) → IsOfItsBlocks s → (A : Array) (parts : List (Part s.Call s.Answer)) → AreMade s A parts → s.IsWellFormed A

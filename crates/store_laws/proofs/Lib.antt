@@ -11,7 +11,6 @@ pub mod Zeros
 pub mod HashBlank
 pub mod TreeBlank
 pub mod FileBlank
-pub mod FileCalls
 pub mod Programs
 pub mod HashWrites
 pub mod TreeWrites

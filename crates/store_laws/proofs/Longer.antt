@@ -1,16 +1,11 @@
 -- A history stays one whose commits write a region, or two, by calls alone, as commits come to it.
-use Rattle.store_laws.proofs.{Words.{◌≡◌, ◌⊎◌, ◌∙◌, sym, refl, ap, subst, ℕ, zero, suc, ◌+◌, ◌-◌, ◌<◌, ◌≤◌, IfSome, List, [], ◌∷◌, ◌++◌, length, Option, Some, slice_get, arith, inl, inr, cases_lt, length-append, take-append-le, Commit, Geometry, Serial, Array, History, all_own, array_at, last, HasSeen, IsIsolated, IsHistory, appended, slice_get_append_left, Tx, AreMixed, BothWellFormed, IsByBoth, IsOfBoth, IsMadeOf, AreMade, IsByCalls, IsOfCalls, Part, calls_in, MapStore}, Histories.two_if}
+use Rattle.store_laws.proofs.{Words.{◌≡◌, ◌⊎◌, ◌∙◌, sym, refl, ap, subst, ℕ, zero, suc, ◌+◌, ◌-◌, ◌<◌, ◌≤◌, IfSome, List, [], ◌∷◌, ◌++◌, length, Option, Some, slice_get, arith, inl, inr, cases_lt, length-append, take-append-le, Commit, Geometry, Serial, History, all_own, array_at, last, HasSeen, IsIsolated, IsHistory, appended, slice_get_append_left, Tx, BothWellFormed, IsByBoth, IsOfBoth, IsMadeOf, IsByCalls, IsOfCalls, Part, calls_in, MapStore}, Histories.two_if}
 
 pub array_longer : (H : History) (c : Commit) (n : ℕ) → 0 < H.first → n ≤ last H → array_at (appended H c) n ≡ array_at H n
 array_longer H c n first before = ap (all_own H.base) (take-append-le (n + 1 - H.first) H.commits (c ∷ []) (omega arith))
 
 of_longer : (s : MapStore) (H : History) (c d : Commit) → 0 < H.first → d.begin ≤ last H → IsOfCalls s H d → IsOfCalls s (appended H c) d
-of_longer s H c d first before of = record {
-  parts = of.parts;
-  are = of.are;
-  made = subst (λ (A : Array). AreMade s A of.parts) (sym (array_longer H c d.begin first before)) of.made;
-  mode = of.mode;
-}
+of_longer s H c d first before of = grind (arith, array_longer) steps 100000
 
 pub last_of : {X : Type 0} (xs : List X) (y : X) (i : ℕ) → i ≡ length xs → slice_get (xs ++ y ∷ []) i ≡ Some y
 last_of [] y zero is = refl
@@ -39,14 +34,7 @@ each_longer P g H c n since within was isolated stays is each k after to =
     ]
 
 pub begins_by_calls : (s : MapStore) (g : Geometry) (H : History) → IsHistory g H → IsIsolated g H → s.IsWellFormed (array_at H (last H)) → IsByCalls s g H (last H)
-begins_by_calls s g H is isolated well = record {
-  first = is.first;
-  since = (let first = is.first in omega arith);
-  within = omega arith;
-  isolated = isolated;
-  calls = λ k after to. absurd (omega arith);
-  begins = well;
-}
+begins_by_calls s g H is isolated well = grind arith steps 100000
 
 pub stays_by_calls : (s : MapStore) (g : Geometry) (H : History) (c : Commit) (n : ℕ) → IsByCalls s g H n → IsIsolated g (appended H c) → IsOfCalls s H c → IsByCalls s g (appended H c) n
 stays_by_calls s g H c n by isolated of = record {
@@ -64,22 +52,10 @@ commits_by_calls s H c t parts is same mode = record { parts = parts; are = is.a
 
 -- THE SAME OF TWO STORES
 both_longer : (s t : MapStore) (H : History) (c d : Commit) → 0 < H.first → d.begin ≤ last H → IsOfBoth s t H d → IsOfBoth s t (appended H c) d
-both_longer s t H c d first before of = record {
-  parts = of.parts;
-  are = of.are;
-  made = subst (λ (A : Array). AreMixed s t A of.parts) (sym (array_longer H c d.begin first before)) of.made;
-  mode = of.mode;
-}
+both_longer s t H c d first before of = grind (arith, array_longer) steps 100000
 
 pub begins_by_both : (s t : MapStore) (g : Geometry) (H : History) → IsHistory g H → IsIsolated g H → BothWellFormed s t (array_at H (last H)) → IsByBoth s t g H (last H)
-begins_by_both s t g H is isolated well = record {
-  first = is.first;
-  since = (let first = is.first in omega arith);
-  within = omega arith;
-  isolated = isolated;
-  calls = λ k after to. absurd (omega arith);
-  begins = well;
-}
+begins_by_both s t g H is isolated well = grind arith steps 100000
 
 pub stays_by_both : (s t : MapStore) (g : Geometry) (H : History) (c : Commit) (n : ℕ) → IsByBoth s t g H n → IsIsolated g (appended H c) → IsOfBoth s t H c → IsByBoth s t g (appended H c) n
 stays_by_both s t g H c n by isolated of = record {

@@ -1,5 +1,5 @@
 -- Counters in the first bytes of blocks, as stores: what the laws say of additions, and what they refuse.
-use Rattle.store_laws.proofs.{Words.{◌≡◌, ◌∙◌, sym, refl, ap, ℕ, zero, suc, ◌+◌, ◌==◌, true, false, List, [], ◌∷◌, length, replicate, slice_get, arith, inr, eq-eqb, get_or, Access, Commit, Serial, Span, Array, byte_at, put, zeros, IsSerialAt, own, History, array_at, block_at, IsLocal, depends, look_access, store_access, length-block_put, put_here, if_some_from, AnswerInOrder, AreMade, Called, Part, accesses_in, run, IsOfItsBlocks, SpareRegion, MapStore, BothInOrder, First, MixedParts, Second, firsts}, InOrder.commit_by, TwoStores.both_live}
+use Rattle.store_laws.proofs.{Words.{◌≡◌, ◌∙◌, sym, refl, ap, ℕ, zero, suc, ◌+◌, ◌==◌, true, false, List, [], ◌∷◌, length, replicate, slice_get, arith, eq-eqb, get_or, Access, Commit, Serial, Span, Array, byte_at, put, zeros, IsSerialAt, own, History, array_at, block_at, IsLocal, depends, look_access, store_access, length-block_put, put_here, if_some_from, AnswerInOrder, AreMade, Called, Part, accesses_in, run, IsOfItsBlocks, SpareRegion, MapStore, BothInOrder, First, MixedParts, Second, firsts}, TwoStores.both_live}
 
 -- a counter in the first byte of a block: a call adds a number, and answers what was there
 abbrev counter_in : ℕ → MapStore
@@ -21,10 +21,7 @@ itself : (b : ℕ) → (b == b) ≡ true
 itself b = eq-eqb b b refl
 
 pub counter_is_of_its_blocks : (b : ℕ) → IsOfItsBlocks (counter_in b)
-counter_is_of_its_blocks b = record {
-  well_formed = λ A B same well. ap length (same b (itself b)) ∙ well;
-  map_is = λ A B same well. ap (λ (bytes : List ℕ). get_or bytes 0 0) (same b (itself b));
-}
+counter_is_of_its_blocks b = grind (arith, itself) steps 100000
 
 abbrev first_byte : List Span
 first_byte = record { off = 0; len = 1 } ∷ []
@@ -68,9 +65,7 @@ each_began_before_itself = λ i p. if_some_from _ (slice_get (adding 5 2) i) (λ
 
 pub second_answers_five : AnswerInOrder counter (one_call 5 2) (array_at in_turn 1) (array_at in_turn 2)
 unfolding put
-second_answers_five =
-    commit_by counter (counter_is_of_its_blocks 0) in_turn 2 (added_from 1 5 2) (one_call 5 2) (omega arith) (omega arith) refl (inr each_began_before_itself) refl
-    (adding_is_local 0 (array_at in_turn 1) 5 2 refl, tt) refl
+second_answers_five = grind (arith, counter_is_of_its_blocks, each_began_before_itself, adding_is_local) steps 100000
 
 pub counts_seven : run counter 0 (5 ∷ 2 ∷ []) ≡ (0 ∷ 5 ∷ [], 7)
 counts_seven = refl
@@ -85,17 +80,7 @@ both_counters = First 5 (adding_in 0 0 5) 0 ∷ Second 9 (adding_in 1 0 9) 0 ∷
 
 pub both_count : BothInOrder (counter_in 0) (counter_in 1) both_counters (zeros 64 4) (own (zeros 64 4) (accesses_in (firsts both_counters)))
 unfolding put
-both_count =
-    both_live (counter_in 0) (counter_in 1) (counter_is_of_its_blocks 0) (counter_is_of_its_blocks 1) (zeros 64 4) both_counters (
-      adding_is_local 0 (zeros 64 4) 0 5 refl,
-      ((λ write. refl, (λ write. refl, tt))),
-      (
-        adding_is_local 1 (own (zeros 64 4) (adding_in 0 0 5)) 0 9 refl,
-        ((λ write. refl, (λ write. refl, tt))),
-        (adding_is_local 0 (own (own (zeros 64 4) (adding_in 0 0 5)) (adding_in 1 0 9)) 5 2 refl, (λ write. refl, (λ write. refl, tt)), tt),
-      ),
-    )
-    (record { first = refl; second = refl })
+both_count = grind (arith, both_live, counter_is_of_its_blocks, adding_is_local) steps 100000
 
 some_number : (n : ℕ) → zero ≡ suc n → ⊥
 some_number n e = cc
@@ -130,8 +115,7 @@ abbrev other_array : Array
 other_array = (1 ∷ replicate 63 0) ∷ replicate 3 (replicate 64 0)
 
 other_lengths : (b : ℕ) → length (block_at other_array b) ≡ length (block_at (zeros 64 4) b)
-other_lengths zero = refl
-other_lengths (suc b) = refl
+other_lengths b = grind arith
 
 -- A call that answers by what it has not read is not local.
 pub unread_is_not_local : IsLocal counter.IsWellFormed counter.map_of (counter.act 2) (zeros 64 4) (store_access 0 first_byte (2 ∷ replicate 63 0) ∷ []) 0 → ⊥

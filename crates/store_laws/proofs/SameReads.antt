@@ -1,5 +1,5 @@
 -- What reads show on two arrays, and the bytes that a call depends on.
-use Rattle.store_laws.proofs.Words.{◌≡◌, ◌∙◌, sym, refl, ap, ℕ, zero, suc, ◌+◌, ◌-◌, ◌<◌, ◌≤◌, Bool, true, false, ◌&&◌, ◌==◌, not, cond, IsTrue, IfSome, List, [], ◌∷◌, ◌++◌, get_or, take, Option, Some, slice_get, option_map, unwrap_or, arith, inl, inr, eq-eqb, subst, and_parts, cases_eq, eqb-true, or_cases, none-some, same_Some, Access, Commit, Read, Write, Array, byte_at, covered, put, IsSerialAt, covers, is_write, own, History, all_own, array_at, shown, block_at, Agree, SameShape, length-all_own, length-block_all_own, length-block_own, length-own, other_block, put_kept}
+use Rattle.store_laws.proofs.Words.{◌≡◌, ◌∙◌, sym, refl, ap, ℕ, zero, suc, ◌+◌, ◌-◌, ◌<◌, ◌≤◌, Bool, true, false, ◌&&◌, ◌==◌, not, cond, IsTrue, IfSome, List, [], ◌∷◌, ◌++◌, get_or, take, Some, slice_get, option_map, unwrap_or, arith, inl, inr, subst, and_parts, eqb-true, or_cases, none-some, same_Some, Access, Commit, Read, Write, Array, byte_at, covered, put, IsSerialAt, covers, is_write, own, History, all_own, array_at, block_at, Agree, SameShape, length-all_own, length-block_all_own, length-block_own, length-own, other_block, put_kept}
 
 -- the array after one access
 abbrev pub next : Array → Access → Array
@@ -27,19 +27,11 @@ reads_from (a ∷ accesses) A B same = (λ p covered. sym (same 0 p covered), re
 -- the reads of a commit that is serial show directly before it what they showed at its begin
 pub serial_reads : (H : History) (k : ℕ) (c : Commit) → slice_get H.commits (k - H.first) ≡ Some c → IsSerialAt H k
     → SameReads c.accesses (array_at H c.begin) (array_at H (k - 1))
-serial_reads H k c is serial = reads_from c.accesses (array_at H c.begin) (array_at H (k - 1))
-    (subst (λ (o : Option Commit). IfSome o (λ d. (i p : ℕ) → IfSome (slice_get d.accesses i) (λ a. IsTrue (covers Read a.block p a) →
-    get_or (shown H d.begin d.accesses i) p 0 ≡ get_or (shown H (k - 1) d.accesses i) p 0))) is serial)
+serial_reads H k c is serial = grind (arith, reads_from) steps 100000
 
 write_keeps : (a : Access) (test : Bool) (A : Array) (b p : ℕ) → test && (a.block == b) && covered a.spans p ≡ false → byte_at (cond test (put A a) A) b p ≡ byte_at A b p
 write_keeps a false A b p none = refl
-write_keeps a true A b p none = elim (cases_eq b a.block) [
-  | inl here ↦
-      (let same : (a.block == b) ≡ true = eq-eqb a.block b (sym here) in
-      let not : covered a.spans p ≡ false = rw same at none in
-      subst (λ (c : ℕ). byte_at (put A a) c p ≡ byte_at A c p) (sym here) (put_kept A a p not))
-  | inr other ↦ ap (λ (block : List ℕ). get_or block p 0) (other_block A a b other)
-]
+write_keeps a true A b p none = grind (arith, not, put_kept, other_block) steps 100000
 
 -- an access that does not write the byte keeps it
 pub next_keeps : (a : Access) (A : Array) (b p : ℕ) → covers Write b p a ≡ false → byte_at (next A a) b p ≡ byte_at A b p
@@ -65,17 +57,11 @@ agree_where (a ∷ accesses) A B same b p has = elim (or_cases _ _ has) [
 
 -- arrays of one shape stay so
 pub same_shape_own : (A B : Array) (accesses : List Access) → SameShape A B → SameShape (own A accesses) (own B accesses)
-same_shape_own A B accesses same = record {
-  blocks = length-own B accesses ∙ same.blocks ∙ sym (length-own A accesses);
-  bytes = λ b. length-block_own B accesses b ∙ same.bytes b ∙ sym (length-block_own A accesses b);
-}
+same_shape_own A B accesses same = grind (arith, length-own, length-block_own) steps 100000
 
 -- all arrays of a history have one shape
 pub same_shape_at : (H : History) (m n : ℕ) → SameShape (array_at H m) (array_at H n)
-same_shape_at H m n = record {
-  blocks = length-all_own H.base (take (n + 1 - H.first) H.commits) ∙ sym (length-all_own H.base (take (m + 1 - H.first) H.commits));
-  bytes = λ b. length-block_all_own H.base (take (n + 1 - H.first) H.commits) b ∙ sym (length-block_all_own H.base (take (m + 1 - H.first) H.commits) b);
-}
+same_shape_at H m n = grind (arith, length-all_own, length-block_all_own) steps 100000
 
 all_own_next : (A : Array) (commits : List Commit) (i : ℕ) (c : Commit) → slice_get commits i ≡ Some c
     → all_own A (take (suc i) commits) ≡ own (all_own A (take i commits)) c.accesses
@@ -89,6 +75,4 @@ pub array_next : (H : History) (k : ℕ) (c : Commit) → 0 < H.first → H.firs
 array_next H k c first from is =
     let here : k + 1 - H.first ≡ suc (k - H.first) = omega arith in
     let before : k - H.first ≡ k - 1 + 1 - H.first = omega arith in
-    ap (λ n. all_own H.base (take n H.commits)) here
-    ∙ all_own_next H.base H.commits (k - H.first) c is
-    ∙ ap (λ n. own (all_own H.base (take n H.commits)) c.accesses) before
+    grind (arith, all_own_next)

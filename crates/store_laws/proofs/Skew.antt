@@ -1,5 +1,5 @@
 -- Two snapshots that are isolated and whose calls are in no order: so snapshots make no calls.
-use Rattle.store_laws.proofs.Words.{◌≡◌, ◌∙◌, sym, refl, ap, subst, ℕ, zero, suc, ◌-◌, ◌<◌, ◌≤◌, ◌==◌, Bool, true, false, cond, List, [], ◌∷◌, IfSome, IsTrue, length, replicate, slice_get, arith, inl, inr, get_or, and_parts, false≢true, leb-true, ltb-true, or_cases, Access, Commit, Snapshot, Span, Array, byte_at, covered, in_span, put, IsSnapshotAt, Meets, is_write, History, array_at, block_at, IsLocal, look_access, store_access, length-block_put, put_here, put_kept, small, AnswerInOrder, AreMade, Called, MapStore}
+use Rattle.store_laws.proofs.Words.{◌≡◌, ◌∙◌, sym, refl, ap, ℕ, zero, suc, ◌==◌, Bool, true, false, cond, List, [], ◌∷◌, IfSome, IsTrue, length, replicate, slice_get, arith, inl, inr, get_or, false≢true, or_cases, Access, Commit, Snapshot, Span, Array, byte_at, covered, in_span, put, IsSnapshotAt, Meets, is_write, History, array_at, block_at, IsLocal, look_access, store_access, length-block_put, put_here, put_kept, small, AnswerInOrder, AreMade, Called, MapStore}
 
 -- two numbers in block 0: a call copies the second over the first, or the first over the second, and answers what it copied
 abbrev two_numbers : MapStore
@@ -47,24 +47,13 @@ one_span : (span : Span) (p : ℕ) → covered (span ∷ []) p ≡ true → in_s
 one_span span p has = elim (or_cases (in_span p span) false has) [ inl is ↦ is | inr none ↦ absurd (false≢true none) ]
 
 apart : (p : ℕ) → covered (byte 1) p ≡ true → covered (byte 0) p ≡ true → ⊥
-apart p one two =
-    let low : 1 ≤ p = leb-true _ _ (and_parts _ _ (one_span (record { off = 1; len = 1 }) p one)).0 in
-    let high : p < 1 = ltb-true _ _ (and_parts _ _ (one_span (record { off = 0; len = 1 }) p two)).1 in
-    omega arith
+apart p one two = grind (arith, one_span) steps 100000
 
 disjoint : (x y : ℕ) → IfSome (slice_get (copy_on 1) x) (λ a. IfSome (slice_get (copy_back 2) y) (λ b. IsTrue (is_write a) → IsTrue (is_write b) → ¬ Meets 64 a b))
-disjoint zero zero = λ write. absurd (false≢true write)
-disjoint zero (suc zero) = λ write. absurd (false≢true write)
-disjoint zero (suc (suc y)) = tt
-disjoint (suc zero) zero = λ write also. absurd (false≢true also)
-disjoint (suc zero) (suc zero) = λ write also meets. apart meets.1.0 meets.1.2 meets.1.3
-disjoint (suc zero) (suc (suc y)) = tt
-disjoint (suc (suc x)) y = tt
+disjoint x y = grind arith
 
 pub second_is_a_snapshot : IsSnapshotAt small swapped 2
-second_is_a_snapshot = λ j from after before.
-    let e : 1 ≡ j = omega arith in
-    subst (λ (n : ℕ). IfSome (slice_get swapped.commits (n - 1)) (λ d. (x y : ℕ) → IfSome (slice_get (copy_on 1) x) (λ a. IfSome (slice_get d.accesses y) (λ b. IsTrue (is_write a) → IsTrue (is_write b) → ¬ Meets 64 a b)))) e disjoint
+second_is_a_snapshot = grind (arith, disjoint) steps 100000
 
 some_number : (n : ℕ) → suc zero ≡ suc (suc n) → ⊥
 some_number n e = cc

@@ -1,5 +1,5 @@
 -- What a transaction that calls two stores is to each of them.
-use Rattle.store_laws.proofs.{Words.{◌≡◌, ◌∙◌, refl, ap, subst, ℕ, ◌-◌, ◌<◌, ◌≤◌, IfSome, false, List, [], ◌∷◌, ◌++◌, Some, slice_get, inl, inr, Access, Commit, Geometry, Array, IsSerialAt, has_write, own, History, array_at, last, AreMixed, BothByMap, BothInOrder, BothWellFormed, First, IsByBoth, IsOfBoth, MixedParts, Neither, Second, firsts, seconds, AnswerInOrder, AreMade, IsByCalls, IsOfCalls, accesses_in, IsOfItsBlocks, MapStore}, Histories.{commits_in_order, if_some, read_only_at, two_if, well_formed_at}, InOrder.{commit_by, live_in_order}}
+use Rattle.store_laws.proofs.{Words.{arith, ◌≡◌, ◌∙◌, refl, ap, subst, ℕ, ◌-◌, ◌<◌, ◌≤◌, IfSome, false, List, [], ◌∷◌, ◌++◌, Some, slice_get, inl, inr, Access, Commit, Geometry, Array, IsSerialAt, has_write, own, History, array_at, last, AreMixed, BothByMap, BothInOrder, BothWellFormed, First, IsByBoth, IsOfBoth, MixedParts, Neither, Second, firsts, seconds, AnswerInOrder, AreMade, IsByCalls, IsOfCalls, accesses_in, IsOfItsBlocks, MapStore}, Histories.{commits_in_order, read_only_at, two_if, well_formed_at}, InOrder.{commit_by, live_in_order}}
 
 -- each store sees the same accesses
 pub same_accesses : (s t : MapStore) (parts : MixedParts s t) → accesses_in (seconds parts) ≡ accesses_in (firsts parts)
@@ -52,25 +52,14 @@ both_live s t one two A parts made well = record {
       (live_in_order t two A (seconds parts) (second_made s t A parts made) well.second);
 }
 
+store_by : (s t u : MapStore) (g : Geometry) (H : History) (n : ℕ) → ((c : Commit) → IsOfBoth s t H c → IsOfCalls u H c) → (BothWellFormed s t (array_at H n) → u.IsWellFormed (array_at H n)) → IsByBoth s t g H n → IsByCalls u g H n
+store_by s t u g H n of begins by = grind arith steps 100000
+
 first_by : (s t : MapStore) (g : Geometry) (H : History) (n : ℕ) → IsByBoth s t g H n → IsByCalls s g H n
-first_by s t g H n by = record {
-  first = by.first;
-  since = by.since;
-  within = by.within;
-  isolated = by.isolated;
-  calls = λ k from to. if_some (IsOfBoth s t H) (IsOfCalls s H) (slice_get H.commits (k - H.first)) (λ c is. first_of_calls s t H c) (by.calls k from to);
-  begins = by.begins.first;
-}
+first_by s t g H n by = store_by s t s g H n (first_of_calls s t H) (λ well. well.first) by
 
 second_by : (s t : MapStore) (g : Geometry) (H : History) (n : ℕ) → IsByBoth s t g H n → IsByCalls t g H n
-second_by s t g H n by = record {
-  first = by.first;
-  since = by.since;
-  within = by.within;
-  isolated = by.isolated;
-  calls = λ k from to. if_some (IsOfBoth s t H) (IsOfCalls t H) (slice_get H.commits (k - H.first)) (λ c is. second_of_calls s t H c) (by.calls k from to);
-  begins = by.begins.second;
-}
+second_by s t g H n by = store_by s t t g H n (second_of_calls s t H) (λ well. well.second) by
 
 pub both_well_formed : (s t : MapStore) → IsOfItsBlocks s → IsOfItsBlocks t → (g : Geometry) (H : History) (n m : ℕ) → IsByBoth s t g H n → n ≤ m → m ≤ last H → BothWellFormed s t (array_at H m)
 both_well_formed s t one two g H n m by from to = record {

@@ -1,27 +1,12 @@
 -- The accesses of the hash store's calls are accesses to the array.
-use Rattle.store_model.proofs.{Words.{◌≡◌, ◌≢◌, ◌∙◌, sym, refl, subst, inl, inr, ℕ, zero, suc, ◌+◌, ◌*◌, ◌%◌, ◌^◌, ◌<◌, ◌≤◌, Bool, true, false, ◌&&◌, ◌==◌, not, cond, IsTrue, List, [], ◌∷◌, length, Option, Some, None, IfSome, option_map, replicate, slice_index, arith, to_be_bytes, w32, and_parts, cases_Bool, false≢true, eqb-true, leb-true, ltb-true, or_cases, length-replicate, and_le_r, or_lt, xor_lt, mod-lt, mul-div-le, Geometry, Area, Spot, block_with, cell_count, cell_with, key_mark, key_part, keys_end, keys_mark, laid_at, next_mark, unused_cell, value_mark, value_part, first_from, bit_mark, bit_place, clear_bit, lowest_free, map_bit, map_mark, set_bit, is_valid, AtBroken, AtCell, AtEnd, Walked, at_cell, del_at, del_program, get_program, got, is_key, is_spent, is_value, new_block, put_at, put_new, put_program, spare_in, spot_in, walk, walk_from, walk_further, with_cell, IsHashArea, bucket_of, buckets, is_linked, last_position, next_of, AreBytes, IsAccess, IsSpan, hash_area, Done, Program, store_access, bytes_cons, no_bytes, replicate_bytes}, Laying.{block_with_bytes, laid_bytes, length-block_with, length-laid_at, length-part, part_bytes, word_bytes}, StoreAccesses.{AllFit, fit_cond, fit_then, stored_in}}
+use Rattle.store_model.proofs.{Words.{region_there, tests_passed, ◌≡◌, ◌≢◌, ◌∙◌, sym, refl, subst, inl, inr, ℕ, zero, suc, ◌+◌, ◌*◌, ◌%◌, ◌^◌, ◌<◌, ◌≤◌, Bool, true, false, ◌&&◌, ◌==◌, not, cond, IsTrue, List, [], ◌∷◌, length, Option, Some, None, IfSome, option_map, replicate, slice_index, arith, to_be_bytes, w32, and_parts, cases_Bool, false≢true, leb-true, ltb-true, or_cases, length-replicate, and_le_r, or_lt, xor_lt, mod-lt, Geometry, Area, Spot, block_with, cell_count, cell_with, key_mark, key_part, keys_end, keys_mark, laid_at, next_mark, unused_cell, value_mark, value_part, first_from, bit_mark, bit_place, clear_bit, lowest_free, map_bit, map_mark, set_bit, is_valid, AtBroken, AtCell, AtEnd, Walked, at_cell, del_at, del_program, get_program, got, is_key, is_spent, is_value, new_block, put_at, put_new, put_program, spare_in, spot_in, walk, walk_from, walk_further, with_cell, IsHashArea, bucket_of, buckets, is_linked, last_position, next_of, AreBytes, IsAccess, IsSpan, hash_area, Done, Program, store_access, bytes_cons, no_bytes, replicate_bytes}, Laying.{block_with_bytes, laid_bytes, length-block_with, length-laid_at, length-part, part_bytes, word_bytes}, StoreAccesses.{AllFit, fit_cond, fit_then, stored_in}}
 
 -- the hash store of a valid image that has one
 pub hash_area_is : (g : Geometry) → IsTrue (is_valid g) → g.hash ≢ 0 → IsHashArea (hash_area g)
-unfolding is_valid
 hash_area_is g valid some =
-    let form = and_parts _ _ valid in
-    let form1 = and_parts _ _ form.0 in
-    let regions = and_parts _ _ form1.0 in
-    let tree = and_parts _ _ regions.0 in
-    let hash = and_parts _ _ tree.0 in
-    let log = and_parts _ _ hash.0 in
-    let log1 = and_parts _ _ log.0 in
-    let blocks = and_parts _ _ log1.0 in
-    let blocks1 = and_parts _ _ blocks.0 in
-    elim (or_cases _ _ hash.1) [
-      | inl none ↦ absurd (some (eqb-true _ _ none))
-      | inr there ↦
-          (let serial = and_parts _ _ there in
-          let size = and_parts _ _ serial.0 in
-          let range = and_parts _ _ size.0 in
-          record { block_size = blocks1.0; least_size = leb-true _ _ size.1; least = leb-true _ _ range.0; most = leb-true _ _ range.1 })
-    ]
+    let passed = tests_passed g valid in
+    let there = region_there g 3 g.hash passed.hash some in
+    record { block_size = passed.block; least_size = there.block; least = there.enough; most = there.most }
 
 -- the number that is found first is one of those tried
 pub first_below : (test : ℕ → Bool) (i n j : ℕ) → first_from test i n ≡ Some j → j < i + n
@@ -87,9 +72,7 @@ pub record IsIn (g : Geometry) (a : Area) : Type 0 where
 module _ (g : Geometry) (a : Area) (is : IsIn g a) where
   -- cells fill a block
   room : 64 + 64 * cell_count a.size ≤ g.block
-  room =
-      let whole = mul-div-le a.size 64 in
-      omega (arith, is.size, is.area.least_size, whole)
+  room = grind arith
 
   some_cells : 0 < cell_count a.size
   some_cells = omega (arith, is.area.least_size)
@@ -170,8 +153,7 @@ module _ (g : Geometry) (a : Area) (is : IsIn g a) where
           (length-cell spot.cell (replicate a.size 0) here.cell (length-replicate a.size 0)) (cell_bytes spot.cell (replicate a.size 0) (replicate_bytes a.size 0 (omega arith))),
       tt,
     )
-    put_fits_at (AtEnd None last position) (here, inside) =
-        (omega (arith, is.fits, is.area.least), map_span, λ xs. tt, λ xs ys values more. new_fits last position xs inside values (lowest_free xs (buckets a + 1) (last_position a)) refl)
+    put_fits_at (AtEnd None last position) (here, inside) = grind (arith, map_span, new_fits)
     put_fits_at (AtBroken block) ends = tt
 
   -- what del does
@@ -216,8 +198,7 @@ module _ (g : Geometry) (a : Area) (is : IsIn g a) where
         mark_inside (Some i) e = value_span i (below_cells _ i e)
 
         either : (test : Bool) → IfSome (cond test (option_map (value_mark a.size) (cell_with a.size key keys)) None) (IsSpan g.block)
-        either true = mark_inside (cell_with a.size key keys) refl
-        either false = tt
+        either test = grind (arith, mark_inside)
 
     fit_at_cell : (o : Option ℕ) (found : ℕ → Program Walked) (other : Program Walked) → ((i : ℕ) → o ≡ Some i → AllFit g (EndsIn a) (found i)) → AllFit g (EndsIn a) other
         → AllFit g (EndsIn a) (at_cell o found other)
@@ -243,10 +224,7 @@ module _ (g : Geometry) (a : Area) (is : IsIn g a) where
 
   whole_walk_fits : (key : List ℕ) (with_value : Bool) → AllFit g (EndsIn a) (walk a key with_value)
   unfolding walk bucket_of
-  whole_walk_fits key with_value =
-      let some : 0 < buckets a = omega (arith, is.area.least) in
-      let below : bucket_of a key < buckets a = mod-lt _ some in
-      walk_fits key (bucket_of a key) with_value (last_position a + 1) 0 0 (1 + bucket_of a key) None (omega (arith, below, is.area.least)) (omega (arith, is.area.least)) tt
+  whole_walk_fits key with_value = grind (arith, walk_fits)
 
   pub get_fits : (key : List ℕ) → AllFit g (λ r. Unit {0}) (get_program a key)
   unfolding get_program

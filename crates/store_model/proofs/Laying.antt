@@ -22,9 +22,7 @@ pub length-part : (room : ℕ) (text : List ℕ) → length text ≤ room → le
 length-part room text fits = omega (arith, length-append text (replicate {A = ℕ} (room - length text) 0), length-replicate {A = ℕ} (room - length text) 0)
 
 pub part_bytes : (room : ℕ) (text : List ℕ) → length text < 256 → AreBytes text → AreBytes (part_of room text)
-part_bytes room text few bytes =
-    bytes_cons (length text) (text ++ replicate {A = ℕ} (room - length text) 0) few
-    (bytes_append text (replicate {A = ℕ} (room - length text) 0) bytes (replicate_bytes (room - length text) 0 (omega arith)))
+part_bytes room text few bytes = grind (arith, bytes_cons, bytes_append, replicate_bytes)
 
 all_small : (bytes : List ℕ) → AllByRecursion (λ b. b < 256) bytes → AreBytes bytes
 all_small [] all = no_bytes

@@ -1,5 +1,5 @@
 -- The accesses of a store's call are accesses to the array.
-use Rattle.store_model.proofs.Words.{◌≡◌, ◌∙◌, refl, ℕ, zero, suc, ◌<◌, ◌≤◌, Bool, true, false, cond, List, [], ◌∷◌, length, Option, Some, None, IfSome, nat_le, arith, Access, Geometry, Span, Array, put, block_at, AreAccesses, AreBytes, HasShape, IsAccess, IsSpan, Program, Done, Look, LookWhole, Reserve, Store, after, bytes_in, further_bytes, look_access, outcome, store_access, then_do, with_further, bytes_drop, bytes_take, no_bytes, length-block_put, length-put, put_values, ◌+◌, Area, AllByRecursion}
+use Rattle.store_model.proofs.Words.{◌≡◌, refl, ℕ, zero, suc, ◌<◌, ◌≤◌, Bool, true, false, cond, List, [], ◌∷◌, length, Option, Some, None, IfSome, nat_le, arith, Access, Geometry, Span, Array, put, block_at, AreAccesses, AreBytes, HasShape, IsAccess, IsSpan, Program, Done, Look, LookWhole, Reserve, Store, after, bytes_in, further_bytes, look_access, outcome, store_access, then_do, with_further, bytes_drop, bytes_take, no_bytes, length-block_put, length-put, put_values, ◌+◌, Area, AllByRecursion}
 
 -- each access of the program is one to the array, whatever bytes it reads, and each answer has P
 abbrev pub AllFit : {R : Type 0} → Geometry → (R → Type 0) → Program R → Type 0
@@ -22,25 +22,19 @@ fit_then g P Q (Reserve count next) f fit more = fit_then g P Q next f fit more
 fit_then g P Q (Store block spans bytes next) f (access, rest) more = (access, fit_then g P Q next f rest more)
 
 pub fit_cond : {R : Type 0} (g : Geometry) (P : R → Type 0) (test : Bool) (p q : Program R) → (test ≡ true → AllFit g P p) → (test ≡ false → AllFit g P q) → AllFit g P (cond test p q)
-fit_cond g P true p q yes_fits no_fits = yes_fits refl
-fit_cond g P false p q yes_fits no_fits = no_fits refl
+fit_cond g P test p q yes_fits no_fits = grind arith
 
 -- a read under one mark and perhaps a further one
 look_is : (g : Geometry) (block : ℕ) (mark : Span) (further : Option Span) → block < g.blocks → IsSpan g.block mark → IfSome further (IsSpan g.block)
     → IsAccess g (look_access block (mark ∷ with_further further))
 look_is g block mark None inside span more = record { block = inside; spans = (span, tt); few = omega arith; bytes = λ write. cc; none = λ read. refl; values = no_bytes }
-look_is g block mark (Some other) inside span more =
-    record { block = inside; spans = (span, (more, tt)); few = omega arith; bytes = λ write. cc; none = λ read. refl; values = no_bytes }
+look_is g block mark (Some other) inside span more = grind (arith, no_bytes)
 
 whole_is : (g : Geometry) (block : ℕ) → block < g.blocks → IsAccess g (look_access block [])
 whole_is g block inside = record { block = inside; spans = tt; few = omega arith; bytes = λ write. cc; none = λ read. refl; values = no_bytes }
 
 shape_put : (g : Geometry) (A : Array) (w : Access) → HasShape g A → IsAccess g w → HasShape g (put A w)
-shape_put g A w shape is = record {
-  blocks = length-put A w ∙ shape.blocks;
-  bytes = λ b below. length-block_put A w b ∙ shape.bytes b below;
-  values = put_values A w shape.values is.values;
-}
+shape_put g A w shape is = grind (arith, length-put, length-block_put, put_values)
 
 span_bytes : (span : Span) (block : List ℕ) → AreBytes block → AreBytes (bytes_in span block)
 span_bytes span block bytes = bytes_take span.len _ (bytes_drop span.off block bytes)
@@ -85,8 +79,7 @@ fits_then g P Q (Store block spans bytes next) f A (access, rest) more = (access
 
 pub fits_cond : {R : Type 0} (g : Geometry) (P : R → Array → Type 0) (test : Bool) (p q : Program R) (A : Array) → (test ≡ true → FitsOn g P p A) → (test ≡ false → FitsOn g P q A)
     → FitsOn g P (cond test p q) A
-fits_cond g P true p q A yes_fits no_fits = yes_fits refl
-fits_cond g P false p q A yes_fits no_fits = no_fits refl
+fits_cond g P test p q A yes_fits no_fits = grind arith
 
 -- with less to say of each answer
 pub fits_more : {R : Type 0} (g : Geometry) (P Q : R → Array → Type 0) (p : Program R) (A : Array) → FitsOn g P p A → ((r : R) (B : Array) → P r B → Q r B) → FitsOn g Q p A
@@ -130,11 +123,4 @@ outcome_fits g P (suc room) (Store block spans bytes next) A (access, rest) =
 -- a write of a block of an area
 pub stored_in : (g : Geometry) (a : Area) → a.size ≡ g.block → a.start + a.blocks ≤ g.blocks → (block : ℕ) (spans : List Span) (bytes : List ℕ) → block < a.blocks → AllByRecursion (IsSpan g.block) spans
     → length spans ≤ 8 → length bytes ≡ a.size → AreBytes bytes → IsAccess g (store_access (a.start + block) spans bytes)
-stored_in g a size fits block spans bytes below all few long values = record {
-  block = omega (arith, fits, below);
-  spans = all;
-  few = few;
-  bytes = λ write. long ∙ size;
-  none = λ read. cc;
-  values = values;
-}
+stored_in g a size fits block spans bytes below all few long values = grind arith

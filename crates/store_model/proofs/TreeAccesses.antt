@@ -1,28 +1,13 @@
 -- The accesses of the tree store's calls are accesses to the array, whatever its blocks hold.
-use Rattle.store_model.{proofs.Words.{◌≡◌, ◌≢◌, ◌⊎◌, ◌∙◌, sym, refl, ap, subst, inl, inr, ℕ, zero, suc, ◌+◌, ◌-◌, ◌*◌, ◌<◌, ◌≤◌, Bool, true, false, ◌&&◌, ◌==◌, not, cond, IsTrue, List, [], ◌∷◌, ◌++◌, length, take, drop, Option, Some, None, IfSome, Result, nat_le, nat_lt, option_map, slice_index, arith, eq-eqb, to_be_bytes, w32, AllByRecursion, list_all, range_with_len, bytes_eq, and_parts, eqb-false, eqb-true, leb-false, leb-true, ltb-false, ltb-true, not-true, or_cases, length-drop, length-take, or_lt, Geometry, Span, Area, StoreError, Broken, Array, block_with, cell_count, is_part, key_at, keys_end, keys_mark, laid_at, value_mark, value_part, bit_place, free_count, map_mark, set_bit, with_bit, is_valid, at_cell, is_key, is_value, AreBytes, HasShape, IsAccess, IsSpan, block_at, tree_area, Done, Program, bytes_in, further_bytes, store_access, Answer, AtLeaf, Climb, Descent, Scanned, and_then, changed_map, changed_mark, climb, climb_on, del_below, descend, edit_leaf, first_in, first_write, free_list, full_row, get_below, inner_further, last_of, leaf_further, look_again, many_in, need_of, pairs_with, parts_of, placed, put_below_root, put_writes, root_cells, scan_below, scan_children, scan_from, scan_further, scan_program, store_nodes, with_head, with_map, with_used, without_key, Cell, IsBlock, before, cell_of, child_of, child_part, count_of, head_mark, is_child, is_head, is_node, node_bytes, place_from, place_of, used_cells, IsTreeArea, Put, fit, half, halves, put_after, bytes_append, bytes_drop, bytes_take, no_bytes, set_bytes}, specs.TreeCalls.{AtBroken, del_at, del_program, get_program, got, put_at, put_new, put_program}, proofs.HashAccesses.{bit_small, first_below}, proofs.Laying.{block_with_bytes, laid_bytes, length-block_with, length-laid_at, length-part, part_bytes, word_bytes}, proofs.StoreAccesses.{FitsOn, fits_cond, fits_more, fits_then, stored_in}, proofs.TreeWays.{RiseIn, rise_range, rise_filter, rise_take, last_rises, AreInside, rise_inside, free_are, Wrote, OnWay, half_less, half_rest, first_key_are, Fitting, row_less, length-placed}, proofs.TreeCells.{AreCells, IsCell, block_size_is, child_cell, drop_are, emptied_are, filter_are, length-emptied, length-filter_le, length-node, length-put, length-used, node_read, node_values, put_are, take_are, used_are, value_cell}}
+use Rattle.store_model.{proofs.Words.{region_there, tests_passed, ◌≡◌, ◌≢◌, ◌⊎◌, ◌∙◌, sym, refl, ap, subst, inl, inr, ℕ, zero, suc, ◌+◌, ◌-◌, ◌*◌, ◌<◌, ◌≤◌, Bool, true, false, ◌&&◌, ◌==◌, not, cond, IsTrue, List, [], ◌∷◌, ◌++◌, length, take, drop, Option, Some, None, IfSome, Result, nat_le, nat_lt, option_map, slice_index, arith, eq-eqb, to_be_bytes, w32, AllByRecursion, list_all, range_with_len, bytes_eq, and_parts, eqb-false, leb-false, leb-true, ltb-false, ltb-true, not-true, length-drop, length-take, or_lt, Geometry, Span, Area, StoreError, Broken, Array, block_with, cell_count, is_part, key_at, keys_end, keys_mark, laid_at, value_mark, value_part, bit_place, free_count, map_mark, set_bit, with_bit, is_valid, at_cell, is_key, is_value, AreBytes, HasShape, IsAccess, IsSpan, block_at, tree_area, Done, Program, bytes_in, further_bytes, store_access, Answer, AtLeaf, Climb, Descent, Scanned, and_then, changed_map, changed_mark, climb, climb_on, del_below, descend, edit_leaf, first_in, first_write, free_list, full_row, get_below, inner_further, last_of, leaf_further, look_again, many_in, need_of, pairs_with, parts_of, placed, put_below_root, put_writes, root_cells, scan_below, scan_children, scan_from, scan_further, scan_program, store_nodes, with_head, with_map, with_used, without_key, Cell, IsBlock, before, cell_of, child_of, child_part, count_of, head_mark, is_child, is_head, is_node, node_bytes, place_from, place_of, used_cells, IsTreeArea, Put, fit, half, halves, put_after, bytes_append, bytes_drop, bytes_take, no_bytes, set_bytes}, specs.TreeCalls.{AtBroken, del_at, del_program, get_program, got, put_at, put_new, put_program}, proofs.HashAccesses.{bit_small, first_below}, proofs.Laying.{block_with_bytes, laid_bytes, length-block_with, length-laid_at, length-part, part_bytes, word_bytes}, proofs.StoreAccesses.{FitsOn, fits_cond, fits_more, fits_then, stored_in}, proofs.TreeWays.{RiseIn, rise_range, rise_filter, rise_take, last_rises, AreInside, rise_inside, free_are, Wrote, OnWay, half_less, half_rest, first_key_are, Fitting, row_less, length-placed}, proofs.TreeCells.{AreCells, IsCell, block_size_is, child_cell, drop_are, emptied_are, filter_are, length-emptied, length-filter_le, length-node, length-put, length-used, node_read, node_values, put_are, take_are, used_are, value_cell}}
 use Rattle.std.proofs.Common.{map, Ok, Err}
 
 -- the tree store of a valid image that has one
 pub tree_area_is : (g : Geometry) → IsTrue (is_valid g) → g.tree ≢ 0 → IsTreeArea (tree_area g)
-unfolding is_valid
 tree_area_is g valid some =
-    let form = and_parts _ _ valid in
-    let form1 = and_parts _ _ form.0 in
-    let regions = and_parts _ _ form1.0 in
-    let tree = and_parts _ _ regions.0 in
-    let hash = and_parts _ _ tree.0 in
-    let log = and_parts _ _ hash.0 in
-    let log1 = and_parts _ _ log.0 in
-    let blocks = and_parts _ _ log1.0 in
-    let blocks1 = and_parts _ _ blocks.0 in
-    elim (or_cases _ _ tree.1) [
-      | inl none ↦ absurd (some (eqb-true _ _ none))
-      | inr there ↦
-          (let serial = and_parts _ _ there in
-          let size = and_parts _ _ serial.0 in
-          let range = and_parts _ _ size.0 in
-          record { block_size = blocks1.0; least_size = leb-true _ _ size.1; least = leb-true _ _ range.0; most = leb-true _ _ range.1 })
-    ]
+    let passed = tests_passed g valid in
+    let there = region_there g 2 g.tree passed.tree some in
+    record { block_size = passed.block; least_size = there.block; least = there.enough; most = there.most }
 
 -- an area of the blocks of an array of the image
 pub record IsTreeIn (g : Geometry) (a : Area) (A : Array) : Type 0 where
@@ -139,15 +124,7 @@ module _ (g : Geometry) (a : Area) (A : Array) (is : IsTreeIn g a A) where
 
   descend_fits : (key : List ℕ) (with_value : Bool) (level block : ℕ) (path : List (ℕ × ℕ)) (top : ℕ) → block < a.blocks → ArePassed path → length path + level ≡ top
       → FitsOn g (Ends top) (descend a key with_value level block path) A
-  descend_fits key with_value zero block path top below passed long =
-      let keys = keys_of block in
-      let value = further_bytes (leaf_further a key with_value keys) (block_at A (a.start + block)) in (
-        inside block below,
-        keys_span,
-        leaf_mark key with_value block below,
-        fits_cond g (Ends top) (is_node a.size 0 keys) (Done (AtLeaf path block keys value)) (Done (AtBroken (a.start + block))) A
-            (λ node. (refl, ((below, node), refl, passed, omega arith))) (λ bad. (refl, tt)),
-      )
+  descend_fits key with_value zero block path top below passed long = grind (arith, keys_span, leaf_mark, fits_cond)
   descend_fits key with_value (suc level) block path top below passed long =
       let keys = keys_of block in
       let value = further_bytes (inner_further a key (suc level) keys) (block_at A (a.start + block)) in
@@ -266,8 +243,7 @@ module _ (g : Geometry) (a : Area) (A : Array) (is : IsTreeIn g a A) where
   root_are (suc level) block new cell = (child_cell [] block (omega arith) no_bytes, (cell, tt))
 
   length-root : (level block : ℕ) (new : Cell) → length (root_cells level block new) ≤ 2
-  length-root zero block new = omega arith
-  length-root (suc level) block new = omega arith
+  length-root level block new = grind arith
 
   -- the writes of a way up
   abbrev IsClimb : Climb → Type 0
@@ -284,9 +260,7 @@ module _ (g : Geometry) (a : Area) (A : Array) (is : IsTreeIn g a A) where
   climb_is : (key : List ℕ) (level : ℕ) (new : Cell) (below : ℕ) (nodes : List (ℕ × List Cell)) (news : List ℕ) → IsCell new → AllByRecursion (OnWay a) nodes → AreInside a news → level + length nodes < 256
       → IsClimb (climb (cell_count a.size) key level new below nodes news)
   climb_is key level new below [] [] cell all new_are low = tt
-  climb_is key level new below [] (r ∷ news) cell all new_are low =
-      let whole = sized.whole in
-      ((new_are.0, omega arith, root_are level below new cell, omega (arith, length-root level below new, is.area.least_size)), tt)
+  climb_is key level new below [] (r ∷ news) cell all new_are low = grind (arith, root_are, length-root)
   climb_is key level new below (node ∷ nodes) news cell all new_are low =
       let n = cell_count a.size in
       let cs = placed level key new node.1 in
@@ -384,8 +358,7 @@ module _ (g : Geometry) (a : Area) (A : Array) (is : IsTreeIn g a A) where
         (climb_is key 0 (key, value_part value) 0 nodes taken cell all (rise_inside a 1 taken rise) (omega (arith, length-take (suc (full_row n path)) path)))))
 
     map_fits : (path : List (ℕ × ℕ)) → ArePassed path → length path ≤ 32 → 0 < need_of (cell_count a.size) path → FitsOn g Whole (with_map a key value path) A
-    map_fits path passed long some =
-        (first_inside, map_span, tt, new_fits path (bytes_in (map_mark a.blocks) (block_at A a.start)) passed long some (bytes_take _ _ (bytes_drop 0 _ (is.shape.values a.start))))
+    map_fits path passed long some = grind (arith, first_inside, map_span, new_fits, bytes_take, bytes_drop)
 
     put_fits_at : (top : ℕ) (d : Descent) → top ≤ 31 → EndsSo top d → FitsOn g Whole (put_at a key value d) A
     put_fits_at top (AtLeaf path leaf keys x) low (read, keys_are, passed, long) =
@@ -424,10 +397,7 @@ module _ (g : Geometry) (a : Area) (A : Array) (is : IsTreeIn g a A) where
 
   scan_inside : (level : ℕ) (from to : List ℕ) (block : ℕ) → IsRead block level → many_in level from to (keys_of block) ≢ 0 → first_in level from (keys_of block) + many_in level from to (keys_of block) ≤ cell_count a.size
   scan_inside zero from to block read some = let less = row_less to (keys_of block) 0 (count_of (keys_of block)) in omega (arith, read_few block 0 read)
-  scan_inside (suc level) from to block read some =
-      let less = row_less to (keys_of block) 1 (count_of (keys_of block) - 1) in
-      let place = place_below from block level read in
-      omega (arith, read_few block (suc level) read)
+  scan_inside (suc level) from to block read some = grind (arith, row_less, place_below, read_few)
 
   scan_mark : (level : ℕ) (from to : List ℕ) (block : ℕ) → block < a.blocks → IfSome (scan_further a level from to (keys_of block)) (IsSpan g.block)
   scan_mark level from to block below = by (is_node a.size level (keys_of block) && not (many_in level from to (keys_of block) == 0)) refl

@@ -4,10 +4,7 @@ use Rattle.std.proofs.lemmas.List.{length-append}
 
 -- the numbers of a block size
 size_is : (size n : ℕ) (rest : Bool) → 64 * (cell_count n + 1) ≡ n → n ≤ 4096 → ((size == n) || rest) ≡ true → (rest ≡ true → IsBlock size) → IsBlock size
-size_is size n rest whole most is other = elim (cases_Bool (size == n)) [
-  | inl same ↦ (let e : size ≡ n = grind (arith, nat_tests) in record { whole = ap (λ k. 64 * (cell_count k + 1)) e ∙ whole ∙ sym e; most = omega arith })
-  | inr differ ↦ other (sym (ap (λ (t : Bool). t || rest) differ) ∙ is)
-]
+size_is size n rest whole most is other = grind arith
 
 pub block_size_is : (size : ℕ) → is_block_size size ≡ true → IsBlock size
 block_size_is size is =
@@ -176,10 +173,7 @@ pub length-filter_le : (test : Cell → Bool) (cs : List Cell) → length (filte
 length-filter_le test [] = omega arith
 length-filter_le test (c ∷ cs) =
     let rest = length-filter_le test cs in
-    elim (test c) as (λ t. length (cond t (c ∷ filter test cs) (filter test cs)) ≤ suc (length cs)) [
-      | true ↦ omega arith
-      | false ↦ omega arith
-    ]
+    grind arith
 
 pub take_are : (n : ℕ) (cs : List Cell) → AreCells cs → AreCells (take n cs)
 take_are zero cs all = tt
@@ -200,9 +194,7 @@ emptied_are zero cs all = all
 emptied_are (suc level) cs all = first_are cs all
 
 pub length-emptied : (level : ℕ) (cs : List Cell) → length (emptied level cs) ≡ length cs
-length-emptied zero cs = refl
-length-emptied (suc level) [] = refl
-length-emptied (suc level) (c ∷ cs) = refl
+length-emptied level cs = grind arith
 
 pub value_cell : (key value : List ℕ) → length key ≤ 28 → length value ≤ 32 → AreBytes key → AreBytes value → IsCell (key, value_part value)
 value_cell key value short small key_values values = record { short = short; whole = length-part 32 value small; key = key_values; part = part_bytes 32 value (omega arith) values }

@@ -79,6 +79,4 @@ row_less key keys i (suc n) = elim (before (key_at keys i) key) as (λ t. cond t
 ]
 
 pub length-placed : (level : ℕ) (key : List ℕ) (new : Cell) (cs : List Cell) → length (placed level key new cs) ≤ suc (length cs)
-length-placed zero key new cs = omega (arith, length-put key new cs)
-length-placed (suc level) key new [] = omega arith
-length-placed (suc level) key new (c ∷ cs) = omega (arith, length-put key new cs)
+length-placed level key new cs = grind (arith, length-put)

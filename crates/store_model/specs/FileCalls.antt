@@ -1,5 +1,5 @@
 -- The calls of the file store, each as a program of calls of the tree store and of its own reads and writes.
-use Rattle.std.specs.{Prelude.{ℕ, zero, suc, ◌+◌, ◌-◌, ◌/◌, ◌%◌, Bool, true, false, ◌&&◌, cond, List, [], ◌∷◌, ◌++◌, Option, Some, None, Result, Ok, Err, nat_le, nat_lt, is_some, length, slice_index, take, drop, map}, FinMap.{get, insert, remove}, Int.{w32, to_be_bytes}}
+use Rattle.std.specs.{Prelude.{ℕ, zero, suc, ◌+◌, ◌-◌, ◌/◌, ◌%◌, Bool, true, false, ◌&&◌, cond, List, [], ◌∷◌, ◌++◌, Option, Some, None, Result, Ok, Err, nat_le, nat_lt, is_some, length, slice_index, take, drop}, FinMap.{get, insert, remove}, Int.{w32, to_be_bytes}}
 use Rattle.iso_model.specs.declared.access.Span.{Span}
 use Rattle.store_model.specs.{declared.stores.Area.Area, declared.stores.StoreError.StoreError, declared.stores.StoreError.TheVariants.{Broken, NoBlocks}, Stores.{Program, Done, Look, LookWhole, Store, bytes_in, then_do}, Cells.block_with, FreeMap.{map_mark, bit_mark, bit_place, set_bit, without_bit, free_count, lowest_free}, HashCalls.is_key, HashRegion.Pairs, TreeCalls.{get_program, put_program, del_program, free_list, first_write}, declared.files.FsError.FsError, declared.files.FileAreas.FileAreas, FileNodes.{bytes_of, data_count, entry_at, entries_of, blocks_for, most_bytes, is_file, is_number, number_of, file_block, piece_mark, piece_len}}
 use Rattle.store_model.specs.declared.files.FsError.TheVariants as fs

@@ -1,5 +1,5 @@
 -- The calls of the hash store, each as a program of reads and writes.
-use Rattle.std.specs.{Prelude.{ℕ, zero, suc, ◌+◌, ◌*◌, ◌-◌, Bool, true, false, ◌&&◌, ◌||◌, ◌==◌, cond, List, [], ◌∷◌, Option, Some, None, Result, Ok, Err, nat_le, nat_lt, length, option_map, replicate, slice_index}, Int.{w32, to_be_bytes}}
+use Rattle.std.specs.{Prelude.{ℕ, zero, suc, ◌+◌, ◌*◌, Bool, true, false, ◌&&◌, ◌||◌, ◌==◌, cond, List, [], ◌∷◌, Option, Some, None, Result, Ok, Err, nat_le, nat_lt, length, option_map, replicate, slice_index}, Int.{w32, to_be_bytes}}
 use Rattle.iso_model.specs.{declared.access.Span.Span, Effect.or_else}
 use Rattle.store_model.specs.{declared.stores.Area.Area, declared.stores.Spot.Spot, declared.stores.StoreError.StoreError, declared.stores.StoreError.TheVariants.{BadKey, BadValue, Broken, NoBlocks}, Stores.{Program, Done, Look, Reserve, Store, then_do}, Cells.{cell_count, keys_end, keys_mark, key_mark, value_mark, next_mark, is_part, text_of, key_part, value_part, is_unused, all_from, cell_with, unused_cell, laid_at, block_with}, FreeMap.{map_mark, bit_mark, bit_place, set_bit, clear_bit, lowest_free}, HashRegion.{buckets, last_position, bucket_of, next_of, is_linked}}
 

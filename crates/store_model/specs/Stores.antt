@@ -1,5 +1,5 @@
 -- A store's call as a program: reads of marked bytes, each of which decides what comes next, and writes.
-use Rattle.std.specs.{Prelude.{◌≡◌, ℕ, zero, suc, ◌+◌, Bool, false, ◌&&◌, ◌||◌, not, cond, IsTrue, List, [], ◌∷◌, ◌++◌, Option, Some, None, length, take, drop, nat_le}, List.AllByRecursion}
+use Rattle.std.specs.{Prelude.{◌≡◌, ℕ, zero, suc, Bool, false, ◌&&◌, ◌||◌, not, cond, IsTrue, List, [], ◌∷◌, ◌++◌, Option, Some, None, length, take, drop, nat_le}, List.AllByRecursion}
 use Rattle.iso_model.specs.{declared.access.Access.Access, declared.access.Kind.TheVariants.{Read, Write}, declared.access.Span.Span, Array.{Array, put, byte_at}, Effect.{own, covers, is_write}, Premises.block_at}
 
 -- A call that answers an R. `Look` reads a block under a first mark; the bytes under it decide whether there is a further mark,

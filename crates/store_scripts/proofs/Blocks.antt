@@ -1,5 +1,6 @@
 -- The stores of an image depend on their blocks alone.
-use Rattle.store_scripts.proofs.{Words.{◌≢◌, refl, ℕ, zero, suc, Bool, IsTrue, arith, Geometry, Array, is_valid, IsHashRegion, Pairs, hash_map, hash_area, tree_area, IsTreeRegion, tree_map, hash_area_is, tree_area_is, in_area, hash_is_of_its_blocks, IsOfItsBlocks, MapStore, tree_is_of_its_blocks, IfAny, image_hash, pairs_if_any, second_store, the_tree, the_files, true, false, cond, ◌==◌, ◌||◌, ◌≡◌, ◌-◌, ◌+◌, ◌*◌, ◌≤◌, ◌∙◌, sym, ap, inl, inr, disjoint_blocks, nat_lt, eqb-false, ltb-false, limits, cases_lt, Op, Reply, None, HashPut, HashGet, HashDelete, TreePut, TreeGet, TreeDelete, TreeScan, FileNew, FileWrite, FileRead, FileMove, FileDelete, blocks_behind, file_blocks, files_area, least, AreFileAreas, AreFileRegions, files, FileCall, FileAnswer, file_act, file_store, in_areas, files_are_of_their_blocks, SameRegion, Option, Some, option_map, CallsStore, answered, put_answer, get_answer, del_answer, nat_tests, KeyCall, StoreAnswer, TreeCall, key_act, tree_act, ne_eqb}, Seconds.{CallsNone, IsSecond}}
+use Rattle.store_scripts.proofs.{Words.{IsPlain, ◌≢◌, refl, ℕ, zero, suc, Bool, IsTrue, arith, Geometry, Array, is_valid, IsHashRegion, Pairs, hash_map, hash_area, tree_area, IsTreeRegion, tree_map, hash_area_is, tree_area_is, in_area, hash_is_of_its_blocks, IsOfItsBlocks, MapStore, tree_is_of_its_blocks, IfAny, image_hash, pairs_if_any, second_store, the_tree, the_files, true, false, cond, ◌==◌, ◌||◌, ◌≡◌, ◌∙◌, sym, ap, inl, disjoint_blocks, Op, Reply, None, HashPut, HashGet, HashDelete, TreePut, TreeGet, TreeDelete, TreeScan, FileNew, FileWrite, FileRead, FileMove, FileDelete, file_blocks, files_area, AreFileRegions, files, FileCall, FileAnswer, file_act, file_store, in_areas, files_are_of_their_blocks, SameRegion, Option, Some, option_map, CallsStore, answered, put_answer, get_answer, del_answer, KeyCall, StoreAnswer, TreeCall, key_act, tree_act, ne_eqb}, Seconds.IsSecond}
+pub use Rattle.script_model.proofs.FilesPlace.{HasFiles, has_files}
 use Rattle.script_model.specs.declared.script.Reply.TheVariants as reply
 
 abbrev store_of : (Call Answer : Type 0) → (Call → Pairs → Answer × Pairs) → (ℕ → Bool) → (Array → Type 0) → (Array → Pairs) → MapStore
@@ -21,18 +22,9 @@ tree_blocks g valid =
 
 -- the tree store beside the hash store
 pub tree_second : IsSecond the_tree
-tree_second = record {
-  blocks = tree_blocks;
-  apart = λ g valid. disjoint_blocks (hash_area g) (tree_area g) (inl (omega arith));
-  quiet = tree_quiet;
-  refused = λ op calls r none. none;
-  outside = tree_outside;
-  hash_put = λ key value r. refl;
-  hash_get = λ key r. refl;
-  hash_delete = λ key r. refl;
-}
+tree_second = grind (arith, tree_blocks, disjoint_blocks, tree_quiet, tree_outside)
   where
-    tree_quiet : (op : Op) → CallsNone op → (r : Reply) → the_tree.answered op r ≡ None
+    tree_quiet : (op : Op) → IsPlain op → (r : Reply) → the_tree.answered op r ≡ None
     tree_quiet (HashPut key value) none r = absurd none
     tree_quiet (HashGet key) none r = absurd none
     tree_quiet (HashDelete key) none r = absurd none
@@ -44,50 +36,9 @@ tree_second = record {
 
     tree_outside : (op : Op) → the_tree.answered op reply.NotInTx ≡ None
     tree_outside (HashPut key value) = refl
-    tree_outside (HashGet key) = refl
-    tree_outside (HashDelete key) = refl
-    tree_outside (TreePut key value) = refl
-    tree_outside (TreeGet key) = refl
-    tree_outside (TreeDelete key) = refl
-    tree_outside (TreeScan from to most) = refl
     tree_outside op = refl
 
 -- THE FILES
-least_parts : (m n : ℕ) → (least m n ≤ m) × (least m n ≤ n)
-least_parts m n = elim (cases_lt m n) [
-  | inl less ↦ (let test : nat_lt m n ≡ true = grind (arith, nat_tests) in let is : least m n ≡ m = ap (λ (t : Bool). cond t m n) test in (omega arith, omega arith))
-  | inr more ↦ (let test : nat_lt m n ≡ false = grind (arith, nat_tests) in let is : least m n ≡ n = ap (λ (t : Bool). cond t m n) test in (omega arith, omega arith))
-]
-
-some_chosen : (t : Bool) (n : ℕ) → cond t 0 n ≢ 0 → t ≡ false
-some_chosen true n some = absurd (some refl)
-some_chosen false n some = refl
-
-neither : (x y : Bool) → (x || y) ≡ false → (x ≡ false) × (y ≡ false)
-neither true y none = cc
-neither false y none = (refl, none)
-
--- what holds of an image with files
-pub record HasFiles (g : Geometry) : Type 0 where
-  pub areas : AreFileAreas (files_area g)
-  pub tree : g.tree ≢ 0
-  pub behind : g.hash + g.tree + file_blocks g ≤ g.blocks
-
-pub has_files : (g : Geometry) → IsTrue (is_valid g) → file_blocks g ≢ 0 → HasFiles g
-has_files g valid some =
-    let bounds = limits g valid in
-    let none : ((g.tree == 0) || nat_lt (blocks_behind g) 2) ≡ false = some_chosen _ (blocks_behind g) some in
-    let parts = neither (g.tree == 0) (nat_lt (blocks_behind g) 2) none in
-    let there : g.tree ≢ 0 = eqb-false g.tree 0 parts.0 in
-    let same : file_blocks g ≡ blocks_behind g = ap (λ (t : Bool). cond t 0 (blocks_behind g)) none in
-    let two = ltb-false (blocks_behind g) 2 parts.1 in
-    let less = least_parts (g.blocks - (g.hash + g.tree)) (8 * (g.block - 64)) in
-    record {
-      areas = record { tree = tree_area_is g valid there; size = refl; follows = refl; least = omega (arith, two, same); most = omega (arith, same, less.1) };
-      tree = there;
-      behind = omega (arith, same, less.0, bounds.regions);
-    }
-
 -- of blocks where there are any
 some_blocks : (n : ℕ) → n ≢ 0 → (n == 0) ≡ false
 some_blocks n some = ne_eqb n 0 some
@@ -119,22 +70,13 @@ files_apart g b has = not_both (in_area (hash_area g) b) (in_areas (files_area g
 
 -- the files beside the hash store
 pub files_second : IsSecond the_files
-files_second = record {
-  blocks = file_blocks_are;
-  apart = λ g valid b has. none_or (file_blocks g == 0) (in_areas (files_area g) b) (hash_apart g b has);
-  quiet = file_quiet;
-  refused = file_refused;
-  outside = file_outside;
-  hash_put = λ key value r. refl;
-  hash_get = λ key r. refl;
-  hash_delete = λ key r. refl;
-}
+files_second = grind (arith, file_blocks_are, none_or, hash_apart, file_quiet, file_refused, file_outside)
   where
     none_or : (t x : Bool) → x ≡ false → cond t false x ≡ false
     none_or true x is = refl
     none_or false x is = is
 
-    file_quiet : (op : Op) → CallsNone op → (r : Reply) → the_files.answered op r ≡ None
+    file_quiet : (op : Op) → IsPlain op → (r : Reply) → the_files.answered op r ≡ None
     file_quiet (HashPut key value) none r = absurd none
     file_quiet (HashGet key) none r = absurd none
     file_quiet (HashDelete key) none r = absurd none
@@ -147,13 +89,6 @@ files_second = record {
 
     file_outside : (op : Op) → the_files.answered op reply.NotInTx ≡ None
     file_outside (HashPut key value) = refl
-    file_outside (HashGet key) = refl
-    file_outside (HashDelete key) = refl
-    file_outside (FileNew name) = refl
-    file_outside (FileWrite name off bytes) = refl
-    file_outside (FileRead name off len) = refl
-    file_outside (FileMove from to) = refl
-    file_outside (FileDelete name) = refl
     file_outside op = refl
 
     none_of : {X Y Z : Type 0} (f : X → Y) (k : X → Z) (o : Option X) → option_map f o ≡ None → option_map k o ≡ None

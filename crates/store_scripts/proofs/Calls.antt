@@ -1,5 +1,5 @@
 -- Where a call of a store, a mark and an end lead, with what is told of the transactions.
-use Rattle.store_scripts.proofs.{Words.{◌≡◌, ◌≢◌, ◌∙◌, sym, refl, subst, ℕ, ◌+◌, ◌-◌, ◌≤◌, ◌==◌, ◌&&◌, not, Bool, true, false, cond, IsTrue, List, [], ◌∷◌, ◌++◌, length, drop, Option, Some, None, Result, Ok, arith, nat_lt, list_all, and_parts, eqb-false, ltb-false, ltb-true, length-append, Access, Clash, MarkError, Mode, Serial, Snapshot, Span, LAST, MAX_ACCESSES, Op, End, Mark, Reply, Array, clash, has_write, is_serial, array_at, last, mark_fault, marked, appended, after_commit, after_leaving, need, commit_from, commit_step, end_step, as_step, array_of, in_store, mark_refused, mark_step, marked_step, store_step, Program, outcome, Live, World, attached, used, IsLive, all_filter, both_of, commits, live_at, BothWellFormed, KeyCall, StoreAnswer, both_well_formed, array_longer, stays_by_both, image_hash, Notes, OfHash, spares_stores, told_more, SecondStore, second_store, OfSecond, Answered, store_reply}, Growing.{hash_told, mark_told, of_both, second_told}, Seconds.{AreRefusals, IsHashCall, IsSecond, IsSecondCall}, Noted.{Goes, Holds, IsKept, IsNoted, adds, changes, choose, notes_by, quiet, stays}, Blocks.hash_blocks, Reading.{front_reads, hash_by_map, marked_writes, second_by_map}, Steps.{called, kept_of, leaves}}
+use Rattle.store_scripts.proofs.{Words.{◌≡◌, ◌≢◌, ◌∙◌, sym, refl, ap, option_map, subst, ℕ, ◌+◌, ◌-◌, ◌≤◌, ◌==◌, ◌&&◌, not, Bool, true, false, cond, IsTrue, List, [], ◌∷◌, ◌++◌, length, drop, Option, Some, None, Result, Ok, arith, nat_lt, list_all, and_parts, eqb-false, ltb-false, ltb-true, length-append, Access, Clash, MarkError, Mode, Serial, Snapshot, Span, LAST, MAX_ACCESSES, Op, End, Mark, Reply, Array, clash, has_write, is_serial, array_at, last, mark_fault, marked, appended, after_commit, after_leaving, need, commit_from, commit_step, end_step, as_step, array_of, in_store, mark_refused, mark_step, marked_step, store_step, Program, outcome, Live, World, attached, used, IsLive, all_filter, both_of, commits, live_at, BothWellFormed, both_well_formed, array_longer, stays_by_both, image_hash, Notes, spares_stores, told_more, SecondStore, second_store, Answered, store_reply}, Growing.{call_told, kept_with, mark_told, of_both}, Seconds.{AreRefusals, IsCall, IsSecond}, Noted.{Goes, Holds, IsKept, IsNoted, adds, changes, choose, notes_by, quiet, stays}, Blocks.hash_blocks, Reading.{call_by_map, front_reads, marked_writes}, Steps.{called, kept_of, leaves}}
 use Rattle.iso_model.specs.declared.core_reply.CoreReply.TheVariants as core
 use Rattle.script_model.specs.declared.script.Reply.TheVariants as reply
 
@@ -26,34 +26,19 @@ module _ (S : SecondStore) (lawful : IsSecond S) where
         go true serial some = goes some (serial_is t.mode serial)
         go false snapshot some = stays S Q n W notes is c op (Some t) reply.StoreMode refusals.mode
 
-    pub hash_goes : {E R : Type 0} (refusal : E → Reply) (refusals : AreRefusals S E op refusal) (program : Program (Result R E)) (answer : R → Reply) (call : KeyCall) (name : R → StoreAnswer) → ((r : R) → S.answered op (answer r) ≡ Some (OfHash call (name r)))
-        → t.mode ≡ Serial → ((r : R) → (ended program).1 ≡ Some (Ok r) → IsHashCall S W.geometry call (array_of W t) (ended program).0 (name r)) → Goes S Q n W notes c op (Some t) (store_step W t program refusal answer)
+    pub told_goes : {E R : Type 0} (refusal : E → Reply) (refusals : AreRefusals S E op refusal) (program : Program (Result R E)) (answer : R → Reply) (name : R → Answered S.Call S.Answer) → ((r : R) → S.answered op (answer r) ≡ Some (name r))
+        → t.mode ≡ Serial → ((r : R) → (ended program).1 ≡ Some (Ok r) → IsCall S W.geometry (name r) (array_of W t) (ended program).0) → Goes S Q n W notes c op (Some t) (store_step W t program refusal answer)
     unfolding store_step
-    hash_goes refusal refusals program answer call name named serial local =
-        called S Q n W notes is c op t program refusal answer (λ r. OfHash call (name r)) (ended program).1 found refusals.full refusals.error named refl
+    told_goes refusal refusals program answer name named serial local =
+        called S Q n W notes is c op t program refusal answer name (ended program).1 found refusals.full refusals.error named refl
         (λ r done ends done_is told.
-        let is_call = subst (λ (d : List Access). IsHashCall S W.geometry call (array_of W t) d (name r)) (sym done_is) (local r ends) in
+        let is_call = subst (λ (d : List Access). IsCall S W.geometry (name r) (array_of W t) d) (sym done_is) (local r ends) in
         record {
           since = told.since;
-          made = λ more. hash_told S W.geometry (array_at W.history t.begin) t.accesses t.mode (notes t.number) (told.made more) call (name r) done serial is_call.local is_call.spare;
+          made = λ more. call_told S W.geometry (array_at W.history t.begin) t.accesses t.mode (notes t.number) (told.made (subst IsTrue (kept_with S (notes t.number) (name r) (length (t.accesses ++ done))) more)) (name r) done serial is_call;
           by_map = λ q reads.
               let before = front_reads t.accesses done reads in
-              hash_by_map S W.geometry (array_at W.history t.begin) t.accesses done (notes t.number) (length (t.accesses ++ done)) before (told.by_map q before) call (name r) (begins_well told.since q).first is_call.local;
-        })
-
-    pub second_goes : {E R : Type 0} (refusal : E → Reply) (refusals : AreRefusals S E op refusal) (program : Program (Result R E)) (answer : R → Reply) (call : S.Call) (name : R → S.Answer) → ((r : R) → S.answered op (answer r) ≡ Some (OfSecond call (name r)))
-        → t.mode ≡ Serial → ((r : R) → (ended program).1 ≡ Some (Ok r) → IsSecondCall S W.geometry call (array_of W t) (ended program).0 (name r)) → Goes S Q n W notes c op (Some t) (store_step W t program refusal answer)
-    unfolding store_step
-    second_goes refusal refusals program answer call name named serial local =
-        called S Q n W notes is c op t program refusal answer (λ r. OfSecond call (name r)) (ended program).1 found refusals.full refusals.error named refl
-        (λ r done ends done_is told.
-        let is_call = subst (λ (d : List Access). IsSecondCall S W.geometry call (array_of W t) d (name r)) (sym done_is) (local r ends) in
-        record {
-          since = told.since;
-          made = λ more. second_told S W.geometry (array_at W.history t.begin) t.accesses t.mode (notes t.number) (told.made more) call (name r) done serial is_call.local is_call.spare;
-          by_map = λ q reads.
-              let before = front_reads t.accesses done reads in
-              second_by_map S W.geometry (array_at W.history t.begin) t.accesses done (notes t.number) (length (t.accesses ++ done)) before (told.by_map q before) call (name r) (begins_well told.since q).second is_call.local;
+              call_by_map S W.geometry (array_at W.history t.begin) t.accesses done (notes t.number) (length (t.accesses ++ done)) before (told.by_map q before) (name r) (begins_well told.since q) is_call;
         })
 
     -- a call of a store of which nothing is told here: its accesses are others
@@ -71,16 +56,18 @@ module _ (S : SecondStore) (lawful : IsSecond S) where
     pub foreign_call : {E R : Type 0} (refusal : E → Reply) (blocks : ℕ) (program : Program (Result R E)) (answer : R → Reply) → ((r : Reply) → S.answered op r ≡ None) → Goes S Q n W notes c op (Some t) (in_store W t blocks (store_step W t program refusal answer))
     foreign_call refusal blocks program answer quiet = foreign_in_store quiet blocks _ (foreign_goes refusal program answer quiet)
 
-    -- a call of which it is told, in a store of so many blocks
-    pub hash_call : {E R : Type 0} (refusal : E → Reply) (refusals : AreRefusals S E op refusal) (blocks : ℕ) (program : Program (Result R E)) (answer : R → Reply) (call : KeyCall) (name : R → StoreAnswer) → ((r : R) → S.answered op (answer r) ≡ Some (OfHash call (name r)))
-        → (blocks ≢ 0 → (r : R) → (ended program).1 ≡ Some (Ok r) → IsHashCall S W.geometry call (array_of W t) (ended program).0 (name r)) → Goes S Q n W notes c op (Some t) (in_store W t blocks (store_step W t program refusal answer))
-    hash_call refusal refusals blocks program answer call name named local =
-        in_store_goes refusal refusals blocks _ (λ some serial. hash_goes refusal refusals program answer call name named serial (local some))
+    -- The replies tell of a call by these answers, none of which a refusal is.
+    pub refusals_of : {A E : Type 0} (of : A → Answered S.Call S.Answer) (tell : Reply → Option A) → ((r : Reply) → S.answered op r ≡ option_map of (tell r)) → (refusal : E → Reply)
+        → tell reply.NoStore ≡ None → tell reply.StoreMode ≡ None → tell reply.TooManyAccesses ≡ None → ((e : E) → tell (refusal e) ≡ None) → AreRefusals S E op refusal
+    refusals_of of tell told refusal store mode full error = grind arith
 
-    pub second_call : {E R : Type 0} (refusal : E → Reply) (refusals : AreRefusals S E op refusal) (blocks : ℕ) (program : Program (Result R E)) (answer : R → Reply) (call : S.Call) (name : R → S.Answer) → ((r : R) → S.answered op (answer r) ≡ Some (OfSecond call (name r)))
-        → (blocks ≢ 0 → (r : R) → (ended program).1 ≡ Some (Ok r) → IsSecondCall S W.geometry call (array_of W t) (ended program).0 (name r)) → Goes S Q n W notes c op (Some t) (in_store W t blocks (store_step W t program refusal answer))
-    second_call refusal refusals blocks program answer call name named local =
-        in_store_goes refusal refusals blocks _ (λ some serial. second_goes refusal refusals program answer call name named serial (local some))
+    -- a call of which it is told so, in a store of so many blocks
+    pub told_call : {A E R : Type 0} (of : A → Answered S.Call S.Answer) (tell : Reply → Option A) → ((r : Reply) → S.answered op r ≡ option_map of (tell r)) → (refusal : E → Reply) → AreRefusals S E op refusal
+        → (blocks : ℕ) (program : Program (Result R E)) (answer : R → Reply) (name : R → A) → ((r : R) → tell (answer r) ≡ Some (name r))
+        → (blocks ≢ 0 → (r : R) → (ended program).1 ≡ Some (Ok r) → IsCall S W.geometry (of (name r)) (array_of W t) (ended program).0) → Goes S Q n W notes c op (Some t) (in_store W t blocks (store_step W t program refusal answer))
+    told_call of tell told refusal refusals blocks program answer name named local =
+        in_store_goes refusal refusals blocks _ (λ some serial.
+        told_goes refusal refusals program answer (λ r. of (name r)) (λ r. told (answer r) ∙ ap (option_map of) (named r)) serial (local some))
 
   module _ (Q : Type 0) (n : ℕ) (W : World) (notes : Notes S) (is : IsNoted S Q n W notes) (c : ℕ) (t : Live) (found : attached W c ≡ Some t) where
     -- a mark on an access since the last call
@@ -110,8 +97,7 @@ module _ (S : SecondStore) (lawful : IsSecond S) where
   -- an end of a transaction, whoever's it is
   module _ (Q : Type 0) (n : ℕ) (W : World) (notes : Notes S) (is : IsNoted S Q n W notes) (c : ℕ) (o : Option Live) (t : Live) (live_t : IsLive W t) (kept_t : IsKept S Q n W.geometry W.history notes t) where
     longer : (u : Live) (notes : Notes S) → IsLive W u → IsKept S Q n W.geometry W.history notes u → IsKept S Q n W.geometry (appended W.history (commit_from t)) notes u
-    longer u notes live kept =
-        subst (λ (A : Array). Holds S Q n W.geometry A u.begin u.accesses u.mode (notes u.number)) (sym (array_longer W.history (commit_from t) u.begin is.world.history.first live.begin)) kept
+    longer u notes live kept = grind (arith, array_longer)
 
     committed : (k : ℕ) → has_write t.accesses ≡ true → clash W.geometry W.history t.mode t.begin t.accesses ≡ None → last W.history ≢ LAST → need W t ≤ W.geometry.log - used W
         → (Q → IsTrue (notes t.number).kept) → Goes S Q n W notes c End o (reply.Committed k, after_commit W t)

@@ -16,7 +16,6 @@ found_with : (c : ℕ) (t : Live) (accesses : List Access) (live : List Live) �
 found_with c t accesses [] here same is = cc
 found_with c t accesses (u ∷ live) here same is =
     let new : Live = record t { accesses = accesses } in
-    let next = λ (v : Live). find (at c) (with new live) in
     elim (cases_eq u.number t.number) [
       | inl owner ↦
           (let e : cond (u.number == t.number) new u ≡ new = ap (λ (b : Bool). cond b new u) (eq-eqb u.number t.number owner) in

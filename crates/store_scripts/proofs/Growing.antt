@@ -1,5 +1,5 @@
 -- What is told of a transaction stays true as accesses come to it.
-use Rattle.store_scripts.proofs.Words.{◌≡◌, ◌⊎◌, ◌∙◌, sym, refl, ap, subst, ℕ, ◌<◌, Bool, List, [], ◌∷◌, ◌++◌, length, append_assoc, append-nil, arith, inl, inr, Access, Commit, Geometry, Mode, Serial, Span, Array, own, History, array_at, marked, IsLocal, own_append, AreMixed, First, IsOfBoth, Neither, Second, firsts, seconds, KeyCall, StoreAnswer, key_act, Part, Called, Other, accesses_in, answers_in, calls_in, MapStore, SpareRegion, made_append, mixed_append, IsToldOf, image_hash, OfHash, Told, nothing_told, with_call, OfSecond, SecondStore, second_store, Mixed}
+use Rattle.store_scripts.proofs.{Words.{◌≡◌, ◌⊎◌, ◌∙◌, sym, refl, ap, subst, ℕ, ◌<◌, Bool, List, [], ◌∷◌, ◌++◌, length, append_assoc, append-nil, arith, inl, inr, Access, Commit, Geometry, Mode, Serial, Span, Array, own, History, array_at, marked, own_append, AreMixed, First, IsOfBoth, Neither, Second, firsts, seconds, KeyCall, StoreAnswer, Part, Called, Other, accesses_in, answers_in, calls_in, MapStore, SpareRegion, made_append, mixed_append, IsToldOf, image_hash, Answered, OfHash, Told, nothing_told, with_call, OfSecond, SecondStore, second_store, Mixed}, Seconds.IsCall}
 
 pub spare_append : (s : MapStore) (xs ys : List Access) → SpareRegion s xs → SpareRegion s ys → SpareRegion s (xs ++ ys)
 spare_append s [] ys first second = second
@@ -57,76 +57,37 @@ module _ (S : SecondStore) where
   pub more_second_answers : (parts more : List StorePart) (answers : List S.Answer) → answers_in (seconds parts) ≡ answers → answers_in (seconds (parts ++ more)) ≡ answers ++ answers_in (seconds more)
   more_second_answers parts more answers are = ap answers_in (seconds_append parts more) ∙ answers_append (seconds parts) (seconds more) ∙ ap (λ (xs : List S.Answer). xs ++ answers_in (seconds more)) are
 
+  -- a call says nothing of what is kept
+  pub kept_with : (told : Told S) (call : Answered S.Call S.Answer) (over : ℕ) → (with_call S told call over).kept ≡ told.kept
+  kept_with told (OfHash call answer) over = refl
+  kept_with told (OfSecond call answer) over = refl
+
   pub begins_told : (g : Geometry) (A : Array) (mode : Mode) → IsToldOf S g A [] mode (nothing_told S)
-  begins_told g A mode = record {
-    parts = [];
-    rest = [];
-    are = refl;
-    over = refl;
-    made = tt;
-    spare_hash = tt;
-    spare_second = tt;
-    hash_calls = refl;
-    hash_answers = refl;
-    second_calls = refl;
-    second_answers = refl;
-    serial = inl (refl, refl);
-  }
+  begins_told g A mode = grind arith
 
   module _ (g : Geometry) (A : Array) (accesses : List Access) (mode : Mode) (told : Told S) (is : IsToldOf S g A accesses mode told) where
+    -- with the same calls, and other accesses since the last of them, in an image of any form
+    with_rest : (form : ℕ) (kept : Bool) (rest now : List Access) → accesses_in (firsts is.parts) ++ rest ≡ now → SpareRegion (image_hash g) rest → SpareRegion (second_store S g) rest
+        → IsToldOf S (record g { form = form }) A now mode (record told { kept = kept })
+    with_rest form kept rest now are first second = grind arith
+
     -- with accesses that write neither region
     pub other_told : (done : List Access) (kept : Bool) → SpareRegion (image_hash g) done → SpareRegion (second_store S g) done → IsToldOf S g A (accesses ++ done) mode (record told { kept = kept })
-    other_told done kept first second = record {
-      parts = is.parts;
-      rest = is.rest ++ done;
-      are = sym (append_assoc (accesses_in (firsts is.parts)) is.rest done) ∙ ap (λ (xs : List Access). xs ++ done) is.are;
-      over = is.over;
-      made = is.made;
-      spare_hash = spare_append (image_hash g) is.rest done is.spare_hash first;
-      spare_second = spare_append (second_store S g) is.rest done is.spare_second second;
-      hash_calls = is.hash_calls;
-      hash_answers = is.hash_answers;
-      second_calls = is.second_calls;
-      second_answers = is.second_answers;
-      serial = is.serial;
-    }
+    other_told done kept first second =
+        with_rest g.form kept (is.rest ++ done) (accesses ++ done) (sym (append_assoc (accesses_in (firsts is.parts)) is.rest done) ∙ ap (λ (xs : List Access). xs ++ done) is.are)
+        (spare_append (image_hash g) is.rest done is.spare_hash first) (spare_append (second_store S g) is.rest done is.spare_second second)
 
     -- with nothing new
     pub same_told : (kept : Bool) → IsToldOf S g A accesses mode (record told { kept = kept })
-    same_told kept = record {
-      parts = is.parts;
-      rest = is.rest;
-      are = is.are;
-      over = is.over;
-      made = is.made;
-      spare_hash = is.spare_hash;
-      spare_second = is.spare_second;
-      hash_calls = is.hash_calls;
-      hash_answers = is.hash_answers;
-      second_calls = is.second_calls;
-      second_answers = is.second_answers;
-      serial = is.serial;
-    }
+    same_told kept = with_rest g.form kept is.rest accesses is.are is.spare_hash is.spare_second
+
+    -- the same in an image of another form
+    pub in_form : (form : ℕ) → IsToldOf S (record g { form = form }) A accesses mode told
+    in_form form = with_rest form told.kept is.rest accesses is.are is.spare_hash is.spare_second
 
     -- with a mark on an access since the last call
     pub mark_told : (span : Span) (kept : Bool) → told.over < length accesses → IsToldOf S g A (marked span accesses) mode (record told { kept = kept })
-    mark_told span kept since =
-        let calls = accesses_in (firsts is.parts) in
-        let some : length calls < length (calls ++ is.rest) = omega (arith, is.over, ap length is.are) in
-        record {
-          parts = is.parts;
-          rest = marked span is.rest;
-          are = sym (marked_append span calls is.rest some) ∙ ap (marked span) is.are;
-          over = is.over;
-          made = is.made;
-          spare_hash = marked_spares (image_hash g) span is.rest is.spare_hash;
-          spare_second = marked_spares (second_store S g) span is.rest is.spare_second;
-          hash_calls = is.hash_calls;
-          hash_answers = is.hash_answers;
-          second_calls = is.second_calls;
-          second_answers = is.second_answers;
-          serial = is.serial;
-        }
+    mark_told span kept since = grind (arith, with_rest, marked_append, marked_spares)
 
     grown_are : (part : StorePart) (done : List Access) → accesses_in (firsts (part ∷ [])) ≡ done → accesses_in (firsts (is.parts ++ Neither is.rest ∷ part ∷ [])) ≡ accesses ++ done
     grown_are part done has =
@@ -144,49 +105,33 @@ module _ (S : SecondStore) where
         made_append (image_hash g) (second_store S g) A is.parts (Neither is.rest ∷ part ∷ []) is.made
         (is.spare_hash, is.spare_second, subst (λ (B : Array). AreMixed (image_hash g) (second_store S g) B (part ∷ [])) (sym shown_is) made)
 
-    -- with a call of the hash store
-    pub hash_told : (call : KeyCall) (answer : StoreAnswer) (done : List Access) → mode ≡ Serial
-        → IsLocal (image_hash g).IsWellFormed (image_hash g).map_of (key_act call) (own A accesses) done answer → SpareRegion (second_store S g) done
-        → IsToldOf S g A (accesses ++ done) mode (with_call S told (OfHash call answer) (length (accesses ++ done)))
-    hash_told call answer done serial local spare =
-        let more : List StorePart = Neither is.rest ∷ First call done answer ∷ [] in
-        let are = grown_are (First call done answer) done (append-nil done) in
+    -- with a call of one of the stores
+    with_part : (part : StorePart) (done : List Access) (now : Told S) → mode ≡ Serial → accesses_in (firsts (part ∷ [])) ≡ done → now.over ≡ length (accesses ++ done)
+        → AreMixed (image_hash g) (second_store S g) (own A accesses) (part ∷ []) → told.hash.calls ++ calls_in (firsts (part ∷ [])) ≡ now.hash.calls → told.hash.answers ++ answers_in (firsts (part ∷ [])) ≡ now.hash.answers
+        → told.second.calls ++ calls_in (seconds (part ∷ [])) ≡ now.second.calls → told.second.answers ++ answers_in (seconds (part ∷ [])) ≡ now.second.answers → IsToldOf S g A (accesses ++ done) mode now
+    with_part part done now serial has over made hash_calls hash_answers second_calls second_answers =
+        let more : List StorePart = Neither is.rest ∷ part ∷ [] in
+        let are = grown_are part done has in
         record {
           parts = is.parts ++ more;
           rest = [];
           are = append-nil (accesses_in (firsts (is.parts ++ more))) ∙ are;
-          over = ap length are;
-          made = grown_made (First call done answer) (local, spare, tt);
+          over = ap length are ∙ sym over;
+          made = grown_made part made;
           spare_hash = tt;
           spare_second = tt;
-          hash_calls = more_first_calls is.parts more told.hash.calls is.hash_calls;
-          hash_answers = more_first_answers is.parts more told.hash.answers is.hash_answers;
-          second_calls = more_second_calls is.parts more told.second.calls is.second_calls ∙ append-nil told.second.calls;
-          second_answers = more_second_answers is.parts more told.second.answers is.second_answers ∙ append-nil told.second.answers;
+          hash_calls = more_first_calls is.parts more told.hash.calls is.hash_calls ∙ hash_calls;
+          hash_answers = more_first_answers is.parts more told.hash.answers is.hash_answers ∙ hash_answers;
+          second_calls = more_second_calls is.parts more told.second.calls is.second_calls ∙ second_calls;
+          second_answers = more_second_answers is.parts more told.second.answers is.second_answers ∙ second_answers;
           serial = inr serial;
         }
 
-    -- with a call of the tree store
-    pub second_told : (call : S.Call) (answer : S.Answer) (done : List Access) → mode ≡ Serial
-        → IsLocal (second_store S g).IsWellFormed (second_store S g).map_of (S.act call) (own A accesses) done answer → SpareRegion (image_hash g) done
-        → IsToldOf S g A (accesses ++ done) mode (with_call S told (OfSecond call answer) (length (accesses ++ done)))
-    second_told call answer done serial local spare =
-        let more : List StorePart = Neither is.rest ∷ Second call done answer ∷ [] in
-        let are = grown_are (Second call done answer) done (append-nil done) in
-        record {
-          parts = is.parts ++ more;
-          rest = [];
-          are = append-nil (accesses_in (firsts (is.parts ++ more))) ∙ are;
-          over = ap length are;
-          made = grown_made (Second call done answer) (local, spare, tt);
-          spare_hash = tt;
-          spare_second = tt;
-          hash_calls = more_first_calls is.parts more told.hash.calls is.hash_calls ∙ append-nil told.hash.calls;
-          hash_answers = more_first_answers is.parts more told.hash.answers is.hash_answers ∙ append-nil told.hash.answers;
-          second_calls = more_second_calls is.parts more told.second.calls is.second_calls;
-          second_answers = more_second_answers is.parts more told.second.answers is.second_answers;
-          serial = inr serial;
-        }
+    pub call_told : (call : Answered S.Call S.Answer) (done : List Access) → mode ≡ Serial → IsCall S g call (own A accesses) done → IsToldOf S g A (accesses ++ done) mode (with_call S told call (length (accesses ++ done)))
+    call_told (OfHash call answer) done serial is_call =
+        with_part (First call done answer) done _ serial (append-nil done) refl (is_call.local, is_call.spare, tt) refl refl (append-nil told.second.calls) (append-nil told.second.answers)
+    call_told (OfSecond call answer) done serial is_call =
+        with_part (Second call done answer) done _ serial (append-nil done) refl (is_call.local, is_call.spare, tt) (append-nil told.hash.calls) (append-nil told.hash.answers) refl refl
 
   -- THE PARTS OF ALL ACCESSES, WITH WHAT CAME SINCE THE LAST CALL AS ONE MORE
   abbrev pub all_parts : (g : Geometry) (A : Array) (accesses : List Access) (mode : Mode) (told : Told S) → IsToldOf S g A accesses mode told → List StorePart
@@ -223,20 +168,3 @@ module _ (S : SecondStore) where
   of_both g H c told is =
       let all = all_are g (array_at H c.begin) c.accesses c.mode told is in
       record { parts = all_parts g (array_at H c.begin) c.accesses c.mode told is; are = all.are; made = all.made; mode = all.serial }
-
-  -- the same in an image of another form
-  pub in_form : (g : Geometry) (form : ℕ) (A : Array) (accesses : List Access) (mode : Mode) (told : Told S) → IsToldOf S g A accesses mode told → IsToldOf S (record g { form = form }) A accesses mode told
-  in_form g form A accesses mode told is = record {
-    parts = is.parts;
-    rest = is.rest;
-    are = is.are;
-    over = is.over;
-    made = is.made;
-    spare_hash = is.spare_hash;
-    spare_second = is.spare_second;
-    hash_calls = is.hash_calls;
-    hash_answers = is.hash_answers;
-    second_calls = is.second_calls;
-    second_answers = is.second_answers;
-    serial = is.serial;
-  }

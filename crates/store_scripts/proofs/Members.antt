@@ -1,5 +1,5 @@
 -- Where a group leads, with what is told of the transactions: its members end one after the other, each as by an end of its own.
-use Rattle.store_scripts.proofs.{Words.{◌≡◌, ◌∙◌, ◌⊎◌, sym, refl, ap, subst, ℕ, ◌+◌, ◌-◌, ◌<◌, ◌≤◌, ◌==◌, not, IsTrue, List, [], ◌∷◌, length, take, Option, Some, None, arith, inl, inr, take-append-le, length-append, AllByRecursion, all_filter, all_find, all_weaker, live_on, same_Some, Geometry, Commit, GroupReply, CoreReply, Stat, Reply, Array, History, all_own, array_at, last, after_member, after_look, ahead, decided, found_ones, group, group_is, group_leads, group_step, label_replies, leave_all, looks, made_by, member_leaves, member_reply, found_are_live, first_found, held_live, look_leads, looks_geometry, looks_history, after_commit, after_leaving, commit_from, end_step, as_reply, Live, World, held, is_under_label, unattached, Extends, IsLive, IsWorld, IsByBoth, ToldInOrder, image_hash, EndsAs, Notes, Told, SecondStore, second_store}, Calls.end_goes, Noted.{Holds, IsKept, IsNoted}, Order.{committed_told, end_only}, Steps.places, Seconds.IsSecond}
+use Rattle.store_scripts.proofs.{Words.{◌≡◌, ◌∙◌, ◌⊎◌, sym, refl, ap, subst, ℕ, ◌+◌, ◌-◌, ◌<◌, ◌≤◌, ◌==◌, not, IsTrue, List, [], ◌∷◌, length, take, Option, Some, None, arith, inl, inr, take-append-le, length-append, AllByRecursion, all_filter, all_find, all_weaker, live_on, same_Some, Geometry, Commit, GroupReply, CoreReply, Stat, Reply, Array, History, all_own, array_at, last, after_member, after_look, ahead, decided, found_ones, group, group_is, group_leads, group_step, label_replies, leave_all, looks, made_by, member_leaves, member_reply, found_are_live, first_found, held_live, look_leads, looks_geometry, looks_history, looks_keep, after_commit, after_leaving, commit_from, end_step, as_reply, Live, World, held, is_under_label, unattached, Extends, IsLive, IsWorld, IsByBoth, ToldInOrder, image_hash, EndsAs, Notes, Told, SecondStore, second_store}, Calls.end_goes, Noted.{Holds, IsKept, IsNoted}, Order.{committed_told, end_only}, Steps.places, Seconds.IsSecond}
 use Rattle.iso_model.specs.declared.access.GroupReply.TheVariants as member
 use Rattle.iso_model.specs.declared.core_reply.CoreReply.TheVariants as core
 use Rattle.script_model.specs.declared.script.Reply.TheVariants as reply
@@ -44,20 +44,12 @@ left_next : (members : List Live) (W : World) → (leave_all members W).next ≡
 left_next [] W = refl
 left_next (t ∷ members) W = left_next members (after_leaving W t)
 
-looks_next : (texts : List (List ℕ)) (W : World) → (looks W texts).1.next ≡ W.next
-looks_next [] W = refl
-looks_next (text ∷ texts) W = looks_next texts (after_look W (held W text)) ∙ looked (held W text)
-  where
-    looked : (o : Option Live) → (after_look W o).next ≡ W.next
-    looked None = refl
-    looked (Some t) = refl
-
 pub group_next : (texts : List (List ℕ)) (W : World) → (group_step W texts).1.next ≡ W.next
 unfolding group_step
 group_next texts W =
     let V : World = (looks W texts).1 in
     let members : List Live = found_ones (looks W texts).0 in
-    ap (λ (x : List GroupReply × World). x.1.next) (group_is V members) ∙ left_next members (decided V members).1 ∙ decided_next members V ∙ looks_next texts W
+    ap (λ (x : List GroupReply × World). x.1.next) (group_is V members) ∙ left_next members (decided V members).1 ∙ decided_next members V ∙ looks_keep (λ (X : World). X.next) (λ X t. refl) texts W
 
 member_commit : (r : CoreReply) (k : ℕ) → member_reply r ≡ member.Committed k → r ≡ core.Committed k
 member_commit (core.Committed number) k is = let same : number ≡ k = cc in ap core.Committed same
@@ -70,9 +62,7 @@ core_commit x k is = cc
 module _ (S : SecondStore) (lawful : IsSecond S) where
   -- what is told of a transaction stays true where the history is longer
   kept_in : (Q : Type 0) (n : ℕ) (g h : Geometry) (H G : History) (notes : Notes S) (t : Live) → h ≡ g → array_at G t.begin ≡ array_at H t.begin → IsKept S Q n g H notes t → IsKept S Q n h G notes t
-  kept_in Q n g h H G notes t same_geometry same_array kept =
-      subst (λ (f : Geometry). Holds S Q n f (array_at G t.begin) t.begin t.accesses t.mode (notes t.number)) (sym same_geometry)
-      (subst (λ (A : Array). Holds S Q n g A t.begin t.accesses t.mode (notes t.number)) (sym same_array) kept)
+  kept_in Q n g h H G notes t same_geometry same_array kept = grind arith
 
   module _ (Q : Type 0) (n : ℕ) where
     -- ONE MEMBER

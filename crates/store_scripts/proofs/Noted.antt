@@ -80,26 +80,19 @@ module _ (S : SecondStore) where
   module _ (Q : Type 0) (n : ℕ) (W : World) (notes : Notes S) (is : IsNoted Q n W notes) (c : ℕ) (op : Op) where
     -- a line of another transaction tells nothing of it
     pub other_is : (t : Live) (number : ℕ) (x : Reply × World) (told : Told S) → t.number ≢ number → told_by S W.geometry c number op (Some t) x told ≡ told
-    other_is t number x told other =
-        ap (λ (b : Bool). cond b (told_more S W.geometry op x.0 t.accesses (accesses_or_none (attached x.1 c)) told (S.answered op x.0)) told) (ne_eqb t.number number other)
+    other_is t number x told other = grind arith
 
     owner_is : (t : Live) (x : Reply × World) (told : Told S)
         → told_by S W.geometry c t.number op (Some t) x told ≡ told_more S W.geometry op x.0 t.accesses (accesses_or_none (attached x.1 c)) told (S.answered op x.0)
-    owner_is t x told =
-        ap (λ (b : Bool). cond b (told_more S W.geometry op x.0 t.accesses (accesses_or_none (attached x.1 c)) told (S.answered op x.0)) told) (eq-eqb t.number t.number refl)
+    owner_is t x told = grind arith
 
     other_kept : (H : History) (t u : Live) (x : Reply × World) → u.number ≢ t.number → IsKept Q n W.geometry H notes u → IsKept Q n W.geometry H (notes_by W notes c op (Some t) x) u
-    other_kept H t u x other kept =
-        subst (λ (told : Told S). Holds Q n W.geometry (array_at H u.begin) u.begin u.accesses u.mode told)
-        (sym (other_is t u.number x (notes u.number) (λ e. other (sym e)))) kept
+    other_kept H t u x other kept = grind (arith, other_is)
 
     -- a line that made no call which was answered Ok leaves what is told of calls
     quiet_more : (g : Geometry) (A : Array) (u : Live) (before after : List Access) (r : Reply) (a : Option (Answered S.Call S.Answer)) (told : Told S) → a ≡ None → Holds Q n g A u.begin u.accesses u.mode told
         → Holds Q n g A u.begin u.accesses u.mode (told_more S W.geometry op r before after told a)
-    quiet_more g A u before after r None told none kept =
-        holds_same Q n g A u.begin u.accesses u.mode told (told_more S W.geometry op r before after told None).kept kept (λ more.
-        let both = and_parts (told.kept && list_all (spares_stores S W.geometry) (drop (length before) after)) (spares_calls op r told.over (length before)) more in
-        (and_parts told.kept _ both.0).0)
+    quiet_more g A u before after r None told none kept = grind (arith, holds_same)
     quiet_more g A u before after r (Some call) told none kept = absurd (cc none)
 
     pub quiet : (g : Geometry) (H : History) (o : Option Live) (x : Reply × World) (u : Live) → S.answered op x.0 ≡ None → IsKept Q n g H notes u → IsKept Q n g H (notes_by W notes c op o x) u

@@ -7,25 +7,17 @@ module _ (S : SecondStore) (lawful : IsSecond S) where
   -- WHAT IS TOLD, BY ITS PARTS
   told_in_order : (g : Geometry) (told : Told S) (parts : List (StorePart S)) (A B : Array) → calls_in (firsts parts) ≡ told.hash.calls → answers_in (firsts parts) ≡ told.hash.answers
       → calls_in (seconds parts) ≡ told.second.calls → answers_in (seconds parts) ≡ told.second.answers → BothInOrder (image_hash g) (second_store S g) parts A B → ToldInOrder S g told A B
-  told_in_order g told parts A B hash_calls hash_answers second_calls second_answers order = record {
-    hash_answers = sym (ap (λ (calls : List KeyCall). (run (image_hash g) ((image_hash g).map_of A) calls).0) hash_calls) ∙ order.first.answers ∙ hash_answers;
-    hash_ends = sym (ap (λ (calls : List KeyCall). (run (image_hash g) ((image_hash g).map_of A) calls).1) hash_calls) ∙ order.first.ends;
-    second_answers = sym (ap (λ (calls : List S.Call). (run (second_store S g) ((second_store S g).map_of A) calls).0) second_calls) ∙ order.second.answers ∙ second_answers;
-    second_ends = sym (ap (λ (calls : List S.Call). (run (second_store S g) ((second_store S g).map_of A) calls).1) second_calls) ∙ order.second.ends;
-  }
+  told_in_order g told parts A B hash_calls hash_answers second_calls second_answers order = grind arith
 
   -- what is told of the transaction of a client is true
   kept_is : (Q : Type 0) (n : ℕ) (V : World) (notes : Notes S) → IsNoted S Q n V notes → (c : ℕ) (t : Live) → attached V c ≡ Some t → IsTrue (notes t.number).kept
       → (n ≤ t.begin) × IsToldOf S V.geometry (array_at V.history t.begin) t.accesses t.mode (notes t.number)
-  kept_is Q n V notes is c t found kept =
-      let holds = all_find (IsKept S Q n V.geometry V.history notes) (λ u. is_at_client c u.place) V.live t is.each found in
-      (holds.since, holds.made kept)
+  kept_is Q n V notes is c t found kept = grind (arith, all_find)
 
   -- without a write, each call by the map at its begin
   pub read_only_told : (n : ℕ) (V : World) (notes : Notes S) → IsNoted S (Unit {0}) n V notes → (c : ℕ) (t : Live) → attached V c ≡ Some t → has_write t.accesses ≡ false
       → ToldByMap S V.geometry (notes t.number) (array_at V.history t.begin)
-  read_only_told n V notes is c t found none =
-      (all_find (IsKept S (Unit {0}) n V.geometry V.history notes) (λ u. is_at_client c u.place) V.live t is.each found).by_map tt none
+  read_only_told n V notes is c t found none = grind (arith, all_find)
 
   pub told_is : (Q : Type 0) (n : ℕ) (V : World) (notes : Notes S) → IsNoted S Q n V notes → (c : ℕ) (t : Live) → attached V c ≡ Some t → IsTrue (notes t.number).kept
       → IsToldOf S V.geometry (array_at V.history t.begin) t.accesses t.mode (notes t.number)

@@ -1,5 +1,5 @@
 -- The calls of a transaction that writes nothing answer by the map at its begin, whatever it marks.
-use Rattle.store_scripts.proofs.Words.{◌≡◌, ◌∙◌, sym, refl, ap, subst, ℕ, Bool, true, false, ◌||◌, List, [], ◌∷◌, ◌++◌, map, Access, Geometry, Span, Array, has_write, is_write, own, marked, AreReads, IsLocal, own_reads, KeyCall, StoreAnswer, key_act, same_shape, ToldByMap, image_hash, OfHash, Told, with_call, OfSecond, SecondStore, second_store}
+use Rattle.store_scripts.proofs.{Words.{◌≡◌, ◌∙◌, sym, refl, ap, subst, ℕ, Bool, true, false, ◌||◌, List, [], ◌∷◌, ◌++◌, map, Access, Geometry, Span, Array, has_write, is_write, own, marked, AreReads, IsLocal, own_reads, KeyCall, StoreAnswer, key_act, same_shape, ToldByMap, image_hash, Answered, BothWellFormed, OfHash, Told, with_call, OfSecond, SecondStore, second_store}, Seconds.IsCall}
 
 neither : (x y : Bool) → (x || y) ≡ false → (x ≡ false) × (y ≡ false)
 neither true y none = cc
@@ -29,23 +29,19 @@ module _ (S : SecondStore) where
     shown : own A accesses ≡ A
     shown = own_reads A accesses (reads_of accesses none)
 
-    pub hash_by_map : (call : KeyCall) (answer : StoreAnswer) → (image_hash g).IsWellFormed A → IsLocal (image_hash g).IsWellFormed (image_hash g).map_of (key_act call) (own A accesses) done answer
-        → ToldByMap S g (with_call S told (OfHash call answer) over) A
-    hash_by_map call answer well local =
+    pub call_by_map : (call : Answered S.Call S.Answer) → BothWellFormed (image_hash g) (second_store S g) A → IsCall S g call (own A accesses) done → ToldByMap S g (with_call S told call over) A
+    call_by_map (OfHash call answer) well is_call =
         let f = λ (c : KeyCall). (key_act c ((image_hash g).map_of A)).0 in
-        let here = subst (λ (B : Array). IsLocal (image_hash g).IsWellFormed (image_hash g).map_of (key_act call) B done answer) shown local in
-        let is : f call ≡ answer = here.answers A (same_shape A) well (λ b p depends. refl) in
+        let here = subst (λ (B : Array). IsLocal (image_hash g).IsWellFormed (image_hash g).map_of (key_act call) B done answer) shown is_call.local in
+        let is : f call ≡ answer = here.answers A (same_shape A) well.first (λ b p depends. refl) in
         record {
           hash = ap (λ (xs : List StoreAnswer). xs ++ answer ∷ []) was.hash ∙ ap (λ (x : StoreAnswer). map f told.hash.calls ++ x ∷ []) (sym is) ∙ sym (map_push f told.hash.calls call);
           second = was.second;
         }
-
-    pub second_by_map : (call : S.Call) (answer : S.Answer) → (second_store S g).IsWellFormed A → IsLocal (second_store S g).IsWellFormed (second_store S g).map_of (S.act call) (own A accesses) done answer
-        → ToldByMap S g (with_call S told (OfSecond call answer) over) A
-    second_by_map call answer well local =
+    call_by_map (OfSecond call answer) well is_call =
         let f = λ (c : S.Call). (S.act c ((second_store S g).map_of A)).0 in
-        let here = subst (λ (B : Array). IsLocal (second_store S g).IsWellFormed (second_store S g).map_of (S.act call) B done answer) shown local in
-        let is : f call ≡ answer = here.answers A (same_shape A) well (λ b p depends. refl) in
+        let here = subst (λ (B : Array). IsLocal (second_store S g).IsWellFormed (second_store S g).map_of (S.act call) B done answer) shown is_call.local in
+        let is : f call ≡ answer = here.answers A (same_shape A) well.second (λ b p depends. refl) in
         record {
           hash = was.hash;
           second = ap (λ (xs : List S.Answer). xs ++ answer ∷ []) was.second ∙ ap (λ (x : S.Answer). map f told.second.calls ++ x ∷ []) (sym is) ∙ sym (map_push f told.second.calls call);

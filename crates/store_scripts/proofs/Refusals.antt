@@ -1,5 +1,5 @@
 -- A refused call of a store leaves whether its transaction keeps to the stores.
-use Rattle.store_scripts.proofs.{Words.{◌≡◌, ◌∙◌, sym, refl, ap, subst, ℕ, ◌-◌, ◌==◌, ◌&&◌, ◌||◌, not, Bool, true, false, cond, List, [], ◌∷◌, ◌++◌, length, drop, append-nil, Option, Some, None, Result, Ok, Err, list_all, Access, MAX_ACCESSES, Op, End, HashPut, HashGet, HashDelete, TreePut, TreeGet, TreeDelete, TreeScan, Reply, is_key, array_of, found_reply, hash_delete_step, hash_get_step, hash_put_step, in_store, in_transaction, pairs_reply, removed_reply, step, store_reply, store_step, tree_delete_step, tree_get_step, tree_put_step, tree_scan_step, hash_area, tree_area, with_accesses, is_serial, AreReads, Program, outcome, Live, World, attached, IsWorld, OnKey, Scan, Answered, CallsStore, Notes, OfHash, accesses_or_none, answered, noted, spares_calls, spares_stores, told_by, told_more, OfSecond, SecondStore, second_store, store_refusal, FileRead, file_read_step, file_refusal, file_blocks, files_area, Call, StoreAnswer, TreeCall, option_map, StoreError, Del, Found, GetKey, Got, PutKey, WasPut, WasThere, in_area, read_program, read_reads}, Finding.attached_with, Acting.{got_told, there_told}, TreeGoes.{found_named, tree_got_named, tree_there_named}, Seconds.IsSecond, Noted.drop_past, Refused.{IsRefusal, hash_del_last, hash_put_last, reads_so_far, refused_reads, tree_del_last, tree_put_last}}
+use Rattle.store_scripts.proofs.{Words.{Mark, ◌≡◌, ◌∙◌, sym, refl, ap, subst, ℕ, ◌-◌, ◌==◌, ◌&&◌, ◌||◌, not, Bool, true, false, cond, List, [], ◌∷◌, ◌++◌, length, drop, append-nil, Option, Some, None, Result, Ok, Err, list_all, Access, MAX_ACCESSES, Op, End, HashPut, HashGet, HashDelete, TreePut, TreeGet, TreeDelete, TreeScan, Reply, is_key, array_of, found_reply, hash_delete_step, hash_get_step, hash_put_step, in_store, in_transaction, pairs_reply, removed_reply, step, store_reply, store_step, tree_delete_step, tree_get_step, tree_put_step, tree_scan_step, hash_area, tree_area, with_accesses, is_serial, AreReads, Program, outcome, Live, World, attached, IsWorld, OnKey, Scan, Answered, CallsStore, Notes, OfHash, accesses_or_none, answered, noted, spares_calls, spares_stores, told_by, told_more, OfSecond, SecondStore, second_store, store_refusal, FileRead, file_read_step, file_refusal, file_blocks, files_area, Call, StoreAnswer, TreeCall, option_map, StoreError, Del, Found, GetKey, Got, PutKey, WasPut, WasThere, in_area, read_program, read_reads}, Finding.attached_with, Acting.{got_told, pairs_told, there_told}, Seconds.IsSecond, Noted.drop_past, Refused.{IsRefusal, hash_del_last, hash_put_last, reads_so_far, refused_reads, tree_del_last, tree_put_last}}
 use Rattle.script_model.specs.declared.script.Reply.TheVariants as reply
 use Rattle.store_model.specs.HashCalls as hash
 use Rattle.store_model.specs.TreeCalls as tree
@@ -7,22 +7,10 @@ use Rattle.iso_hash.proofs.Gets as hash_gets
 use Rattle.iso_tree.proofs.Gets as tree_gets
 use Rattle.iso_tree.proofs.ScanCalls as tree_scans
 
-pub got_named : (key : List ℕ) (r : Option (List ℕ)) → answered (HashGet key) (found_reply r) ≡ Some (OfHash (GetKey key) (Got r))
-got_named key r = ap (option_map (OfHash (GetKey key))) (got_told r)
-
-pub there_named : (key : List ℕ) (r : Bool) → answered (HashDelete key) (removed_reply r) ≡ Some (OfHash (Del key) (WasThere r))
-there_named key r = ap (option_map (OfHash (Del key))) (there_told r)
-
 -- a call of a store puts no mark
 no_mark : (op : Op) (r : Reply) (over count : ℕ) → CallsStore op → spares_calls op r over count ≡ true
-no_mark (HashPut key value) r over count calls = refl
-no_mark (HashGet key) r over count calls = refl
-no_mark (HashDelete key) r over count calls = refl
-no_mark (TreePut key value) r over count calls = refl
-no_mark (TreeGet key) r over count calls = refl
-no_mark (TreeDelete key) r over count calls = refl
-no_mark (TreeScan from to most) r over count calls = refl
-no_mark x r over count calls = absurd calls
+no_mark (Mark off len) r over count calls = absurd calls
+no_mark x r over count calls = refl
 
 both_pass : (k x y : Bool) → x ≡ true → y ≡ true → (k && x && y) ≡ k
 both_pass true true true one two = refl
@@ -103,14 +91,14 @@ module _ (S : SecondStore) (lawful : IsSecond S) where
     unfolding hash_get_step
     hash_get_passes key =
         let op : Op = HashGet key in
-        in_store_spares W is c t found op W.geometry.hash _ (store_spares W is c t found op (hash.get_program (hash_area W.geometry) key) found_reply (λ r. OfHash (GetKey key) (Got r)) (got_named key)
+        in_store_spares W is c t found op W.geometry.hash _ (store_spares W is c t found op (hash.get_program (hash_area W.geometry) key) found_reply (λ r. OfHash (GetKey key) (Got r)) (λ r. ap (option_map (OfHash (GetKey key))) (got_told r))
         (λ refused. reads_so_far room (hash.get_program (hash_area W.geometry) key) (array_of W t) (hash_gets.get_reads (hash_area W.geometry) key (array_of W t))))
 
     hash_delete_passes : (key : List ℕ) → Passes (HashDelete key) (hash_delete_step W t key)
     unfolding hash_delete_step
     hash_delete_passes key =
         let op : Op = HashDelete key in
-        in_store_spares W is c t found op W.geometry.hash _ (store_spares W is c t found op (hash.del_program (hash_area W.geometry) key) removed_reply (λ r. OfHash (Del key) (WasThere r)) (there_named key)
+        in_store_spares W is c t found op W.geometry.hash _ (store_spares W is c t found op (hash.del_program (hash_area W.geometry) key) removed_reply (λ r. OfHash (Del key) (WasThere r)) (λ r. ap (option_map (OfHash (Del key))) (there_told r))
         (refused_reads room (hash.del_program (hash_area W.geometry) key) (array_of W t) (hash_del_last (hash_area W.geometry) key)))
 
     tree_put_passes : (key value : List ℕ) → Passes (TreePut key value) (tree_put_step W t key value)
@@ -124,14 +112,14 @@ module _ (S : SecondStore) (lawful : IsSecond S) where
     unfolding tree_get_step
     tree_get_passes key =
         let op : Op = TreeGet key in
-        in_store_spares W is c t found op W.geometry.tree _ (store_spares W is c t found op (tree.get_program (tree_area W.geometry) key) found_reply (λ r. OfSecond (OnKey (GetKey key)) (Got r)) (tree_got_named key)
+        in_store_spares W is c t found op W.geometry.tree _ (store_spares W is c t found op (tree.get_program (tree_area W.geometry) key) found_reply (λ r. OfSecond (OnKey (GetKey key)) (Got r)) (λ r. ap (option_map (OfSecond (OnKey (GetKey key)))) (got_told r))
         (λ refused. reads_so_far room (tree.get_program (tree_area W.geometry) key) (array_of W t) (tree_gets.get_reads (tree_area W.geometry) key (array_of W t))))
 
     tree_delete_passes : (key : List ℕ) → Passes (TreeDelete key) (tree_delete_step W t key)
     unfolding tree_delete_step
     tree_delete_passes key =
         let op : Op = TreeDelete key in
-        in_store_spares W is c t found op W.geometry.tree _ (store_spares W is c t found op (tree.del_program (tree_area W.geometry) key) removed_reply (λ r. OfSecond (OnKey (Del key)) (WasThere r)) (tree_there_named key)
+        in_store_spares W is c t found op W.geometry.tree _ (store_spares W is c t found op (tree.del_program (tree_area W.geometry) key) removed_reply (λ r. OfSecond (OnKey (Del key)) (WasThere r)) (λ r. ap (option_map (OfSecond (OnKey (Del key)))) (there_told r))
         (refused_reads room (tree.del_program (tree_area W.geometry) key) (array_of W t) (tree_del_last (tree_area W.geometry) key)))
 
     tree_scan_passes : (from to : List ℕ) (most : ℕ) → Passes (TreeScan from to most) (tree_scan_step W t from to most)
@@ -139,7 +127,7 @@ module _ (S : SecondStore) (lawful : IsSecond S) where
     tree_scan_passes from to most =
         let op : Op = TreeScan from to most in
         in_store_spares W is c t found op W.geometry.tree _ (choose W is c t found op (is_key from && is_key to && (most == 0)) _ _ (same_passes W is c t found op reply.BadRange)
-        (store_spares W is c t found op (tree.scan_program (tree_area W.geometry) from to most) pairs_reply (λ r. OfSecond (Scan from to most) (Found r)) (found_named from to most)
+        (store_spares W is c t found op (tree.scan_program (tree_area W.geometry) from to most) pairs_reply (λ r. OfSecond (Scan from to most) (Found r)) (λ r. ap (option_map (OfSecond (Scan from to most))) (pairs_told r))
         (λ refused. reads_so_far room (tree.scan_program (tree_area W.geometry) from to most) (array_of W t) (tree_scans.program_reads (tree_area W.geometry) from to most (array_of W t)))))
 
     step_passes : (op : Op) → CallsStore op → Passes op (step W c op)
@@ -156,7 +144,6 @@ module _ (S : SecondStore) (lawful : IsSecond S) where
     read_passes : (name : List ℕ) (off len : ℕ) → list_all (spares_stores S W.geometry) (drop (length t.accesses) (accesses_or_none (attached (step W c (FileRead name off len)).1 c))) ≡ true
     unfolding step file_read_step
     read_passes name off len =
-        let op : Op = FileRead name off len in
         let p = read_program (files_area W.geometry) name off len in
         let done = in_store_spares W is c t found End (file_blocks W.geometry) _ (read_spares W is c t found End p found_reply (reads_so_far room p (array_of W t) (read_reads (files_area W.geometry) name off len (array_of W t)))) in
         spares_in W c End (attached W c) (λ u. file_read_step W u name off len) t found (λ none. done refl) refl

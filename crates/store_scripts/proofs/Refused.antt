@@ -55,8 +55,7 @@ refused_reads {R = R} room (Reserve count next) A last refused = go (nat_le coun
     go true fits is = absurd (writes_end count room next A last (leb-true count room fits) is)
     go false full is = tt
 refused_reads zero (Store block spans bytes next) A last refused = tt
-refused_reads (suc room) (Store block spans bytes next) A last refused =
-    absurd (writes_end 0 room next (put A (store_access block spans bytes)) last (omega arith) refused)
+refused_reads (suc room) (Store block spans bytes next) A last refused = grind (arith, writes_end)
 
 -- a program that reads alone has read alone wherever it ends
 pub reads_so_far : {R : Type 0} (room : ℕ) (p : Program R) (A : Array) → AreReads (accesses_of p A) → AreReads (outcome room p A).0
@@ -116,9 +115,7 @@ walk_looks a key bucket with_value (suc left) position before block spare = λ x
 
 after_walk : {R : Type 0} (a : Area) (key : List ℕ) (with_value : Bool) (f : Walked → Program (Result R StoreError)) → ((w : Walked) → WritesLast (f w)) → WritesLast (then_do (walk a key with_value) f)
 unfolding walk
-after_walk a key with_value f each =
-    last_then (walk_from a key (bucket_of a key) with_value (last_position a + 1) 0 0 (1 + bucket_of a key) None) f
-    (walk_looks a key (bucket_of a key) with_value (last_position a + 1) 0 0 (1 + bucket_of a key) None) each
+after_walk a key with_value f each = grind (arith, last_then, walk_looks)
 
 hash_new_last : (a : Area) (key value : List ℕ) (last position : ℕ) (bytes : List ℕ) (o : Option ℕ) → WritesLast (hash.put_new a key value last position bytes o)
 hash_new_last a key value last position bytes None = tt
@@ -137,8 +134,7 @@ hash_del_at_last a (AtBroken block) = tt
 
 pub hash_put_last : (a : Area) (key value : List ℕ) → WritesLast (hash.put_program a key value)
 unfolding hash.put_program
-hash_put_last a key value =
-    last_cond (is_key key) _ _ (last_cond (is_value value) _ _ (after_walk a key false (hash.put_at a key value) (hash_put_at_last a key value)) tt) tt
+hash_put_last a key value = grind (arith, last_cond, after_walk, hash_put_at_last)
 
 pub hash_del_last : (a : Area) (key : List ℕ) → WritesLast (hash.del_program a key)
 unfolding hash.del_program
@@ -171,12 +167,7 @@ first_last a first taken root writes =
     go (Some head) = nodes_last a writes
 
 tree_new_last : (a : Area) (key value : List ℕ) (path : List (ℕ × ℕ)) (first : List ℕ) (need : ℕ) → WritesLast (put_new a key value path first need)
-tree_new_last a key value path first need =
-    let n = cell_count a.size in
-    let taken = take need (free_list a first) in
-    let way : List (ℕ × List Cell) → Climb = λ nodes. climb n key 0 (key, value_part value) 0 nodes taken in
-    last_cond (nat_lt (free_count first 1 (a.blocks - 1)) need) _ _ tt
-    (again_last a (map (λ (p : ℕ × ℕ). p.0) (take (suc (full_row n path)) path)) (λ nodes. put_writes a first taken (way nodes)) (λ nodes. first_last a first taken (way nodes).root (way nodes).writes))
+tree_new_last a key value path first need = grind (arith, last_cond, again_last, first_last)
 
 map_last : (a : Area) (key value : List ℕ) (path : List (ℕ × ℕ)) → WritesLast (with_map a key value path)
 map_last a key value path = λ first none. tree_new_last a key value path first (need_of (cell_count a.size) path)
@@ -195,12 +186,8 @@ head_last a f each = λ head none. last_cond (is_head a head) _ _ (each _ _) tt
 
 pub tree_put_last : (a : Area) (key value : List ℕ) → WritesLast (tree.put_program a key value)
 unfolding tree.put_program
-tree_put_last a key value =
-    last_cond (is_key key) _ _ (last_cond (is_value value) _ _ (head_last a (tree.put_below_root a key value) (λ root level.
-    last_cond (root == 0) _ _ (map_last a key value []) (last_then (descend a key false level root []) (tree.put_at a key value) (descent_looks a key false level root []) (tree_put_at_last a key value)))) tt) tt
+tree_put_last a key value = grind (arith, last_cond, head_last, map_last, last_then, descent_looks, tree_put_at_last)
 
 pub tree_del_last : (a : Area) (key : List ℕ) → WritesLast (tree.del_program a key)
 unfolding tree.del_program
-tree_del_last a key =
-    last_cond (is_key key) _ _ (head_last a (tree.del_below a key) (λ root level.
-    last_cond (root == 0) _ _ tt (last_then (descend a key false level root []) (tree.del_at a key) (descent_looks a key false level root []) (tree_del_at_last a key)))) tt
+tree_del_last a key = grind (arith, last_cond, head_last, last_then, descent_looks, tree_del_at_last)

@@ -19,20 +19,7 @@ module _ (S : SecondStore) where
 
     -- a transaction begins, of which nothing is told
     begins : (place : Place) (mode : Mode) (r : Reply) → S.answered op r ≡ None → Goes S Q n W notes c op None (r, after_begin W place mode)
-    begins place mode r none =
-        let new : Live = record { number = W.next; begin = last W.history; mode = mode; accesses = []; place = place } in
-        let x : Reply × World = (r, after_begin W place mode) in
-        record {
-          next = omega arith;
-          each = all_push (IsKept S Q n W.geometry W.history (notes_by S W notes c op None x)) W.live new is.each
-              (subst (λ (told : Told S). Holds S Q n W.geometry (array_at W.history (last W.history)) (last W.history) [] mode told) (sym (is.fresh W.next (omega arith))) (record {
-                since = is.low;
-                made = λ kept. begins_told S W.geometry (array_at W.history (last W.history)) mode;
-                by_map = λ q reads. record { hash = refl; second = refl };
-              }));
-          low = is.low;
-          by = is.by;
-        }
+    begins place mode r none = grind (arith, all_push, begins_told)
 
     pub begin_goes : (place : Place) (mode : Mode) → ((r : Reply) → S.answered op r ≡ None) → Goes S Q n W notes c op None (as_step (begin_step W place mode))
     unfolding begin_step
@@ -96,7 +83,7 @@ module _ (S : SecondStore) where
         let was = quiet S Q n W notes is c op W.geometry W.history o x u none kept in
         record {
           since = was.since;
-          made = λ more. in_form S W.geometry form (array_at W.history u.begin) u.accesses u.mode (notes_by S W notes c op o x u.number) (was.made more);
+          made = λ more. in_form S W.geometry (array_at W.history u.begin) u.accesses u.mode (notes_by S W notes c op o x u.number) (was.made more) form;
           by_map = λ q reads. let by_map = was.by_map q reads in record { hash = by_map.hash; second = by_map.second };
         }
 

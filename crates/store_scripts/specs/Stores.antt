@@ -15,39 +15,28 @@ abbrev pub pairs_if_any : (blocks : ℕ) → Pairs → Pairs
 pairs_if_any zero m = empty
 pairs_if_any (suc n) m = m
 
-abbrev pub image_hash : Geometry → MapStore
-image_hash g = record {
+-- A store of pairs in so many blocks, by what it is where there are any.
+abbrev pub pairs_store : (Call Answer : Type 0) (blocks : ℕ) (has_block : ℕ → Bool) (IsWellFormed : Array → Type 0) (map_of : Array → Pairs) (act : Call → Pairs → Answer × Pairs) → MapStore
+pairs_store Call Answer blocks has_block IsWellFormed map_of act = record {
   Map = Pairs;
-  Call = KeyCall;
-  Answer = StoreAnswer;
-  has_block = in_area (hash_area g);
-  IsWellFormed = λ A. IfAny g.hash (IsHashRegion (hash_area g) A);
-  map_of = λ A. pairs_if_any g.hash (hash_map (hash_area g) A);
-  act = key_act;
+  Call = Call;
+  Answer = Answer;
+  has_block = has_block;
+  IsWellFormed = λ A. IfAny blocks (IsWellFormed A);
+  map_of = λ A. pairs_if_any blocks (map_of A);
+  act = act;
 }
 
+abbrev pub image_hash : Geometry → MapStore
+image_hash g = pairs_store KeyCall StoreAnswer g.hash (in_area (hash_area g)) (IsHashRegion (hash_area g)) (hash_map (hash_area g)) key_act
+
 abbrev pub image_tree : Geometry → MapStore
-image_tree g = record {
-  Map = Pairs;
-  Call = TreeCall;
-  Answer = StoreAnswer;
-  has_block = in_area (tree_area g);
-  IsWellFormed = λ A. IfAny g.tree (IsTreeRegion (tree_area g) A);
-  map_of = λ A. pairs_if_any g.tree (tree_map (tree_area g) A);
-  act = tree_act;
-}
+image_tree g = pairs_store TreeCall StoreAnswer g.tree (in_area (tree_area g)) (IsTreeRegion (tree_area g)) (tree_map (tree_area g)) tree_act
 
 -- The files of an image, whose names are in its tree store: the blocks of both regions are theirs, where there are files.
 abbrev pub image_files : Geometry → MapStore
-image_files g = record {
-  Map = Pairs;
-  Call = FileCall;
-  Answer = FileAnswer;
-  has_block = λ b. cond (file_blocks g == 0) false (in_areas (files_area g) b);
-  IsWellFormed = λ A. IfAny (file_blocks g) (AreFileRegions (files_area g) A);
-  map_of = λ A. pairs_if_any (file_blocks g) (files (files_area g) A);
-  act = file_act;
-}
+image_files g =
+    pairs_store FileCall FileAnswer (file_blocks g) (λ b. cond (file_blocks g == 0) false (in_areas (files_area g) b)) (AreFileRegions (files_area g)) (files (files_area g)) file_act
 
 -- A store of an image that is looked at beside the hash store, by the image's geometry, and which operations call it or the hash
 -- store. The tree store and the files are two such, and no transaction writes both: the names of files are in the tree store.
@@ -61,29 +50,17 @@ pub record SecondStore : Type 1 where
   pub act : Call → Map → Answer × Map
   pub answered : Op → Reply → Option (Answered Call Answer)
 
+-- a second store of pairs
+abbrev pub second_of_pairs : (Call Answer : Type 0) (has_block : Geometry → ℕ → Bool) (IsWellFormed : Geometry → Array → Type 0) (map_of : Geometry → Array → Pairs) (act : Call → Pairs → Answer × Pairs)
+    (answered : Op → Reply → Option (Answered Call Answer)) → SecondStore
+second_of_pairs Call Answer has_block IsWellFormed map_of act answered =
+    record { Map = Pairs; Call = Call; Answer = Answer; has_block = has_block; IsWellFormed = IsWellFormed; map_of = map_of; act = act; answered = answered }
+
 abbrev pub the_tree : SecondStore
-the_tree = record {
-  Map = Pairs;
-  Call = TreeCall;
-  Answer = StoreAnswer;
-  has_block = λ g. (image_tree g).has_block;
-  IsWellFormed = λ g. (image_tree g).IsWellFormed;
-  map_of = λ g. (image_tree g).map_of;
-  act = tree_act;
-  answered = answered;
-}
+the_tree = second_of_pairs TreeCall StoreAnswer (λ g. (image_tree g).has_block) (λ g. (image_tree g).IsWellFormed) (λ g. (image_tree g).map_of) tree_act answered
 
 abbrev pub the_files : SecondStore
-the_files = record {
-  Map = Pairs;
-  Call = FileCall;
-  Answer = FileAnswer;
-  has_block = λ g. (image_files g).has_block;
-  IsWellFormed = λ g. (image_files g).IsWellFormed;
-  map_of = λ g. (image_files g).map_of;
-  act = file_act;
-  answered = file_answered;
-}
+the_files = second_of_pairs FileCall FileAnswer (λ g. (image_files g).has_block) (λ g. (image_files g).IsWellFormed) (λ g. (image_files g).map_of) file_act file_answered
 
 -- it in an image of this geometry, whose form says nothing of the stores
 abbrev pub second_store : SecondStore → Geometry → MapStore

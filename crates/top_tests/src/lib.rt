@@ -2,6 +2,8 @@
 #![tactic(auto)]
 
 #[cfg(test)]
+mod asked;
+#[cfg(test)]
 mod drawn_lines;
 #[cfg(test)]
 mod plain_files;
@@ -27,5 +29,7 @@ mod tests_rows;
 mod tests_runs;
 #[cfg(test)]
 mod tests_stores;
+#[cfg(test)]
+mod tests_told;
 #[cfg(test)]
 mod tests_trees;

@@ -1,25 +1,14 @@
 // The commands that read no script. The digests were made by another program, over the bytes that the rules say.
+use crate::asked::{gave, same};
 use iso_io::{MemSink, MemSource};
 use iso_memdisk::{CallKind, MemDisk};
 use std::alloc::{AllocError, Global};
-use std::fmt::Debug;
 use std::process::Abort;
 use std::test::Fail;
 use top_calls::{
     Fault, Outcome, RECOVER, RUN, SMALL, answered, answers_on, call, call_on, call_over, faulty,
     joined, no_disk, one_put_image, part, repeated, run_image, whole_sink,
 };
-
-// Two values that are to be the same. Each test that compared them itself would prove what is printed where they differ.
-pub(crate) fn same<T: PartialEq + Debug + Drop>(rt: &impl Abort, found: T, wanted: T) {
-    assert_eq!(rt; found, wanted);
-}
-
-// That a call ended with this status and this output.
-pub(crate) fn gave(rt: &impl Abort, outcome: &Outcome, status: u8, output: &[u8]) {
-    let found = (outcome.status, outcome.output.as_slice());
-    same(rt, found, (status, output));
-}
 
 // A script on the new image that these words make is answered so, all of it, with status 0.
 pub(crate) fn told(
@@ -33,28 +22,19 @@ pub(crate) fn told(
     Ok(())
 }
 
-// The same of a run on an image of these bytes.
-pub(crate) fn told_on(
-    rt: &impl Abort,
-    alloc: Global,
-    image: Vec<u8>,
-    script: &[u8],
-    replies: &[u8],
-) -> Result<(), Fail> {
-    gave(rt, &run_image(alloc, image, script)?, 0, replies);
-    Ok(())
-}
-
-// The same of lines behind others on a new small image, with the replies to these.
+// Of lines behind others on a new small image, with the replies to these, each are answered so, under the names of what they show.
 pub(crate) fn told_behind(
     rt: &impl Abort,
     alloc: Global,
     front: (&[u8], &[u8]),
-    lines: &[u8],
-    replies: &[u8],
+    rows: &[(&str, &[u8], &[u8])],
 ) -> Result<(), Fail> {
-    let script = joined(alloc, front.0, lines)?;
-    told(rt, alloc, SMALL, &script, &joined(alloc, front.1, replies)?)
+    for (name, lines, replies) in rows {
+        let script = joined(alloc, front.0, lines)?;
+        let expected = joined(alloc, front.1, replies)?;
+        assert!(rt; answers_on(alloc, SMALL, &script, &expected)?, "{name}");
+    }
+    Ok(())
 }
 
 // The same of one script after the other: the first on the new image that these words make, and then each on what is left.

@@ -1,8 +1,8 @@
 // Groups of released transactions: what each label is answered, and the device calls that a group makes.
+use crate::asked::{Scripts, gave, same};
 use crate::talk::Talk;
-use crate::tests_commands::{gave, same, told, told_behind};
+use crate::tests_commands::{told, told_behind};
 use std::alloc::{AllocError, Global};
-use std::process::Abort;
 use std::test::Fail;
 use top_calls::{Outcome, SMALL, call, joined, part};
 
@@ -11,23 +11,33 @@ const TWO_PUTS: &[u8] = b"1 begin\n1 put 0 0 aa\n1 release a\n2 begin\n2 put 0 1
 
 const TWO_REPLIES: &[u8] = b"1 ok begin 0\n1 ok\n1 ok\n2 ok begin 0\n2 ok\n2 ok\n";
 
-/// That these lines behind the two transactions are answered so.
-fn behind_two(rt: &impl Abort, alloc: Global, lines: &[u8], replies: &[u8]) -> Result<(), Fail> {
-    told_behind(rt, alloc, (TWO_PUTS, TWO_REPLIES), lines, replies)
-}
+/// Lines behind the two transactions and their replies, each with the name of what they show.
+const BEHIND_TWO: &[(&str, &[u8], &[u8])] = &[
+    (
+        "each_label_is_answered",
+        b"3 group a b zz\n",
+        b"3 ok commit 1; commit 2; none\n",
+    ),
+    (
+        "a_group_ends_in_the_order_of_its_labels",
+        b"3 group b zz a\n3 stat\n3 begin\n3 get 0 0 2\n",
+        b"3 ok commit 1; none; commit 2\n3 ok last 2 base 0 trim 0 live 0 used 58 versions 2\n3 ok begin 2\n3 ok aabb\n",
+    ),
+    (
+        "a_label_that_is_named_twice",
+        b"3 group b b a b\n",
+        b"3 ok commit 1; none; commit 2; none\n",
+    ),
+    (
+        "a_client_keeps_its_own_transaction",
+        b"3 begin\n3 put 1 0 cc\n3 group a b\n3 put 1 1 dd\n3 end\n",
+        b"3 ok begin 0\n3 ok\n3 ok commit 1; commit 2\n3 ok\n3 ok commit 3\n",
+    ),
+];
 
 #[test]
-fn each_label_is_answered(rt: HostRuntime) -> Result<(), Fail> {
-    let replies = b"3 ok commit 1; commit 2; none\n";
-    behind_two(&rt, rt.alloc(), b"3 group a b zz\n", replies)
-}
-
-#[test]
-fn a_group_ends_in_the_order_of_its_labels(rt: HostRuntime) -> Result<(), Fail> {
-    let lines = b"3 group b zz a\n3 stat\n3 begin\n3 get 0 0 2\n";
-    let replies =
-        b"3 ok commit 1; none; commit 2\n3 ok last 2 base 0 trim 0 live 0 used 58 versions 2\n3 ok begin 2\n3 ok aabb\n";
-    behind_two(&rt, rt.alloc(), lines, replies)
+fn lines_behind_two_transactions_under_labels(rt: HostRuntime) -> Result<(), Fail> {
+    told_behind(&rt, rt.alloc(), (TWO_PUTS, TWO_REPLIES), BEHIND_TWO)
 }
 
 /// What lines make of a script on a new image, and how many calls of the disk they add.
@@ -59,32 +69,6 @@ fn a_group_without_a_commit_makes_none(rt: HostRuntime) -> Result<(), Fail> {
     gave(&rt, &after, 0, replies);
     same(&rt, calls, 0);
     Ok(())
-}
-
-#[test]
-fn a_member_conflicts_with_an_earlier_one(rt: HostRuntime) -> Result<(), Fail> {
-    let script =
-        b"1 begin\n1 put 0 0 aa\n1 release a\n2 begin\n2 read 0\n2 put 1 0 bb\n2 release b\n3 group a b\n3 takeover b\n";
-    let replies =
-        b"1 ok begin 0\n1 ok\n1 ok\n2 ok begin 0\n2 ok Z\n2 ok\n2 ok\n3 ok commit 1; conflict with 1 block 0 at 0\n3 no-handle\n";
-    told(&rt, rt.alloc(), SMALL, script, replies)
-}
-
-#[test]
-fn a_label_that_is_named_twice(rt: HostRuntime) -> Result<(), Fail> {
-    behind_two(
-        &rt,
-        rt.alloc(),
-        b"3 group b b a b\n",
-        b"3 ok commit 1; none; commit 2; none\n",
-    )
-}
-
-#[test]
-fn a_client_keeps_its_own_transaction(rt: HostRuntime) -> Result<(), Fail> {
-    let lines = b"3 begin\n3 put 1 0 cc\n3 group a b\n3 put 1 1 dd\n3 end\n";
-    let replies = b"3 ok begin 0\n3 ok\n3 ok commit 1; commit 2\n3 ok\n3 ok commit 3\n";
-    behind_two(&rt, rt.alloc(), lines, replies)
 }
 
 /// A transaction of client 1 with these accesses for each of the labels, released under it.
@@ -152,11 +136,22 @@ fn sixteen_labels_of_every_kind(rt: HostRuntime) -> Result<(), Fail> {
     told(&rt, rt.alloc(), line, &talk.script, &talk.replies)
 }
 
-#[test]
-fn members_of_either_mode(rt: HostRuntime) -> Result<(), Fail> {
-    let script =
-        b"1 upgrade\n1 begin snapshot\n1 read 0\n1 put 1 0 bb\n1 release a\n2 begin serial\n2 read 0\n2 put 2 0 cc\n2 release b\n3 begin\n3 put 0 0 aa\n3 release c\n4 group c a b\n";
-    let replies =
-        b"1 ok upgrade 0\n1 ok begin 0\n1 ok Z\n1 ok\n1 ok\n2 ok begin 0\n2 ok Z\n2 ok\n2 ok\n3 ok begin 0\n3 ok\n3 ok\n4 ok commit 1; commit 2; conflict with 1 block 0 at 0\n";
-    told(&rt, rt.alloc(), SMALL, script, replies)
-}
+/// Scripts on images, each with the name of what it shows.
+pub(crate) const TOLD: &[(&str, &str, Scripts)] = &[
+    (
+        "a_member_conflicts_with_an_earlier_one",
+        SMALL,
+        &[(
+            b"1 begin\n1 put 0 0 aa\n1 release a\n2 begin\n2 read 0\n2 put 1 0 bb\n2 release b\n3 group a b\n3 takeover b\n",
+            b"1 ok begin 0\n1 ok\n1 ok\n2 ok begin 0\n2 ok Z\n2 ok\n2 ok\n3 ok commit 1; conflict with 1 block 0 at 0\n3 no-handle\n",
+        )],
+    ),
+    (
+        "members_of_either_mode",
+        SMALL,
+        &[(
+            b"1 upgrade\n1 begin snapshot\n1 read 0\n1 put 1 0 bb\n1 release a\n2 begin serial\n2 read 0\n2 put 2 0 cc\n2 release b\n3 begin\n3 put 0 0 aa\n3 release c\n4 group c a b\n",
+            b"1 ok upgrade 0\n1 ok begin 0\n1 ok Z\n1 ok\n1 ok\n2 ok begin 0\n2 ok Z\n2 ok\n2 ok\n3 ok begin 0\n3 ok\n3 ok\n4 ok commit 1; commit 2; conflict with 1 block 0 at 0\n",
+        )],
+    ),
+];

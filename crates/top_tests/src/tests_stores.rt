@@ -1,52 +1,55 @@
 // Scripts on images with a hash store.
-use crate::tests_commands::{refused, same, told};
+use crate::asked::{Scripts, same};
+use crate::tests_commands::refused;
 use std::test::Fail;
 use top_calls::call;
 
 // Eight blocks of 256 bytes, of which the first three are a hash store: one bucket of three cells, and one overflow block.
 const STORE: &str = "isotope new t.img --block-size 256 --blocks 8 --log 4096 --hash 3";
 
-#[test]
-fn two_clients_change_keys_of_a_large_store(rt: HostRuntime) -> Result<(), Fail> {
-    let script =
-        b"1 begin\n1 hput 616263 64\n1 hput 626f62 00\n1 end\n2 begin\n3 begin\n2 hget 616263\n3 hget 616263\n2 hput 616263 5a\n2 hput 626f62 0a\n2 end\n3 hput 616263 63\n3 end\n3 begin\n3 hget 616263\n3 hget 626f62\n3 end\n";
-    let replies =
-        b"1 ok begin 0\n1 ok\n1 ok\n1 ok commit 1\n2 ok begin 1\n3 ok begin 1\n2 ok 64\n3 ok 64\n2 ok\n2 ok\n2 ok commit 2\n3 ok\n3 conflict with 2 block 88 at 2017\n3 ok begin 2\n3 ok 5a\n3 ok 0a\n3 ok read-only\n";
-    told(
-        &rt,
-        rt.alloc(),
+/// Scripts on images, each with the name of what it shows.
+pub(crate) const TOLD: &[(&str, &str, Scripts)] = &[
+    (
+        "two_clients_change_keys_of_a_large_store",
         "isotope new t.img --hash 256",
-        script,
-        replies,
-    )
-}
-
-#[test]
-fn two_keys_of_one_block_do_not_conflict(rt: HostRuntime) -> Result<(), Fail> {
-    let script =
-        b"1 begin\n1 hput 61 31\n1 hput 62 32\n1 end\n1 begin\n2 begin\n1 hput 61 39\n2 hput 62 38\n1 end\n2 end\n";
-    let replies =
-        b"1 ok begin 0\n1 ok\n1 ok\n1 ok commit 1\n1 ok begin 1\n2 ok begin 1\n1 ok\n2 ok\n1 ok commit 2\n2 ok commit 3\n";
-    told(&rt, rt.alloc(), STORE, script, replies)
-}
-
-#[test]
-fn a_new_key_conflicts_with_a_walk(rt: HostRuntime) -> Result<(), Fail> {
-    let script =
-        b"1 begin\n1 hput 61 31\n1 hput 62 32\n1 end\n1 begin\n2 begin\n1 hput 63 33\n2 hput 62 38\n1 end\n2 end\n";
-    let replies =
-        b"1 ok begin 0\n1 ok\n1 ok\n1 ok commit 1\n1 ok begin 1\n2 ok begin 1\n1 ok\n2 ok\n1 ok commit 2\n2 conflict with 2 block 1 at 126\n";
-    told(&rt, rt.alloc(), STORE, script, replies)
-}
-
-#[test]
-fn a_full_store_takes_old_keys_alone(rt: HostRuntime) -> Result<(), Fail> {
-    let script =
-        b"1 begin\n1 hput 61 01\n1 hput 62 02\n1 hput 63 03\n1 hput 64 04\n1 hput 65 05\n1 hput 66 06\n1 hput 67 07\n1 hput 64 -\n1 hput 67 07\n1 hget 64\n1 end\n";
-    let replies =
-        b"1 ok begin 0\n1 ok\n1 ok\n1 ok\n1 ok\n1 ok\n1 ok\n1 no-blocks need 1 free 0\n1 ok\n1 no-blocks need 1 free 0\n1 ok -\n1 ok commit 1\n";
-    told(&rt, rt.alloc(), STORE, script, replies)
-}
+        &[(
+            b"1 begin\n1 hput 616263 64\n1 hput 626f62 00\n1 end\n2 begin\n3 begin\n2 hget 616263\n3 hget 616263\n2 hput 616263 5a\n2 hput 626f62 0a\n2 end\n3 hput 616263 63\n3 end\n3 begin\n3 hget 616263\n3 hget 626f62\n3 end\n",
+            b"1 ok begin 0\n1 ok\n1 ok\n1 ok commit 1\n2 ok begin 1\n3 ok begin 1\n2 ok 64\n3 ok 64\n2 ok\n2 ok\n2 ok commit 2\n3 ok\n3 conflict with 2 block 88 at 2017\n3 ok begin 2\n3 ok 5a\n3 ok 0a\n3 ok read-only\n",
+        )],
+    ),
+    (
+        "two_keys_of_one_block_do_not_conflict",
+        STORE,
+        &[(
+            b"1 begin\n1 hput 61 31\n1 hput 62 32\n1 end\n1 begin\n2 begin\n1 hput 61 39\n2 hput 62 38\n1 end\n2 end\n",
+            b"1 ok begin 0\n1 ok\n1 ok\n1 ok commit 1\n1 ok begin 1\n2 ok begin 1\n1 ok\n2 ok\n1 ok commit 2\n2 ok commit 3\n",
+        )],
+    ),
+    (
+        "a_new_key_conflicts_with_a_walk",
+        STORE,
+        &[(
+            b"1 begin\n1 hput 61 31\n1 hput 62 32\n1 end\n1 begin\n2 begin\n1 hput 63 33\n2 hput 62 38\n1 end\n2 end\n",
+            b"1 ok begin 0\n1 ok\n1 ok\n1 ok commit 1\n1 ok begin 1\n2 ok begin 1\n1 ok\n2 ok\n1 ok commit 2\n2 conflict with 2 block 1 at 126\n",
+        )],
+    ),
+    (
+        "a_full_store_takes_old_keys_alone",
+        STORE,
+        &[(
+            b"1 begin\n1 hput 61 01\n1 hput 62 02\n1 hput 63 03\n1 hput 64 04\n1 hput 65 05\n1 hput 66 06\n1 hput 67 07\n1 hput 64 -\n1 hput 67 07\n1 hget 64\n1 end\n",
+            b"1 ok begin 0\n1 ok\n1 ok\n1 ok\n1 ok\n1 ok\n1 ok\n1 no-blocks need 1 free 0\n1 ok\n1 no-blocks need 1 free 0\n1 ok -\n1 ok commit 1\n",
+        )],
+    ),
+    (
+        "a_damaged_block_is_named",
+        STORE,
+        &[(
+            b"1 begin\n1 put 1 12 01\n1 hget 61\n1 hput 61 31\n1 end\n",
+            b"1 ok begin 0\n1 ok\n1 broken block 1\n1 broken block 1\n1 ok commit 1\n",
+        )],
+    ),
+];
 
 #[test]
 fn a_chain_gives_its_last_block_back(rt: HostRuntime) -> Result<(), Fail> {
@@ -64,13 +67,6 @@ fn a_chain_gives_its_last_block_back(rt: HostRuntime) -> Result<(), Fail> {
     assert!(rt; map == Some(b"04".as_slice()));
     assert!(rt; outcome.output.ends_with(b"1 ok\n1 ok 08\n1 ok commit 1\n"));
     Ok(())
-}
-
-#[test]
-fn a_damaged_block_is_named(rt: HostRuntime) -> Result<(), Fail> {
-    let script = b"1 begin\n1 put 1 12 01\n1 hget 61\n1 hput 61 31\n1 end\n";
-    let replies = b"1 ok begin 0\n1 ok\n1 broken block 1\n1 broken block 1\n1 ok commit 1\n";
-    told(&rt, rt.alloc(), STORE, script, replies)
 }
 
 #[test]

@@ -1,32 +1,19 @@
 -- How tickets, places, numbers and units stay dealt among the passes.
-use Rattle.turn_lock.proofs.{Words.{◌≡◌, ◌≢◌, ℕ, zero, suc, ◌+◌, ◌<◌, ◌≤◌, List, [], ◌∷◌, ◌++◌, length, set, Option, Some, None, IsSome, sym, refl, ap, ◌∙◌, subst, ⊎_elim, arith, length-append, at_set, at_snoc, set_else, LAST, View, Stage, Idle, Waits, Turns, total, hit, times, AllBelow, places, longer, option_to_list, IsOut, AreFree, AreHeld, fresh, spent, waits, turns, gave, kept_part, given_part, both, ticket_at, tickets_at, turns_at, Once, drawn_by, turning, placed_by, held_by, Whole, Knows, Dealt, IsPrefix, dite, some, some-ne-none, some-injective, ℕ_discrete, dec_le, dec_lt, get_elem?}, Prefixes.{prefix_self, prefix_whole, prefix_length, prefix_more, longer_left, longer_right, prefix_longer, longer_whole}, Totals.{total_set, total_at, total_two, total_append, total_only, total_le_at, hit_same, hit_other}, Rising.{below_more, below_snoc, rises_snoc, times_above, times_append, times_merge, below_merge, merge_rises, all_places}, Outs.{times_parted, held_on}}
+use Rattle.turn_lock.proofs.{Words.{◌≡◌, ◌≢◌, ℕ, zero, suc, ◌+◌, ◌<◌, ◌≤◌, List, [], ◌∷◌, ◌++◌, length, set, Option, Some, None, IsSome, sym, refl, ap, ◌∙◌, subst, ⊎_elim, arith, length-append, at_set, at_snoc, set_else, LAST, View, Stage, Idle, Waits, Turns, total, hit, times, AllBelow, places, longer, option_to_list, IsOut, AreFree, AreHeld, fresh, spent, waits, turns, gave, kept_part, given_part, both, ticket_at, tickets_at, turns_at, Once, drawn_by, turning, placed_by, held_by, Whole, Knows, Dealt, IsPrefix, dite, some, some-ne-none, dec_le, get_elem?}, Prefixes.{prefix_self, prefix_whole, prefix_length, prefix_more, longer_left, longer_right, prefix_longer, longer_whole}, Totals.{total_set, total_at, total_two, total_append, total_only, total_le_at, hit_same, hit_other}, Rising.{below_more, below_snoc, rises_snoc, times_above, times_append, times_merge, below_merge, merge_rises, all_places}, Outs.{times_parted, held_on}}
 
 pub once_le : (from to n k : ℕ) → Once from to n k → k ≤ 1
-once_le from to n k o = dite {C = k ≤ 1} (dec_lt n from) (λ lt. let e = o.under lt in omega arith)
-    (λ ge. dite {C = k ≤ 1} (dec_lt n to) (λ lt. let e = o.within (omega arith) lt in omega arith) (λ past. let e = o.over (omega arith) in omega arith))
+once_le from to n k o = grind arith
 
 once_same : (from to n k k' : ℕ) → k' ≡ k → Once from to n k → Once from to n k'
 once_same from to n k k' e o = subst (Once from to n) (sym e) o
 
 -- one number more, at the end
 once_more : (from to n k k' : ℕ) → from ≤ to → k' ≡ k + hit to n → Once from to n k → Once from (to + 1) n k'
-once_more from to n k k' le e o = record {
-  within = λ a b. dite {C = k' ≡ 1} (ℕ_discrete to n)
-      (λ same. let h = hit_same to n same in let z = o.over (omega arith) in omega arith)
-      (λ other. let h = hit_other to n other in let z = o.within a (omega arith) in omega arith);
-  under = λ lt. let h = hit_other to n (λ q. absurd (omega arith)) in let z = o.under lt in omega arith;
-  over = λ ge. let h = hit_other to n (λ q. absurd (omega arith)) in let z = o.over (omega arith) in omega arith;
-}
+once_more from to n k k' le e o = grind (arith, hit_same, hit_other)
 
 -- one number less, at the beginning
 once_less : (from to n k k' : ℕ) → from < to → k' + hit from n ≡ k → Once from to n k → Once (from + 1) to n k'
-once_less from to n k k' lt e o = record {
-  within = λ a b. let h = hit_other from n (λ q. absurd (omega arith)) in let z = o.within (omega arith) b in omega arith;
-  under = λ below. dite {C = k' ≡ 0} (ℕ_discrete from n)
-      (λ same. let h = hit_same from n same in let z = o.within (omega arith) (omega arith) in omega arith)
-      (λ other. let h = hit_other from n other in let z = o.under (omega arith) in omega arith);
-  over = λ ge. let h = hit_other from n (λ q. absurd (omega arith)) in let z = o.over ge in omega arith;
-}
+once_less from to n k k' lt e o = grind (arith, hit_other, hit_same)
 
 waits_is_no_idle : (t : ℕ) → Waits t ≡ Idle → ⊥
 waits_is_no_idle t e = cc
@@ -87,7 +74,6 @@ module _ {E : Type 0} (hands : E → Option ℕ) (takes : E → List ℕ) (list 
   pub deals_draw : (id : ℕ) (v : View E) → get_elem? views id ≡ some v → v.stage ≡ Idle → 0 < v.units → Dealt hands takes list (tickets + 1) (set views id (waits tickets v))
   deals_draw id v at idle some_units =
       let k = d.each id v at in
-      let c = d.counted in
       restage (tickets + 1) id v v.seen (Waits tickets) at (let z : tickets_at v.stage ≡ 0 = ap tickets_at idle in omega arith)
       (λ n a b sum once. let z : ticket_at n v.stage ≡ 0 = ap (ticket_at n) idle in once_more (length list) tickets n a b (omega arith) (omega arith) once)
       record { begins = k.begins; left_begins = k.left_begins; right_begins = k.right_begins; below = k.below; rises = k.rises; whole = tt; note = λ none. absurd (omega arith) }
@@ -119,10 +105,7 @@ module _ {E : Type 0} (hands : E → Option ℕ) (takes : E → List ℕ) (list 
       omega arith
 
   pub served_is_drawn : (id t : ℕ) (v : View E) → get_elem? views id ≡ some v → v.stage ≡ Turns t → length list < tickets
-  served_is_drawn id t v at stage =
-      let a : tickets_at v.stage ≡ 1 = ap tickets_at stage in
-      let b = total_at (λ (u : View E). tickets_at u.stage) views id v at in
-      let c = d.counted in omega arith
+  served_is_drawn id t v at stage = grind (arith, total_at)
 
   -- an entry is added at a turn
   pub deals_entry : (id t : ℕ) (v : View E) (e : E) → get_elem? views id ≡ some v → v.stage ≡ Turns t → AreFree hands takes (option_to_list (hands e)) v.seen → AreHeld (takes e) v.holds
@@ -272,22 +255,12 @@ module _ {E : Type 0} (hands : E → Option ℕ) (takes : E → List ℕ) (list 
 
   -- and no pass has the turn, where it has none
   pub none_turns_at_end : (id : ℕ) (v : View E) → get_elem? views id ≡ some v → v.units ≡ LAST → v.stage ≡ Idle → turning views ≡ 0
-  none_turns_at_end id v at all idle =
-      total_only (λ (u : View E). turns_at u.stage) views id v at (λ j u ne is. ap turns_at (others_are_notes id v at all j u ne is).0) ∙ ap turns_at idle
+  none_turns_at_end id v at all idle = grind (arith, total_only, others_are_notes)
 
 module _ {E : Type 0} (hands : E → Option ℕ) (takes : E → List ℕ) where
   first_knows : (id : ℕ) (v : View E) → get_elem? (fresh ∷ []) id ≡ some v → Knows [] v
-  first_knows zero v at = subst (Knows []) (some-injective fresh v at)
-      record { begins = ([], refl); left_begins = ([], refl); right_begins = ([], refl); below = tt; rises = tt; whole = tt; note = λ none. (refl, refl, refl) }
+  first_knows zero v at = grind arith
   first_knows (suc id) v at = absurd (some-ne-none v (sym at))
 
   pub deals_first : Dealt hands takes [] 0 (fresh ∷ [])
-  deals_first = record {
-    counted = refl;
-    drawn = λ n. record { within = λ a b. absurd (omega arith); under = λ lt. absurd (omega arith); over = λ ge. refl };
-    placed = λ p. record { within = λ a b. absurd (omega arith); under = λ lt. absurd (omega arith); over = λ ge. refl };
-    units = refl;
-    alone = λ n. omega arith;
-    out = λ n lt. absurd (omega arith);
-    each = first_knows;
-  }
+  deals_first = grind (arith, first_knows)

@@ -237,7 +237,6 @@ module _ {X E : Type 0} (stands : X → List E → Type 0) (hands : E → Option
       → stands x v.seen
   ends_value id v ws xs slot x idle all final is full =
       let e = ends id v ws xs slot idle all final is in
-      let both_are : Some e.0 ≡ Some x = sym e.1 ∙ full in
       let same : e.0 ≡ x = cc in
       subst (λ (z : X). stands z v.seen) same e.2
 
@@ -284,8 +283,7 @@ module _ {X E : Type 0} (stands : X → List E → Type 0) (hands : E → Option
   -- the steps of a take, from the pass that it began with
   pub draws_from : (slots id n : ℕ) (m old : Sat X E) → m ≡ old → old.0.stage ≡ Idle → 0 < old.0.units → n < LAST
       → Allows Rule slots id m 0 (λ k. either (k == n) (n + 1) k) (drew (step slots 0 n (n + 1) none) m)
-  draws_from slots id n m old is idle some_units room =
-      subst (λ (q : Sat X E). Allows Rule slots id q 0 (λ k. either (k == n) (n + 1) k) (drew (step slots 0 n (n + 1) none) q)) (sym is) (draws slots id n old idle some_units room)
+  draws_from slots id n m old is idle some_units room = grind (arith, draws)
 
   pub looks_from : (slots id t : ℕ) (m : Sat X E) (v : View E) → m ≡ (waits t v, []) → Allows Rule slots id m 1 (λ n. n) (looked stands hands takes_back (step slots 1 0 0 none) m)
   looks_from slots id t m v is =
@@ -293,42 +291,22 @@ module _ {X E : Type 0} (stands : X → List E → Type 0) (hands : E → Option
 
   pub comes_to_turn : (slots t found : ℕ) (m m' : Sat X E) (v : View E) → m ≡ (waits t v, []) → looked stands hands takes_back (step slots 1 0 0 none) m found m' → found ≡ t
       → Turned stands hands takes_back t (waits t v) m'
-  comes_to_turn slots t found m m' v is told served =
-      let at : looked stands hands takes_back (step slots 1 0 0 none) (waits t v, []) found m' = subst (λ (q : Sat X E). looked stands hands takes_back (step slots 1 0 0 none) q found m') is told in
-      at.0 served
+  comes_to_turn slots t found m m' v is told served = grind arith
 
   pub has_slot : (t : ℕ) (v : View E) (m' : Sat X E) → Turned stands hands takes_back t v m' → (o : Option X) × (m'.1 ≡ (0, o) ∷ rest m'.1)
   has_slot t v m' c = (Some c.value, c.slot_is ∙ ap (λ (q : List (ℕ × Option X)). (0, Some c.value) ∷ q) (sym (ap rest c.slot_is)))
 
   pub has_turn : (t : ℕ) (v : View E) (m' m'' : Sat X E) → Turned stands hands takes_back t v m' → m'' ≡ (m'.0, (0, None) ∷ rest m'.1) → IsPlaced v → IsAtTurn m'' t
-  has_turn t v m' m'' c is placed =
-      let there : m'' ≡ (turns t c.list v, (0, None) ∷ []) = is ∙ (λ i. (c.view_is i, (0, None) ∷ rest (c.slot_is i))) in (
-        ap (λ (q : Sat X E). q.0.stage) there,
-        ap (λ (q : Sat X E). q.1) there,
-        subst (λ (q : Sat X E). IsPlaced q.0) (sym there) (placed.0, below_more (length v.seen) (length c.list) v.mine (prefix_length v.seen c.list c.seen) placed.1),
-        c.place ∙ ap (λ (q : Sat X E). length q.0.seen) (sym there),
-      )
+  has_turn t v m' m'' c is placed = grind (arith, below_more, prefix_length)
 
   -- a pass at its turn, after a join
   pub whole_after : (t : ℕ) (m m' old : Sat X E) (w : View E) → m ≡ (both old.0 w, old.1) → m' ≡ m → Settled m.0 → IsAtTurn old t
       → m'.0.seen ≡ old.0.seen
-  whole_after t m m' old w is same done turn =
-      let left : m.0.left ≡ old.0.seen = ap (λ (q : Sat X E). q.0.left) is in
-      let stage : m.0.stage ≡ Turns t = ap (λ (q : Sat X E). q.0.stage) is ∙ turn.0 in
-      ap (λ (q : Sat X E). q.0.seen) same ∙ (sym (done.whole t stage (turn.3 ∙ sym (ap length left))) ∙ left)
+  whole_after t m m' old w is same done turn = grind arith
 
   pub turn_after : (t : ℕ) (m m' old : Sat X E) (w : View E) → m ≡ (both old.0 w, old.1) → m' ≡ m → Settled m.0 → IsAtTurn old t
       → IsAtTurn m' t
-  turn_after t m m' old w is same done turn = (
-    ap (λ (q : Sat X E). q.0.stage) (same ∙ is) ∙ turn.0,
-    ap (λ (q : Sat X E). q.1) (same ∙ is) ∙ turn.1,
-    subst (λ (q : Sat X E). IsPlaced q.0) (sym same) done.placed,
-    turn.3 ∙ ap length (sym (whole_after t m m' old w is same done turn)),
-  )
+  turn_after t m m' old w is same done turn = grind (arith, whole_after)
 
   pub rest_after : (m m' old : Sat X E) (w : View E) → m ≡ (both old.0 w, old.1) → m' ≡ m → Settled m.0 → IsAtRest old → IsAtRest m'
-  rest_after m m' old w is same done idle = (
-    ap (λ (q : Sat X E). q.0.stage) (same ∙ is) ∙ idle.0,
-    ap (λ (q : Sat X E). q.1) (same ∙ is) ∙ idle.1,
-    subst (λ (q : Sat X E). IsPlaced q.0) (sym same) done.placed,
-  )
+  rest_after m m' old w is same done idle = grind arith

@@ -78,17 +78,7 @@ module _ {E : Type 0} (hands : E → Option ℕ) (takes : E → List ℕ) where
   -- after an entry of a pass that holds the numbers ns: no number is held twice, and each that is held is out
   pub held_on : (n : ℕ) (e : E) (ns : List ℕ) (es : List E) (k k' : ℕ) → k' + times n ns ≡ k + times n (held_after hands takes e ns) → times n ns ≤ k → k ≤ 1
       → (0 < k → IsOut hands takes n es) → AreFree hands takes (option_to_list (hands e)) es → AreHeld (takes e) ns → (k' ≤ 1) × (0 < k' → IsOut hands takes n (es ++ e ∷ []))
-  held_on n e ns es k k' sum some one out free held =
-      let given = option_to_list (hands e) in
-      let after = times_append n given (without (takes e) ns) in
-      let a = times_handed n (hands e) in
-      let b = times_without n (takes e) ns in
-      let x : Bool = is_among n given in
-      let y : Bool = is_among n (takes e) in
-      let both : k' + times n ns ≡ k + (cond x 1 0 + cond y 0 (times n ns)) = sum ∙ ap (λ z. k + z) (after ∙ (λ i. a i + b i)) in
-      let r = still_alone x y (is_out hands takes n es) k k' (times n ns) both some one out
-      (among_all (λ m. is_out hands takes m es ≡ false) n given free) (among_all (λ m. 0 < times m ns) n (takes e) held) in
-      (r.0, λ lt. out_snoc n es e ∙ r.1 lt)
+  held_on n e ns es k k' sum some one out free held = grind (arith, times_append, times_handed, times_without, still_alone, among_all, out_snoc)
 
   -- a number that is not handed out and was not out, or is taken back, is not out afterwards
   pub stays_free : (n : ℕ) (es : List E) (e : E) → is_among n (option_to_list (hands e)) ≡ false → (is_among n (takes e) ≡ false → is_out hands takes n es ≡ false) → is_out hands takes n (es ++ e ∷ []) ≡ false
@@ -100,12 +90,7 @@ module _ {E : Type 0} (hands : E → Option ℕ) (takes : E → List ℕ) where
 
   -- after an entry, the number that it hands out is out, and held by its pass
   pub handed_out : (ns : List ℕ) (es : List E) (e : E) → AreOut hands takes (option_to_list (hands e)) (es ++ e ∷ []) × AreHeld (option_to_list (hands e)) (held_after hands takes e ns)
-  handed_out ns es e =
-      let given = option_to_list (hands e) in (
-        all_among (λ n. IsOut hands takes n (es ++ e ∷ [])) given (λ n is. out_snoc n es e ∙ ap (λ b. cond b true (cond (is_among n (takes e)) false (is_out hands takes n es))) is),
-        all_among (λ n. 0 < times n (held_after hands takes e ns)) given
-            (λ n is. let once : times n given ≡ 1 = times_handed n (hands e) ∙ ap (λ b. cond b 1 0) is in let after = times_append n given (without (takes e) ns) in omega arith),
-      )
+  handed_out ns es e = grind (arith, all_among, out_snoc, times_handed, times_append)
 
   -- after an entry, none of the numbers that it takes back is out
   pub taken_free : (ns : List ℕ) (es : List E) (e : E) → ((n : ℕ) → 0 < times n ns → IsOut hands takes n es) → AreFree hands takes (option_to_list (hands e)) es → AreHeld (takes e) ns

@@ -44,16 +44,10 @@ module _ {A : Type 0} where
   longer_is xs ys = longer_by xs ys (nat_lt (length xs) (length ys)) refl
 
   pub longer_left : (xs ys : List A) → length xs ≤ length (longer xs ys)
-  longer_left xs ys = ⊎_elim
-      (λ (t : (longer xs ys ≡ ys) × (length xs ≤ length ys)). let e : length (longer xs ys) ≡ length ys = ap length t.0 in omega arith)
-      (λ (t : (longer xs ys ≡ xs) × (length ys ≤ length xs)). let e : length (longer xs ys) ≡ length xs = ap length t.0 in omega arith)
-      (longer_is xs ys)
+  longer_left xs ys = grind (arith, longer_is)
 
   pub longer_right : (xs ys : List A) → length ys ≤ length (longer xs ys)
-  longer_right xs ys = ⊎_elim
-      (λ (t : (longer xs ys ≡ ys) × (length xs ≤ length ys)). let e : length (longer xs ys) ≡ length ys = ap length t.0 in omega arith)
-      (λ (t : (longer xs ys ≡ xs) × (length ys ≤ length xs)). let e : length (longer xs ys) ≡ length xs = ap length t.0 in omega arith)
-      (longer_is xs ys)
+  longer_right xs ys = grind (arith, longer_is)
 
   pub prefix_longer : (xs ys zs : List A) → IsPrefix xs zs → IsPrefix ys zs → IsPrefix (longer xs ys) zs
   prefix_longer xs ys zs p q = ⊎_elim
@@ -63,7 +57,4 @@ module _ {A : Type 0} where
 
   -- the whole list is the longer one
   pub longer_whole : (xs ys : List A) → IsPrefix ys xs → longer xs ys ≡ xs
-  longer_whole xs ys p = ⊎_elim
-      (λ (t : (longer xs ys ≡ ys) × (length xs ≤ length ys)). t.0 ∙ prefix_whole ys xs p t.1)
-      (λ (t : (longer xs ys ≡ xs) × (length ys ≤ length xs)). t.0)
-      (longer_is xs ys)
+  longer_whole xs ys p = grind (arith, prefix_whole, longer_is)

@@ -1,5 +1,5 @@
 -- Rising lists of numbers, and how often a number stands in a list.
-use Rattle.turn_lock.proofs.{Words.{◌≡◌, ℕ, zero, suc, ◌+◌, ◌<◌, ◌≤◌, ◌≢◌, Bool, true, false, nat_lt, cond, List, [], ◌∷◌, ◌++◌, refl, ap, sym, subst, arith, nat_tests, hit, times, RisesFrom, AllBelow, insert_rising, merge, count_up, places, dite, ℕ_discrete}, Totals.{total_append, hit_same, hit_other}}
+use Rattle.turn_lock.proofs.{Words.{◌≡◌, ℕ, zero, suc, ◌+◌, ◌<◌, ◌≤◌, Bool, true, false, nat_lt, cond, List, [], ◌∷◌, ◌++◌, refl, ap, sym, subst, arith, nat_tests, hit, times, RisesFrom, AllBelow, insert_rising, merge, count_up, places, dite, ℕ_discrete}, Totals.{total_append, hit_same, hit_other}}
 
 pub below_more : (n m : ℕ) (xs : List ℕ) → n ≤ m → AllBelow n xs → AllBelow m xs
 below_more n m [] le b = tt
@@ -59,10 +59,7 @@ below_merge m (x ∷ xs) ys a b = below_insert m x (merge xs ys) a.0 (below_merg
 insert_rises_by : (k n x : ℕ) (xs : List ℕ) (b : Bool) → nat_lt n x ≡ b → k ≤ n → RisesFrom k (x ∷ xs) → times n (x ∷ xs) ≡ 0
     → (x < n → RisesFrom (suc x) (insert_rising n xs)) → RisesFrom k (insert_rising n (x ∷ xs))
 insert_rises_by k n x xs true is le r none ih = subst (RisesFrom k) (sym (insert_by n x xs true is)) (le, (grind (arith, nat_tests), r.1))
-insert_rises_by k n x xs false is le r none ih =
-    let at_least : x ≤ n = grind (arith, nat_tests) in
-    let other : x ≢ n = λ e. (let h = hit_same x n e in absurd (omega arith)) in
-    subst (RisesFrom k) (sym (insert_by n x xs false is)) (r.0, ih (omega arith))
+insert_rises_by k n x xs false is le r none ih = grind (arith, hit_same, insert_by)
 
 insert_rises : (k n : ℕ) (xs : List ℕ) → k ≤ n → RisesFrom k xs → times n xs ≡ 0 → RisesFrom k (insert_rising n xs)
 insert_rises k n [] le r none = (le, tt)

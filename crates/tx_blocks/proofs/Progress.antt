@@ -134,6 +134,10 @@ ran_at whole t u r now = record {
   told = λ A told. now.told A told ∙ ap (λ xs. (xs, Some r)) (append-nil now.done);
 }
 
+-- what is done has no access
+pub ran_done : {R : Type 0} (r : R) (t : Tx) → Ran (Done r) t t r
+ran_done r t = ran_at (Done r) t t r (at_start (Done r) t)
+
 cut_at : {R : Type 0} (whole rest : Program R) (t u v : Tx) → IsAt whole rest t u → v ≡ u → ForSome t.base (λ A. outcome (room_of u) rest (own A u.accesses) ≡ ([], None)) → Ends whole t v None
 cut_at whole rest t u v now same none = record {
   done = now.done;

@@ -4,5 +4,5 @@
 mod steps;
 mod tx_blocks;
 
-pub use steps::{area_of, last_store, look, look_whole, mark, reserve, store};
+pub use steps::{area_of, last_store, look, look_whole, mark, reserve, store, store_bit};
 pub use tx_blocks::TxBlocks;

@@ -1,8 +1,8 @@
 // The steps that calls over a transaction are made of: a read or a write with its marks, and a test of the room.
-ghost use Rattle.std.specs.{Prelude.{◌≡◌, ◌<◌, ◌≤◌, OnOk, OnErr, IfErr, Ok, length, [], ◌∷◌, true, None}, List.AllByRecursion, Option.ForSome};
+ghost use Rattle.std.specs.{Prelude.{◌≡◌, ◌<◌, ◌≤◌, OnOk, OnErr, IfErr, Ok, length, slice_index, [], ◌∷◌, true, None}, List.AllByRecursion, Option.ForSome};
 ghost use Rattle.iso_model.specs.{Effect.own, Marks.marked, Premises.{block_at, IsSpan}};
-ghost use Rattle.store_model.specs.Stores.{Done, Store, look_access, store_access};
-ghost use Rattle.tx_blocks.specs.{Tx.{mark_refusal, room_of, with_accesses, IsLater, Tx}, Runs.{area_of, AreBytesOf, Behaves, HasRun, IsCause}};
+ghost use Rattle.store_model.specs.{Cells.block_with, FreeMap.{bit_mark, bit_place}, Stores.{Done, Store, look_access, store_access}};
+ghost use Rattle.tx_blocks.specs.{Tx.{mark_refusal, room_of, with_accesses, IsLater, Tx}, Runs.{area_of, AreBytesOf, Behaves, HasRun, HasStored, IsCause}};
 
 use crate::TxBlocks;
 use iso_model::Span;
@@ -97,6 +97,31 @@ pub fn store<T: TxBlocks>(
         mark(tx, *span);
     }
     Ok(())
+}
+
+/// Writes the byte of a region's map with the bit of a block, as the bytes have it, which are zero but for it then.
+pub fn store_bit<T: TxBlocks>(
+    tx: &mut T,
+    area: Area,
+    block: u32,
+    map: &mut [u8],
+) -> Result<(), TxError>
+    requires map { length map.old ≡ area.size }
+    requires size { (T.state tx.old).size ≡ area.size }
+    requires start { area.start < (T.state tx.old).blocks }
+    requires bit { bit_place block < area.size }
+    ensures stored { HasStored (store_access area.start (bit_mark block ∷ []) (block_with area.size (bit_place block) (slice_index map.old (bit_place block) ∷ []))) (T.state tx.old) (T.state tx.new) (T.device tx.old) (T.device tx.new) result }
+    ensures length { length map.new ≡ area.size }
+{
+    let at = 64 + (block / 8) as usize;
+    let byte = map[at];
+    map.fill(0);
+    map[at..at + 1].copy_from_slice(&[byte]);
+    let span = Span {
+        off: at as u16,
+        len: 1,
+    };
+    store(tx, area.start, &[span], map)
 }
 
 /// The one write of a store's call, or its last, and the answer that the call has then.

@@ -1,5 +1,5 @@
 -- One row more in the patches.
-use Rattle.tx_table.proofs.Words.{◌≡◌, ◌∙◌, refl, sym, ap, ℕ, zero, suc, ◌+◌, ◌<◌, Bool, true, false, ◌==◌, ◌&&◌, nat_lt, cond, inl, inr, List, [], ◌∷◌, ◌++◌, length, get_or, map, take, arith, ne_eqb, Option, IsTrue, AllByRecursion, cases_eq, common_steps, Access, Kind, Extent, touches, AreTouched, Array, effects_from, is_write, own, block_at, HasBytes, laid, written, written_effects, effects_kept, effects_shown, Row, AreEffects, has_patch, patch_at, HavePatches, access_of, IsRow}
+use Rattle.tx_table.proofs.Words.{◌≡◌, ◌∙◌, refl, sym, ap, ℕ, zero, suc, ◌+◌, ◌<◌, Bool, true, false, ◌==◌, ◌&&◌, nat_lt, cond, inl, inr, List, [], ◌∷◌, ◌++◌, length, get_or, map, take, arith, ne_eqb, Option, IsTrue, AllByRecursion, cases_eq, common_steps, Access, Kind, Extent, touches, AreTouched, Array, is_write, own, block_at, HasBytes, laid, written, written_effects, effects_kept, effects_shown, Row, AreEffects, has_patch, patch_at, HavePatches, access_of, IsRow}
 
 -- the accesses of one row more
 pub rows_more : (i : ℕ) (rows : List Row) (d : Row) → i < length rows → take (i + 1) (map access_of rows) ≡ take i (map access_of rows) ++ access_of (get_or rows i d) ∷ []
@@ -34,9 +34,7 @@ write_applied size done a old new write long before step = record {
 -- a read more
 pub read_applied : (size : ℕ) (done : List Access) (a : Access) (entries : List (ℕ × List (Option ℕ))) → is_write a ≡ false
     → AreEffects size done entries → AreEffects size (done ++ a ∷ []) entries
-read_applied size done a entries read before = record {
-  each = λ b. before.each b ∙ sym (effects_kept done a b 0 size (λ is. absurd (cc (read, is))));
-}
+read_applied size done a entries read before = grind (arith, effects_kept)
 
 pub rows_have_bytes : (size blocks : ℕ) (rows : List Row) → AllByRecursion (λ row. IsRow size row × (row.block < blocks)) rows → AllByRecursion (HasBytes size) (map access_of rows)
 rows_have_bytes size blocks [] all = tt
@@ -46,16 +44,10 @@ rows_have_bytes size blocks (x ∷ rows) all = (all.0.0.bytes, rows_have_bytes s
 pub shown_of : (A : Array) (accesses : List Access) (b size held : ℕ) (entries : List (ℕ × List (Option ℕ))) (into new : List ℕ) → held ≡ size
     → AllByRecursion (HasBytes size) accesses → AreEffects size accesses entries → length into ≡ size → block_at A b ≡ into
     → new ≡ laid (patch_at held b entries) into → new ≡ block_at (own A accesses) b
-shown_of A accesses b size held entries into new same whole are long is laid_is =
-    let values : patch_at held b entries ≡ effects_from accesses b 0 size = ap (λ (n : ℕ). patch_at n b entries) same ∙ are.each b in
-    let fits : length (block_at A b) ≡ size = ap (length {A = ℕ}) is ∙ long in
-    laid_is ∙ ap (λ (v : List (Option ℕ)). laid v into) values ∙ ap (laid (effects_from accesses b 0 size)) (sym is)
-    ∙ effects_shown A accesses b size whole fits
+shown_of A accesses b size held entries into new same whole are long is laid_is = grind (arith, effects_shown)
 
 and_false : (s t : Bool) → false ≡ (s && t && false)
-and_false true true = refl
-and_false true false = refl
-and_false false t = refl
+and_false s t = grind arith
 
 pub none_touched : (size blocks : ℕ) (kind : Kind) (bytes : List (ℕ × List Extent)) → ((b p : ℕ) → touches bytes b p ≡ false) → AreTouched size blocks kind [] bytes
 none_touched size blocks kind bytes none = record { is = λ b p. none b p ∙ and_false (nat_lt b blocks) (nat_lt p size) }

@@ -1,5 +1,5 @@
 -- Patches whose blocks rise.
-use Rattle.tx_table.proofs.Words.{◌≡◌, ◌≢◌, ◌∙◌, refl, sym, ap, subst, ℕ, zero, suc, ◌+◌, ◌<◌, ◌≤◌, Bool, true, false, ◌==◌, ◌||◌, cond, inl, inr, List, [], ◌∷◌, ◌++◌, length, get_or, set, take, drop, arith, ne_eqb, Option, None, replicate, both_ways, cases_eq, cases_lt, get_or_default, laid, common_steps, has_patch, patch_at, RisesFrom, or_parts}
+use Rattle.tx_table.proofs.Words.{◌≡◌, ◌≢◌, ◌∙◌, refl, ap, ℕ, zero, suc, ◌+◌, ◌<◌, ◌≤◌, Bool, true, false, ◌==◌, ◌||◌, cond, inl, inr, List, [], ◌∷◌, ◌++◌, length, get_or, set, take, drop, arith, ne_eqb, Option, None, replicate, both_ways, cases_eq, cases_lt, get_or_default, laid, common_steps, has_patch, patch_at, RisesFrom, or_parts}
 
 pub at_least : {A : Type 0} (f j : ℕ) (es : List (ℕ × A)) (d : ℕ × A) → RisesFrom f es → j < length es → f ≤ (get_or es j d).0
 at_least f j [] d rises lt = absurd (omega arith)
@@ -61,8 +61,7 @@ has_set b key (suc i) values (x ∷ es) d lt same = ap (λ (t : Bool). (x.0 == b
 pub patch_set : (size b f key i : ℕ) (values : List (Option ℕ)) (es : List (ℕ × List (Option ℕ))) (d : ℕ × List (Option ℕ)) → RisesFrom f es → i < length es → key ≡ (get_or es i d).0
     → patch_at size b (set es i (key, values)) ≡ cond (key == b) values (patch_at size b es)
 patch_set size b f key i values [] d rises lt same = absurd (omega arith)
-patch_set size b f key zero values (x ∷ es) d rises lt same =
-    rw (← same) (elim (key == b) as (λ t. cond t values (patch_at size b es) ≡ cond t values (cond t x.1 (patch_at size b es))) [ true ↦ refl | false ↦ refl ])
+patch_set size b f key zero values (x ∷ es) d rises lt same = grind arith
 patch_set size b f key (suc i) values (x ∷ es) d rises lt same =
     let later = at_least (x.0 + 1) i es d rises.1 (omega arith) in
     let rest = patch_set size b (x.0 + 1) key i values es d rises.1 (omega arith) same in
@@ -76,16 +75,7 @@ patch_set size b f key (suc i) values (x ∷ es) d rises lt same =
 
 pub set_value : (size b block key : ℕ) (new : List (Option ℕ)) (es fs : List (ℕ × List (Option ℕ))) (f : List (Option ℕ) → List (Option ℕ)) → key ≡ block → es ≡ fs
     → new ≡ f (patch_at size block fs) → cond (key == b) new (patch_at size b es) ≡ cond (block == b) (f (patch_at size b fs)) (patch_at size b fs)
-set_value size b block key new es fs f same entries is = elim (cases_eq block b) [
-  | inl here ↦
-      (let yes : (key == b) ≡ true = grind (arith, common_steps) in
-      let yes' : (block == b) ≡ true = grind (arith, common_steps) in
-      rw (yes, yes') (is ∙ ap (λ (n : ℕ). f (patch_at size n fs)) here))
-  | inr there ↦
-      (let no : (key == b) ≡ false = ne_eqb key b (λ e. there (sym same ∙ e)) in
-      let no' : (block == b) ≡ false = ne_eqb block b there in
-      rw (no, no') (ap (patch_at size b) entries))
-]
+set_value size b block key new es fs f same entries is = grind arith
 
 pub all_blank : (size b : ℕ) (es : List (ℕ × List (Option ℕ))) → ((k : ℕ) → (d : ℕ × List (Option ℕ)) → k < length es → (get_or es k d).1 ≡ replicate size None)
     → patch_at size b es ≡ replicate size None
@@ -114,16 +104,8 @@ has_insert b (suc i) (x ∷ es) e = ap (λ (t : Bool). (x.0 == b) || t) (has_ins
 
 pub patch_insert : (size b i : ℕ) (es : List (ℕ × List (Option ℕ))) (e : ℕ × List (Option ℕ)) → has_patch e.0 es ≡ false → e.1 ≡ replicate size None
     → patch_at size b (take i es ++ e ∷ drop i es) ≡ patch_at size b es
-patch_insert size b zero es e none blank = elim (cases_eq e.0 b) [
-  | inl same ↦
-      (let here : (e.0 == b) ≡ true = grind (arith, common_steps) in
-      rw here (blank ∙ sym (none_at size b es (subst (λ (n : ℕ). has_patch n es ≡ false) same none))))
-  | inr other ↦ (let apart : (e.0 == b) ≡ false = ne_eqb e.0 b other in rw apart refl)
-]
-patch_insert size b (suc i) [] e none blank = elim (cases_eq e.0 b) [
-  | inl same ↦ (let here : (e.0 == b) ≡ true = grind (arith, common_steps) in rw here blank)
-  | inr other ↦ (let apart : (e.0 == b) ≡ false = ne_eqb e.0 b other in rw apart refl)
-]
+patch_insert size b zero es e none blank = grind (arith, none_at)
+patch_insert size b (suc i) [] e none blank = grind arith
 patch_insert size b (suc i) (x ∷ es) e none blank =
     ap (λ (l : List (Option ℕ)). cond (x.0 == b) x.1 l) (patch_insert size b i es e (or_parts (x.0 == e.0) (has_patch e.0 es) none).1 blank)
 

@@ -30,36 +30,12 @@ spans_cover size p (x ∷ spans) all some = by (list_any (in_span p) (x ∷ span
     by true is = let lt = below size p (x ∷ spans) all is in let here : nat_lt p size ≡ true = grind (arith, common_steps, lt) in rw here refl
     by false is = and_false (nat_lt p size)
 
--- one mark more
-pub any_more : (p i : ℕ) (spans : List Span) (d : Span) → i < length spans
-    → list_any (in_span p) (take (i + 1) spans) ≡ (list_any (in_span p) (take i spans) || in_span p (get_or spans i d))
-any_more p i [] d lt = absurd (omega arith)
-any_more p zero (x ∷ spans) d lt = or_false (in_span p x)
-  where
-    or_false : (t : Bool) → (t || false) ≡ t
-    or_false true = refl
-    or_false false = refl
-any_more p (suc i) (x ∷ spans) d lt =
-    let e : suc i + 1 ≡ suc (i + 1) = omega arith in
-    rw e (ap (λ (t : Bool). in_span p x || t) (any_more p i spans d (omega arith)) ∙ assoc (in_span p x) (list_any (in_span p) (take i spans)) (in_span p (get_or spans i d)))
-  where
-    assoc : (s t u : Bool) → (s || (t || u)) ≡ ((s || t) || u)
-    assoc true t u = refl
-    assoc false t u = refl
-
 -- a row covers bytes of its block alone, which there is
 covers_inside : (blocks : ℕ) (kind : Kind) (b p : ℕ) (row : Row) → row.block < blocks → covers kind b p (access_of row) ≡ true → nat_lt b blocks ≡ true
-covers_inside blocks kind b p row within there =
-    let same : row.block ≡ b = eqb-true row.block b (and_parts (model.same_kind kind row.kind) (row.block == b) (and_parts (model.same_kind kind row.kind && (row.block == b)) (covered (take row.count row.spans) p) there).0).1 in
-    let lt' : b < blocks = omega (arith, same, within) in
-    grind (arith, common_steps, lt')
+covers_inside blocks kind b p row within there = grind arith
 
 joined : (s t u v : Bool) → (v ≡ true → s ≡ true) → ((s && t && u) || (t && v)) ≡ (s && t && (u || v))
-joined true true u v in_it = refl
-joined true false u v in_it = refl
-joined false t u true in_it = absurd (let h : false ≡ true = in_it refl in cc)
-joined false true u false in_it = refl
-joined false false u false in_it = refl
+joined s t u v in_it = grind arith
 
 -- one row more of a kind, or of the other
 pub touched_more : (size blocks : ℕ) (kind : Kind) (i : ℕ) (rows : List Row) (row d : Row) (old new : List (ℕ × List Extent)) → i < length rows → row ≡ get_or rows i d → row.block < blocks

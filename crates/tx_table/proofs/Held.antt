@@ -1,5 +1,5 @@
 -- Patches in their slots: which block has which, and what clearing leaves.
-use Rattle.tx_table.proofs.{Words.{◌≡◌, ◌≢◌, ◌∙◌, sym, ap, ℕ, ◌<◌, ◌≤◌, Bool, true, false, ◌==◌, ◌||◌, List, [], ◌∷◌, refl, inl, inr, length, get_or, arith, Option, None, replicate, cases_lt, length-replicate, AllByRecursion, has_patch, patch_at, AreBlankFrom, AreSlots, RisesFrom, entries_of}, Blocks.{found_at, found_none}, Slots.{all_from, all_there, entry_is, key_at, length-entries, rises_entries, slot_below}}
+use Rattle.tx_table.proofs.{Words.{◌≡◌, ◌≢◌, ◌∙◌, sym, ap, ℕ, ◌<◌, ◌≤◌, Bool, true, false, ◌==◌, ◌||◌, List, [], ◌∷◌, refl, length, get_or, arith, Option, None, replicate, length-replicate, AllByRecursion, has_patch, patch_at, AreBlankFrom, AreSlots, RisesFrom, entries_of}, Blocks.{found_at, found_none}, Slots.{all_from, all_there, entry_is, key_at, length-entries, rises_entries, slot_below}}
 
 -- the block of a place has the patch in its slot
 held_at : (size b s i : ℕ) (slots : List (List (Option ℕ))) (order : List (ℕ × ℕ)) → RisesFrom 0 order → i < length order → get_or order i (b, s) ≡ (b, s)
@@ -52,13 +52,7 @@ has_entries b slots others (e ∷ order) = ap (λ (t : Bool). (e.0 == b) || t) (
 pub cleared_slots : (size n : ℕ) (old new : List (List (Option ℕ))) → n ≤ length old → length new ≡ length old
     → ((k : ℕ) → k < n → get_or new k [] ≡ replicate (length (get_or old k [])) None) → ((k : ℕ) → n ≤ k → get_or new k [] ≡ get_or old k [])
     → AllByRecursion (λ slot. length slot ≡ size) old → AreBlankFrom size n old → AreBlankFrom size 0 new
-cleared_slots size n old new within same cleared kept sizes blank k le lt = elim (cases_lt k n) [
-  | inl first ↦
-      (let inside : k < length old = omega arith in
-      let long : length (get_or old k []) ≡ size = all_there (λ (slot : List (Option ℕ)). length slot ≡ size) k old [] sizes inside in
-      cleared k first ∙ ap (λ (m : ℕ). replicate m None) long)
-  | inr rest ↦ kept k rest ∙ blank k rest (omega arith)
-]
+cleared_slots size n old new within same cleared kept sizes blank k le lt = grind (arith, all_there)
 
 pub blank_sizes : (size : ℕ) (slots : List (List (Option ℕ))) → AreBlankFrom size 0 slots → AllByRecursion (λ slot. length slot ≡ size) slots
 blank_sizes size slots blank =

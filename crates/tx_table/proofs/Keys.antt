@@ -1,5 +1,5 @@
 -- What is held under a label stands under its key.
-use Rattle.tx_table.proofs.Words.{all_push, map_push, ◌≡◌, ◌≢◌, ◌∙◌, refl, sym, ap, subst, ℕ, nat_eq, bytes_eq, Bool, true, false, cond, inl, inr, List, [], ◌∷◌, ◌++◌, map, arith, ne_eqb, Option, Some, None, is_some, IsTrue, AllByRecursion, lookup, remove_entry, option_map, both_ways, cases_eq, bytes_eq-Decides, common_steps, is_label, key_of, key_tells, IsKeyed}
+use Rattle.tx_table.proofs.Words.{all_push, map_push, ◌≡◌, ◌≢◌, ◌∙◌, refl, sym, ap, subst, ℕ, nat_eq, bytes_eq, Bool, true, false, cond, List, [], ◌∷◌, ◌++◌, map, arith, Option, Some, None, is_some, IsTrue, AllByRecursion, lookup, remove_entry, option_map, both_ways, bytes_eq-Decides, is_label, key_of, key_tells, IsKeyed}
 
 bytes_self : (xs ys : List ℕ) → xs ≡ ys → bytes_eq xs ys ≡ true
 bytes_self xs ys same = (bytes_eq-Decides xs ys).1 same
@@ -10,14 +10,7 @@ bytes_apart xs ys false is other = refl
 
 -- the test by key is the test by text
 test_same : (xs ys : List ℕ) (key : ℕ) → IsTrue (is_label xs) → IsTrue (is_label ys) → key ≡ key_of ys → nat_eq (key_of xs) key ≡ bytes_eq xs ys
-test_same xs ys key label label' is = elim (cases_eq (key_of xs) key) [
-  | inl same ↦
-      (let here : nat_eq (key_of xs) key ≡ true = grind (arith, common_steps) in
-      here ∙ sym (bytes_self xs ys (key_tells xs ys label label' (same ∙ is))))
-  | inr other ↦
-      (let apart : nat_eq (key_of xs) key ≡ false = ne_eqb (key_of xs) key other in
-      apart ∙ sym (bytes_apart xs ys (bytes_eq xs ys) refl (λ same. other (ap key_of same ∙ sym is))))
-]
+test_same xs ys key label label' is = grind (arith, bytes_self, key_tells, bytes_apart)
 
 pub same_lookup : {T : Type 0} (text : List ℕ) (es : List (ℕ × (List ℕ × T))) → IsTrue (is_label text) → AllByRecursion IsKeyed es
     → option_map (λ v. v.1) (lookup (nat_eq (key_of text)) es) ≡ lookup (bytes_eq text) (map (λ e. e.1) es)
@@ -47,8 +40,7 @@ rest_keyed {T} key (e ∷ es) all = elim (nat_eq key e.0) as (λ t. AllByRecursi
 ]
 
 some_mapped : {A B : Type 0} (f : A → B) (o : Option A) → is_some o ≡ is_some (option_map f o)
-some_mapped f None = refl
-some_mapped f (Some x) = refl
+some_mapped f o = grind arith
 
 -- a map under keys, and what is seen of it
 pub held_is : {T : Type 0} (text : List ℕ) (key : ℕ) (es : List (ℕ × (List ℕ × T))) (now : List (List ℕ × T)) (found : Bool)
@@ -63,10 +55,7 @@ held_is {T} text key es now found is label all seen test =
 item_is : {T : Type 0} (text : List ℕ) (key : ℕ) (es : List (ℕ × (List ℕ × T))) (now : List (List ℕ × T)) (item : Option (List ℕ × T))
     → key ≡ key_of text → IsTrue (is_label text) → AllByRecursion IsKeyed es → map (λ e. e.1) es ≡ now
     → item ≡ lookup (nat_eq key) es → option_map (λ v. v.1) item ≡ lookup (bytes_eq text) now
-item_is {T} text key es now item is label all seen test =
-    ap (option_map (λ (v : List ℕ × T). v.1)) (test ∙ ap (λ (k : ℕ). lookup (nat_eq k) es) is)
-    ∙ same_lookup text es label all
-    ∙ ap (λ (l : List (List ℕ × T)). lookup (bytes_eq text) l) seen
+item_is {T} text key es now item is label all seen test = grind (arith, same_lookup)
 
 pub no_item : {T : Type 0} (text : List ℕ) (key : ℕ) (es : List (ℕ × (List ℕ × T))) (now : List (List ℕ × T)) (item : Option (List ℕ × T)) (result : Option T)
     → key ≡ key_of text → IsTrue (is_label text) → AllByRecursion IsKeyed es → map (λ e. e.1) es ≡ now
@@ -83,10 +72,7 @@ the_item {T} text key es now item other result is label all seen test some =
 pub rest_is : {T : Type 0} (text : List ℕ) (key : ℕ) (es new : List (ℕ × (List ℕ × T))) (now : List (List ℕ × T))
     → key ≡ key_of text → IsTrue (is_label text) → AllByRecursion IsKeyed es → map (λ e. e.1) es ≡ now
     → new ≡ remove_entry (nat_eq key) es → map (λ e. e.1) new ≡ remove_entry (bytes_eq text) now
-rest_is {T} text key es new now is label all seen rest =
-    ap (map (λ (e : ℕ × (List ℕ × T)). e.1)) (rest ∙ ap (λ (k : ℕ). remove_entry (nat_eq k) es) is)
-    ∙ same_rest text es label all
-    ∙ ap (λ (l : List (List ℕ × T)). remove_entry (bytes_eq text) l) seen
+rest_is {T} text key es new now is label all seen rest = grind (arith, same_rest)
 
 pub rest_stands : {T : Type 0} (key : ℕ) (es new : List (ℕ × (List ℕ × T))) → AllByRecursion IsKeyed es → new ≡ remove_entry (nat_eq key) es → AllByRecursion IsKeyed new
 rest_stands key es new all rest = subst (AllByRecursion IsKeyed) (sym rest) (rest_keyed key es all)
@@ -97,8 +83,7 @@ none_from (Some x) found is off = absurd (both_ways found off is)
 
 pub post_shows : {T : Type 0} (text : List ℕ) (item : T) (key : ℕ) (es new : List (ℕ × (List ℕ × T))) (now : List (List ℕ × T))
     → map (λ e. e.1) es ≡ now → new ≡ es ++ (key, (text, item)) ∷ [] → map (λ e. e.1) new ≡ now ++ (text, item) ∷ []
-post_shows {T} text item key es new now seen more =
-    ap (map (λ (e : ℕ × (List ℕ × T)). e.1)) more ∙ map_push (λ (e : ℕ × (List ℕ × T)). e.1) es (key, (text, item)) ∙ ap (λ (l : List (List ℕ × T)). l ++ (text, item) ∷ []) seen
+post_shows {T} text item key es new now seen more = grind (arith, map_push)
 
 pub post_stands : {T : Type 0} (text : List ℕ) (item : T) (key : ℕ) (es new : List (ℕ × (List ℕ × T)))
     → key ≡ key_of text → IsTrue (is_label text) → AllByRecursion IsKeyed es → new ≡ es ++ (key, (text, item)) ∷ [] → AllByRecursion IsKeyed new

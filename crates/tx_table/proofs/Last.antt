@@ -1,5 +1,5 @@
 -- A row more, and another last row.
-use Rattle.tx_table.proofs.Words.{all_push, length-map, length_push, map_push, take-append-le, take_all, ◌≡◌, ◌≢◌, ◌∙◌, refl, sym, ap, subst, ℕ, zero, suc, ◌+◌, ◌<◌, ◌≤◌, true, false, List, [], ◌∷◌, ◌++◌, length, get_or, set, map, take, arith, Option, Some, None, Result, Ok, Err, IsTrue, IsFalse, ◌==◌, nat_le, nat_lt, ne_eqb, common_steps, AllByRecursion, IfSome, Extent, AreTouched, Access, Kind, Read, Write, MarkError, Span, is_write, TooManyMarks, is_outside, mark_fault, marked, marks_fault, AreBytes, HasBytes, IsAccess, IsSpan, Row, AreEffects, has_patch, HavePatches, access_of, AreWithin, IsRow}
+use Rattle.tx_table.proofs.Words.{all_push, length-map, length_push, map_push, take-append-le, take_all, ◌≡◌, ◌≢◌, ◌∙◌, refl, sym, ap, subst, ℕ, zero, suc, ◌+◌, ◌<◌, ◌≤◌, true, false, List, [], ◌∷◌, ◌++◌, length, get_or, set, map, take, arith, Option, Some, None, IsTrue, IsFalse, nat_le, common_steps, AllByRecursion, IfSome, Extent, AreTouched, Access, Kind, Read, Write, Span, is_write, TooManyMarks, is_outside, mark_fault, marked, marks_fault, AreBytes, HasBytes, IsAccess, IsSpan, Row, AreEffects, has_patch, HavePatches, access_of, AreWithin, IsRow}
 
 have_more : (accesses : List Access) (a : Access) (entries : List (ℕ × List (Option ℕ))) → HavePatches accesses entries
     → (IsTrue (is_write a) → IsTrue (has_patch a.block entries)) → HavePatches (accesses ++ a ∷ []) entries
@@ -43,11 +43,7 @@ appended size blocks applied folded rows new row entries reads writes is done so
 -- a row that is not marked
 pub unmarked_row : (size : ℕ) (row : Row) (a : Access) → access_of row ≡ a → row.count ≡ 0 → a.spans ≡ [] → HasBytes size a
     → (IsFalse (is_write a) → a.bytes ≡ []) → AreBytes a.bytes → IsRow size row
-unmarked_row size row a is none bare bytes empty values =
-    let P : Access → Type 0 = λ x. AllByRecursion (IsSpan size) x.spans × HasBytes size x × (IsFalse (is_write x) → x.bytes ≡ []) × AreBytes x.bytes in
-    let there : P (access_of row) = subst P (sym is) (subst (AllByRecursion (IsSpan size)) (sym bare) tt, bytes, empty, values) in
-    let marks : length (take row.count row.spans) ≡ row.count = ap (λ (x : Access). length x.spans) is ∙ ap (length {A = Span}) bare ∙ sym none in
-    record { few = omega (arith, none); marks = marks; spans = there.0; bytes = there.1; none = there.2; values = there.3 }
+unmarked_row size row a is none bare bytes empty values = grind arith
 
 -- accesses to blocks of the image
 take_few : (n : ℕ) (spans : List Span) → length (take n spans) ≤ n
@@ -117,10 +113,7 @@ marked_row size row new span is access count few here =
 
 -- why the last row takes no further mark, or that it does
 not_outside : (size off len : ℕ) → len ≢ 0 → off + len ≤ size → is_outside size off len ≡ false
-not_outside size off len some fits =
-    let apart : (len == 0) ≡ false = ne_eqb len 0 some in
-    let below : nat_lt size (off + len) ≡ false = grind (arith, common_steps, fits) in
-    rw (apart, below) refl
+not_outside size off len some fits = grind arith
 
 fault_is : (size off len i : ℕ) (rows : List Row) (d : Row) → len ≢ 0 → off + len ≤ size → i + 1 ≡ length rows
     → mark_fault size off len (map access_of rows) ≡ marks_fault (access_of (get_or rows i d) ∷ [])
@@ -143,11 +136,3 @@ no_fault size off len i rows d some fits last is few =
 pub if_some : {A : Type 0} {P Q : A → Type 0} (o : Option A) → ((x : A) → P x → Q x) → IfSome o P → IfSome o Q
 if_some None step all = tt
 if_some (Some x) step all = step x all
-
--- the one fault that an answer carries
-pub fault_of : (x y : MarkError) → (let R : Type 0 = Result (Unit {0}) MarkError in let left : R = Err x in let right : R = Err y in left ≡ right) → Some x ≡ Some y
-fault_of x y same = ap error same
-  where
-    error : Result (Unit {0}) MarkError → Option MarkError
-    error (Ok u) = None
-    error (Err e) = Some e

@@ -1,5 +1,5 @@
 -- Parts that are added to an index one by one.
-use Rattle.version_read.proofs.{Words.{◌≡◌, ◌≢◌, inl, inr, ◌∙◌, sym, refl, ap, ℕ, ◌+◌, ◌<◌, ◌≤◌, ◌==◌, Bool, true, false, cond, List, [], ◌∷◌, ◌++◌, length, map, take, drop, get_or, get_or-drop, arith, subst, append_assoc, AllByRecursion, cases_eq, eq-eqb, ne_eqb, append-nil, drop_more, take_all, take_more, take-append-drop, length-drop, sum_by-append, sum_by-cons, Run, Version, AreAtMost, BlockVersions, IsAdded, block_of, count_of, no_version, room_of, versions_in, all_at, all_of, PartSpan, HasRoom, HasTaken, no_part, part_of, part_versions, parts_in, parts_length}, Lying.{all_append, all_cond}}
+use Rattle.version_read.proofs.{Words.{◌≡◌, ◌≢◌, inl, inr, ◌∙◌, sym, refl, ap, ℕ, ◌+◌, ◌<◌, ◌≤◌, ◌==◌, Bool, cond, List, [], ◌∷◌, ◌++◌, length, map, take, drop, get_or, get_or-drop, arith, subst, append_assoc, AllByRecursion, cases_eq, eq-eqb, ne_eqb, append-nil, drop_more, take_all, take_more, take-append-drop, length-drop, sum_by-append, sum_by-cons, Run, Version, AreAtMost, BlockVersions, IsAdded, block_of, count_of, no_version, room_of, versions_in, all_at, all_of, PartSpan, HasRoom, HasTaken, no_part, part_of, part_versions, parts_in, parts_length}, Lying.{all_append, all_cond}}
 
 abbrev pub size_of : PartSpan → ℕ
 size_of part = 8 + part.len
@@ -8,8 +8,7 @@ abbrev pub version_at : (n at : ℕ) → PartSpan → Version
 version_at n at part = record { number = n; place = at + 8; off = part.off; len = part.len }
 
 cond_append : (b : Bool) (v : Version) (xs ys : List Version) → cond b (v ∷ (xs ++ ys)) (xs ++ ys) ≡ cond b (v ∷ xs) xs ++ ys
-cond_append true v xs ys = refl
-cond_append false v xs ys = refl
+cond_append b v xs ys = grind arith
 
 part_versions-append : (b n at : ℕ) (xs ys : List PartSpan) → part_versions b n at (xs ++ ys) ≡ part_versions b n at xs ++ part_versions b n (at + parts_length xs) ys
 part_versions-append b n at [] ys = let e : at ≡ at + 0 = omega arith in ap (λ (k : ℕ). part_versions b n k ys) e

@@ -4,9 +4,7 @@ use Rattle.version_read.proofs.{Words.{◌≡◌, ◌∙◌, sym, refl, ap, ℕ,
 -- the versions of a commit up to n, all of them
 low_step : (n b k at : ℕ) (run : Run) (parts : List Run) → nat_le k n ≡ true → upto n (placed b k (at + (8 + length run.bytes)) parts) ≡ placed b k (at + (8 + length run.bytes)) parts → (same : Bool)
     → upto n (cond same (version_of k at run ∷ placed b k (at + (8 + length run.bytes)) parts) (placed b k (at + (8 + length run.bytes)) parts)) ≡ cond same (version_of k at run ∷ placed b k (at + (8 + length run.bytes)) parts) (placed b k (at + (8 + length run.bytes)) parts)
-low_step n b k at run parts le rest true =
-    ap (λ (t : Bool). cond t (version_of k at run ∷ upto n (placed b k (at + (8 + length run.bytes)) parts)) (upto n (placed b k (at + (8 + length run.bytes)) parts))) le
-    ∙ ap (λ (l : List Version). version_of k at run ∷ l) rest
+low_step n b k at run parts le rest true = grind arith
 low_step n b k at run parts le rest false = rest
 
 low_placed : (n b k at : ℕ) (parts : List Run) → nat_le k n ≡ true → upto n (placed b k at parts) ≡ placed b k at parts
@@ -16,8 +14,7 @@ low_placed n b k at (run ∷ parts) le = low_step n b k at run parts le (low_pla
 -- and those above n, none of them
 high_step : (n b k at : ℕ) (run : Run) (parts : List Run) → nat_le k n ≡ false → upto n (placed b k (at + (8 + length run.bytes)) parts) ≡ [] → (same : Bool)
     → upto n (cond same (version_of k at run ∷ placed b k (at + (8 + length run.bytes)) parts) (placed b k (at + (8 + length run.bytes)) parts)) ≡ []
-high_step n b k at run parts gt rest true =
-    ap (λ (t : Bool). cond t (version_of k at run ∷ upto n (placed b k (at + (8 + length run.bytes)) parts)) (upto n (placed b k (at + (8 + length run.bytes)) parts))) gt ∙ rest
+high_step n b k at run parts gt rest true = grind arith
 high_step n b k at run parts gt rest false = rest
 
 high_placed : (n b k at : ℕ) (parts : List Run) → nat_le k n ≡ false → upto n (placed b k at parts) ≡ []

@@ -11,10 +11,7 @@ parts_placed b n at (run ∷ runs) = ap (λ (l : List Version). cond (run.block 
 
 -- the versions of records that follow others
 versions_of-append : (b k at : ℕ) (told more : List Written) → versions_of b k at (told ++ more) ≡ versions_of b k at told ++ versions_of b (k + length told) (at + sum_by length_of told) more
-versions_of-append b k at [] more =
-    let number : k ≡ k + 0 = omega arith in
-    let there : at ≡ at + 0 = omega arith in
-    λ i. versions_of b (number i) (there i) more
+versions_of-append b k at [] more = grind arith
 versions_of-append b k at (x ∷ told) more =
     let number : k + 1 + length told ≡ k + suc (length told) = omega arith in
     let there : at + record_length x.parts + sum_by length_of told ≡ at + sum_by length_of (x ∷ told) = omega (arith, sum_by-cons length_of x told) in
@@ -48,10 +45,7 @@ index_more g first place t told w old new has above taken = record {
 -- a trim at a later number
 pub index_trimmed : (g : Geometry) (first place t later : ℕ) (told : List Written) (old new : List BlockVersions) → IsIndexOf g first place t told old → t ≤ later → length new ≡ length old
     → ((b : ℕ) → versions_in new b ≡ shown_since later (versions_in old b)) → IsIndexOf g first place later told new
-index_trimmed g first place t later told old new has le size trimmed = record {
-  blocks = size ∙ has.blocks;
-  each = λ b below. trimmed b ∙ ap (shown_since later) (has.each b below) ∙ shown_again t later (versions_of b first place told) le;
-}
+index_trimmed g first place t later told old new has le size trimmed = grind (arith, shown_again)
 
 -- the first records left out
 abbrev IsBefore : ℕ → Version → Type 0
@@ -126,10 +120,7 @@ apart_at from (v ∷ versions) are (suc i) below = apart_at from versions are.1 
 order_at : (from : ℕ) (versions : List Version) → StandApart from versions → (i j : ℕ) → i ≤ j → j < length versions → IsBehind from (get_or versions i no_version) → IsBehind from (get_or versions j no_version)
 order_at from [] are i j le below behind = absurd (omega (arith, below))
 order_at from (v ∷ versions) are zero zero le below behind = behind
-order_at from (v ∷ versions) are zero (suc j) le below behind = elim are.0 [
-  | inl before ↦ absurd (omega (arith, before, behind))
-  | inr both ↦ all_at (IsBehind from) no_version versions both.1 j (omega (arith, below))
-]
+order_at from (v ∷ versions) are zero (suc j) le below behind = grind (arith, all_at)
 order_at from (v ∷ versions) are (suc i) zero le below behind = absurd (omega (arith, le))
 order_at from (v ∷ versions) are (suc i) (suc j) le below behind = order_at from versions are.1 i j (omega (arith, le)) (omega (arith, below)) behind
 

@@ -2,8 +2,7 @@
 use Rattle.version_read.proofs.{Words.{◌≡◌, ◌∙◌, inl, inr, sym, refl, ap, ℕ, ◌+◌, ◌-◌, ◌<◌, ◌≤◌, Bool, true, false, cond, List, [], ◌∷◌, take, max, min, Option, Some, None, length, get_or, unwrap_or, arith, cases_lt, take_more, or_else, Version, Lies, byte_in, has, no_version, byte_in-append, in_is, in_over, in_under, IsLaidIn, IsOverIn}, Overlays.{before, behind, with_part, within}}
 
 under : (x y : Option ℕ) (z : ℕ) → unwrap_or x (unwrap_or y z) ≡ unwrap_or (or_else x y) z
-under (Some x) y z = refl
-under None y z = refl
+under x y z = grind arith
 
 here : (image : List ℕ) (v : Version) (p y : ℕ) (b : Bool) → has p v ≡ b → unwrap_or (byte_in image (v ∷ []) p) y ≡ cond b (get_or image (v.place + (p - v.off)) 0) y
 here image v p y true is = ap (λ (t : Bool). unwrap_or (cond t (Some (get_or image (v.place + (p - v.off)) 0)) None) y) is
@@ -30,8 +29,7 @@ module _ (from to : ℕ) (image : List ℕ) where
 
     -- one that has nothing of it
     pub laid_none : last ≤ first → IsLaidIn from to image (v ∷ []) old old
-    laid_none none p above below =
-        sym (here image v p (get_or old p 0) false (elim (cases_lt p v.off) [ inl lt ↦ in_under v.off v.len p lt | inr le ↦ in_over v.off v.len p (omega (arith, none, above, below, le, first_is, last_is)) ]))
+    laid_none none p above below = grind (arith, in_under, in_over)
 
   module _ (versions : List Version) where
     -- the next version
@@ -60,6 +58,4 @@ whole_step None false x y z is = cc
 pub laid_whole : (from to : ℕ) (image : List ℕ) (base : ℕ) (versions : List Version) (old now : List ℕ) → 0 < length versions → (get_or versions 0 no_version).off ≤ from → to ≤ (get_or versions 0 no_version).off + (get_or versions 0 no_version).len
     → IsLaidIn from to image versions old now → IsOverIn from to image base versions now
 laid_whole from to image base [] old now some first last laid p above below = absurd (omega (arith, some))
-laid_whole from to image base (v ∷ rest) old now some first last laid p above below =
-    laid p above below
-    ∙ whole_step (byte_in image rest p) (has p v) (get_or image (v.place + (p - v.off)) 0) (get_or old p 0) (get_or image (base + p) 0) (in_is v.off v.len p (omega (arith, first, above)) (omega (arith, last, below)))
+laid_whole from to image base (v ∷ rest) old now some first last laid p above below = grind (arith, whole_step, in_is)

@@ -1,5 +1,5 @@
 -- What holds of each version that the records of a log make.
-use Rattle.version_read.proofs.Words.{◌≡◌, sym, ap, inl, inr, ℕ, zero, suc, ◌+◌, ◌*◌, ◌<◌, ◌≤◌, ◌==◌, Bool, true, false, cond, nat_le, List, [], ◌∷◌, ◌++◌, length, take, sum_by, arith, subst, length-append, AllByRecursion, cases_lt, get_or_past, sum_by-cons, mul-le-mul_right, Geometry, Run, record_length, base_place, image_size, log_place, AreRuns, IsRecord, IsRun, Written, records, length-records, log_inside, Version, IsIndexOf, placed, version_of, versions_of, Lies, BlockVersions, count_of, no_versions, shown_since, still_shows, upto, versions_in, all_shown}
+use Rattle.version_read.proofs.Words.{◌≡◌, ap, ℕ, zero, suc, ◌+◌, ◌*◌, ◌<◌, ◌≤◌, ◌==◌, Bool, true, false, cond, nat_le, List, [], ◌∷◌, ◌++◌, length, take, sum_by, arith, length-append, AllByRecursion, get_or_past, sum_by-cons, Geometry, Run, record_length, base_place, image_size, log_place, AreRuns, IsRecord, IsRun, Written, records, length-records, log_inside, Version, IsIndexOf, placed, version_of, versions_of, Lies, BlockVersions, count_of, no_versions, shown_since, still_shows, upto, versions_in, all_shown}
 
 pub all_append : {X : Type 0} (P : X → Type 0) (xs ys : List X) → AllByRecursion P xs → AllByRecursion P ys → AllByRecursion P (xs ++ ys)
 all_append P [] ys first second = second
@@ -48,10 +48,7 @@ module _ (g : Geometry) (first place t : ℕ) (told : List Written) (index : Lis
   none_past b past = ap (λ (row : BlockVersions). row.versions) (get_or_past index b no_versions (omega (arith, past, has.blocks)))
 
   pub every_in : (P : Version → Type 0) (b : ℕ) → AllByRecursion P (versions_of b first place told) → AllByRecursion P (versions_in index b)
-  every_in P b all = elim (cases_lt b g.blocks) [
-    | inl below ↦ subst (AllByRecursion P) (sym (has.each b below)) (all_shown P t (versions_of b first place told) all)
-    | inr past ↦ subst (AllByRecursion P) (sym (none_past b past)) tt
-  ]
+  every_in P b all = grind (arith, all_shown, none_past)
 
   -- no number is above the last record's
   pub numbers_below : (b : ℕ) → AllByRecursion (IsRecord g) told → AllByRecursion (λ v. v.number < first + length told) (versions_in index b)
@@ -67,10 +64,7 @@ all_lie g first at t b told index half are room has =
 
 -- a block of the base
 pub base_lies : (g : Geometry) (at b : ℕ) → at ≤ 1 → b < g.blocks → base_place g at + b * g.block + g.block ≤ image_size g
-base_lies g at b half below =
-    let one : b + 1 ≤ g.blocks = omega (arith, below) in
-    let whole : (b + 1) * g.block ≤ g.blocks * g.block = mul-le-mul_right g.block one in
-    omega (arith, whole, log_inside g at half)
+base_lies g at b half below = grind (arith, log_inside)
 
 -- an index has no more versions than its blocks times the bytes of the records
 length_cond : (b : Bool) (v : Version) (xs : List Version) (n m : ℕ) → length xs ≤ n → n + 8 ≤ m → length (cond b (v ∷ xs) xs) ≤ m
@@ -109,7 +103,4 @@ few_rows most (row ∷ rows) each =
     omega (arith, sum_by-cons (λ (r : BlockVersions). length r.versions) row rows, each 0 (omega arith), rest)
 
 pub count_le : (g : Geometry) (first place t : ℕ) (told : List Written) (index : List BlockVersions) → IsIndexOf g first place t told index → count_of index ≤ g.blocks * length (records g first told)
-count_le g first place t told index has =
-    subst (λ (n : ℕ). count_of index ≤ n * length (records g first told)) has.blocks
-    (few_rows (length (records g first told)) index (λ b below.
-    omega (arith, ap (λ (l : List Version). length l) (has.each b (omega (arith, below, has.blocks))), few_shown t (versions_of b first place told), few_versions b first place told, length-records g first told)))
+count_le g first place t told index has = grind (arith, few_rows, few_shown, few_versions, length-records)

@@ -37,5 +37,4 @@ module _ (image : List ℕ) (base size : ℕ) (versions : List Version) where
 
   -- a block that has its bytes from one place up to another
   pub range_is_over : (off len : ℕ) (block : List ℕ) → off + len ≤ size → off + len ≤ length block → IsOverIn off (off + len) image base versions block → take len (drop off block) ≡ take len (drop off (whole_block image base size versions))
-  range_is_over off len block within inside over =
-      same_range off len block (whole_block image base size versions) inside (omega (arith, length-whole_block, within)) (λ p from to. over p from to ∙ sym (whole_at p (omega (arith, to, within))))
+  range_is_over off len block within inside over = grind (arith, same_range, length-whole_block, whole_at)

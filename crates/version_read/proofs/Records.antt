@@ -1,10 +1,9 @@
 -- The versions that the records of a log make show what the records tell.
-use Rattle.version_read.proofs.{Words.{◌≡◌, ◌∙◌, sym, refl, ap, ℕ, ◌+◌, ◌-◌, ◌<◌, ◌≤◌, ◌==◌, Bool, true, false, ◌&&◌, cond, nat_le, nat_lt, List, [], ◌∷◌, ◌++◌, Option, Some, None, length, flat_map, get_or, unwrap_or, arith, subst, AllByRecursion, to_be_bytes, w16, w32, and_parts, leb-true, ltb-true, Geometry, Run, Array, byte_at, in_span, effect_at, or_else, own, record_length, all_own, AreRuns, IsRecord, Written, body_length, commits_of, kind_of, part, records, spell, recorded, HasBytes, value_in, own_at, length-part, length-spell, HasSize, effect_recorded, length-recorded, own_size, placed, version_of, versions_of, byte_in, byte_of, has, byte_in-append, or_else_none}, Stands.{StandsAt, stands_first, stands_rest}}
+use Rattle.version_read.proofs.{Words.{◌≡◌, ◌∙◌, sym, refl, ap, ℕ, ◌+◌, ◌-◌, ◌<◌, ◌==◌, Bool, true, false, ◌&&◌, cond, List, [], ◌∷◌, ◌++◌, Option, Some, None, length, flat_map, get_or, unwrap_or, arith, subst, AllByRecursion, to_be_bytes, w16, w32, Geometry, Run, Array, byte_at, in_span, effect_at, or_else, own, record_length, all_own, AreRuns, IsRecord, Written, body_length, commits_of, kind_of, part, records, spell, recorded, HasBytes, value_in, own_at, length-part, length-spell, HasSize, effect_recorded, length-recorded, own_size, placed, version_of, versions_of, byte_in, byte_of, has, byte_in-append, or_else_none}, Stands.{StandsAt, stands_first, stands_rest}}
 use Rattle.std.specs.Int.{w64}
 
 pub or_unwrap : (x y : Option ℕ) (z : ℕ) → unwrap_or (or_else x y) z ≡ unwrap_or x (unwrap_or y z)
-or_unwrap None y z = refl
-or_unwrap (Some x) y z = refl
+or_unwrap x y z = grind arith
 
 -- the bytes of a part's run stand behind its head
 run_stands : (image : List ℕ) (at : ℕ) (run : Run) → StandsAt image at (part run) → StandsAt image (at + 8) run.bytes
@@ -14,11 +13,7 @@ run_stands image at run whole =
 -- a byte of a part's version
 byte_placed : (image : List ℕ) (n at p : ℕ) (run : Run) → StandsAt image (at + 8) run.bytes → (here : Bool) → has p (version_of n at run) ≡ here
     → cond here (Some (get_or image (at + 8 + (p - run.off)) 0)) None ≡ cond here (Some (get_or run.bytes (p - run.off) 0)) None
-byte_placed image n at p run whole true same =
-    let both = and_parts (nat_le run.off p) (nat_lt p (run.off + length run.bytes)) same in
-    let from : run.off ≤ p = leb-true run.off p both.0 in
-    let to : p < run.off + length run.bytes = ltb-true p (run.off + length run.bytes) both.1 in
-    ap Some (whole (p - run.off) (omega (arith, from, to)))
+byte_placed image n at p run whole true same = grind arith
 byte_placed image n at p run whole false same = refl
 
 -- a part and those behind it

@@ -1,5 +1,5 @@
 -- The next record of a half may be taken in.
-use Rattle.version_read.proofs.{Words.{◌≡◌, inl, inr, sym, ap, ℕ, zero, suc, ◌+◌, ◌*◌, ◌^◌, ◌<◌, ◌≤◌, IsTrue, List, [], ◌∷◌, ◌++◌, length, map, sum_by, arith, subst, AllByRecursion, length-map, sum_by-append, sum_by-cons, mul-le-mul_right, Geometry, Run, record_length, is_valid, log_place, AreRuns, IsRecord, IsRun, Written, records, limits, length-records, sum_by-map, Half, MayFollow, last_told, next_gate, told_bytes, log_inside, IsIndexOf, BlockVersions, no_version, versions_in, all_at, PartSpan, BlocksRise, IsPart, MayTake, no_part, part_of, parts_length}, Lying.{count_le, numbers_below, runs_all}}
+use Rattle.version_read.proofs.{Words.{◌≡◌, inl, inr, sym, ap, ℕ, zero, suc, ◌+◌, ◌*◌, ◌^◌, ◌<◌, ◌≤◌, IsTrue, List, [], ◌∷◌, length, map, sum_by, arith, subst, AllByRecursion, length-map, sum_by-append, sum_by-cons, mul-le-mul_right, Geometry, Run, record_length, is_valid, log_place, AreRuns, IsRecord, IsRun, Written, records, limits, length-records, sum_by-map, Half, MayFollow, last_told, next_gate, told_bytes, log_inside, IsIndexOf, BlockVersions, no_version, versions_in, all_at, PartSpan, BlocksRise, IsPart, MayTake, no_part, part_of, parts_length}, Lying.{count_le, numbers_below, runs_all}}
 
 pub parts_all : (g : Geometry) (parts : List Run) → g.block ≤ 4096 → AllByRecursion (IsRun g) parts → AllByRecursion (IsPart g.blocks) (map part_of parts)
 parts_all g [] small all = tt
@@ -43,11 +43,7 @@ count_parts (run ∷ parts) = omega (arith, count_parts parts, sum_by-cons (λ (
 
 -- the next record fits the log
 fits_log : (g : Geometry) (x : Half) (w : Written) → MayFollow g x (w ∷ []) → length (told_bytes g x) + record_length w.parts < g.log
-fits_log g x w may =
-    let after = length-records g (x.base + 1) (x.told ++ w ∷ []) in
-    let sum = sum_by-append (λ (v : Written). record_length v.parts) x.told (w ∷ []) in
-    let one = sum_by-cons (λ (v : Written). record_length v.parts) w [] in
-    omega (arith, may.room, after, sum, one, length-records g (x.base + 1) x.told)
+fits_log g x w may = grind (arith, length-records, sum_by-append, sum_by-cons)
 
 pub parts_few : (g : Geometry) (x : Half) (w : Written) → IsTrue (is_valid g) → MayFollow g x (w ∷ []) → length (map part_of w.parts) < 2 ^ 32
 parts_few g x w valid may = omega (arith, length-map w.parts part_of, count_parts w.parts, fits_log g x w may, (limits g valid).largest_log)

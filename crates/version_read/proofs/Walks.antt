@@ -60,15 +60,7 @@ module _ (versions : List Version) (left next : ℕ) (old new : List ℕ) (insid
 -- the base where nothing was seen
 pub walked : (image before now : List ℕ) (base left : ℕ) (versions : List Version) (seen : List ℕ) → left ≡ 0 → length before ≤ 4096 → length now ≡ length before → AreDone (drop left versions) seen → AreRight image (drop left versions) seen before
     → IsFilled image base 0 (length before) seen before now → IsOver image base versions now
-walked image before now base left versions seen end small stays are right filled p below =
-    let lt : p < length before = omega (arith, stays, below) in
-    let in_mask : p < 4096 = omega (arith, small, lt) in
-    let all : drop left versions ≡ versions = ap (λ (k : ℕ). drop k versions) end in
-    let e : base + (p - 0) ≡ base + p = omega arith in
-    last_step (byte_in image versions p) (get_or image (base + p) 0) (get_or before p 0) (get_or now p 0) (is_seen seen p)
-    (λ is. ap (λ (l : List Version). byte_in image l p) (sym all) ∙ right p lt is)
-    (λ is. none_of image versions p (ap (list_any (has p)) (sym all) ∙ sym (are p in_mask) ∙ is))
-    (filled p lt ∙ (λ i. cond (in_is 0 (length before) p (omega arith) (omega (arith, lt)) i && not (is_seen seen p)) (get_or image (e i) 0) (get_or before p 0)))
+walked image before now base left versions seen end small stays are right filled p below = grind (arith, last_step, none_of, in_is, not)
 
 shown_step : (later : Option ℕ) (earlier : Option ℕ) (x z : ℕ) → later ≡ Some x → x ≡ unwrap_or (or_else later earlier) z
 shown_step later earlier x z is = sym (ap (λ (o : Option ℕ). unwrap_or (or_else o earlier) z) is)

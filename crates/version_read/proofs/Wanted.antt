@@ -12,10 +12,7 @@ pub unseen_next : (seen : List ℕ) (a n : ℕ) → unseen seen a (suc n) ≡ co
 unseen_next seen a n = sum_by-cons (λ p. cond (not (is_seen seen p)) 1 0) a (range_with_len (a + 1) n)
 
 pub unseen_split : (seen : List ℕ) (a n m : ℕ) → unseen seen a (n + m) ≡ unseen seen a n + unseen seen (a + n) m
-unseen_split seen a zero m =
-    let e : 0 + m ≡ m = omega arith in
-    let s : a ≡ a + 0 = omega arith in
-    ap (unseen seen a) e ∙ ap (λ (k : ℕ). unseen seen k m) s ∙ omega arith
+unseen_split seen a zero m = grind arith
 unseen_split seen a (suc n) m =
     let e : suc n + m ≡ suc (n + m) = omega arith in
     let s : a + 1 + n ≡ a + suc n = omega arith in

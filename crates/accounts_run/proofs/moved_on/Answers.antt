@@ -1,8 +1,7 @@
 use Rattle.std.proofs.Common.{refl}
 use Rattle.iso_model.specs.World.{empty_history, fresh}
-use Rattle.accounts_run.proofs.moved_on.Goals as goal
 
-pub move_over-requires-clause-start : goal.move_over-requires-clause-start
+pub move_over-requires-clause-start : Rattle.accounts_run.proofs.moved_on.Goals.move_over-requires-clause-start
 move_over-requires-clause-start g c κs within =
     let geometry = c.numbers-geometry.result in
     (fresh geometry 1 (empty_history geometry), record { stands = c.in-Ok.ensures.stands; idle = refl })

@@ -1,7 +1,6 @@
 -- The list begins where the core does.
 use Rattle.iso_core.specs.Core.{disk_of}
 use Rattle.iso_shared.specs.Standing.{start_at}
-use Rattle.my_program.proofs.over_core.Given as goal
 
-abbrev pub ghosts-served : goal.ghosts-served
+abbrev pub ghosts-served : Rattle.my_program.proofs.over_core.Given.ghosts-served
 ghosts-served g a = record { start = start_at a.beginning.world (g.D.Disk.state (disk_of a.core)); disk = g.D.Disk.state (disk_of a.core) }

@@ -1,8 +1,7 @@
 use Rattle.account_laws.proofs.{Images.opens_with_sum, Walks.sum_kept}
-use Rattle.account_laws.proofs.laws.accounts_keep_their_sum.Goals as goal
 
-pub returns-clause-history : goal.returns-clause-history
+pub returns-clause-history : Rattle.account_laws.proofs.laws.accounts_keep_their_sum.Goals.returns-clause-history
 returns-clause-history _ = sum_kept
 
-pub returns-clause-images : goal.returns-clause-images
+pub returns-clause-images : Rattle.account_laws.proofs.laws.accounts_keep_their_sum.Goals.returns-clause-images
 returns-clause-images _ = opens_with_sum

@@ -1,7 +1,6 @@
 use Rattle.accounts.proofs.{Words.{◌≡◌, [], ◌∷◌, List, Option, subst, ℕ, Get, Got, amount, area_of, Adds}, Adding.got_adds}
-use Rattle.accounts.proofs.amounts.amount_at.Goals as goal
 
-pub returns-in-Some-clause-got : goal.returns-in-Some-clause-got
+pub returns-in-Some-clause-got : Rattle.accounts.proofs.amounts.amount_at.Goals.returns-in-Some-clause-got
 returns-in-Some-clause-got g c =
     let t = g.T.TxBlocks.state c.args.tx.now in
     let u = g.T.TxBlocks.state c.get.new.tx in

@@ -1,7 +1,6 @@
 use Rattle.accounts.proofs.{Words.{[], ◌∷◌, List, Option, subst, ℕ, Get, Got, area_of, Adds}, Adding.got_adds}
-use Rattle.accounts.proofs.amounts.is_free.Goals as goal
 
-pub returns-in-Ok-None-clause-got : goal.returns-in-Ok-None-clause-got
+pub returns-in-Ok-None-clause-got : Rattle.accounts.proofs.amounts.is_free.Goals.returns-in-Ok-None-clause-got
 returns-in-Ok-None-clause-got g c =
     let t = g.T.TxBlocks.state c.args.tx.now in
     let u = g.T.TxBlocks.state c.get.new.tx in

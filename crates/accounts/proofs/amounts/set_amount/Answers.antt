@@ -1,7 +1,6 @@
 use Rattle.accounts.proofs.{Words.{[], ◌∷◌, List, subst, ℕ, Put, WasPut, area_of, Adds}, Adding.put_adds}
-use Rattle.accounts.proofs.amounts.set_amount.Goals as goal
 
-pub returns-in-Ok-clause-put : goal.returns-in-Ok-clause-put
+pub returns-in-Ok-clause-put : Rattle.accounts.proofs.amounts.set_amount.Goals.returns-in-Ok-clause-put
 returns-in-Ok-clause-put g c =
     let t = g.T.TxBlocks.state c.args.tx.now in
     let u = g.T.TxBlocks.state c.put.new.tx in

@@ -1,7 +1,6 @@
 use Rattle.accounts.proofs.{Words.{own, port_view, times, opening_of}, Covering.{covers_both, covers_on}, Keeping.finished}
-use Rattle.accounts.proofs.gathered.gather.Goals as goal
 
-pub returns-clause-kept : goal.returns-clause-kept
+pub returns-clause-kept : Rattle.accounts.proofs.gathered.gather.Goals.returns-clause-kept
 returns-clause-kept g c =
     let A = g.O.Origin.start in
     let accounts = opening_of c.args.accounts.now in

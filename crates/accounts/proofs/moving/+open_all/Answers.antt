@@ -1,7 +1,6 @@
 use Rattle.accounts.proofs.{Words.{List, subst, sym, Area, area_of, Does, IsOpening, opening_of, to_be_bytes, w64, Account}, Adding.{area_same, opened_more}}
-use Rattle.accounts.proofs.moving.+open_all.Goals as goal
 
-pub returns-in_ok-open_all-in-Some : goal.returns-in_ok-open_all-in-Some
+pub returns-in_ok-open_all-in-Some : Rattle.accounts.proofs.moving.+open_all.Goals.returns-in_ok-open_all-in-Some
 returns-in_ok-open_all-in-Some g k c =
     let t = g.T.TxBlocks.state c.args.tx.now in
     let u = g.T.TxBlocks.state c.open_one.new.tx in

@@ -1,7 +1,6 @@
 use Rattle.accounts.proofs.{Words.{area_of, IsPut, IsTaken, IsTransfer, to_be_bytes, w64}, Adding.{completed, does_put, does_then}}
-use Rattle.accounts.proofs.moving.move_amount.Goals as goal
 
-pub returns : goal.returns
+pub returns : Rattle.accounts.proofs.moving.move_amount.Goals.returns
 returns g c =
     let t = g.T.TxBlocks.state c.args.tx.now in
     let u = g.T.TxBlocks.state c.take_amount.new.tx in

@@ -1,7 +1,6 @@
 use Rattle.accounts.proofs.{Words.{[], ◌∷◌, Put, WasPut, area_of, to_be_bytes, w64}, Adding.{adds_on, opened_one}}
-use Rattle.accounts.proofs.moving.open_one.Goals as goal
 
-pub returns-clause-opened : goal.returns-clause-opened
+pub returns-clause-opened : Rattle.accounts.proofs.moving.open_one.Goals.returns-clause-opened
 returns-clause-opened g c =
     let t = g.T.TxBlocks.state c.args.tx.now in
     let u = g.T.TxBlocks.state c.is_free.new.tx in

@@ -1,7 +1,6 @@
 use Rattle.accounts.proofs.{Words.{◌<◌, subst, sym, ℕ}, Adding.{bytes_apart, taken}}
-use Rattle.accounts.proofs.moving.take_amount.Goals as goal
 
-pub returns-clause-taken : goal.returns-clause-taken
+pub returns-clause-taken : Rattle.accounts.proofs.moving.take_amount.Goals.returns-clause-taken
 returns-clause-taken g c =
     let from = c.args.transfer.now.from in
     let to = c.args.transfer.now.to in

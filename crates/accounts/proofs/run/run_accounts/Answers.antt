@@ -1,7 +1,6 @@
 use Rattle.accounts.proofs.{Words.{refl, ◌∙◌, ap, Geometry, port_view, planned}, Whole.{has_run, ready_of}}
-use Rattle.accounts.proofs.run.run_accounts.Goals as goal
 
-pub run_on-report-requires-clause-store : goal.run_on-report-requires-clause-store
+pub run_on-report-requires-clause-store : Rattle.accounts.proofs.run.run_accounts.Goals.run_on-report-requires-clause-store
 run_on-report-requires-clause-store g c κs within = record {
   ready = ready_of g.D.Disk.state g.O.Origin.start c.args.core c.requires.start.0 c.requires.start.1;
   some = c.requires.store;
@@ -9,7 +8,7 @@ run_on-report-requires-clause-store g c κs within = record {
   size = ap (λ (k : Geometry). k.hash) (c.geometry.ensures ∙ c.in-Ok.ensures.ok.2);
 }
 
-pub returns-in-Ok-clause-run : goal.returns-in-Ok-clause-run
+pub returns-in-Ok-clause-run : Rattle.accounts.proofs.run.run_accounts.Goals.returns-in-Ok-clause-run
 returns-in-Ok-clause-run g c =
     let view = port_view c.run_on-report.result.1 in
     has_run g.D.Disk.state g.O.Origin.start g.O.Origin.disk (planned c.args.plan.now) c.close-core.result view.seen view.mine (ready_of g.D.Disk.state g.O.Origin.start c.args.core c.requires.start.0 c.requires.start.1)

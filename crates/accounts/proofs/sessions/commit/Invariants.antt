@@ -1,7 +1,6 @@
 use Rattle.accounts.proofs.Words.{◌<◌, units, IsKept, Stays, opening_of}
-use Rattle.accounts.proofs.sessions.commit.Given as goal
 
-abbrev pub invariant-loop : goal.invariant-loop
+abbrev pub invariant-loop : Rattle.accounts.proofs.sessions.commit.Given.invariant-loop
 invariant-loop g l = record {
   kept : IsKept (opening_of l.accounts) g.O.Origin.start l.session;
   stays : Stays l.fn.session l.session;

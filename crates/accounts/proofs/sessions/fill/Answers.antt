@@ -1,14 +1,13 @@
 use Rattle.accounts.proofs.{Words.{Some, Serial, calls_of, opening_of}, Filling.{fills, may_call}, Keeping.{aborted, begun, unbegun, visited}}
-use Rattle.accounts.proofs.sessions.fill.Goals as goal
 
-pub returns-in-Err-clause-kept : goal.returns-in-Err-clause-kept
+pub returns-in-Err-clause-kept : Rattle.accounts.proofs.sessions.fill.Goals.returns-in-Err-clause-kept
 returns-in-Err-clause-kept g c =
     (unbegun (opening_of c.args.accounts.now) g.O.Origin.start c.args.session.now c.begin_tx.new.self (Some Serial) c.in-Err.error c.in-Err.ensures.did c.begin_tx.ensures.session c.requires.session).0
 
-pub on_blocks-requires-clause-fits : goal.on_blocks-requires-clause-fits
+pub on_blocks-requires-clause-fits : Rattle.accounts.proofs.sessions.fill.Goals.on_blocks-requires-clause-fits
 on_blocks-requires-clause-fits g c = may_call (opening_of c.args.accounts.now) g.O.Origin.start c.args.region c.requires.store c.begin_tx.new.self
 
-pub returns-in-Ok-clause-filled : goal.returns-in-Ok-clause-filled
+pub returns-in-Ok-clause-filled : Rattle.accounts.proofs.sessions.fill.Goals.returns-in-Ok-clause-filled
 returns-in-Ok-clause-filled g c =
     let A = g.O.Origin.start in
     let accounts = opening_of c.args.accounts.now in
@@ -23,7 +22,7 @@ returns-in-Ok-clause-filled g c =
       filled = fills accounts A c.args.region c.requires.store r s t c.in_default.field-0 (calls_of accounts c.args.step c.in-Ok.answer) c.in_default.ensures.did did;
     }
 
-pub returns-in-Err-on_blocks-clause-kept : goal.returns-in-Err-on_blocks-clause-kept
+pub returns-in-Err-on_blocks-clause-kept : Rattle.accounts.proofs.sessions.fill.Goals.returns-in-Err-on_blocks-clause-kept
 returns-in-Err-on_blocks-clause-kept g c =
     let A = g.O.Origin.start in
     let accounts = opening_of c.args.accounts.now in

@@ -1,13 +1,12 @@
 use Rattle.accounts.proofs.{Words.{subst, sym, IsOfAccounts, tx_of, device, Shared, IsWhole, opening_of}, Keeping.{given, let_go}}
 use Rattle.iso_shared.specs.declared.tx.Tx.{Tx}
-use Rattle.accounts.proofs.sessions.give.Goals as goal
 
-pub returns-in-Ok-release_tx-clause-session : goal.returns-in-Ok-release_tx-clause-session
+pub returns-in-Ok-release_tx-clause-session : Rattle.accounts.proofs.sessions.give.Goals.returns-in-Ok-release_tx-clause-session
 returns-in-Ok-release_tx-clause-session g c =
     let accounts = opening_of c.args.accounts.now in
     (given accounts g.O.Origin.start (IsOfAccounts accounts) c.fill.new.session c.release_tx.new.self c.in-Ok-release_tx.handle c.in-Ok-release_tx.ensures.did c.release_tx.ensures.session c.in-Ok.ensures.filled).0
 
-pub returns-in-Ok-release_tx-clause-given : goal.returns-in-Ok-release_tx-clause-given
+pub returns-in-Ok-release_tx-clause-given : Rattle.accounts.proofs.sessions.give.Goals.returns-in-Ok-release_tx-clause-given
 returns-in-Ok-release_tx-clause-given g c =
     let A = g.O.Origin.start in
     let accounts = opening_of c.args.accounts.now in
@@ -16,7 +15,7 @@ returns-in-Ok-release_tx-clause-given g c =
     subst (λ (x : Tx g.row.D.Denot g.row.O.Denot). IsWhole accounts A (device c.args.session.now) x) (sym c.into_tx.ensures)
     (subst (λ (l : Shared g.row.D.Denot g.row.O.Denot). IsWhole accounts A l (tx_of h)) c.fill.ensures.stays.of is)
 
-pub returns-in-Err-release_tx-clause-session : goal.returns-in-Err-release_tx-clause-session
+pub returns-in-Err-release_tx-clause-session : Rattle.accounts.proofs.sessions.give.Goals.returns-in-Err-release_tx-clause-session
 returns-in-Err-release_tx-clause-session g c =
     let accounts = opening_of c.args.accounts.now in
     let did = c.in-Err-release_tx.ensures.did in

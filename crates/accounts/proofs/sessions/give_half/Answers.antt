@@ -1,13 +1,12 @@
 use Rattle.accounts.proofs.{Words.{arith, subst, IsTakenFor, tx_of, Shared, IsGiven, opening_of}, Keeping.{given, let_go}}
-use Rattle.accounts.proofs.sessions.give_half.Goals as goal
 
-pub returns-in-Ok-release_tx-clause-session : goal.returns-in-Ok-release_tx-clause-session
+pub returns-in-Ok-release_tx-clause-session : Rattle.accounts.proofs.sessions.give_half.Goals.returns-in-Ok-release_tx-clause-session
 returns-in-Ok-release_tx-clause-session g c =
     let accounts = opening_of c.args.accounts.now in
     let Is = IsTakenFor c.args.transfer.now.to c.in-Ok.more in
     (given accounts g.O.Origin.start Is c.fill.new.session c.release_tx.new.self c.in-Ok-release_tx.handle c.in-Ok-release_tx.ensures.did c.release_tx.ensures.session c.in-Ok.ensures.filled).0
 
-pub returns-in-Ok-release_tx-clause-half : goal.returns-in-Ok-release_tx-clause-half
+pub returns-in-Ok-release_tx-clause-half : Rattle.accounts.proofs.sessions.give_half.Goals.returns-in-Ok-release_tx-clause-half
 returns-in-Ok-release_tx-clause-half g c =
     let A = g.O.Origin.start in
     let accounts = opening_of c.args.accounts.now in
@@ -16,12 +15,12 @@ returns-in-Ok-release_tx-clause-half g c =
     subst (λ (l : Shared g.row.D.Denot g.row.O.Denot). IsGiven accounts Is A l (tx_of h)) c.fill.ensures.stays.of
     (given accounts A Is c.fill.new.session c.release_tx.new.self h c.in-Ok-release_tx.ensures.did c.release_tx.ensures.session c.in-Ok.ensures.filled).1
 
-pub returns-in-Err-release_tx-clause-session : goal.returns-in-Err-release_tx-clause-session
+pub returns-in-Err-release_tx-clause-session : Rattle.accounts.proofs.sessions.give_half.Goals.returns-in-Err-release_tx-clause-session
 returns-in-Err-release_tx-clause-session g c =
     let did = c.in-Err-release_tx.ensures.did in
     let_go (opening_of c.args.accounts.now) g.O.Origin.start (IsTakenFor c.args.transfer.now.to c.in-Ok.more) c.fill.new.session c.release_tx.new.self did.0 did.1 c.in-Ok.ensures.filled
 
-pub returns-in-Ok-release_tx-clause-left : goal.returns-in-Ok-release_tx-clause-left
+pub returns-in-Ok-release_tx-clause-left : Rattle.accounts.proofs.sessions.give_half.Goals.returns-in-Ok-release_tx-clause-left
 returns-in-Ok-release_tx-clause-left g c =
     let did = c.in-Ok-release_tx.ensures.did in
     let one = did.handle.1 in

@@ -1,7 +1,6 @@
 use Rattle.accounts.proofs.{Words.{port_view, opening_of}, Grouping.{grouped, knows_on}}
-use Rattle.accounts.proofs.threads.end_group.Goals as goal
 
-pub returns-clause-kept : goal.returns-clause-kept
+pub returns-clause-kept : Rattle.accounts.proofs.threads.end_group.Goals.returns-clause-kept
 returns-clause-kept g c =
     let A = g.O.Origin.start in
     let accounts = opening_of c.args.accounts.now in

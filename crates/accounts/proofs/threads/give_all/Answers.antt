@@ -1,8 +1,7 @@
 use Rattle.accounts.proofs.{Words.{◌≡◌, ◌∙◌, ◌+◌, ◌≤◌, ◌++◌, ◌∷◌, [], ap, arith, length, List, Option, subst, sym, ℕ, length-append, found_in, device, units, Shared, units_of, AreGiven, IsWhole, opening_of}, Giving.{given_more, units_few, units_more}}
 use Rattle.iso_shared.specs.declared.tx.Tx.{Tx}
-use Rattle.accounts.proofs.threads.give_all.Goals as goal
 
-pub give-member-requires-clause-units : goal.give-member-requires-clause-units
+pub give-member-requires-clause-units : Rattle.accounts.proofs.threads.give_all.Goals.give-member-requires-clause-units
 give-member-requires-clause-units g c =
     let few = units_few (opening_of c.args.accounts.now) g.O.Origin.start (device c.args.session.now) c.loop-transfer.members.items c.loop-transfer.invariant.given in
     let sum = c.loop-transfer.invariant.sum in
@@ -12,7 +11,7 @@ give-member-requires-clause-units g c =
     let at = c.loop-transfer-test.true in
     omega (arith, few, sum, count, most, some, at)
 
-pub loop-transfer-preserved : goal.loop-transfer-preserved
+pub loop-transfer-preserved : Rattle.accounts.proofs.threads.give_all.Goals.loop-transfer-preserved
 loop-transfer-preserved g c =
     let A = g.O.Origin.start in
     let accounts = opening_of c.args.accounts.now in
@@ -36,7 +35,7 @@ loop-transfer-preserved g c =
       given = subst (λ (ys : List (Option (Tx g.row.D.Denot g.row.O.Denot))). AreGiven accounts A (device c.args.session.now) ys) (sym items) all;
     }
 
-pub returns-clause-left : goal.returns-clause-left
+pub returns-clause-left : Rattle.accounts.proofs.threads.give_all.Goals.returns-clause-left
 returns-clause-left g c =
     let few = units_few (opening_of c.args.accounts.now) g.O.Origin.start (device c.args.session.now) c.loop-transfer.members.items c.loop-transfer.invariant.given in
     let sum = c.loop-transfer.invariant.sum in

@@ -1,7 +1,6 @@
 use Rattle.accounts.proofs.Words.{◌≡◌, ◌+◌, ◌≤◌, length, vec_capacity, found_in, device, units, units_of, AreGiven, IsKept, opening_of}
-use Rattle.accounts.proofs.threads.give_all.Given as goal
 
-abbrev pub invariant-loop-transfer : goal.invariant-loop-transfer
+abbrev pub invariant-loop-transfer : Rattle.accounts.proofs.threads.give_all.Given.invariant-loop-transfer
 invariant-loop-transfer g l = record {
   kept : IsKept (opening_of l.accounts) g.O.Origin.start l.session;
   same : device l.session ≡ device l.fn.session;

@@ -1,8 +1,7 @@
 use Rattle.std.proofs.Common.{◌≡◌}
 use Rattle.handle_pass.specs.Sessions.{IsSession, device, units}
-use Rattle.accounts_run.proofs.sums.sum_by.Given as goal
 
-abbrev pub invariant-loop-account : goal.invariant-loop-account
+abbrev pub invariant-loop-account : Rattle.accounts_run.proofs.sums.sum_by.Given.invariant-loop-account
 invariant-loop-account g l = record {
   session : IsSession g.O.Origin.start l.session;
   of : device l.session ≡ device l.fn.session;

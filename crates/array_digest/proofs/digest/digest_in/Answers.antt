@@ -1,13 +1,12 @@
 use Rattle.array_digest.proofs.{Words.{◌≡◌, ◌∙◌, ap, subst, ℕ, List, Option, arith, ForSome, disk_of, up, joined_unwritten, array_at, block_at, sha256}, Blocks.{all_held, block_count, more_held}}
-use Rattle.array_digest.proofs.digest.digest_in.Goals as goal
 
-pub returns-in-Err-clause-same : goal.returns-in-Err-clause-same
+pub returns-in-Err-clause-same : Rattle.array_digest.proofs.digest.digest_in.Goals.returns-in-Err-clause-same
 returns-in-Err-clause-same g c W of = c.fetch.ensures.same W up (c.loop-number.invariant.stands W of)
 
-pub returns-in-Err-clause-unwritten : goal.returns-in-Err-clause-unwritten
+pub returns-in-Err-clause-unwritten : Rattle.array_digest.proofs.digest.digest_in.Goals.returns-in-Err-clause-unwritten
 returns-in-Err-clause-unwritten g c = joined_unwritten (g.met.D.Disk.lawful c.loop-number.core.disk) c.loop-number.invariant.still c.fetch.ensures.unwritten
 
-pub loop-number-preserved : goal.loop-number-preserved
+pub loop-number-preserved : Rattle.array_digest.proofs.digest.digest_in.Goals.loop-number-preserved
 loop-number-preserved g c = record {
   size = omega (arith, c.loop-number.invariant.size, c.fetch.auto.into);
   stands = λ W of. c.fetch.ensures.same W up (c.loop-number.invariant.stands W of);
@@ -22,7 +21,7 @@ loop-number-preserved g c = record {
       (c.loop-number.invariant.holds W t of here blocks);
 }
 
-pub returns-clause-digest : goal.returns-clause-digest
+pub returns-clause-digest : Rattle.array_digest.proofs.digest.digest_in.Goals.returns-clause-digest
 returns-clause-digest g c W t of here blocks bytes told =
     let held = c.loop-number.invariant.holds W t of here blocks in
     let whole = all_held (g.D.Disk.state (disk_of c.args.core.now)).contents W t c.loop-number.number c.loop-number.hasher

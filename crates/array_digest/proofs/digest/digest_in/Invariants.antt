@@ -1,7 +1,6 @@
 use Rattle.array_digest.proofs.{Words.{◌≡◌, length, IsTx, StandsFor, disk_of, up, WritesNothing, World, Live}, Blocks.HoldsFirst}
-use Rattle.array_digest.proofs.digest.digest_in.Given as goal
 
-abbrev pub invariant-loop-number : goal.invariant-loop-number
+abbrev pub invariant-loop-number : Rattle.array_digest.proofs.digest.digest_in.Given.invariant-loop-number
 invariant-loop-number g l = record {
   size : length l.block ≡ length l.fn.block;
   stands : (W : World) → StandsFor g.D.Disk.state l.fn.core W up → StandsFor g.D.Disk.state l.core W up;

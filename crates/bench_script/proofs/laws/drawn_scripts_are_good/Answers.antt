@@ -1,8 +1,7 @@
 use Rattle.bench_script.proofs.{Words.{ap, Script}, GoodLines.{scripts_are, scripts_are_plain}}
-use Rattle.bench_script.proofs.laws.drawn_scripts_are_good.Goals as goal
 
-pub returns-clause-good : goal.returns-clause-good
+pub returns-clause-good : Rattle.bench_script.proofs.laws.drawn_scripts_are_good.Goals.returns-clause-good
 returns-clause-good c = λ seed count few. ap (λ (s : Script). s.bad) (scripts_are seed count few)
 
-pub returns-clause-plain : goal.returns-clause-plain
+pub returns-clause-plain : Rattle.bench_script.proofs.laws.drawn_scripts_are_good.Goals.returns-clause-plain
 returns-clause-plain c = scripts_are_plain

@@ -1,7 +1,6 @@
 use Rattle.bench_script.proofs.{Counting.count_on, Digesting.last_bytes}
-use Rattle.bench_script.proofs.tally.count_lines.Goals as goal
 
-pub loop-line-preserved : goal.loop-line-preserved
+pub loop-line-preserved : Rattle.bench_script.proofs.tally.count_lines.Goals.loop-line-preserved
 loop-line-preserved c =
     let last = last_bytes c.args.text.now c.loop-line.rest.now c.in-Some.line.now c.in-Some.next.now c.in-Some.ensures.split c.loop-line.invariant.1 c.loop-line.invariant.2 in (
       λ all is. count_on all c.loop-line.rest.now c.in-Some.line.now c.in-Some.next.now c.loop-line.counts.commits c.loop-line.counts.conflicts

@@ -1,5 +1,5 @@
 -- The open run takes in what touches it; an extent further on closes it and is the next open run.
-use Rattle.byte_marks.proofs.{Words.{◌≡◌, ◌<◌, ◌≤◌, ◌||◌, ◌∙◌, sym, ap, subst, arith, length, length-append, Bool, List, [], ◌∷◌, ◌++◌, Extent, has, in_extent, AreApartFrom, or_assoc}, Apart.{earlier, AreApartFrom-append, next_free-append, joined_has, has-append, regroup}}
+use Rattle.byte_marks.proofs.{Words.{◌≡◌, ◌<◌, ◌≤◌, ◌||◌, ◌∙◌, ap, arith, Bool, has, in_extent, or_assoc}, Apart.{earlier, AreApartFrom-append, next_free-append, joined_has, has-append, regroup}}
 use Rattle.byte_marks.proofs.merge.merged.Goals as goal
 
 pub first_of-requires-in-loop-next-clause-a : goal.first_of-requires-in-loop-next-clause-a
@@ -38,35 +38,7 @@ loop-next-preserved-then-next-open c =
     }
 
 pub loop-next-preserved : goal.loop-next-preserved
-loop-next-preserved c =
-    let inv = c.loop-next.invariant in
-    let open_run = c.loop-next.open in
-    let arm = c.in-Some-first_of in
-    let out = c.loop-next.out.items in
-    let grown : c.push.new.self.items ≡ out ++ open_run ∷ [] = c.in_ok-push.ensures.ok in
-    let apart : AreApartFrom 0 (out ++ open_run ∷ []) = AreApartFrom-append 0 out open_run inv.done inv.free inv.some inv.inside in
-    record {
-      a = arm.ensures.left_a;
-      b = arm.ensures.left_b;
-      some = arm.ensures.some.0;
-      inside = arm.ensures.some.1;
-      done = subst (λ (xs : List Extent). AreApartFrom 0 xs) (sym grown) apart;
-      free = rw (grown, next_free-append 0 out open_run) (omega arith);
-      set = λ p.
-          (let rest = has arm.rest_a.now p || has arm.rest_b.now p in
-          ap (λ (xs : List Extent). (has xs p || in_extent p arm.next) || rest) grown
-          ∙ ap (λ (b : Bool). (b || in_extent p arm.next) || rest) (has-append p out open_run)
-          ∙ or_assoc (has out p || in_extent p open_run) (in_extent p arm.next) rest
-          ∙ ap (λ (b : Bool). (has out p || in_extent p open_run) || b) (arm.ensures.set p)
-          ∙ inv.set p);
-      len = omega (arith, arm.ensures.len, ap length grown, length-append out (open_run ∷ []));
-      room = omega (arith, c.in_ok-push.ensures.capacity);
-    }
+loop-next-preserved c = grind (arith, AreApartFrom-append, next_free-append, has-append, or_assoc)
 
 pub returns-clause-apart : goal.returns-clause-apart
-returns-clause-apart c =
-    let inv = c.loop-next.invariant in
-    let out = c.loop-next.out.items in
-    let grown : c.push-2.new.self.items ≡ out ++ c.loop-next.open ∷ [] = c.in_ok-push-2.ensures.ok in
-    subst (λ (xs : List Extent). AreApartFrom 0 xs) (sym grown)
-    (AreApartFrom-append 0 out c.loop-next.open inv.done inv.free inv.some inv.inside)
+returns-clause-apart c = grind (arith, AreApartFrom-append)

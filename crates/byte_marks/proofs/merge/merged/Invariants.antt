@@ -1,8 +1,7 @@
 -- The runs that are done, the one that may still grow, and what is left of both lists have the bytes of both.
 use Rattle.byte_marks.proofs.Words.{◌≡◌, ℕ, ◌+◌, ◌<◌, ◌≤◌, ◌||◌, length, has, in_extent, next_free, AreApartFrom}
-use Rattle.byte_marks.proofs.merge.merged.Given as goal
 
-abbrev pub invariant-loop-next : goal.invariant-loop-next
+abbrev pub invariant-loop-next : Rattle.byte_marks.proofs.merge.merged.Given.invariant-loop-next
 invariant-loop-next l = record {
   a : AreApartFrom l.open.from l.a;
   b : AreApartFrom l.open.from l.b;
@@ -15,5 +14,5 @@ invariant-loop-next l = record {
   room : 8 ≤ l.out.capacity;
 }
 
-abbrev pub decreases-loop-next : goal.decreases-loop-next
+abbrev pub decreases-loop-next : Rattle.byte_marks.proofs.merge.merged.Given.decreases-loop-next
 decreases-loop-next l = length l.a + length l.b

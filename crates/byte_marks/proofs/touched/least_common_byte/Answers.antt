@@ -1,5 +1,5 @@
 -- The entry of the earlier block, or two of one block that do not meet, meet nothing of what is left.
-use Rattle.byte_marks.proofs.{Words.{◌≡◌, ℕ, ◌+◌, ◌<◌, ◌&&◌, false, ◌∙◌, sym, ap, subst, arith, List, ◌∷◌, and_left, Extent, has, touches, RisesFrom}, Blocks.{rises_earlier, none_before_block, pass_entry, pass_entry_right, pass_both}}
+use Rattle.byte_marks.proofs.{Words.{◌≡◌, ℕ, ◌+◌, ◌<◌, ◌&&◌, false, ◌∙◌, ap, subst, arith, List, ◌∷◌, and_left, Extent, has, touches, RisesFrom}, Blocks.{rises_earlier, none_before_block, pass_entry, pass_entry_right, pass_both}}
 use Rattle.byte_marks.proofs.touched.least_common_byte.Goals as goal
 
 -- two lists and the first entry of each
@@ -20,14 +20,10 @@ module _ (x y : ℕ × List Extent) (xs ys a c : List (ℕ × List Extent)) (a_i
   before_first b p lt = and_left _ _ (ap (λ (l : List (ℕ × List Extent)). touches l b p) a_is ∙ none_before_block x.0 b p (x ∷ xs) lt ((omega arith), rises_a.1))
 
   pass_first : x.0 < y.0 → (b p : ℕ) → (touches a b p && touches c b p) ≡ (touches xs b p && touches c b p)
-  pass_first lt b p =
-      let later : RisesFrom (x.0 + 1) c = subst (λ (l : List (ℕ × List Extent)). RisesFrom (x.0 + 1) l) (sym c_is) ((omega arith), rises_c.1) in
-      ap (λ (l : List (ℕ × List Extent)). touches l b p && touches c b p) a_is ∙ pass_entry b p x xs c later
+  pass_first lt b p = grind (arith, pass_entry)
 
   pass_second : y.0 < x.0 → (b p : ℕ) → (touches a b p && touches c b p) ≡ (touches a b p && touches ys b p)
-  pass_second lt b p =
-      let later : RisesFrom (y.0 + 1) a = subst (λ (l : List (ℕ × List Extent)). RisesFrom (y.0 + 1) l) (sym a_is) ((omega arith), rises_a.1) in
-      ap (λ (l : List (ℕ × List Extent)). touches a b p && touches l b p) c_is ∙ pass_entry_right b p y a ys later
+  pass_second lt b p = grind (arith, pass_entry_right)
 
   pass_two : x.0 ≡ y.0 → (b p : ℕ) → (has x.1 p && has y.1 p) ≡ false → (touches a b p && touches c b p) ≡ (touches xs b p && touches ys b p)
   pass_two same b p apart = (λ i. touches (a_is i) b p && touches (c_is i) b p) ∙ pass_both b p x y xs ys apart rises_a.1 rises_c.1 same

@@ -1,7 +1,6 @@
 use Rattle.command_line.proofs.Words.{◌≡◌, ◌∙◌, ap, ap₂, codes, IfOk-weaker, App, app_of, with_subcommand, app_of_fields, bare_app, with_required}
-use Rattle.command_line.proofs.command.isotope_command.Goals as goal
 
-pub returns : goal.returns
+pub returns : Rattle.command_line.proofs.command.isotope_command.Goals.returns
 returns c =
     let top : app_of c.subcommand_required.result ≡ with_required (bare_app (codes "isotope")) =
     ap app_of_fields c.subcommand_required.ensures ∙ ap with_required c.bare.ensures.app in

@@ -1,7 +1,6 @@
 use Rattle.command_line.proofs.Words.{◌∙◌, ◌||◌, Bool, ap₂, IfOk-weaker, with_rule}
-use Rattle.command_line.proofs.command.new_command.Goals as goal
 
-pub returns : goal.returns
+pub returns : Rattle.command_line.proofs.command.new_command.Goals.returns
 returns c = record {
   app = let a1 = c.in_ok-arg.ensures.shape c.valued.ensures.local ∙ ap₂ with_rule c.in_ok-with_image.ensures.app c.valued.ensures.rule in
       let a2 = c.in_ok-arg-2.ensures.shape c.valued-2.ensures.local ∙ ap₂ with_rule a1 c.valued-2.ensures.rule in

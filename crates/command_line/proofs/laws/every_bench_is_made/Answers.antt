@@ -1,5 +1,4 @@
 use Rattle.command_line.proofs.Made.{bench_is_made}
-use Rattle.command_line.proofs.laws.every_bench_is_made.Goals as goal
 
-pub returns : goal.returns
+pub returns : Rattle.command_line.proofs.laws.every_bench_is_made.Goals.returns
 returns c = bench_is_made

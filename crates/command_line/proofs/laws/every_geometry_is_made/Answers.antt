@@ -1,5 +1,4 @@
 use Rattle.command_line.proofs.Made.{image_is_made}
-use Rattle.command_line.proofs.laws.every_geometry_is_made.Goals as goal
 
-pub returns : goal.returns
+pub returns : Rattle.command_line.proofs.laws.every_geometry_is_made.Goals.returns
 returns c = image_is_made

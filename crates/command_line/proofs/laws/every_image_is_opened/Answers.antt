@@ -1,7 +1,6 @@
 use Rattle.command_line.proofs.{Opened.{par_opens, recover_opens, run_opens}, Words.{refl, clap_on_literals, request_of, rows_found, task_of}}
-use Rattle.command_line.proofs.laws.every_image_is_opened.Goals as goal
 
-pub returns : goal.returns
+pub returns : Rattle.command_line.proofs.laws.every_image_is_opened.Goals.returns
 unfolding clap_on_literals request_of rows_found task_of
 returns c = record {
   run = run_opens;

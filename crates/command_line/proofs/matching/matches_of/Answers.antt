@@ -1,12 +1,11 @@
 use Rattle.command_line.proofs.{Words.{◌≡◌, ◌∙◌, sym, true, false, app_of, kind_of, OutOfMemory, texts}, Grammars.{taken, refused}}
-use Rattle.command_line.proofs.matching.matches_of.Goals as goal
 
-pub returns-in-Ok-try_get_matches_from : goal.returns-in-Ok-try_get_matches_from
+pub returns-in-Ok-try_get_matches_from : Rattle.command_line.proofs.matching.matches_of.Goals.returns-in-Ok-try_get_matches_from
 returns-in-Ok-try_get_matches_from c =
     let e = c.in-Ok-try_get_matches_from.ensures in
     taken (app_of c.in-Ok.command) (texts c.args.words.now) c.in-Ok-try_get_matches_from.matches c.in-Ok.ensures.app e.kinds e.matches
 
-pub returns : goal.returns
+pub returns : Rattle.command_line.proofs.matching.matches_of.Goals.returns
 returns c =
     refused (app_of c.in-Ok.command) (texts c.args.words.now) c.in-Err.error c.in-Ok.ensures.app c.in-Err.ensures.kinds
     (λ (e : kind_of c.in-Err.error ≡ OutOfMemory).

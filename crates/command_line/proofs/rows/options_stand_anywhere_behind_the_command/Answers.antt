@@ -1,12 +1,5 @@
-use Rattle.command_line.proofs.Words.{refl, clap_on_literals, is_valid, number_of, words_of, rows_found, geometry_of, request_of, task_of, long_number_of}
-use Rattle.command_line.proofs.rows.options_stand_anywhere_behind_the_command.Goals as goal
+use Rattle.command_line.proofs.Grammars.{grammar}
 
-pub returns : goal.returns
-unfolding clap_on_literals words_of request_of rows_found task_of geometry_of number_of is_valid long_number_of
-returns c = record {
-  before = refl;
-  behind = refl;
-  ended = refl;
-  ended_behind = refl;
-  an_option_behind_the_end = refl;
-}
+pub returns : Rattle.command_line.proofs.rows.options_stand_anywhere_behind_the_command.Goals.returns
+unfolding grammar
+returns c = assumption

@@ -1,12 +1,11 @@
 use Rattle.std.proofs.Common.{◌≡◌, ◌+◌, ◌-◌, length, take, drop, Result, Ok, Err, OnOk, ◌∙◌, arith}
 use Rattle.iso_disk.proofs.{Images.{settled_write, length-contents}, Bytes.take-drop-spliced}
-use Rattle.commit_gate.proofs.gate.put_body.Goals as goal
 
 both : {T E P Q R : Type 0} (r : Result T E) → OnOk r P → OnOk r Q → (P → Q → R) → OnOk r R
 both (Ok x) p q then = then p q
 both (Err e) p q then = tt
 
-pub returns-clause-body : goal.returns-clause-body
+pub returns-clause-body : Rattle.commit_gate.proofs.gate.put_body.Goals.returns-clause-body
 returns-clause-body g c =
     let state = g.D.Disk.state in
     let d = c.args.disk.now in

@@ -1,8 +1,7 @@
 use Rattle.std.proofs.Common.{◌≡◌, ◌+◌, ◌≤◌, ℕ, List, length, Some, Ok, Err, OnErr, ◌∙◌, arith}
 use Rattle.iso_disk.{specs.Disk.TellsTorn, proofs.Images.{tells_spliced, length-contents}}
-use Rattle.commit_gate.proofs.gate.put_down.Goals as goal
 
-pub returns-clause-failed : goal.returns-clause-failed
+pub returns-clause-failed : Rattle.commit_gate.proofs.gate.put_down.Goals.returns-clause-failed
 returns-clause-failed g c =
     let state = g.D.Disk.state in
     let d = c.args.disk.now in

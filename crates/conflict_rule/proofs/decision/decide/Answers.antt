@@ -1,13 +1,10 @@
 -- The decision over the notes is the model's.
-use Rattle.conflict_rule.proofs.{Words.{Bool, true, false, refl, has_write, ◌≡◌, ◌∙◌, ◌+◌, ◌-◌, Option, Some, None, ap, sym, subst, drop, rules, Clash, clash, clash_from, first_after, or_else, no_clash, above, guarded_bytes, up_to, Bytes, IsLeastMeeting}, Clashing.{clash_parts, has_write_where, no_write_where, untouched_where, wrote_where}, Meetings.{clash_of, guarded_are}}
-use Rattle.conflict_rule.proofs.decision.decide.Goals as goal
+use Rattle.conflict_rule.proofs.{Words.{arith, Bool, true, false, refl, has_write, ◌≡◌, ◌∙◌, ◌+◌, ◌-◌, Option, Some, None, ap, sym, subst, drop, rules, Clash, clash, clash_from, first_after, or_else, no_clash, above, guarded_bytes, up_to, Bytes, IsLeastMeeting}, Clashing.{clash_parts, has_write_where, no_write_where, untouched_where, wrote_where}, Meetings.{clash_of, guarded_are}}
 
-pub returns-then-is_empty-clause-exact : goal.returns-then-is_empty-clause-exact
-returns-then-is_empty-clause-exact g c g' H begin accesses asked =
-    let none = no_write_where g' accesses c.args.writes.now asked.size asked.well_formed asked.writes c.if-is_empty.ensures.none in
-    sym (no_clash g' H c.args.mode begin accesses none)
+pub returns-then-is_empty-clause-exact : Rattle.conflict_rule.proofs.decision.decide.Goals.returns-then-is_empty-clause-exact
+returns-then-is_empty-clause-exact g c g' H begin accesses asked = grind (arith, no_write_where, no_clash)
 
-pub returns-in-Some-clause-exact : goal.returns-in-Some-clause-exact
+pub returns-in-Some-clause-exact : Rattle.conflict_rule.proofs.decision.decide.Goals.returns-in-Some-clause-exact
 returns-in-Some-clause-exact g c g' H begin accesses asked =
     let upto = c.args.checked.now.upto in
     let touched = c.if-is_empty.ensures.some in
@@ -16,7 +13,7 @@ returns-in-Some-clause-exact g c g' H begin accesses asked =
     let rest = clash_from g' c.args.mode accesses (first_after H upto) (drop (upto + 1 - H.first) H.commits) in
     sym (clash_parts g' H c.args.mode begin upto accesses some asked.order ∙ ap (λ (o : Option Clash). or_else o rest) ahead)
 
-pub returns-clause-exact : goal.returns-clause-exact
+pub returns-clause-exact : Rattle.conflict_rule.proofs.decision.decide.Goals.returns-clause-exact
 returns-clause-exact g c g' H begin accesses asked = by (has_write accesses) refl
   where
     by : (t : Bool) → has_write accesses ≡ t → c.least_met.result ≡ clash g' H c.args.mode begin accesses

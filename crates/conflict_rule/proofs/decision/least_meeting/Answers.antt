@@ -1,25 +1,16 @@
 -- A commit that meets nothing is passed over, and the first that meets is the answer.
-use Rattle.conflict_rule.proofs.{Words.{◌≡◌, ◌∙◌, ℕ, ◌+◌, ◌==◌, true, false, List, ◌∷◌, ap, arith, length, sym, subst, Some, None, inl, inr, refl, ne_eqb, common_steps, same_Some, Note, note_of, RisesFrom, AreApart, Bytes, IsFirstMeet, IsLeastMeeting}, Numbers.{note_from, rises_earlier}}
-use Rattle.conflict_rule.proofs.decision.least_meeting.Goals as goal
+use Rattle.conflict_rule.proofs.{Words.{◌≡◌, ◌∙◌, ℕ, ◌+◌, ◌==◌, true, List, ◌∷◌, ap, arith, length, sym, subst, Some, None, inl, inr, refl, common_steps, same_Some, Note, note_of, RisesFrom, AreApart, Bytes, IsFirstMeet, IsLeastMeeting}, Numbers.{note_from, rises_earlier}}
 
 first_note : (x : Note) (xs : List Note) → note_of x.0 (x ∷ xs) ≡ Some x.1
 first_note x xs = let here : (x.0 == x.0) ≡ true = grind (arith, common_steps) in rw here refl
 
 later_note : (x : Note) (xs : List Note) (number : ℕ) (marks : Bytes) → RisesFrom (x.0 + 1) xs → note_of number xs ≡ Some marks → note_of number (x ∷ xs) ≡ Some marks
-later_note x xs number marks rises is =
-    let from = note_from (x.0 + 1) number xs marks rises is in
-    let no : (x.0 == number) ≡ false = ne_eqb x.0 number (λ e. omega (arith, from)) in
-    rw no is
+later_note x xs number marks rises is = grind (arith, note_from)
 
-pub loop-commit-init : goal.loop-commit-init
-loop-commit-init g c = record {
-  all = λ found is. subst (λ (l : List Note). IsLeastMeeting c.args.bytes.now l found) c.after-rest.ensures.notes is;
-  steps = omega (arith, ap (length {A = Note}) c.after-rest.ensures.notes);
-  rising = c.after-rest.ensures.rising;
-  held = c.after-rest.ensures.held;
-}
+pub loop-commit-init : Rattle.conflict_rule.proofs.decision.least_meeting.Goals.loop-commit-init
+loop-commit-init g c = grind arith
 
-pub returns-in_err-marks-clause-least : goal.returns-in_err-marks-clause-least
+pub returns-in_err-marks-clause-least : Rattle.conflict_rule.proofs.decision.least_meeting.Goals.returns-in_err-marks-clause-least
 returns-in_err-marks-clause-least g c =
     let (written, rest_is) = c.in-Some.ensures.some in
     let x : Note = (c.in-Some.commit, written) in
@@ -28,7 +19,7 @@ returns-in_err-marks-clause-least g c =
     let none : note_of x.0 c.args.notes.now.notes ≡ None = sym c.in_err-marks.ensures.note in
     absurd (cc (held, none))
 
-pub returns-in-Some-first_meet-clause-least : goal.returns-in-Some-first_meet-clause-least
+pub returns-in-Some-first_meet-clause-least : Rattle.conflict_rule.proofs.decision.least_meeting.Goals.returns-in-Some-first_meet-clause-least
 returns-in-Some-first_meet-clause-least g c =
     let (written, rest_is) = c.in-Some.ensures.some in
     let x : Note = (c.in-Some.commit, written) in
@@ -43,7 +34,7 @@ returns-in-Some-first_meet-clause-least g c =
     c.loop-commit.invariant.all _ (subst (λ (l : List Note). IsLeastMeeting c.args.bytes.now l (Some (record { commit = x.0; block = block; at = at }))) (sym rest_is)
     (inr (block, at, here, refl)))
 
-pub loop-commit-preserved : goal.loop-commit-preserved
+pub loop-commit-preserved : Rattle.conflict_rule.proofs.decision.least_meeting.Goals.loop-commit-preserved
 loop-commit-preserved g c =
     let (written, rest_is) = c.in-Some.ensures.some in
     let x : Note = (c.in-Some.commit, written) in

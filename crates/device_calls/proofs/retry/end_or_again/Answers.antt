@@ -1,12 +1,11 @@
 use Rattle.device_calls.proofs.Words.{Ok, subst, ℕ, HasEnded, EndReply}
-use Rattle.device_calls.proofs.retry.end_or_again.Goals as goal
 
-pub returns-in-Ok-begin_tx-clause-did : goal.returns-in-Ok-begin_tx-clause-did
+pub returns-in-Ok-begin_tx-clause-did : Rattle.device_calls.proofs.retry.end_or_again.Goals.returns-in-Ok-begin_tx-clause-did
 returns-in-Ok-begin_tx-clause-did g c =
     let did = subst (λ (r : EndReply). (taken : ℕ) × HasEnded g.O.Origin.start c.args.session.now 0 (Ok r) c.end_now.new.session taken) c.in-Ok-Conflict.field-0-is c.in-Ok-Conflict.ensures.did in
     record { between = c.end_now.new.session; clash = c.in-Ok-Conflict.field-0-0; taken = did.0; ended = did.1; begun = c.in-Ok-begin_tx.ensures.did }
 
-pub returns-in-Err-begin_tx-clause-did : goal.returns-in-Err-begin_tx-clause-did
+pub returns-in-Err-begin_tx-clause-did : Rattle.device_calls.proofs.retry.end_or_again.Goals.returns-in-Err-begin_tx-clause-did
 returns-in-Err-begin_tx-clause-did g c =
     let did = subst (λ (r : EndReply). (taken : ℕ) × HasEnded g.O.Origin.start c.args.session.now 0 (Ok r) c.end_now.new.session taken) c.in-Ok-Conflict.field-0-is c.in-Ok-Conflict.ensures.did in
     record { between = c.end_now.new.session; clash = c.in-Ok-Conflict.field-0-0; taken = did.0; ended = did.1; begun = c.in-Err-begin_tx.ensures.did }

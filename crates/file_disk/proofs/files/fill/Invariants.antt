@@ -1,8 +1,7 @@
 use Rattle.std.proofs.Common.{◌-◌, ◌≤◌}
-use Rattle.file_disk.proofs.files.fill.Given as goal
 
-abbrev pub invariant-loop-at : goal.invariant-loop-at
+abbrev pub invariant-loop-at : Rattle.file_disk.proofs.files.fill.Given.invariant-loop-at
 invariant-loop-at l = l.at ≤ l.size
 
-abbrev pub decreases-loop-at : goal.decreases-loop-at
+abbrev pub decreases-loop-at : Rattle.file_disk.proofs.files.fill.Given.decreases-loop-at
 decreases-loop-at l = l.size - l.at

@@ -1,8 +1,7 @@
 use Rattle.std.proofs.Common.{◌-◌, ◌≤◌, length}
-use Rattle.file_disk.proofs.files.read_all.Given as goal
 
-abbrev pub invariant-loop-done : goal.invariant-loop-done
+abbrev pub invariant-loop-done : Rattle.file_disk.proofs.files.read_all.Given.invariant-loop-done
 invariant-loop-done l = l.done ≤ length l.into
 
-abbrev pub decreases-loop-done : goal.decreases-loop-done
+abbrev pub decreases-loop-done : Rattle.file_disk.proofs.files.read_all.Given.decreases-loop-done
 decreases-loop-done l = length l.into - l.done

@@ -1,7 +1,6 @@
 use Rattle.group_commit.proofs.{Words.{ap, arith, length, sym, ◌∙◌, ◌∷◌, ◌≡◌, [], into_iter_items, prefix_self, port_view, aborts_of}, Grouping.{all_gone, goes_on, knows_more, nothing_left}}
-use Rattle.group_commit.proofs.aborts.abort_all.Goals as goal
 
-pub loop-tx-preserved : goal.loop-tx-preserved
+pub loop-tx-preserved : Rattle.group_commit.proofs.aborts.abort_all.Goals.loop-tx-preserved
 loop-tx-preserved g c =
     let A = g.O.Origin.start in
     let at = c.loop-tx in
@@ -22,13 +21,13 @@ loop-tx-preserved g c =
       told = knows_more A c.args.txs.items (port_view at.port) (port_view c.abort.new.port) t rest c.abort.ensures.made (rw items at at.invariant.told);
     }
 
-pub returns-clause-did : goal.returns-clause-did
+pub returns-clause-did : Rattle.group_commit.proofs.aborts.abort_all.Goals.returns-clause-did
 returns-clause-did g c =
     let at = c.loop-tx in
     let none : into_iter_items at.rest ≡ [] = nothing_left _ (sym at.invariant.len ∙ c.in_default.ensures.cases.0) in
     all_gone g.O.Origin.start (port_view c.args.port.now) (port_view at.port) c.args.txs.items (aborts_of c.args.txs.items) (rw none at at.invariant.did)
 
-pub returns-clause-told : goal.returns-clause-told
+pub returns-clause-told : Rattle.group_commit.proofs.aborts.abort_all.Goals.returns-clause-told
 returns-clause-told g c =
     let at = c.loop-tx in
     let none : into_iter_items at.rest ≡ [] = nothing_left _ (sym at.invariant.len ∙ c.in_default.ensures.cases.0) in

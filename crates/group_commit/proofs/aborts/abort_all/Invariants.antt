@@ -1,7 +1,6 @@
 use Rattle.group_commit.proofs.{Words.{◌≡◌, length, into_iter_items, into_iter_len, port_view, AreTxs, aborts_of, units_all, IsPort}, Grouping.{GoesOn, KnowsMore}}
-use Rattle.group_commit.proofs.aborts.abort_all.Given as goal
 
-abbrev pub invariant-loop-tx : goal.invariant-loop-tx
+abbrev pub invariant-loop-tx : Rattle.group_commit.proofs.aborts.abort_all.Given.invariant-loop-tx
 invariant-loop-tx g l = record {
   port : IsPort l.shared l.port;
   len : into_iter_len l.rest ≡ length (into_iter_items l.rest);
@@ -11,5 +10,5 @@ invariant-loop-tx g l = record {
   told : KnowsMore l.fn.txs.items (port_view l.port) (into_iter_items l.rest);
 }
 
-abbrev pub decreases-loop-tx : goal.decreases-loop-tx
+abbrev pub decreases-loop-tx : Rattle.group_commit.proofs.aborts.abort_all.Given.decreases-loop-tx
 decreases-loop-tx g l = into_iter_len l.rest

@@ -1,7 +1,6 @@
 use Rattle.group_commit.proofs.{Words.{ap, arith, length, sym, None, Some, ◌∙◌, ◌∷◌, ◌≡◌, [], into_iter_items, prefix_self, port_view, aborts_of, found_in}, Grouping.{all_gone, goes_on, knows_more, nothing_left}}
-use Rattle.group_commit.proofs.aborts.abort_found.Goals as goal
 
-pub loop-member-preserved-in-Some-member : goal.loop-member-preserved-in-Some-member
+pub loop-member-preserved-in-Some-member : Rattle.group_commit.proofs.aborts.abort_found.Goals.loop-member-preserved-in-Some-member
 loop-member-preserved-in-Some-member g c =
     let A = g.O.Origin.start in
     let at = c.loop-member in
@@ -23,7 +22,7 @@ loop-member-preserved-in-Some-member g c =
       told = knows_more A (found_in c.args.members.items) (port_view at.port) (port_view c.abort.new.port) t (found_in rest) c.abort.ensures.made (rw items at at.invariant.told);
     }
 
-pub loop-member-preserved : goal.loop-member-preserved
+pub loop-member-preserved : Rattle.group_commit.proofs.aborts.abort_found.Goals.loop-member-preserved
 loop-member-preserved g c =
     let at = c.loop-member in
     let rest = into_iter_items c.next.new.self in
@@ -40,13 +39,13 @@ loop-member-preserved g c =
       told = rw items at at.invariant.told;
     }
 
-pub returns-clause-did : goal.returns-clause-did
+pub returns-clause-did : Rattle.group_commit.proofs.aborts.abort_found.Goals.returns-clause-did
 returns-clause-did g c =
     let at = c.loop-member in
     let none : into_iter_items at.rest ≡ [] = nothing_left _ (sym at.invariant.len ∙ c.in_default.ensures.cases.0) in
     all_gone g.O.Origin.start (port_view c.args.port.now) (port_view at.port) (found_in c.args.members.items) (aborts_of (found_in c.args.members.items)) (rw none at at.invariant.did)
 
-pub returns-clause-told : goal.returns-clause-told
+pub returns-clause-told : Rattle.group_commit.proofs.aborts.abort_found.Goals.returns-clause-told
 returns-clause-told g c =
     let at = c.loop-member in
     let none : into_iter_items at.rest ≡ [] = nothing_left _ (sym at.invariant.len ∙ c.in_default.ensures.cases.0) in

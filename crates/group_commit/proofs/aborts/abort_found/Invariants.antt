@@ -1,7 +1,6 @@
 use Rattle.group_commit.proofs.{Words.{◌≡◌, length, into_iter_items, into_iter_len, port_view, AreMembers, aborts_of, found_in, units_all, IsPort}, Grouping.{GoesOn, KnowsMore}}
-use Rattle.group_commit.proofs.aborts.abort_found.Given as goal
 
-abbrev pub invariant-loop-member : goal.invariant-loop-member
+abbrev pub invariant-loop-member : Rattle.group_commit.proofs.aborts.abort_found.Given.invariant-loop-member
 invariant-loop-member g l = record {
   port : IsPort l.shared l.port;
   len : into_iter_len l.rest ≡ length (into_iter_items l.rest);
@@ -11,5 +10,5 @@ invariant-loop-member g l = record {
   told : KnowsMore (found_in l.fn.members.items) (port_view l.port) (found_in (into_iter_items l.rest));
 }
 
-abbrev pub decreases-loop-member : goal.decreases-loop-member
+abbrev pub decreases-loop-member : Rattle.group_commit.proofs.aborts.abort_found.Given.decreases-loop-member
 decreases-loop-member g l = into_iter_len l.rest

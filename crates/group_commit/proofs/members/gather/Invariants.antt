@@ -1,7 +1,6 @@
 use Rattle.group_commit.proofs.Words.{◌≡◌, ◌++◌, ◌+◌, ◌≤◌, length, into_iter_items, into_iter_len, vec_capacity, found_in, marks_of}
-use Rattle.group_commit.proofs.members.gather.Given as goal
 
-abbrev pub invariant-loop-member : goal.invariant-loop-member
+abbrev pub invariant-loop-member : Rattle.group_commit.proofs.members.gather.Given.invariant-loop-member
 invariant-loop-member g l = record {
   len : into_iter_len l.rest ≡ length (into_iter_items l.rest);
   group : l.group.items ++ found_in (into_iter_items l.rest) ≡ found_in l.fn.members.items;
@@ -10,5 +9,5 @@ invariant-loop-member g l = record {
   places : length (into_iter_items l.rest) ≤ l.marks.room;
 }
 
-abbrev pub decreases-loop-member : goal.decreases-loop-member
+abbrev pub decreases-loop-member : Rattle.group_commit.proofs.members.gather.Given.decreases-loop-member
 decreases-loop-member g l = into_iter_len l.rest

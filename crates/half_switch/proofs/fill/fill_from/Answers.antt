@@ -1,4 +1,4 @@
-use Rattle.half_switch.proofs.{Words.{◌+◌, ◌-◌, length, arith, sym, ◌∙◌, on_ok_weaker, on_err_weaker, half_size, goes_on_still, starts_inside, runs_inside}, Filled.laid_filled, Tells.{on_err, tells_same, tells_more}}
+use Rattle.half_switch.proofs.{Words.{◌+◌, ◌-◌, length, arith, sym, ◌∙◌, on_ok_weaker, half_size, goes_on_still, starts_inside, runs_inside}, Filled.laid_filled, Tells.{on_err, tells_same, tells_more}}
 use Rattle.half_switch.proofs.fill.fill_from.Goals as goal
 
 pub returns-in_err-read-clause-moments : goal.returns-in_err-read-clause-moments
@@ -24,12 +24,7 @@ pub returns-in_err-read-2-clause-failed : goal.returns-in_err-read-2-clause-fail
 returns-in_err-read-2-clause-failed g c = on_err _ (tells_same (c.args.to.now.header + 1) (half_size c.args.plan.now.geometry - 1) _ _ (c.read-2.ensures.contents ∙ c.read.ensures.contents))
 
 pub returns-clause-failed : goal.returns-clause-failed
-returns-clause-failed g c =
-    let state = g.D.Disk.state in
-    on_err_weaker c.put_filled.result (λ torn.
-    tells_more (c.args.to.now.header + 1) (half_size c.args.plan.now.geometry - 1) (c.args.to.now.header + 1) (half_size c.args.plan.now.geometry - 1) (omega arith) (omega arith)
-    (state c.args.disk.now) (state c.read-2.new.self) (state c.put_filled.new.disk)
-    (tells_same (c.args.to.now.header + 1) (half_size c.args.plan.now.geometry - 1) (state c.args.disk.now) (state c.read-2.new.self) (c.read-2.ensures.contents ∙ c.read.ensures.contents)) torn) c.put_filled.ensures.failed
+returns-clause-failed g c = grind (arith, tells_more, tells_same)
 
 pub returns-clause-filled : goal.returns-clause-filled
 returns-clause-filled g c h x copies held = on_ok_weaker c.put_filled.result (λ whole d image.

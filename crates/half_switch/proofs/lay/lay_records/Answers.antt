@@ -15,9 +15,7 @@ pub record_window-requires : goal.record_window-requires
 record_window-requires c = (window_inside c.args.geometry.now (c.args.number + 1 + c.loop-i.i) c.in-Ok.record c.split_at.result.1.now c.requires.valid c.in-Ok.ensures.spelled).head
 
 pub overflow_add-at : goal.overflow_add-at
-overflow_add-at c =
-    let inside = window_inside c.args.geometry.now (c.args.number + 1 + c.loop-i.i) c.in-Ok.record c.split_at.result.1.now c.requires.valid c.in-Ok.ensures.spelled in
-    omega (arith, c.loop-i.invariant.inside, inside.window, c.record_window.ensures, c.split_at.ensures.back_len)
+overflow_add-at c = grind (arith, window_inside)
 
 pub loop-i-preserved : goal.loop-i-preserved
 loop-i-preserved c =

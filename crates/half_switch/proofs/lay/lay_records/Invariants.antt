@@ -1,7 +1,6 @@
 use Rattle.half_switch.proofs.Words.{◌≡◌, ◌≤◌, ◌+◌, List, length, take, AllByRecursion, LAST, IsRecord, Written, records, all_laid, AreBytesOf}
-use Rattle.half_switch.proofs.lay.lay_records.Given as goal
 
-abbrev pub invariant-loop-i : goal.invariant-loop-i
+abbrev pub invariant-loop-i : Rattle.half_switch.proofs.lay.lay_records.Given.invariant-loop-i
 invariant-loop-i l = record {
   inside : l.at ≤ length l.log;
   long : length l.into ≡ length l.fn.into;

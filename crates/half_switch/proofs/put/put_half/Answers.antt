@@ -32,11 +32,7 @@ returns-clause-moments g c n fits =
     goes_on_still (laws c.write-3.new.self) three c.sync.ensures.crash
 
 pub returns-in_err-write-clause-failed : goal.returns-in_err-write-clause-failed
-returns-in_err-write-clause-failed g c n fits =
-    let (base, log) = c.requires.places in
-    let state = g.D.Disk.state in
-    on_err _ (tells_more (c.args.to.now.header + 1) n c.args.to.now.base (length c.args.base.now) (omega (arith, base)) (omega (arith, base, log, fits))
-    (state c.args.disk.now) (state c.args.disk.now) (state c.write.new.self) (tells_same (c.args.to.now.header + 1) n _ _ refl) c.in_err-write.ensures.failed)
+returns-in_err-write-clause-failed g c n fits = grind (arith, on_err, tells_more, tells_same)
 
 pub returns-in_err-write-2-clause-failed : goal.returns-in_err-write-2-clause-failed
 returns-in_err-write-2-clause-failed g c n fits =

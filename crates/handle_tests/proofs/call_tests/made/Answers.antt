@@ -1,8 +1,7 @@
 use Rattle.std.proofs.Common.{refl}
 use Rattle.iso_model.specs.World.{empty_history, fresh}
-use Rattle.handle_tests.proofs.call_tests.made.Goals as goal
 
-pub over_core-requires : goal.over_core-requires
+pub over_core-requires : Rattle.handle_tests.proofs.call_tests.made.Goals.over_core-requires
 over_core-requires g c =
     let geometry = c.numbers-geometry.result in
     (fresh geometry 1 (empty_history geometry), record { stands = c.in-Ok.ensures.stands; idle = refl })

@@ -2,7 +2,6 @@
 use Rattle.iso_core.specs.Core.{disk_of}
 use Rattle.iso_memdisk.specs.MemDisk.{state_of}
 use Rattle.handle_tests.proofs.Starts.{start_of}
-use Rattle.handle_tests.proofs.group_tests.across_threads.Given as goal
 
-abbrev pub ghosts-run_across : goal.ghosts-run_across
+abbrev pub ghosts-run_across : Rattle.handle_tests.proofs.group_tests.across_threads.Given.ghosts-run_across
 ghosts-run_across g a = record { start = start_of a.core; disk = state_of (disk_of a.core) }

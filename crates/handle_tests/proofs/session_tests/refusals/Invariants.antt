@@ -2,7 +2,6 @@
 use Rattle.iso_core.specs.Core.{disk_of}
 use Rattle.iso_memdisk.specs.MemDisk.{state_of}
 use Rattle.handle_tests.proofs.Starts.{start_of}
-use Rattle.handle_tests.proofs.session_tests.refusals.Given as goal
 
-abbrev pub ghosts-run_refusals : goal.ghosts-run_refusals
+abbrev pub ghosts-run_refusals : Rattle.handle_tests.proofs.session_tests.refusals.Given.ghosts-run_refusals
 ghosts-run_refusals g a = record { start = start_of a.core; disk = state_of (disk_of a.core) }

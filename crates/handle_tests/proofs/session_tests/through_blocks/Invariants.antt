@@ -2,7 +2,6 @@
 use Rattle.iso_core.specs.Core.{disk_of}
 use Rattle.iso_memdisk.specs.MemDisk.{state_of}
 use Rattle.handle_tests.proofs.Starts.{start_of}
-use Rattle.handle_tests.proofs.session_tests.through_blocks.Given as goal
 
-abbrev pub ghosts-run_through : goal.ghosts-run_through
+abbrev pub ghosts-run_through : Rattle.handle_tests.proofs.session_tests.through_blocks.Given.ghosts-run_through
 ghosts-run_through g a = record { start = start_of a.core; disk = state_of (disk_of a.core) }

@@ -1,12 +1,10 @@
-use Rattle.std.proofs.Common.{subst}
-use Rattle.iso_core.specs.{Core.StandsFor, Standing.up}
-use Rattle.iso_memdisk.{specs.MemDisk.state_of, proofs.Blank.{blank_now, still_starts}}
+use Rattle.std.proofs.Common.{subst, IfOk}
+use Rattle.iso_core.specs.{Core.StandsFor, Standing.up, declared.core_itself.Core.Core}
+use Rattle.iso_memdisk.{specs.{MemDisk.state_of, declared.disk.MemDisk.MemDisk}, proofs.Blank.still_starts}
 use Rattle.iso_model.specs.{declared.access.Geometry.Geometry, World.{empty_history, fresh}}
-use Rattle.handle_tests.proofs.small_image.core_failing.Goals as goal
 
-pub format_image-requires-clause-blank : goal.format_image-requires-clause-blank
-format_image-requires-clause-blank c =
-    blank_now 8832 c.fuse.new.self c.in_ok-bytes.bytes.items (still_starts c.new-disk.result c.fuse.new.self c.in_ok-bytes.bytes.items c.fuse.ensures.untouched c.new-disk.ensures.stable) c.in_ok-bytes.ensures
+pub core_on-requires-clause-blank : Rattle.handle_tests.proofs.small_image.core_failing.Goals.core_on-requires-clause-blank
+core_on-requires-clause-blank c = still_starts c.in_ok-disk.disk c.fuse.new.self _ c.fuse.ensures.untouched c.in_ok-disk.ensures
 
-pub returns-in-Ok : goal.returns-in-Ok
-returns-in-Ok c = subst (λ (g : Geometry). StandsFor state_of c.in-Ok.core (fresh g 1 (empty_history g)) up) c.small.ensures.same c.in-Ok.ensures.stands
+pub returns : Rattle.handle_tests.proofs.small_image.core_failing.Goals.returns
+returns c = subst (λ (g : Geometry). IfOk c.core_on.result (λ (core : Core MemDisk). StandsFor state_of core (fresh g 1 (empty_history g)) up)) c.with_long_logs-geometry.ensures.same c.core_on.ensures.stands

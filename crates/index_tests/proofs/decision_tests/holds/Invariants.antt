@@ -1,5 +1,4 @@
 -- The ledger is the new one.
-use Rattle.index_tests.proofs.decision_tests.holds.Given as goal
 
-abbrev pub ghosts-holds_in : goal.ghosts-holds_in
+abbrev pub ghosts-holds_in : Rattle.index_tests.proofs.decision_tests.holds.Given.ghosts-holds_in
 ghosts-holds_in a = record { name = a.blank.name; parts = a.blank.parts }

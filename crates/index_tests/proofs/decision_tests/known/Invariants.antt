@@ -1,5 +1,4 @@
 -- The ledger is the new one.
-use Rattle.index_tests.proofs.decision_tests.known.Given as goal
 
-abbrev pub ghosts-decided_in : goal.ghosts-decided_in
+abbrev pub ghosts-decided_in : Rattle.index_tests.proofs.decision_tests.known.Given.ghosts-decided_in
 ghosts-decided_in a = record { name = a.blank.name; parts = a.blank.parts }

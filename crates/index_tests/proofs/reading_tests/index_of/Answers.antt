@@ -3,9 +3,8 @@ use Rattle.std.proofs.{Common.{List, length, map, ap, arith, refl}, lemmas.List.
 use Rattle.iso_model.specs.declared.access.Run.{Run}
 use Rattle.version_read.specs.Parts.{part_of}
 use Rattle.index_tests.proofs.Indexes.{few_parts}
-use Rattle.index_tests.proofs.reading_tests.index_of.Goals as goal
 
-pub take_parts-requires : goal.take_parts-requires
+pub take_parts-requires : Rattle.index_tests.proofs.reading_tests.index_of.Goals.take_parts-requires
 take_parts-requires c =
     let runs = c.args.view.now.parts in
     few_parts (map part_of runs) runs c.number.result c.args.gate c.in_ok-index.index refl c.requires.runs c.in_ok-index.ensures.blocks c.in_ok-index.ensures.none c.in_ok-index.ensures.count

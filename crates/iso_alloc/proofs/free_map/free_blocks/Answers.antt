@@ -1,7 +1,6 @@
 use Rattle.iso_alloc.proofs.{Words.{◌≡◌, ◌∙◌, sym, ap, ◌+◌, cond, Bool, arith, map_bit}, Loops.count_on, free_map.free_blocks.Goals.{then-not-is_taken, else-not-is_taken}}
-use Rattle.iso_alloc.proofs.free_map.free_blocks.Goals as goal
 
-pub loop-block-preserved : goal.loop-block-preserved
+pub loop-block-preserved : Rattle.iso_alloc.proofs.free_map.free_blocks.Goals.loop-block-preserved
 loop-block-preserved c =
     let here : c.if-not-is_taken.count ≡ c.loop-block.count + cond (map_bit c.args.map.now c.loop-block.block) 0 1 =
     elim c.if-not-is_taken.branch [

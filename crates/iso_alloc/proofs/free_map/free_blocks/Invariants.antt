@@ -1,8 +1,7 @@
 use Rattle.iso_alloc.proofs.Words.{◌≡◌, ◌+◌, ◌-◌, ◌≤◌, free_count}
-use Rattle.iso_alloc.proofs.free_map.free_blocks.Given as goal
 
 -- those counted and those that are left
-abbrev pub invariant-loop-block : goal.invariant-loop-block
+abbrev pub invariant-loop-block : Rattle.iso_alloc.proofs.free_map.free_blocks.Given.invariant-loop-block
 invariant-loop-block l = record {
   counted : l.count + free_count l.map l.block (l.block-end - l.block) ≡ free_count l.map l.first (l.block-end - l.first);
   few : l.count ≤ l.block;

@@ -1,6 +1,5 @@
 use Rattle.iso_alloc.proofs.Words.{◌≡◌, ◌-◌, not, first_from, lowest_free, map_bit}
-use Rattle.iso_alloc.proofs.free_map.lowest_free.Given as goal
 
 -- the blocks that are left decide
-abbrev pub invariant-loop-block : goal.invariant-loop-block
+abbrev pub invariant-loop-block : Rattle.iso_alloc.proofs.free_map.lowest_free.Given.invariant-loop-block
 invariant-loop-block l = first_from (λ k. not (map_bit l.map k)) l.block (l.block-end - l.block) ≡ lowest_free l.map l.first (l.block-end - l.first)

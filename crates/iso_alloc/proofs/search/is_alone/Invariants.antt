@@ -1,6 +1,5 @@
 use Rattle.iso_alloc.proofs.Words.{◌≡◌, ◌-◌, ◌==◌, ◌||◌, all_from, is_unused, is_alone}
-use Rattle.iso_alloc.proofs.search.is_alone.Given as goal
 
 -- the cells that are left decide
-abbrev pub invariant-loop-other : goal.invariant-loop-other
+abbrev pub invariant-loop-other : Rattle.iso_alloc.proofs.search.is_alone.Given.invariant-loop-other
 invariant-loop-other l = all_from (λ i. (i == l.cell) || is_unused l.keys i) l.other (l.other-end - l.other) ≡ is_alone l.size l.keys l.cell

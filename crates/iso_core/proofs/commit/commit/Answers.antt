@@ -1,10 +1,9 @@
-use Rattle.iso_core.proofs.{Words.{◌≡◌, ◌≢◌, ◌∙◌, inr, sym, ap, ℕ, ◌+◌, ◌-◌, ◌≤◌, [], ◌∷◌, length, arith, subst, Some, None, true, LeavesOnly, weakened, MayFollow, half_of_world, next_gate, with_records, extent_of, LAST, CoreReply, last, after_commit, commit_step, need, World, Live, used, IsWorld, Kept, AreOf, IsGrownBy, IsPrepared, IsSpelled, MayCommit, written_of, IsOf, up, ShowsEither}, Committing.{committed_core, down_on, fits_log, full_log, grown_by, lost_core, next_world, prepared_stage, spelled_stage}, Moments.{is_committed, is_full, is_worn, shows_either, stays_shown}, Numbers.log_last, Prepares.follows, commit.commit.Goals.{After-append, After-last-last}}
+use Rattle.iso_core.proofs.{Words.{◌≡◌, ◌≢◌, ◌∙◌, inr, sym, ap, ℕ, ◌+◌, ◌-◌, ◌≤◌, [], ◌∷◌, arith, subst, Some, None, true, LeavesOnly, weakened, MayFollow, half_of_world, next_gate, with_records, extent_of, LAST, CoreReply, last, after_commit, commit_step, need, World, Live, used, IsWorld, Kept, AreOf, IsGrownBy, IsPrepared, IsSpelled, MayCommit, written_of, IsOf, up, ShowsEither}, Committing.{committed_core, down_on, fits_log, full_log, grown_by, lost_core, next_world, prepared_stage, spelled_stage}, Moments.{is_committed, is_full, is_worn, shows_either, stays_shown}, Numbers.log_last, Prepares.follows, commit.commit.Goals.{After-append, After-last-last}}
 use Rattle.iso_model.specs.declared.core_reply.CoreReply.TheVariants as reply
-use Rattle.iso_core.proofs.commit.commit.Given as given
 use Rattle.iso_core.proofs.commit.commit.Goals as goal
 
 -- what stands before the first call
-module _ (g : given.Over) (c : After-last-last g) (W : World) (t : Live) (of : AreOf (g.D.Disk.state c.args.disk.now) c.args.kept.now W up) where
+module _ (g : Rattle.iso_core.proofs.commit.commit.Given.Over) (c : After-last-last g) (W : World) (t : Live) (of : AreOf (g.D.Disk.state c.args.disk.now) c.args.kept.now W up) where
   number : c.last-last.result ≡ last W.history
   number = c.last-last.ensures ∙ log_last c.args.kept.now W of.kept_of.world of.kept_of.keeps
 
@@ -13,9 +12,8 @@ module _ (g : given.Over) (c : After-last-last g) (W : World) (t : Live) (of : A
 
 pub returns-then-last-ge-LAST-clause-refused : goal.returns-then-last-ge-LAST-clause-refused
 returns-then-last-ge-LAST-clause-refused g c W t of may =
-    let most : last W.history ≤ LAST = of.kept_of.world.numbers in
     let is = number g (goal.at.returns-then-last-ge-LAST-clause-refused g c).After-last-last W t of in
-    inr (inr (ap Some (sym (is_worn W t (omega (arith, c.if-last-ge-LAST.true, is, most))))))
+    inr (inr (ap Some (sym (is_worn W t (omega (arith, c.if-last-ge-LAST.true, is, of.kept_of.world.numbers))))))
 
 pub returns-then-last-ge-LAST-clause-moments : goal.returns-then-last-ge-LAST-clause-moments
 returns-then-last-ge-LAST-clause-moments g c W t of may = still g (goal.at.returns-then-last-ge-LAST-clause-moments g c).After-last-last W t of
@@ -27,32 +25,19 @@ pub returns-in-Err-clause-same : goal.returns-in-Err-clause-same
 returns-in-Err-clause-same g c W of other = spelled_stage (g.D.Disk.state c.args.disk.now) c.args.kept.now c.spell_next.new.kept W of c.spell_next.ensures.same
 
 pub spell_next-requires-clause-transaction : goal.spell_next-requires-clause-transaction
-spell_next-requires-clause-transaction g c =
-    let (W, t, of, may) = c.requires in
-    (W, t, of.kept_of, may)
+spell_next-requires-clause-transaction g c = grind arith
 
 pub prepare-requires-clause-transaction : goal.prepare-requires-clause-transaction
-prepare-requires-clause-transaction g c =
-    let (W, t, of, may) = c.requires in
-    let stage = spelled_stage (g.D.Disk.state c.args.disk.now) c.args.kept.now c.spell_next.new.kept W of c.spell_next.ensures.same in
-    (W, t, stage.kept_of, may, c.in_default.ensures.spelled W t of.kept_of may)
+prepare-requires-clause-transaction g c = grind (arith, spelled_stage)
 
 pub prepare-requires-clause-fits : goal.prepare-requires-clause-fits
-prepare-requires-clause-fits g c =
-    fits_log c.spell_next.new.kept c.with_closed_gate.result.now c.from-free.result c.with_closed_gate.ensures (c.from-free.ensures ∙ c.free.ensures) (omega (arith, c.if-free-need.false))
+prepare-requires-clause-fits g c = grind (arith, fits_log)
 
 pub append-requires-clause-next : goal.append-requires-clause-next
-append-requires-clause-next g c =
-    let (W, t, of, may) = c.requires in
-    let d = g.D.Disk.state c.args.disk.now in
-    let stage = spelled_stage d c.args.kept.now c.spell_next.new.kept W of c.spell_next.ensures.same in
-    let prepared = c.in-Ok.ensures.prepared W t stage.kept_of may (c.in_default.ensures.spelled W t of.kept_of may) in
-    (W, written_of W t ∷ [], prepared_stage d c.spell_next.new.kept c.prepare.new.kept W stage (c.prepare.ensures.same W stage.kept_of) c.prepare.ensures.rest, prepared.spelled.next)
+append-requires-clause-next g c = grind (arith, spelled_stage, prepared_stage)
 
 pub append-requires-clause-fits : goal.append-requires-clause-fits
-append-requires-clause-fits g c =
-    subst (λ (k : Kept). k.log.used + length k.buffer.records + 1 ≤ k.log.room) (sym c.prepare.ensures.rest)
-    (fits_log c.spell_next.new.kept c.with_closed_gate.result.now c.from-free.result c.with_closed_gate.ensures (c.from-free.ensures ∙ c.free.ensures) (omega (arith, c.if-free-need.false)))
+append-requires-clause-fits g c = grind (arith, fits_log)
 
 pub returns-then-free-need-clause-refused : goal.returns-then-free-need-clause-refused
 returns-then-free-need-clause-refused g c W t of may =
@@ -60,8 +45,7 @@ returns-then-free-need-clause-refused g c W t of may =
     let spelled = c.in_default.ensures.spelled W t of.kept_of may in
     let (need_is, free_is) = full_log c.spell_next.new.kept W t c.with_closed_gate.result.now c.from-free.result stage.kept_of spelled c.with_closed_gate.ensures (c.from-free.ensures ∙ c.free.ensures) in
     let is = number g (goal.at.returns-then-free-need-clause-refused g c).After-last-last W t of in
-    inr (inr (ap Some ((λ i. reply.LogFull (need_is i) (free_is i))
-    ∙ sym (is_full W t (λ e. absurd (omega (arith, c.if-last-ge-LAST.false, is, e))) (omega (arith, c.if-free-need.true, need_is, free_is))))))
+    grind (arith, is_full)
 
 pub returns-then-free-need-clause-moments : goal.returns-then-free-need-clause-moments
 returns-then-free-need-clause-moments g c W t of may = still g (goal.at.returns-then-free-need-clause-moments g c).After-last-last W t of
@@ -73,13 +57,10 @@ pub returns-in_default-prepare-clause-moments : goal.returns-in_default-prepare-
 returns-in_default-prepare-clause-moments g c W t of may = still g (goal.at.returns-in_default-prepare-clause-moments g c).After-last-last W t of
 
 pub returns-in_default-prepare-clause-same : goal.returns-in_default-prepare-clause-same
-returns-in_default-prepare-clause-same g c W of other =
-    let d = g.D.Disk.state c.args.disk.now in
-    let stage = spelled_stage d c.args.kept.now c.spell_next.new.kept W of c.spell_next.ensures.same in
-    prepared_stage d c.spell_next.new.kept c.prepare.new.kept W stage (c.prepare.ensures.same W stage.kept_of) c.prepare.ensures.rest
+returns-in_default-prepare-clause-same g c W of other = grind (arith, spelled_stage, prepared_stage)
 
 -- what stands once the record was appended, or was not
-module _ (g : given.Over) (c : After-append g) (W : World) (t : Live) (of : AreOf (g.D.Disk.state c.args.disk.now) c.args.kept.now W up) (may : MayCommit W c.args.tx t c.args.work.now) where
+module _ (g : Rattle.iso_core.proofs.commit.commit.Given.Over) (c : After-append g) (W : World) (t : Live) (of : AreOf (g.D.Disk.state c.args.disk.now) c.args.kept.now W up) (may : MayCommit W c.args.tx t c.args.work.now) where
   one : AreOf (g.D.Disk.state c.args.disk.now) c.spell_next.new.kept W up
   one = spelled_stage (g.D.Disk.state c.args.disk.now) c.args.kept.now c.spell_next.new.kept W of c.spell_next.ensures.same
 
@@ -133,10 +114,7 @@ take_in-requires g c =
     (W, t, grown g s W t of may c.in-Ok-append.gate (c.in-Ok-append.ensures.grown W (written_of W t ∷ []) stage (prepared g s W t of may).spelled.next) (c.in-Ok-append.ensures.gate W stage))
 
 pub leave-requires : goal.leave-requires
-leave-requires g c =
-    let (W, t, of, may) = c.requires in
-    let s = (goal.at.leave-requires g c).After-append in
-    (W, t, down_on c.append.new.kept W true (subst (λ (k : Kept). IsOf k W) (sym c.in-Err-append.ensures.kept) (two g s W t of may).kept_of), may.here)
+leave-requires g c = grind (arith, down_on)
 
 pub returns-in-Ok-append-clause-ended : goal.returns-in-Ok-append-clause-ended
 returns-in-Ok-append-clause-ended g c W t of may =

@@ -1,22 +1,21 @@
 use Rattle.iso_core.proofs.{Words.{◌∙◌, ap, above}, Commits.{commits_so, may_take_in, notes_below}, Leaves.is_live}
-use Rattle.iso_core.proofs.commit.take_in.Goals as goal
 
-pub add_parts-requires-clause-may : goal.add_parts-requires-clause-may
+pub add_parts-requires-clause-may : Rattle.iso_core.proofs.commit.take_in.Goals.add_parts-requires-clause-may
 add_parts-requires-clause-may c =
     let (W, t, grown) = c.requires in
     may_take_in W c.args.tx t c.args.kept.now c.args.gate c.args.writes grown c.last-number.result c.as_slice.result.now c.last-number.ensures c.as_slice.ensures.value
 
-pub add-requires-clause-number : goal.add-requires-clause-number
+pub add-requires-clause-number : Rattle.iso_core.proofs.commit.take_in.Goals.add-requires-clause-number
 add-requires-clause-number c =
     let (W, t, grown) = c.requires in
     notes_below W c.args.tx t c.args.kept.now c.args.gate c.args.writes grown c.last-number.result c.last-number.ensures
 
-pub leave-requires : goal.leave-requires
+pub leave-requires : Rattle.iso_core.proofs.commit.take_in.Goals.leave-requires
 leave-requires c =
     let (W, t, grown) = c.requires in
     is_live _ W c.args.tx t grown.was grown.here
 
-pub returns-clause-committed : goal.returns-clause-committed
+pub returns-clause-committed : Rattle.iso_core.proofs.commit.take_in.Goals.returns-clause-committed
 returns-clause-committed c W t grown =
     commits_so W c.args.tx t c.args.kept.now c.args.gate c.args.writes grown c.last-number.result c.floor-floor.result c.as_slice.result.now c.add_parts.new.index c.leave.new.self c.drop_to.new.self
     c.last-number.ensures c.as_slice.ensures.value c.add_parts.ensures c.leave.ensures c.floor-floor.ensures (c.drop_to.ensures.notes ∙ ap (above c.floor-floor.result) c.add.ensures)

@@ -1,7 +1,6 @@
 use Rattle.iso_core.proofs.{Words.{◌≡◌, ◌∙◌, sym, arith, subst, IsAsked, Mode, clash}, Decides.{asked, later_count, settled_of}}
-use Rattle.iso_core.proofs.decide.decide_end.Goals as goal
 
-pub returns-clause-clash : goal.returns-clause-clash
+pub returns-clause-clash : Rattle.iso_core.proofs.decide.decide_end.Goals.returns-clause-clash
 returns-clause-clash g c W t of here is_work is =
     let settled = settled_of W t c.args.work.now c.settle.new.self is_work c.in_ok-settle.ensures.ok c.settle.ensures.within (omega (arith, c.room.ensures)) in
     let mode_is : c.mode.result ≡ t.mode = c.mode.ensures ∙ settled.is_work.mode in
@@ -10,11 +9,9 @@ returns-clause-clash g c W t of here is_work is =
     (asked c.args.kept.now W c.args.tx t c.args.checked.now of here is settled.accesses c.settle.new.self settled.is_work c.reads.result.now c.writes.result.now c.reads.ensures c.writes.ensures))
     ∙ (λ i. clash W.geometry W.history (mode_is i) t.begin t.accesses)
 
-pub returns-clause-settled : goal.returns-clause-settled
+pub returns-clause-settled : Rattle.iso_core.proofs.decide.decide_end.Goals.returns-clause-settled
 returns-clause-settled g c W t is_work =
     settled_of W t c.args.work.now c.settle.new.self is_work c.in_ok-settle.ensures.ok c.settle.ensures.within (omega (arith, c.room.ensures))
 
-pub returns-clause-steps : goal.returns-clause-steps
-returns-clause-steps g c W t of here is =
-    let count = later_count c.args.kept.now W c.args.tx t c.args.checked.now of here is in
-    omega (arith, c.decide.ensures.steps, count)
+pub returns-clause-steps : Rattle.iso_core.proofs.decide.decide_end.Goals.returns-clause-steps
+returns-clause-steps g c W t of here is = omega (arith, c.decide.ensures.steps, later_count c.args.kept.now W c.args.tx t c.args.checked.now of here is)

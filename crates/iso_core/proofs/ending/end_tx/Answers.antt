@@ -1,11 +1,8 @@
-use Rattle.iso_core.proofs.{Words.{◌≡◌, ◌∙◌, ◌⊎◌, sym, ap, subst, IfOk, IfErr, None, true, clash, commit_step, CoreReply, has_write, end_step, World, Live, LeavesOnly, Disk, Refuses, reply_of, AreOf, IsCheckedOf, IsTx, IsWorkOf, MayCommit, up, ShowsEither}, Endings.{ends_by, ends_in_conflict, ends_read_only, left_so, may_commit}, Moments.stays_shown}
-use Rattle.iso_core.proofs.ending.end_tx.Given as given
+use Rattle.iso_core.proofs.{Words.{arith, ◌≡◌, ◌∙◌, ◌⊎◌, sym, ap, subst, IfOk, IfErr, None, true, clash, commit_step, CoreReply, has_write, end_step, World, Live, LeavesOnly, Disk, Refuses, reply_of, AreOf, IsCheckedOf, IsTx, IsWorkOf, MayCommit, up, ShowsEither}, Endings.{ends_by, ends_in_conflict, ends_read_only, left_so, may_commit}, Moments.stays_shown}
 use Rattle.iso_core.proofs.ending.end_tx.Goals as goal
 
 pub leave-requires : goal.leave-requires
-leave-requires g c =
-    let (W, t, of, here, is_work, is) = c.requires in
-    (W, t, of.kept_of, here)
+leave-requires g c = grind arith
 
 pub returns-then-not-has_write-clause-ended : goal.returns-then-not-has_write-clause-ended
 returns-then-not-has_write-clause-ended g c W t of here is_work is =
@@ -21,9 +18,7 @@ returns-in-Err-clause-moments g c W t of here is_work is =
     stays_shown (g.D.Disk.state c.args.disk.now) (g.met.D.Disk.lawful c.args.disk.now) c.args.kept.now W (end_step W t).1 of
 
 pub leave-requires-in-Some : goal.leave-requires-in-Some
-leave-requires-in-Some g c =
-    let (W, t, of, here, is_work, is) = c.requires in
-    (W, t, of.kept_of, here)
+leave-requires-in-Some g c = grind arith
 
 pub returns-in-Some-clause-ended : goal.returns-in-Some-clause-ended
 returns-in-Some-clause-ended g c W t of here is_work is =
@@ -42,7 +37,7 @@ commit-requires g c =
     (W, t, of, may_commit W c.args.tx t c.decide_end.new.work here (c.in-Ok.ensures.settled W t is_work) write (sym c.in_default.is ∙ c.in-Ok.ensures.clash W t of.kept_of here is_work is))
 
 -- it may commit, and the model's end is that commit
-module _ (g : given.Over) (c : goal.After-commit g) (W : World) (t : Live) (of : AreOf (g.D.Disk.state c.args.disk.now) c.args.kept.now W up) (here : IsTx W c.args.tx t) (is_work : IsWorkOf W t c.args.work.now)
+module _ (g : Rattle.iso_core.proofs.ending.end_tx.Given.Over) (c : goal.After-commit g) (W : World) (t : Live) (of : AreOf (g.D.Disk.state c.args.disk.now) c.args.kept.now W up) (here : IsTx W c.args.tx t) (is_work : IsWorkOf W t c.args.work.now)
     (is : IsCheckedOf W t c.args.checked.now) where
   write : has_write t.accesses ≡ true
   write = ap has_write (sym is_work.accesses) ∙ sym c.has_write.ensures ∙ c.if-not-has_write.false

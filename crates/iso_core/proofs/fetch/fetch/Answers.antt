@@ -1,25 +1,22 @@
 use Rattle.iso_core.proofs.{Words.{◌≡◌, ◌∙◌, inl, inr, sym, ap, subst, ℕ, ◌+◌, ◌*◌, Option, arith, transport, unwrap_or, HalfPlace, Geometry, base_place, image_size, limits, AllLie, IsOverIn}, Fetches.{range_is, versions_lie}, Leaves.begins_at}
-use Rattle.iso_core.proofs.fetch.fetch.Goals as goal
 
-pub versions_at-versions-requires-clause-within : goal.versions_at-versions-requires-clause-within
+pub versions_at-versions-requires-clause-within : Rattle.iso_core.proofs.fetch.fetch.Goals.versions_at-versions-requires-clause-within
 versions_at-versions-requires-clause-within g c =
     let (W, t, of, here, below, long) = c.requires.stands in
-    let most = (limits W.geometry of.kept_of.world.valid).largest_block in
-    omega (arith, long, most, c.requires.fits)
+    omega (arith, long, (limits W.geometry of.kept_of.world.valid).largest_block, c.requires.fits)
 
-pub read_by-requires-clause-size : goal.read_by-requires-clause-size
+pub read_by-requires-clause-size : Rattle.iso_core.proofs.fetch.fetch.Goals.read_by-requires-clause-size
 read_by-requires-clause-size g c =
     let (W, t, of, here, below, long) = c.requires.stands in
-    let most = (limits W.geometry of.kept_of.world.valid).largest_block in
-    omega (arith, long, most)
+    omega (arith, long, (limits W.geometry of.kept_of.world.valid).largest_block)
 
-pub read_by-requires-clause-versions : goal.read_by-requires-clause-versions
+pub read_by-requires-clause-versions : Rattle.iso_core.proofs.fetch.fetch.Goals.read_by-requires-clause-versions
 read_by-requires-clause-versions g c =
     let (W, t, of, here, below, long) = c.requires.stands in
     transport (λ i. AllLie (sym long i) (sym of.size i) c.versions_at-versions.result.now)
     (c.versions_at-versions.ensures.lie W.geometry.block (image_size W.geometry) (versions_lie c.args.kept.now W of.kept_of c.args.block))
 
-pub returns-clause-range : goal.returns-clause-range
+pub returns-clause-range : Rattle.iso_core.proofs.fetch.fetch.Goals.returns-clause-range
 returns-clause-range g c W t of here below long = λ image told.
     let kept = c.args.kept.now in
     let begin = c.unwrap_or-at.ensures ∙ ap (λ (o : Option ℕ). unwrap_or o c.last-last.result) (c.at.ensures ∙ begins_at kept W c.args.tx t of.kept_of here) in

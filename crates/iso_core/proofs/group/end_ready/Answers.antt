@@ -1,24 +1,18 @@
 use Rattle.iso_core.proofs.{Words.{◌≡◌, ◌≢◌, ◌∙◌, ◌⊎◌, sym, ap, ℕ, ◌+◌, ◌<◌, ◌++◌, [], ◌∷◌, List, length, map, subst, arith, DiskState, LeavesOnly, weakened, IsHeld, half_of_world, next_gate, with_records, extent_of, image_size, last, records, written, World, Live, GroupReply, Kept, AreOf, AreNextRecords, ahead, group, leave_all, IsOf, AreEach, IsGrownWith, IsPlannedFor, IsReady, up, ShowsEither}, Committing.{down_on, keeps_stand}, Grouping.{fits_kept, group_core, group_so, grown_with, history_so, leave_all_is, left_all, lost_group, many, next_records, none_ahead, other_history, ready_ahead, shows_group, shows_lost}, Moments.stays_shown, group.end_ready.Goals.After-as_slice}
-use Rattle.iso_core.proofs.group.end_ready.Given as given
 use Rattle.iso_core.proofs.group.end_ready.Goals as goal
 
 pub prepare_group-requires-clause-ready : goal.prepare_group-requires-clause-ready
-prepare_group-requires-clause-ready g c =
-    let (W, members, of, each) = c.requires.ready in
-    (W, members, of.kept_of, each)
+prepare_group-requires-clause-ready g c = grind arith
 
 pub returns-in-Err-clause-same : goal.returns-in-Err-clause-same
-returns-in-Err-clause-same g c W of other =
-    keeps_stand (g.D.Disk.state c.args.disk.now) c.args.kept.now c.prepare_group.new.kept W of (c.prepare_group.ensures.same W of.kept_of) c.prepare_group.ensures.half c.prepare_group.ensures.down
+returns-in-Err-clause-same g c W of other = grind (arith, keeps_stand)
 
 pub returns-in-Err-clause-moments : goal.returns-in-Err-clause-moments
 returns-in-Err-clause-moments g c W members of each =
     stays_shown (g.D.Disk.state c.args.disk.now) (g.met.D.Disk.lawful c.args.disk.now) c.args.kept.now W (group W members).1 of
 
 pub leave_members-requires : goal.leave_members-requires
-leave_members-requires g c =
-    let (W, members, of, each) = c.requires.ready in
-    (W, members, c.prepare_group.ensures.same W of.kept_of, each)
+leave_members-requires g c = grind arith
 
 pub returns-then-is_bare-clause-ended : goal.returns-then-is_bare-clause-ended
 returns-then-is_bare-clause-ended g c W members of each =
@@ -40,7 +34,7 @@ returns-then-is_bare-clause-moments g c W members of each =
     stays_shown (g.D.Disk.state c.args.disk.now) (g.met.D.Disk.lawful c.args.disk.now) c.args.kept.now W (group W members).1 of
 
 -- what is to be appended
-module _ (g : given.Over) (c : After-as_slice g) (W : World) (members : List Live) (of : AreOf (g.D.Disk.state c.args.disk.now) c.args.kept.now W up) (each : AreEach (IsReady W) c.args.ends.now members) where
+module _ (g : Rattle.iso_core.proofs.group.end_ready.Given.Over) (c : After-as_slice g) (W : World) (members : List Live) (of : AreOf (g.D.Disk.state c.args.disk.now) c.args.kept.now W up) (each : AreEach (IsReady W) c.args.ends.now members) where
   stands : AreOf (g.D.Disk.state c.args.disk.now) c.prepare_group.new.kept W up
   stands = keeps_stand (g.D.Disk.state c.args.disk.now) c.args.kept.now c.prepare_group.new.kept W of (c.prepare_group.ensures.same W of.kept_of) c.prepare_group.ensures.half c.prepare_group.ensures.down
 
@@ -83,11 +77,7 @@ append_all-requires-clause-next g c =
     (W, map (written W.geometry) (planned g s W members of each).all, all g s W members of each, stands g s W members of each, next g s W members of each, bytes g s W members of each)
 
 pub append_all-requires-clause-fits : goal.append_all-requires-clause-fits
-append_all-requires-clause-fits g c =
-    let (W, members, of, each) = c.requires.ready in
-    let s = (goal.at.append_all-requires-clause-fits g c).After-as_slice in
-    let p = planned g s W members of each in
-    fits_kept W p.all c.prepare_group.new.plan of.kept_of.world p.has c.prepare_group.new.kept c.as_slice.result.now (stands g s W members of each).kept_of (bytes g s W members of each)
+append_all-requires-clause-fits g c = grind (arith, fits_kept)
 
 pub take_plan-requires : goal.take_plan-requires
 take_plan-requires g c =
@@ -108,9 +98,7 @@ leave_members-requires-in-Ok g c =
     (ahead W p.all, members, c.take_plan.ensures.taken W p.all (grown g s W members of each c.append_all.new.kept c.in-Ok.gate log_is (c.in-Ok.ensures.gate W stage)), ready_ahead W p.all c.args.ends.now members each)
 
 pub leave_members-requires-in-Err-append_all : goal.leave_members-requires-in-Err-append_all
-leave_members-requires-in-Err-append_all g c =
-    let (W, members, of, each) = c.requires.ready in
-    (W, members, down_on c.append_all.new.kept W _ (subst (λ (k : Kept). IsOf k W) (sym c.in-Err-append_all.ensures.kept) (c.prepare_group.ensures.same W of.kept_of)), each)
+leave_members-requires-in-Err-append_all g c = grind (arith, down_on)
 
 pub returns-in-Ok-clause-ended : goal.returns-in-Ok-clause-ended
 returns-in-Ok-clause-ended g c W members of each =

@@ -1,13 +1,12 @@
 use Rattle.iso_core.proofs.{Words.{◌≡◌, ap, suc, length, arith, subst, List, ◌++◌, end_step, GroupEnd, ahead, made_by, member_reply, AreEach, IsReady, on_ok_weaker}, Committing.buffer_on, Judging.{none_ready, parted, planned_more, planned_none}}
-use Rattle.iso_core.proofs.judge.+plan_members.Goals as goal
 
-pub plan_member-requires : goal.plan_member-requires
+pub plan_member-requires : Rattle.iso_core.proofs.judge.+plan_members.Goals.plan_member-requires
 plan_member-requires t c =
     let (W, more, members, of, is, each) = c.requires in
     let p = parted W c.in-Some.member.now c.in-Some.rest.now members (subst (λ (l : List GroupEnd). AreEach (IsReady W) l members) c.in-Some.ensures.some each) in
     (W, more, p.first, of, is, p.ready)
 
-pub plan_members-requires : goal.plan_members-requires
+pub plan_members-requires : Rattle.iso_core.proofs.judge.+plan_members.Goals.plan_members-requires
 plan_members-requires t c =
     let (W, more, members, of, is, each) = c.requires in
     let p = parted W c.in-Some.member.now c.in-Some.rest.now members (subst (λ (l : List GroupEnd). AreEach (IsReady W) l members) c.in-Some.ensures.some each) in
@@ -23,11 +22,10 @@ plan_members-requires t c =
       ),
     )
 
-pub returns-in_default-clause-planned : goal.returns-in_default-clause-planned
-returns-in_default-clause-planned t c W more members of is each =
-    planned_none W more members c.args.plan.now c.args.replies.now.items (none_ready W members (subst (λ (l : List GroupEnd). AreEach (IsReady W) l members) c.in_default.ensures.none each)) is
+pub returns-in_default-clause-planned : Rattle.iso_core.proofs.judge.+plan_members.Goals.returns-in_default-clause-planned
+returns-in_default-clause-planned t c W more members of is each = grind (arith, planned_none, none_ready)
 
-pub returns-clause-planned : goal.returns-clause-planned
+pub returns-clause-planned : Rattle.iso_core.proofs.judge.+plan_members.Goals.returns-clause-planned
 returns-clause-planned t c W more members of is each =
     let p = parted W c.in-Some.member.now c.in-Some.rest.now members (subst (λ (l : List GroupEnd). AreEach (IsReady W) l members) c.in-Some.ensures.some each) in
     on_ok_weaker c.plan_members.result (planned_more W more p.first p.others members c.plan_members.new.plan c.args.replies.now.items c.plan_member.new.replies.items c.plan_members.new.replies.items p.are

@@ -1,7 +1,6 @@
 use Rattle.iso_core.proofs.{Words.{◌∙◌, sym, clash, ahead}, Judging.{asked_first, asked_second}}
-use Rattle.iso_core.proofs.judge.clash_in.Goals as goal
 
-pub returns : goal.returns
+pub returns : Rattle.iso_core.proofs.judge.clash_in.Goals.returns
 returns g c W more tx t of is here settled =
     let w = settled.is_work in
     let first = c.clash_with-clash.ensures W.geometry W.history (sym w.size) (sym w.blocks)

@@ -9,15 +9,12 @@ number c W more of is = number_ahead c.args.kept.now W more c.args.plan.now of i
 pub overflow_add-last : goal.overflow_add-last
 overflow_add-last c =
     let (W, more, tx, t, of, is, may) = c.requires in
-    let all = number (goal.at.overflow_add-last c).After-len W more of is in
-    let most : last (ahead W more).history ≤ LAST = is.world.numbers in
-    omega (arith, all, most)
+    omega (arith, number (goal.at.overflow_add-last c).After-len W more of is, is.world.numbers)
 
 pub returns-then-last-ge-LAST-clause-answer : goal.returns-then-last-ge-LAST-clause-answer
 returns-then-last-ge-LAST-clause-answer c W more tx t of is may =
     let all = number (goal.at.returns-then-last-ge-LAST-clause-answer c).After-len W more of is in
-    let most : last (ahead W more).history ≤ LAST = is.world.numbers in
-    worn_so (ahead W more) tx t c.args.work.now is.world may (omega (arith, all, most, c.if-last-ge-LAST.true))
+    worn_so (ahead W more) tx t c.args.work.now is.world may (omega (arith, all, is.world.numbers, c.if-last-ge-LAST.true))
 
 pub spell_as-requires : goal.spell_as-requires
 spell_as-requires c =
@@ -26,10 +23,7 @@ spell_as-requires c =
     (W, ahead W more, tx, t, of, refl, is.world, may, omega (arith, all), omega (arith, all, c.if-last-ge-LAST.false))
 
 pub overflow_sub-free : goal.overflow_sub-free
-overflow_sub-free c =
-    let (W, more, tx, t, of, is, may) = c.requires in
-    let fits = fits_ahead c.spell_as.new.kept W more c.args.plan.now (buffer_on c.args.kept.now W c.spell_as.new.kept of c.spell_as.ensures.same) is in
-    omega (arith, fits, c.from.ensures, c.free.ensures, c.len-2.ensures, c.args.plan.now.bytes.ok.0)
+overflow_sub-free c = grind (arith, fits_ahead, buffer_on)
 
 -- the record is spelled, and what it needs and what is free are the model's
 module _ (c : After-len-2) (W : World) (more : List Commit) (tx : ℕ) (t : Live) (of : IsOf c.args.kept.now W) (is : IsAhead W more c.args.plan.now) (may : MayCommit (ahead W more) tx t c.args.work.now) where
@@ -46,9 +40,7 @@ module _ (c : After-len-2) (W : World) (more : List Commit) (tx : ℕ) (t : Live
   needs = ap (λ (l : List ℕ). length l) c.with_closed_gate.ensures ∙ length_push c.spell_as.new.kept.buffer.records 0 ∙ record_needs (ahead W more) t c.spell_as.new.kept.buffer.records next
 
   left : c.from.result - c.len-2.result ≡ (ahead W more).geometry.log - used (ahead W more)
-  left =
-      let free = free_ahead c.spell_as.new.kept W more c.args.plan.now (buffer_on c.args.kept.now W c.spell_as.new.kept of c.spell_as.ensures.same) is in
-      omega (arith, free, c.from.ensures, c.free.ensures, c.len-2.ensures, c.args.plan.now.bytes.ok.0)
+  left = grind (arith, free_ahead, buffer_on)
 
 pub returns-then-free-need-clause-answer : goal.returns-then-free-need-clause-answer
 returns-then-free-need-clause-answer c W more tx t of is may =
@@ -67,9 +59,8 @@ pub returns-clause-next : goal.returns-clause-next
 returns-clause-next c W more tx t of is may =
     let s = (goal.at.returns-clause-next c).After-len-2 in
     let U : World = ahead W more in
-    let low = fresh s W more tx t of is may in
     let fits : need U t ≤ U.geometry.log - used U = omega (arith, needs s W more tx t of is may, left s W more tx t of is may, c.if-free-need.false) in
-    let unworn : last U.history ≢ LAST = λ e. absurd (omega (arith, low, e)) in
+    let unworn : last U.history ≢ LAST = λ e. absurd (omega (arith, fresh s W more tx t of is may, e)) in
     record {
       answer = commits_as U tx t c.args.work.now is.world may unworn fits;
       world = next_world U tx t c.args.work.now is.world may unworn fits;

@@ -1,15 +1,11 @@
-use Rattle.iso_core.proofs.{Words.{◌∙◌, sym, ap, ◌++◌, map, arith, Spelled, part_of, runs, spell}, Judging.{runs_lie, same_runs, some_runs, spelled_so}}
+use Rattle.iso_core.proofs.{Words.{◌∙◌, sym, ap, ◌++◌, arith, Spelled, runs, spell}, Judging.{runs_lie, same_runs, some_runs, spelled_so}}
 use Rattle.iso_core.proofs.judge.spell_as.Goals as goal
 
 pub spell-requires-clause-settled : goal.spell-requires-clause-settled
-spell-requires-clause-settled c =
-    let (W, U, tx, t, of, same, is, may, number_is, fresh) = c.requires in
-    may.settled.settled
+spell-requires-clause-settled c = grind arith
 
 pub spell-requires-clause-number : goal.spell-requires-clause-number
-spell-requires-clause-number c =
-    let (W, U, tx, t, of, same, is, may, number_is, fresh) = c.requires in
-    omega (arith, number_is, fresh)
+spell-requires-clause-number c = grind arith
 
 pub spell-requires-clause-runs : goal.spell-requires-clause-runs
 spell-requires-clause-runs c =
@@ -23,5 +19,4 @@ returns-clause-next c W U tx t of same is may number_is fresh =
     spelled_so U tx t c.args.work.now is may c.args.kept.now.geometry c.args.number c.kind_of-kind.result c.mode.result _ (of.keeps.geometry ∙ sym same) number_is fresh c.mode.ensures c.kind_of-kind.ensures.kind bytes
 
 pub returns-clause-parts : goal.returns-clause-parts
-returns-clause-parts c W U tx t of same is may =
-    c.in_ok-spell.ensures.parts U.geometry (sym may.settled.is_work.size) (sym may.settled.is_work.blocks) ∙ ap (map part_of) (same_runs U tx t c.args.work.now is may)
+returns-clause-parts c W U tx t of same is may = grind (arith, same_runs)

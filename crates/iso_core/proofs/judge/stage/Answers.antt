@@ -1,32 +1,17 @@
-use Rattle.iso_core.proofs.{Words.{◌∙◌, sym, ap, ℕ, ◌+◌, ◌<◌, ◌≤◌, List, [], ◌∷◌, ◌++◌, arith, subst, All, AreTouched, Bytes, Note, PartSpan, Write, LAST, last, ahead}, Decides.touched_by, Commits.numbers_from, Judging.{last_ahead, number_ahead, staged_more}}
+use Rattle.iso_core.proofs.{Words.{◌∙◌, sym, ap, ℕ, ◌+◌, List, [], ◌∷◌, ◌++◌, arith, subst, AreTouched, Bytes, Note, PartSpan, Write}, Decides.touched_by, Commits.numbers_from, Judging.{last_ahead, number_ahead, staged_more}}
 use Rattle.iso_core.proofs.judge.stage.Goals as goal
 
 pub overflow_add-number : goal.overflow_add-number
-overflow_add-number c =
-    let (W, more, tx, t, of, is, settled, next) = c.requires in
-    let all = number_ahead c.args.kept.now W more c.args.plan.now of is c.last.result c.len.result c.last.ensures (c.len.ensures ∙ c.args.plan.now.staged.ok.0) in
-    let most : last (ahead W more).history ≤ LAST = is.world.numbers in
-    omega (arith, all, most)
+overflow_add-number c = grind (arith, number_ahead)
 
 pub overflow_add-number-2 : goal.overflow_add-number-2
-overflow_add-number-2 c =
-    let (W, more, tx, t, of, is, settled, next) = c.requires in
-    let all = number_ahead c.args.kept.now W more c.args.plan.now of is c.last.result c.len.result c.last.ensures (c.len.ensures ∙ c.args.plan.now.staged.ok.0) in
-    let most : last (ahead W more).history ≤ LAST = is.world.numbers in
-    omega (arith, all, most)
+overflow_add-number-2 c = grind (arith, number_ahead)
 
 pub writes-requires : goal.writes-requires
-writes-requires c =
-    let (W, more, tx, t, of, is, settled, next) = c.requires in
-    settled.settled
+writes-requires c = grind arith
 
 pub add-requires-clause-number : goal.add-requires-clause-number
-add-requires-clause-number c =
-    let (W, more, tx, t, of, is, settled, next) = c.requires in
-    let all = number_ahead c.args.kept.now W more c.args.plan.now of is c.last.result c.len.result c.last.ensures (c.len.ensures ∙ c.args.plan.now.staged.ok.0) in
-    let later = last_ahead W more of.world in
-    subst (λ (l : List Note). All (λ note. note.0 < c.last.result + c.len.result + 1) l) (sym c.reserve.ensures.same)
-    (λ k d below. let low = numbers_from W.geometry (last W.history + 1) c.args.plan.now.notes.notes more is.notes k d below in omega (arith, low, all, later))
+add-requires-clause-number c = grind (arith, number_ahead, last_ahead, numbers_from)
 
 pub returns-clause-ahead : goal.returns-clause-ahead
 returns-clause-ahead c W more tx t of is settled next =

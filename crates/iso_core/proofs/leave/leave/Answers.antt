@@ -1,10 +1,9 @@
 use Rattle.iso_core.proofs.Leaves.{is_live, leaves_so}
-use Rattle.iso_core.proofs.leave.leave.Goals as goal
 
-pub leave-requires : goal.leave-requires
+pub leave-requires : Rattle.iso_core.proofs.leave.leave.Goals.leave-requires
 leave-requires c =
     let (W, t, of, here) = c.requires in
     is_live c.args.kept.now W c.args.tx t of here
 
-pub returns-clause-left : goal.returns-clause-left
+pub returns-clause-left : Rattle.iso_core.proofs.leave.leave.Goals.returns-clause-left
 returns-clause-left c W t of here = leaves_so c.args.kept.now W c.args.tx t of here c.leave.new.self c.leave.ensures

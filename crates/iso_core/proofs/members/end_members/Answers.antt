@@ -1,4 +1,4 @@
-use Rattle.iso_core.proofs.{Words.{◌∙◌, sym, ap, List, length, GroupReply, group, IsReady}, Moments.stays_shown, Replied.{bare_replied, bare_settled, each_one, each_replied}}
+use Rattle.iso_core.proofs.{Words.{arith, ◌∙◌, group}, Moments.stays_shown, Replied.{bare_replied, bare_settled, each_one, each_replied}}
 use Rattle.iso_core.proofs.members.end_members.Goals as goal
 
 pub returns-in-Err-clause-members : goal.returns-in-Err-clause-members
@@ -9,11 +9,7 @@ returns-in-Err-clause-moments g c W members of each =
     stays_shown (g.D.Disk.state c.args.disk.now) (g.met.D.Disk.lawful c.args.disk.now) c.args.kept.now W (group W members).1 of
 
 pub put_replies-requires : goal.put_replies-requires
-put_replies-requires g c =
-    let (W, members, of, each) = c.requires in
-    let ready = c.in_default.ensures.ready W members each in
-    let told = (c.in-Ok.ensures.ended W members of ready).0 in
-    each_one (IsReady W) c.settle_members.new.ends members ready ∙ sym (each_replied W members) ∙ sym (ap (λ (l : List GroupReply). length l) (c.as_slice.ensures.value ∙ told))
+put_replies-requires g c = grind (arith, each_one, each_replied)
 
 pub returns-in-Ok-clause-members : goal.returns-in-Ok-clause-members
 returns-in-Ok-clause-members g c =

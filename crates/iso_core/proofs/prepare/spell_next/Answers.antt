@@ -1,12 +1,11 @@
 use Rattle.iso_core.proofs.{Words.{◌∙◌, sym, ap, ℕ, ◌+◌, ◌++◌, Spelled, part_of, map, runs, spell}, Prepares.{runs_lie, same_runs, some_runs, spelled_next}}
-use Rattle.iso_core.proofs.prepare.spell_next.Goals as goal
 
-pub spell-requires-clause-runs : goal.spell-requires-clause-runs
+pub spell-requires-clause-runs : Rattle.iso_core.proofs.prepare.spell_next.Goals.spell-requires-clause-runs
 spell-requires-clause-runs c =
     let (W, t, of, may) = c.requires.transaction in
     (W.geometry, sym may.settled.is_work.size, sym may.settled.is_work.blocks, some_runs c.args.kept.now W c.args.tx t c.args.work.now of may, runs_lie c.args.kept.now W c.args.tx t c.args.work.now of may)
 
-pub returns-clause-spelled : goal.returns-clause-spelled
+pub returns-clause-spelled : Rattle.iso_core.proofs.prepare.spell_next.Goals.returns-clause-spelled
 returns-clause-spelled c W t of may =
     let size = sym may.settled.is_work.size in
     let blocks = sym may.settled.is_work.blocks in

@@ -1,13 +1,9 @@
 use Rattle.iso_core.proofs.{Words.{◌≡◌, ◌∙◌, ◌⊎◌, inl, ap, arith, ℕ, ◌+◌, List, LeavesOnly, at_end, joined, weakened, Copies, Geometry, Half, HalfPlace, IsHeld, in_form, place_of, refilled, header_place, ◌<◌, AreHalves, end_inside, image_size}, refill.refill.Goals.{After-close_half, After-fill_half, After-open_half}}
-use Rattle.iso_core.proofs.refill.refill.Given as given
 use Rattle.iso_core.proofs.refill.refill.Goals as goal
 
 -- where the other half lies
 inside : (g : Geometry) (from to : HalfPlace) (size : ℕ) → AreHalves g from to → size ≡ image_size g → to.header < size
-inside g from to size are is =
-    let header : to.header ≡ header_place g are.other = ap (λ (p : HalfPlace). p.header) are.to_is in
-    let ends = end_inside g are.half are.other are.both in
-    omega (arith, header, ends, is)
+inside g from to size are is = grind (arith, end_inside)
 
 pub close_half-requires-clause-fits : goal.close_half-requires-clause-fits
 close_half-requires-clause-fits g c = inside c.args.plan.now.geometry c.args.from.now c.args.to.now (g.D.Disk.state c.args.disk.now).size c.requires.places c.requires.size
@@ -16,16 +12,14 @@ pub fill_half-requires-clause-size : goal.fill_half-requires-clause-size
 fill_half-requires-clause-size g c = c.close_half.ensures.moments.same_size ∙ c.requires.size
 
 pub open_half-requires : goal.open_half-requires
-open_half-requires g c =
-    inside c.args.plan.now.geometry c.args.from.now c.args.to.now (g.D.Disk.state c.fill_half.new.disk).size c.requires.places
-    (c.fill_half.ensures.moments.same_size ∙ c.close_half.ensures.moments.same_size ∙ c.requires.size)
+open_half-requires g c = grind arith
 
 -- the other half is closed, and then filled: each image holds the current one
-closed : (g : given.Over) (c : After-close_half g) (h : Geometry) (x : Half) (other : ℕ) → x.at + other ≡ 1 → c.args.to.now ≡ place_of h other → ((i : List ℕ) → (g.D.Disk.state c.args.disk.now).now i → IsHeld h x i)
+closed : (g : Rattle.iso_core.proofs.refill.refill.Given.Over) (c : After-close_half g) (h : Geometry) (x : Half) (other : ℕ) → x.at + other ≡ 1 → c.args.to.now ≡ place_of h other → ((i : List ℕ) → (g.D.Disk.state c.args.disk.now).now i → IsHeld h x i)
     → LeavesOnly (g.D.Disk.state c.args.disk.now) (g.D.Disk.state c.close_half.new.disk) (IsHeld h x)
 closed g c h x other both there each = c.close_half.ensures.held h x other both (ap (λ (p : HalfPlace). p.header) there) each
 
-filled : (g : given.Over) (c : After-fill_half g) (h : Geometry) (x : Half) → Copies h x c.args.from.now c.args.plan.now → LeavesOnly (g.D.Disk.state c.args.disk.now) (g.D.Disk.state c.close_half.new.disk) (IsHeld h x)
+filled : (g : Rattle.iso_core.proofs.refill.refill.Given.Over) (c : After-fill_half g) (h : Geometry) (x : Half) → Copies h x c.args.from.now c.args.plan.now → LeavesOnly (g.D.Disk.state c.args.disk.now) (g.D.Disk.state c.close_half.new.disk) (IsHeld h x)
     → LeavesOnly (g.D.Disk.state c.args.disk.now) (g.D.Disk.state c.fill_half.new.disk) (IsHeld h x)
 filled g c h x copies first = joined first (c.fill_half.ensures.held h x copies.is_from (at_end (g.met.D.Disk.lawful c.close_half.new.disk) first))
 
@@ -49,7 +43,7 @@ returns-in-Err-Disk-clause-moments g c h x other both there copies each =
     weakened (filled g s.After-fill_half h x copies (closed g s.After-close_half h x other both there each)) (λ image held. inl held)
 
 -- the new half is opened: each image holds it, or the current one
-opened : (g : given.Over) (c : After-open_half g) (h : Geometry) (x : Half) (other : ℕ) → x.at + other ≡ 1 → c.args.to.now ≡ place_of h other → Copies h x c.args.from.now c.args.plan.now
+opened : (g : Rattle.iso_core.proofs.refill.refill.Given.Over) (c : After-open_half g) (h : Geometry) (x : Half) (other : ℕ) → x.at + other ≡ 1 → c.args.to.now ≡ place_of h other → Copies h x c.args.from.now c.args.plan.now
     → LeavesOnly (g.D.Disk.state c.args.disk.now) (g.D.Disk.state c.close_half.new.disk) (IsHeld h x) → LeavesOnly (g.D.Disk.state c.args.disk.now) (g.D.Disk.state c.fill_half.new.disk) (IsHeld h x)
     → LeavesOnly (g.D.Disk.state c.args.disk.now) (g.D.Disk.state c.open_half.new.disk) (λ i. IsHeld h x i ⊎ IsHeld (in_form c.args.plan.now.geometry.form h) (refilled h c.args.plan.now.generation c.args.plan.now.base x) i)
 opened g c h x other both there copies first second =

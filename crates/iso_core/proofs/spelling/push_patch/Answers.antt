@@ -1,7 +1,6 @@
 use Rattle.iso_core.proofs.{Words.{◌≡◌, ◌∙◌, ◌++◌, sym, refl, ap, ℕ, List, map, subst, AllByRecursion, Run, Span, runs_from, piece, run_of, pieces_of_any_block, runs_back, part_of}, Spellings.{IsWhole, pieces_whole}}
-use Rattle.iso_core.proofs.spelling.push_patch.Goals as goal
 
-pub loop-span-init : goal.loop-span-init
+pub loop-span-init : Rattle.iso_core.proofs.spelling.push_patch.Goals.loop-span-init
 loop-span-init c =
     let b : ℕ = c.args.block in
     let is : c.into_iter-span-iterator.result ≡ map piece (runs_from 0 0 c.args.patch.now) = c.into_iter-span-iterator.ensures.into_iter_gives ∙ c.spans-span-items.ensures in

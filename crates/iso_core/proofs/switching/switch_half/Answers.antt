@@ -1,11 +1,8 @@
-use Rattle.iso_core.proofs.{Words.{◌≡◌, ◌≢◌, ◌∙◌, ◌⊎◌, inl, inr, sym, refl, ap, subst, ℕ, ◌+◌, ◌-◌, ◌≤◌, arith, Some, true, Err, LeavesOnly, at_end, started, weakened, Copies, FillPlan, place_of, HalfPlace, IsHeld, half_of_world, Geometry, LAST, CoreReply, image_size, log_place, after_switch, World, floor, floor_between, IsWorld, AreOf, up, ShowsLast, HasFormOr, IsForm}, Committing.down_on, Moments.shows_world, Numbers.log_used, Plans.{both, copies, either_half, form_either, is_switched, is_worn, new_half, next_world, shows_both, valid_form}, Trims.floor_is, switching.switch_half.Goals.After-refill}
-use Rattle.iso_core.proofs.switching.switch_half.Given as given
+use Rattle.iso_core.proofs.{Words.{◌≡◌, ◌≢◌, ◌∙◌, ◌⊎◌, inl, sym, refl, ap, subst, ℕ, ◌+◌, ◌-◌, arith, true, Err, LeavesOnly, at_end, started, weakened, Copies, FillPlan, place_of, HalfPlace, IsHeld, half_of_world, LAST, log_place, after_switch, World, floor, floor_between, IsWorld, AreOf, up, ShowsLast, HasFormOr, IsForm}, Committing.down_on, Moments.shows_world, Numbers.log_used, Plans.{both, copies, either_half, form_either, is_switched, is_worn, new_half, next_world, shows_both, valid_form}, Trims.floor_is, switching.switch_half.Goals.After-refill}
 use Rattle.iso_core.proofs.switching.switch_half.Goals as goal
 
 pub returns-then-kept-ge-LAST-clause-refused : goal.returns-then-kept-ge-LAST-clause-refused
-returns-then-kept-ge-LAST-clause-refused g c W answer of fits =
-    let most : W.generation ≤ LAST = of.kept_of.world.generation in
-    inr (inr (ap Some (sym (is_worn W c.args.form answer (omega (arith, c.if-kept-ge-LAST.true, of.kept_of.keeps.generation, most))))))
+returns-then-kept-ge-LAST-clause-refused g c W answer of fits = grind (arith, is_worn)
 
 pub returns-then-kept-ge-LAST-clause-moments : goal.returns-then-kept-ge-LAST-clause-moments
 returns-then-kept-ge-LAST-clause-moments g c W of fits =
@@ -31,9 +28,7 @@ pub refill-requires-clause-valid : goal.refill-requires-clause-valid
 refill-requires-clause-valid g c = valid_form c.args.kept.now c.requires.0 c.args.form c.requires.1.kept_of c.requires.2 c.if-kept-ge-LAST.false
 
 pub refill-requires-clause-size : goal.refill-requires-clause-size
-refill-requires-clause-size g c =
-    let (W, of, fits) = c.requires in
-    of.size ∙ (λ i. image_size (record (sym of.kept_of.keeps.geometry i) { form = c.args.form }))
+refill-requires-clause-size g c = grind arith
 
 pub refill-requires-clause-places : goal.refill-requires-clause-places
 refill-requires-clause-places g c =
@@ -41,21 +36,16 @@ refill-requires-clause-places g c =
     record { half = kept.half; other = 1 - kept.half; both = both kept c.requires.0 c.args.form c.requires.1.kept_of c.requires.2; from_is = c.half_place-from.ensures; to_is = c.half_place-to.ensures }
 
 pub refill-requires-clause-base : goal.refill-requires-clause-base
-refill-requires-clause-base g c =
-    let (W, of, fits) = c.requires in
-    let to = c.floor-floor.ensures ∙ floor_is c.args.kept.now W of.kept_of c.last.result c.last.ensures in
-    omega (arith, to, of.kept_of.keeps.base, of.kept_of.world.base, (floor_between W of.kept_of.world).0)
+refill-requires-clause-base g c = grind (arith, floor_is, floor_between)
 
 pub refill-requires-clause-used : goal.refill-requires-clause-used
-refill-requires-clause-used g c =
-    let (W, of, fits) = c.requires in
-    omega (arith, c.used.ensures, log_used c.args.kept.now W of.kept_of.world of.kept_of.keeps, of.kept_of.world.room, ap (λ (h : Geometry). h.log) of.kept_of.keeps.geometry)
+refill-requires-clause-used g c = grind (arith, log_used)
 
 pub refill-requires-clause-settled : goal.refill-requires-clause-settled
 refill-requires-clause-settled g c = c.requires.1.images.settled
 
 -- what stands once the other half was filled, or was not
-module _ (g : given.Over) (c : After-refill g) (W : World) (of : AreOf (g.D.Disk.state c.args.disk.now) c.args.kept.now W up) (fits : IsForm W c.args.form) where
+module _ (g : Rattle.iso_core.proofs.switching.switch_half.Given.Over) (c : After-refill g) (W : World) (of : AreOf (g.D.Disk.state c.args.disk.now) c.args.kept.now W up) (fits : IsForm W c.args.form) where
   to : c.floor-floor.result ≡ floor W
   to = c.floor-floor.ensures ∙ floor_is c.args.kept.now W of.kept_of c.last.result c.last.ensures
 
@@ -157,8 +147,7 @@ pub returns-in-Err-Disk-clause-form : goal.returns-in-Err-Disk-clause-form
 returns-in-Err-Disk-clause-form g c W of fits = formed g (goal.at.returns-in-Err-Disk-clause-form g c).After-refill W of fits
 
 pub returns-in-Err-Disk-clause-unworn : goal.returns-in-Err-Disk-clause-unworn
-returns-in-Err-Disk-clause-unworn g c W answer of fits failed =
-    ap (λ (x : CoreReply × World). x.0) (is_switched W c.args.form answer (fresh g (goal.at.returns-in-Err-Disk-clause-unworn g c).After-refill W of fits))
+returns-in-Err-Disk-clause-unworn g c W answer of fits failed = grind (arith, is_switched)
 
 pub returns-in-Err-Disk-clause-lost : goal.returns-in-Err-Disk-clause-lost
 returns-in-Err-Disk-clause-lost g c W of fits failed =

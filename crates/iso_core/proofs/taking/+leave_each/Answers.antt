@@ -1,24 +1,20 @@
 use Rattle.iso_core.proofs.{Words.{◌≡◌, sym, ap, suc, length, arith, subst, List, after_leaving, Live, GroupEnd, leave_all, IsOf, AreEach, IsReady}, Judging.{none_ready, parted}, Staging.ready_left}
-use Rattle.iso_core.proofs.taking.+leave_each.Goals as goal
 
-pub leave-requires : goal.leave-requires
-leave-requires t c =
-    let (W, members, of, each) = c.requires in
-    let p = parted W c.in-Some.member.now c.in-Some.rest.now members (subst (λ (l : List GroupEnd). AreEach (IsReady W) l members) c.in-Some.ensures.some each) in
-    (W, p.first, of, p.ready.here)
+pub leave-requires : Rattle.iso_core.proofs.taking.+leave_each.Goals.leave-requires
+leave-requires t c = grind (arith, parted)
 
-pub leave_each-requires : goal.leave_each-requires
+pub leave_each-requires : Rattle.iso_core.proofs.taking.+leave_each.Goals.leave_each-requires
 leave_each-requires t c =
     let (W, members, of, each) = c.requires in
     let p = parted W c.in-Some.member.now c.in-Some.rest.now members (subst (λ (l : List GroupEnd). AreEach (IsReady W) l members) c.in-Some.ensures.some each) in
     let shorter : length c.args.group.now ≡ suc (length c.in-Some.rest.now) = ap (λ (l : List GroupEnd). length l) c.in-Some.ensures.some in
     (omega (arith, shorter, c.decreases), (after_leaving W p.first, p.others, c.leave.ensures.left W p.first of p.ready.here, ready_left W p.first c.in-Some.rest.now p.others p.apart p.each))
 
-pub returns-in_default-clause-left : goal.returns-in_default-clause-left
+pub returns-in_default-clause-left : Rattle.iso_core.proofs.taking.+leave_each.Goals.returns-in_default-clause-left
 returns-in_default-clause-left t c W members of each =
     subst (λ (l : List Live). IsOf c.args.kept.now (leave_all l W)) (sym (none_ready W members (subst (λ (l : List GroupEnd). AreEach (IsReady W) l members) c.in_default.ensures.none each))) of
 
-pub returns-clause-left : goal.returns-clause-left
+pub returns-clause-left : Rattle.iso_core.proofs.taking.+leave_each.Goals.returns-clause-left
 returns-clause-left t c W members of each =
     let p = parted W c.in-Some.member.now c.in-Some.rest.now members (subst (λ (l : List GroupEnd). AreEach (IsReady W) l members) c.in-Some.ensures.some each) in
     subst (λ (l : List Live). IsOf c.leave_each.new.kept (leave_all l W)) (sym p.are)

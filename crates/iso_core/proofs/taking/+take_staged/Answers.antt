@@ -27,12 +27,7 @@ overflow_add-gate t c =
     omega (arith, low)
 
 pub overflow_add-number : goal.overflow_add-number
-overflow_add-number t c =
-    let (g, x, upto, at, commits, may) = c.requires.follow in
-    let p = staged_parted g x upto at commits c.args.number c.args.gate c.in-Some.record.now c.args.staged.now c.in-Some.rest.now c.args.parts.now c.args.index.now c.in-Some.ensures.some may in
-    let number = p.may.number_is in
-    let most = p.may.follow.numbers in
-    omega (arith, number, most)
+overflow_add-number t c = grind (arith, staged_parted)
 
 pub take_staged-requires : goal.take_staged-requires
 take_staged-requires t c =

@@ -1,6 +1,5 @@
-use Rattle.iso_core.proofs.{Words.◌∙◌, Staging.notes_dropped, Trims.floor_is}
-use Rattle.iso_core.proofs.taking.drop_notes.Goals as goal
+use Rattle.std.proofs.Common.{arith}
+use Rattle.iso_core.proofs.{Staging.notes_dropped, Trims.floor_is}
 
-pub returns-clause-dropped : goal.returns-clause-dropped
-returns-clause-dropped c W of =
-    notes_dropped c.args.kept.now W c.drop_to.new.self c.floor-floor.result of (c.floor-floor.ensures ∙ floor_is c.args.kept.now W of c.last.result c.last.ensures) c.drop_to.ensures.notes
+pub returns-clause-dropped : Rattle.iso_core.proofs.taking.drop_notes.Goals.returns-clause-dropped
+returns-clause-dropped c W of = grind (arith, notes_dropped, floor_is)

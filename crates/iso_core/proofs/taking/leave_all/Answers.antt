@@ -1,9 +1,8 @@
 use Rattle.iso_core.proofs.{Words.{arith, sym, subst, ℕ, List, Begun, IsOf, leave_all}, Staging.none_left}
-use Rattle.iso_core.proofs.taking.leave_all.Goals as goal
 
-pub leave_each-requires : goal.leave_each-requires
+pub leave_each-requires : Rattle.iso_core.proofs.taking.leave_all.Goals.leave_each-requires
 leave_each-requires c = c.requires
 
-pub returns-then-group-len-clause-left : goal.returns-then-group-len-clause-left
+pub returns-then-group-len-clause-left : Rattle.iso_core.proofs.taking.leave_all.Goals.returns-then-group-len-clause-left
 returns-then-group-len-clause-left c W members of each =
     subst (λ (l : List (ℕ × Begun)). IsOf (record c.args.kept.now { live = l }) (leave_all members W)) (sym c.clear.ensures) (none_left c.args.kept.now W c.args.group.now members of each (omega (arith, c.if-group-len.true, c.len.ensures)))

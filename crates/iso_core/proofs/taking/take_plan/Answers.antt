@@ -1,11 +1,10 @@
-use Rattle.iso_core.proofs.{Words.{◌∙◌, ◌≤◌, ◌++◌, length, RisesFrom, sym, ap, ◌+◌, ◌-◌, arith, subst, transport, List, half_of_world, MayTakeAll, PartSpan, HasRoom, Held}, Staging.{few_first, number_first, rising_notes, taken_in, takes_all}}
+use Rattle.iso_core.proofs.{Words.{◌∙◌, ◌++◌, RisesFrom, sym, ap, ◌+◌, ◌-◌, arith, subst, transport, half_of_world, MayTakeAll, Held}, Staging.{few_first, number_first, rising_notes, taken_in, takes_all}}
 use Rattle.iso_core.proofs.taking.take_plan.Goals as goal
 
 pub overflow_sub-first : goal.overflow_sub-first
 overflow_sub-first c =
     let (W, more, grown) = c.requires in
-    let few = few_first W more c.args.plan.now c.args.kept.now c.args.gate grown c.len.result (c.len.ensures ∙ c.args.plan.now.staged.ok.0) in
-    omega (arith, few, c.last.ensures)
+    omega (arith, few_first W more c.args.plan.now c.args.kept.now c.args.gate grown c.len.result (c.len.ensures ∙ c.args.plan.now.staged.ok.0), c.last.ensures)
 
 pub take_staged-requires-clause-follow : goal.take_staged-requires-clause-follow
 take_staged-requires-clause-follow c =
@@ -21,14 +20,10 @@ take_staged-requires-clause-follow c =
     )
 
 pub take_staged-requires-clause-room : goal.take_staged-requires-clause-room
-take_staged-requires-clause-room c =
-    let (W, more, grown) = c.requires in
-    subst (λ (l : List PartSpan). HasRoom l c.args.kept.now.index) (sym c.as_slice-2.ensures.value) grown.reserved.room
+take_staged-requires-clause-room c = grind arith
 
 pub take_all-requires-clause-room : goal.take_all-requires-clause-room
-take_all-requires-clause-room c =
-    let (W, more, grown) = c.requires in
-    subst (λ (h : Held). length c.args.kept.now.notes.notes + length h.notes ≤ c.args.kept.now.notes.room) (sym c.replace-notes.ensures.value) grown.reserved.note_room
+take_all-requires-clause-room c = grind arith
 
 pub take_all-requires-clause-rising : goal.take_all-requires-clause-rising
 take_all-requires-clause-rising c =

@@ -1,11 +1,10 @@
 use Rattle.iso_format.proofs.Windows.{window_front, fault_front, recorded_front}
-use Rattle.iso_format.proofs.laws.records_are_read_from_their_window.Goals as goal
 
-pub returns-clause-head : goal.returns-clause-head
+pub returns-clause-head : Rattle.iso_format.proofs.laws.records_are_read_from_their_window.Goals.returns-clause-head
 returns-clause-head _ = window_front
 
-pub returns-clause-fault : goal.returns-clause-fault
+pub returns-clause-fault : Rattle.iso_format.proofs.laws.records_are_read_from_their_window.Goals.returns-clause-fault
 returns-clause-fault _ = fault_front
 
-pub returns-clause-recorded : goal.returns-clause-recorded
+pub returns-clause-recorded : Rattle.iso_format.proofs.laws.records_are_read_from_their_window.Goals.returns-clause-recorded
 returns-clause-recorded _ = recorded_front

@@ -30,8 +30,7 @@ returns-in-Some g c =
 
 pub returns-in-None : goal.returns-in-None
 returns-in-None g c =
-    let free = ap (λ (r : Region). lowest_free c.look.new.into 1 (r.size - 1)) c.region_of.ensures in
     part_as (create_as c.args.a c.args.name.now c.requires.named.key)
     (tree_read (get_program c.args.a.tree c.args.name.now) (create_new c.args.a c.args.name.now) c.in-Ok-None.ensures.ended c.value_of.ensures.reads c.value_of.ensures.later c.in-Ok-None.ensures.passed
     (rw c.in-Ok-None.field-0-is (map_read c.args.a.files (with_map c.args.a c.args.name.now) c.look.new.into c.map_mark.ensures c.in_default.ensures.bytes (g.met.T.TxBlocks.limits c.look.new.tx) c.in_default.ensures.read c.in_default.ensures.later c.in_default.ensures.passed
-    (part_as (none_free c.args.a c.requires.named.areas c.args.name.now c.look.new.into (c.in-None.ensures.lowest ∙ free)) (part_refused (fs.Store (store.NoBlocks 1 0)) (λ x. cc) tt)))))
+    (part_as (none_free c.args.a c.requires.named.areas c.args.name.now c.look.new.into (c.in-None.ensures.lowest ∙ (ap (λ (r : Region). lowest_free c.look.new.into 1 (r.size - 1)) c.region_of.ensures))) (part_refused (fs.Store (store.NoBlocks 1 0)) (λ x. cc) tt)))))

@@ -1,22 +1,14 @@
-use Rattle.iso_fs.proofs.{Words.{◌∙◌, sym, ap, ℕ, List, Ok, option_map, take, with_items_is, read_program, areas_of}, Ended.no_memory, ReadSteps.{read_answer, read_bad_name, read_bad_range, read_call, read_has}}
+use Rattle.iso_fs.proofs.{Words.{arith, ◌∙◌, sym, ap, ℕ, List, Ok, option_map, take, with_items_is, areas_of}, Ended.no_memory, ReadSteps.{read_answer, read_bad_name, read_bad_range, read_call, read_has}}
 use Rattle.iso_fs.proofs.reading.read.Goals as goal
 
 pub returns-then-not-is_key-clause-ended : goal.returns-then-not-is_key-clause-ended
-returns-then-not-is_key-clause-ended g c =
-    let state = g.T.TxBlocks.state in
-    read_bad_name (areas_of (state c.args.tx.now) c.args.at) c.args.name.now c.args.off c.args.len (state c.args.tx.now) (sym c.is_key.ensures ∙ c.if-not-is_key.true)
+returns-then-not-is_key-clause-ended g c = grind (arith, read_bad_name) steps 100000
 
 pub returns-then-not-is_many-clause-ended : goal.returns-then-not-is_many-clause-ended
-returns-then-not-is_many-clause-ended g c =
-    let state = g.T.TxBlocks.state in
-    read_bad_range (areas_of (state c.args.tx.now) c.args.at) c.args.name.now c.args.off c.args.len (state c.args.tx.now) (sym c.is_key.ensures ∙ c.if-not-is_key.false) (sym c.is_many.ensures ∙ c.if-not-is_many.true)
+returns-then-not-is_many-clause-ended g c = grind (arith, read_bad_range) steps 100000
 
 pub returns-in-Err-clause-ended : goal.returns-in-Err-clause-ended
-returns-in-Err-clause-ended g c =
-    let state = g.T.TxBlocks.state in
-    let a = areas_of (state c.args.tx.now) c.args.at in
-    no_memory (read_program a c.args.name.now c.args.off c.args.len) (state c.args.tx.now) c.in-Err.e c.in-Err.ensures.memory
-    (read_has a c.args.name.now c.args.off c.args.len (sym c.is_key.ensures ∙ c.if-not-is_key.false) (sym c.is_many.ensures ∙ c.if-not-is_many.false))
+returns-in-Err-clause-ended g c = grind (arith, no_memory, read_has) steps 100000
 
 pub returns-in-Ok-read_with-clause-ended : goal.returns-in-Ok-read_with-clause-ended
 returns-in-Ok-read_with-clause-ended g c =

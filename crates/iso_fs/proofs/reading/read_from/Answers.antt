@@ -1,15 +1,14 @@
 use Rattle.iso_fs.proofs.{Words.{◌∙◌, ap, arith, ℕ, ◌+◌, ◌-◌, cond, nat_lt, read_none}, Parts.{part_as, part_refused}, ReadSteps.{range_bad, range_is}}
 use Rattle.store_model.specs.declared.files.FsError.TheVariants as fs
-use Rattle.iso_fs.proofs.reading.read_from.Goals as goal
 
-pub returns-then-bytes-off-clause-part : goal.returns-then-bytes-off-clause-part
+pub returns-then-bytes-off-clause-part : Rattle.iso_fs.proofs.reading.read_from.Goals.returns-then-bytes-off-clause-part
 returns-then-bytes-off-clause-part g c = λ number.
     part_as (range_bad c.args.area c.args.off c.args.len number c.args.file.now (omega (arith, c.bytes_of-bytes.ensures, c.if-bytes-off.true))) (part_refused fs.BadRange (λ x. cc) tt)
 
-pub returns-then-bytes-off-clause-reads : goal.returns-then-bytes-off-clause-reads
+pub returns-then-bytes-off-clause-reads : Rattle.iso_fs.proofs.reading.read_from.Goals.returns-then-bytes-off-clause-reads
 returns-then-bytes-off-clause-reads g c = read_none (g.T.TxBlocks.state c.args.tx.now)
 
-pub returns-clause-part : goal.returns-clause-part
+pub returns-clause-part : Rattle.iso_fs.proofs.reading.read_from.Goals.returns-clause-part
 returns-clause-part g c = λ number.
     part_as (range_is c.args.area c.args.off c.args.len number c.args.file.now c.end_of-to.result (omega (arith, c.bytes_of-bytes.ensures, c.if-bytes-off.false))
     (c.end_of-to.ensures.value ∙ ap (λ (n : ℕ). cond (nat_lt c.args.len (n - c.args.off)) (c.args.off + c.args.len) n) c.bytes_of-bytes.ensures)) c.read_pieces.ensures.part

@@ -16,12 +16,7 @@ loop-at-init g c =
     }
 
 pub lay-requires : goal.lay-requires
-lay-requires g c =
-    let long = c.piece.ensures.length in
-    let within = c.piece_mark-span.ensures.within in
-    let room = c.requires.room in
-    let most = c.requires.most in
-    omega (arith, long, within, room, most, c.loop-at.auto.room)
+lay-requires g c = grind arith steps 100000
 
 pub loop-at-preserved : goal.loop-at-preserved
 loop-at-preserved g c =
@@ -62,9 +57,7 @@ returns-in-Err-clause-reads g c = read_join _ _ _ c.loop-at.invariant.reads (rea
 
 pub returns-clause-part : goal.returns-clause-part
 returns-clause-part g c =
-    let low = c.loop-at.invariant.up in
-    let high = c.loop-at-test.false in
-    let same : c.loop-at.at - c.args.from ≡ c.args.to - c.args.from = omega (arith, low, high) in
+    let same : c.loop-at.at - c.args.from ≡ c.args.to - c.args.from = omega (arith, c.loop-at.invariant.up, c.loop-at-test.false) in
     record {
       run = all_done c.args.area c.args.file.now c.loop-at.at c.args.to (take (c.args.to - c.args.from) c.loop-at.room) (omega (arith, c.loop-at-test.false)) (rw same at c.loop-at.invariant.left);
       behaves = done_so _ _ 1 _ _ _ c.loop-at.invariant.later c.loop-at.invariant.passed;

@@ -1,8 +1,7 @@
 use Rattle.iso_fs.proofs.{Words.{◌≡◌, ◌-◌, ◌≤◌, [], take, IsLater, HasRead, read_pieces}, Lefts.HasLeft}
-use Rattle.iso_fs.proofs.reading.read_pieces.Given as goal
 
 -- the pieces that are left are what is left of the read
-abbrev pub invariant-loop-at : goal.invariant-loop-at
+abbrev pub invariant-loop-at : Rattle.iso_fs.proofs.reading.read_pieces.Given.invariant-loop-at
 invariant-loop-at g l = record {
   left : HasLeft (read_pieces l.area l.file l.most l.from l.to []) (λ m. read_pieces l.area l.file m l.at l.to (take (l.at - l.from) l.room)) (l.to - l.at) (g.T.TxBlocks.state l.fn.tx) (g.T.TxBlocks.state l.tx);
   low : l.from ≤ l.at;
@@ -12,5 +11,5 @@ invariant-loop-at g l = record {
   passed : (g.T.TxBlocks.device l.tx).faults ≡ (g.T.TxBlocks.device l.fn.tx).faults;
 }
 
-abbrev pub decreases-loop-at : goal.decreases-loop-at
+abbrev pub decreases-loop-at : Rattle.iso_fs.proofs.reading.read_pieces.Given.decreases-loop-at
 decreases-loop-at g l = l.to - l.at

@@ -1,7 +1,6 @@
 use Rattle.iso_fs.proofs.{Words.{◌≡◌, ◌∙◌, ◌++◌, ◌∷◌, [], sym, ap, arith, ℕ, length, map, range_with_len, length-map-range_with_len, entry_at, file_block}, Sizing.one_more}
-use Rattle.iso_fs.proofs.sized.add_old.Goals as goal
 
-pub loop-i-preserved : goal.loop-i-preserved
+pub loop-i-preserved : Rattle.iso_fs.proofs.sized.add_old.Goals.loop-i-preserved
 loop-i-preserved c =
     let es = map (entry_at c.args.file.now) (range_with_len 0 c.loop-i.i) in
     let long = c.loop-i.invariant.long in
@@ -12,9 +11,7 @@ loop-i-preserved c =
       long = c.add_entry.auto.into ∙ long;
     }
 
-pub returns : goal.returns
+pub returns : Rattle.iso_fs.proofs.sized.add_old.Goals.returns
 returns c = λ bytes old.
-    let last = c.loop-i.auto.i-end in
-    let over = c.loop-i-test.false in
-    let e : c.loop-i.i ≡ c.args.count = omega (arith, last, over) in
+    let e : c.loop-i.i ≡ c.args.count = omega (arith, c.loop-i.auto.i-end, c.loop-i-test.false) in
     c.loop-i.invariant.laid bytes old ∙ ap (λ (n : ℕ). file_block (length c.args.into.now) bytes (map (entry_at c.args.file.now) (range_with_len 0 n))) e

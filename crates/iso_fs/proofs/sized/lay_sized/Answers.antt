@@ -1,13 +1,10 @@
 use Rattle.iso_fs.proofs.Words.{◌≡◌, ◌∙◌, ◌++◌, [], sym, ap, ℕ, length, map, range_with_len, length-map-range_with_len, entry_at, file_block}
-use Rattle.iso_fs.proofs.sized.lay_sized.Goals as goal
 
-pub returns : goal.returns
+pub returns : Rattle.iso_fs.proofs.sized.lay_sized.Goals.returns
 returns c =
-    let file = c.args.file.now in
     let bytes = c.args.bytes in
-    let old = map (entry_at file) (range_with_len 0 c.args.count) in
+    let old = map (entry_at c.args.file.now) (range_with_len 0 c.args.count) in
     let one : c.start_file.new.into ≡ file_block (length c.start_file.new.into) bytes [] = c.start_file.ensures ∙ ap (λ (n : ℕ). file_block n bytes []) (sym c.start_file.auto.into) in
     let two : c.add_old.new.into ≡ file_block (length c.add_old.new.into) bytes old = c.add_old.ensures bytes one ∙ ap (λ (n : ℕ). file_block n bytes old) (sym c.add_old.auto.into) in
-    let long : length c.add_old.new.into ≡ c.args.area.size = c.add_old.auto.into ∙ c.start_file.auto.into ∙ c.requires.into in
-    c.add_news.ensures bytes old (length-map-range_with_len (entry_at file) 0 c.args.count) two
-    ∙ (λ k. file_block (long k) bytes (map (entry_at file) (range_with_len 0 (c.requires.count k)) ++ c.args.news.now))
+    c.add_news.ensures bytes old (length-map-range_with_len (entry_at c.args.file.now) 0 c.args.count) two
+    ∙ (λ k. file_block ((c.add_old.auto.into ∙ c.start_file.auto.into ∙ c.requires.into) k) bytes (map (entry_at c.args.file.now) (range_with_len 0 (c.requires.count k)) ++ c.args.news.now))

@@ -1,18 +1,14 @@
-use Rattle.iso_fs.proofs.{Words.{◌∙◌, sym, subst, arith, ℕ, ◌<◌, ◌-◌}, Files.data_fits, WriteSteps.{news_below, number_new, number_old, old_below}}
+use Rattle.iso_fs.proofs.{Words.{◌∙◌, sym, arith, ◌-◌}, Files.data_fits, WriteSteps.{news_below, number_new, number_old, old_below}}
 use Rattle.iso_fs.proofs.storing.number_at.Goals as goal
 
 pub entry_at-requires : goal.entry_at-requires
-entry_at-requires c =
-    let fits = data_fits c.args.area c.args.file.now c.requires.file c.requires.least in
-    let below = c.if-place-old.true in
-    omega (arith, fits, below, c.requires.old, c.requires.long)
+entry_at-requires c = grind (arith, data_fits) steps 100000
 
 pub returns-then-place-old-clause-number : goal.returns-then-place-old-clause-number
 returns-then-place-old-clause-number c = c.entry_at.ensures ∙ sym (number_old c.args.area c.args.file.now c.args.news.now c.args.old c.requires.old c.args.place c.if-place-old.true)
 
 pub returns-then-place-old-clause-below : goal.returns-then-place-old-clause-below
-returns-then-place-old-clause-below c =
-    subst (λ (n : ℕ). n < c.args.area.blocks) (sym c.entry_at.ensures) (old_below c.args.area c.args.file.now c.args.place c.requires.file (let below = c.if-place-old.true in omega (arith, below, c.requires.old)))
+returns-then-place-old-clause-below c = grind (arith, old_below) steps 100000
 
 pub returns-clause-number : goal.returns-clause-number
 returns-clause-number c = sym (number_new c.args.area c.args.file.now c.args.news.now c.args.old c.requires.old c.args.place (let past = c.if-place-old.false in omega arith))

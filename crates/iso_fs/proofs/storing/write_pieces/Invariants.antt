@@ -1,8 +1,7 @@
 use Rattle.iso_fs.proofs.{Words.{◌≡◌, ◌-◌, ◌≤◌, ◌++◌, drop, length, IsLater, write_pieces, entries_of}, Lefts.HasLeft}
-use Rattle.iso_fs.proofs.storing.write_pieces.Given as goal
 
 -- the pieces that are left are what is left of the write
-abbrev pub invariant-loop-at : goal.invariant-loop-at
+abbrev pub invariant-loop-at : Rattle.iso_fs.proofs.storing.write_pieces.Given.invariant-loop-at
 invariant-loop-at g l = record {
   left : HasLeft (write_pieces l.area (entries_of l.area.size l.file ++ l.news) l.old (length l.bytes) l.from l.to l.bytes) (λ m. write_pieces l.area (entries_of l.area.size l.file ++ l.news) l.old m l.at l.to (drop (l.at - l.from) l.bytes)) (l.to - l.at)
       (g.T.TxBlocks.state l.fn.tx) (g.T.TxBlocks.state l.tx);
@@ -13,5 +12,5 @@ invariant-loop-at g l = record {
   passed : (g.T.TxBlocks.device l.tx).faults ≡ (g.T.TxBlocks.device l.fn.tx).faults;
 }
 
-abbrev pub decreases-loop-at : goal.decreases-loop-at
+abbrev pub decreases-loop-at : Rattle.iso_fs.proofs.storing.write_pieces.Given.decreases-loop-at
 decreases-loop-at g l = l.to - l.at

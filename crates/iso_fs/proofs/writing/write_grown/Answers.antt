@@ -1,15 +1,12 @@
-use Rattle.iso_fs.proofs.{Words.{◌∙◌, ◌+◌, ap, arith, ℕ, length}, Parts.{part_as, store_done, store_stops}, WriteSteps.{as_grown, covered_by}}
-use Rattle.iso_fs.proofs.writing.write_grown.Goals as goal
+use Rattle.iso_fs.proofs.{Words.{arith}, Parts.{part_as, store_done, store_stops}, WriteSteps.{as_grown, covered_by}}
 
-pub returns-in-Err-clause-part : goal.returns-in-Err-clause-part
+pub returns-in-Err-clause-part : Rattle.iso_fs.proofs.writing.write_grown.Goals.returns-in-Err-clause-part
 returns-in-Err-clause-part g c = part_as (as_grown c.args.area c.args.off c.args.number c.args.bytes.now c.args.file.now c.args.news.now c.data_count-old.result c.lay_sized.new.into c.data_count-old.ensures.count c.lay_sized.ensures c.requires.grows) (store_stops c.in-Err.ensures.kept (omega arith) c.in-Err.ensures.cause c.in-Err.ensures.device)
 
-pub write_pieces-requires-clause-covered : goal.write_pieces-requires-clause-covered
-write_pieces-requires-clause-covered g c =
-    let least = c.requires.holds.least in
-    covered_by c.args.area.size (c.args.off + length c.args.bytes.now) (c.data_count-old.result + length c.args.news.now) (omega arith) (ap (λ (n : ℕ). n + length c.args.news.now) c.data_count-old.ensures.count ∙ c.requires.count)
+pub write_pieces-requires-clause-covered : Rattle.iso_fs.proofs.writing.write_grown.Goals.write_pieces-requires-clause-covered
+write_pieces-requires-clause-covered g c = grind (arith, covered_by) steps 100000
 
-pub returns-clause-part : goal.returns-clause-part
+pub returns-clause-part : Rattle.iso_fs.proofs.writing.write_grown.Goals.returns-clause-part
 returns-clause-part g c =
     part_as (as_grown c.args.area c.args.off c.args.number c.args.bytes.now c.args.file.now c.args.news.now c.data_count-old.result c.lay_sized.new.into c.data_count-old.ensures.count c.lay_sized.ensures c.requires.grows)
     (store_done (g.met.T.TxBlocks.limits c.store.new.tx) c.in_default.ensures.stored c.in_default.ensures.device c.write_pieces.ensures.of_tx c.write_pieces.ensures.part)

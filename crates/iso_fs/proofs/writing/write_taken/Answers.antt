@@ -1,23 +1,21 @@
 use Rattle.iso_fs.proofs.{Words.{arith, take, map_mark, bytes_in, write_sized, used_same}, Parts.{part_as, part_refused}, WriteSteps.{few_is, new_are}}
 use Rattle.store_model.specs.declared.stores.StoreError.TheVariants as store
 use Rattle.store_model.specs.declared.files.FsError.TheVariants as fs
-use Rattle.iso_fs.proofs.writing.write_taken.Goals as goal
 
-pub returns-then-free-need : goal.returns-then-free-need
+pub returns-then-free-need : Rattle.iso_fs.proofs.writing.write_taken.Goals.returns-then-free-need
 returns-then-free-need g c =
     part_as (few_is c.args.area c.requires.area c.args.map.now c.args.need c.free_blocks-free.result c.region_of.result c.region_of.ensures c.free_blocks-free.ensures (write_sized c.args.area c.args.off c.args.bytes.now c.args.number c.args.file.now) c.if-free-need.true)
     (part_refused (fs.Store (store.NoBlocks c.args.need c.free_blocks-free.result)) (λ x. cc) tt)
 
-pub write_news-requires-clause-rising : goal.write_news-requires-clause-rising
+pub write_news-requires-clause-rising : Rattle.iso_fs.proofs.writing.write_taken.Goals.write_news-requires-clause-rising
 write_news-requires-clause-rising g c =
     (new_are c.args.area c.requires.area c.args.map.now c.args.need c.free_blocks-free.result c.region_of.result c.region_of.ensures c.free_blocks-free.ensures (write_sized c.args.area c.args.off c.args.bytes.now c.args.number c.args.file.now) (take c.args.need c.take_blocks.new.news) c.region_of-2.result c.region_of-2.ensures (let many = c.if-free-need.false in omega arith) c.take_blocks.ensures.taken).up
 
-pub write_news-requires-clause-news : goal.write_news-requires-clause-news
+pub write_news-requires-clause-news : Rattle.iso_fs.proofs.writing.write_taken.Goals.write_news-requires-clause-news
 write_news-requires-clause-news g c =
     (new_are c.args.area c.requires.area c.args.map.now c.args.need c.free_blocks-free.result c.region_of.result c.region_of.ensures c.free_blocks-free.ensures (write_sized c.args.area c.args.off c.args.bytes.now c.args.number c.args.file.now) (take c.args.need c.take_blocks.new.news) c.region_of-2.result c.region_of-2.ensures (let many = c.if-free-need.false in omega arith) c.take_blocks.ensures.taken).blocks
 
-pub returns : goal.returns
+pub returns : Rattle.iso_fs.proofs.writing.write_taken.Goals.returns
 returns g c =
-    let news = take c.args.need c.take_blocks.new.news in
     let new = new_are c.args.area c.requires.area c.args.map.now c.args.need c.free_blocks-free.result c.region_of.result c.region_of.ensures c.free_blocks-free.ensures (write_sized c.args.area c.args.off c.args.bytes.now c.args.number c.args.file.now) (take c.args.need c.take_blocks.new.news) c.region_of-2.result c.region_of-2.ensures (let many = c.if-free-need.false in omega arith) c.take_blocks.ensures.taken in
-    part_as new.is (c.write_news.ensures.part (bytes_in (map_mark c.args.area.blocks) c.args.map.now) (used_same c.args.area c.requires.area c.args.map.now c.take_blocks.new.map news new.blocks c.take_blocks.ensures.used))
+    part_as new.is (c.write_news.ensures.part (bytes_in (map_mark c.args.area.blocks) c.args.map.now) (used_same c.args.area c.requires.area c.args.map.now c.take_blocks.new.map (take c.args.need c.take_blocks.new.news) new.blocks c.take_blocks.ensures.used))

@@ -1,22 +1,14 @@
-use Rattle.iso_hash.proofs.{Words.{false, arith, behaves_next}, Getting.{walked_cell, walked_end, walk_refuses}, Storing.{put_from, put_error}}
+use Rattle.iso_hash.proofs.{Words.{arith, behaves_next}, Getting.{walked_cell, walked_end, walk_refuses}, Storing.{put_from, put_error}}
 use Rattle.iso_hash.proofs.insert.put_with.Goals as goal
 
 pub returns-in-Ok-AtCell-clause-run : goal.returns-in-Ok-AtCell-clause-run
-returns-in-Ok-AtCell-clause-run g c =
-    let state = g.T.TxBlocks.state in
-    put_from c.args.area c.args.key.now c.args.value.now (state c.args.tx.now) (state c.walk.new.tx) (state c.put_value.new.tx) _ c.put_value.result c.requires.key c.requires.value
-    (walked_cell c.args.area c.args.key.now false (state c.args.tx.now) (state c.walk.new.tx) c.walk.new.buffer c.in-Ok-AtCell.field-0 c.in-Ok-AtCell.spot _ c.in-Ok-AtCell.ensures.walked c.in-Ok-AtCell.field-0-is)
-    c.put_value.ensures.run
+returns-in-Ok-AtCell-clause-run g c = grind (arith, put_from, walked_cell)
 
 pub returns-in-Ok-AtCell-clause-behaves : goal.returns-in-Ok-AtCell-clause-behaves
 returns-in-Ok-AtCell-clause-behaves g c = behaves_next c.in-Ok-AtCell.ensures.reads c.in-Ok-AtCell.ensures.later c.in-Ok-AtCell.ensures.passed c.put_value.ensures.behaves (omega arith)
 
 pub returns-in-Ok-AtEnd-clause-run : goal.returns-in-Ok-AtEnd-clause-run
-returns-in-Ok-AtEnd-clause-run g c =
-    let state = g.T.TxBlocks.state in
-    put_from c.args.area c.args.key.now c.args.value.now (state c.args.tx.now) (state c.walk.new.tx) (state c.put_missing.new.tx) _ c.put_missing.result c.requires.key c.requires.value
-    (walked_end c.args.area c.args.key.now false (state c.args.tx.now) (state c.walk.new.tx) c.walk.new.buffer c.in-Ok-AtEnd.field-0 c.in-Ok-AtEnd.spare c.in-Ok-AtEnd.last c.in-Ok-AtEnd.position c.in-Ok-AtEnd.ensures.walked c.in-Ok-AtEnd.field-0-is)
-    c.put_missing.ensures.run
+returns-in-Ok-AtEnd-clause-run g c = grind (arith, put_from, walked_end)
 
 pub returns-in-Ok-AtEnd-clause-behaves : goal.returns-in-Ok-AtEnd-clause-behaves
 returns-in-Ok-AtEnd-clause-behaves g c = behaves_next c.in-Ok-AtEnd.ensures.reads c.in-Ok-AtEnd.ensures.later c.in-Ok-AtEnd.ensures.passed c.put_missing.ensures.behaves (omega arith)

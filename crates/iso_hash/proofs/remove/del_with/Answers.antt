@@ -1,10 +1,9 @@
-use Rattle.iso_hash.proofs.{Words.{◌≡◌, ◌∙◌, sym, ap, true, false, cond, ◌+◌, ◌*◌, ℕ, Bool, List, [], Ok, take, Result, arith, StoreError, keys_end, walk, is_spent, del_program, Program, Done, Tx, Ran, HasRun, behaves_next, ran_at, at_start}, Getting.{walked_cell, walked_end, walk_refuses}, Changes.{give_back_block, make_zero}, Storing.{del_from, del_error, del_there}, remove.del_with.Goals.After-is_spent}
-use Rattle.iso_hash.proofs.remove.del_with.Given as given
+use Rattle.iso_hash.proofs.{Words.{◌≡◌, ◌∙◌, sym, ap, true, false, cond, ◌+◌, ◌*◌, ℕ, Bool, List, [], Ok, take, Result, arith, StoreError, keys_end, walk, is_spent, del_program, Tx, Ran, HasRun, behaves_next, ran_done}, Getting.{walked_cell, walked_end, walk_refuses}, Changes.{give_back_block, make_zero}, Storing.{del_from, del_error, del_there}, remove.del_with.Goals.After-is_spent}
 use Rattle.store_model.specs.HashCalls as hash
 use Rattle.iso_hash.proofs.remove.del_with.Goals as goal
 
 -- the cell where the walk ends, and whether its block is given back
-module _ (g : given.Over) (c : After-is_spent g) where
+module _ (g : Rattle.iso_hash.proofs.remove.del_with.Given.Over) (c : After-is_spent g) where
   abbrev keys : List ℕ
   keys = take (keys_end c.args.area.size) c.walk.new.buffer
 
@@ -38,10 +37,9 @@ returns-else-is_spent-clause-behaves g c = behaves_next c.in-Ok-AtCell.ensures.r
 pub returns-in-Ok-AtEnd-clause-run : goal.returns-in-Ok-AtEnd-clause-run
 returns-in-Ok-AtEnd-clause-run g c =
     let state = g.T.TxBlocks.state in
-    let none : Program (Result Bool StoreError) = Done (Ok false) in
     del_from c.args.area c.args.key.now (state c.args.tx.now) (state c.walk.new.tx) (state c.walk.new.tx) (hash.AtEnd c.in-Ok-AtEnd.field-0-0 c.in-Ok-AtEnd.field-0-1 c.in-Ok-AtEnd.field-0-2) (Ok false) c.requires.key
     (walked_end c.args.area c.args.key.now false (state c.args.tx.now) (state c.walk.new.tx) c.walk.new.buffer c.in-Ok-AtEnd.field-0 c.in-Ok-AtEnd.field-0-0 c.in-Ok-AtEnd.field-0-1 c.in-Ok-AtEnd.field-0-2 c.in-Ok-AtEnd.ensures.walked c.in-Ok-AtEnd.field-0-is)
-    (ran_at none (state c.walk.new.tx) (state c.walk.new.tx) (Ok false) (at_start none (state c.walk.new.tx)))
+    (ran_done (Ok false) (state c.walk.new.tx))
 
 pub returns-in-Err-clause-run : goal.returns-in-Err-clause-run
 returns-in-Err-clause-run g c =

@@ -1,16 +1,8 @@
-use Rattle.iso_hash.proofs.{Words.{arith, ◌≡◌, ◌∙◌, sym, ap, subst, ◌+◌, ◌*◌, true, [], ◌∷◌, take, refl, word_at, walk, look_access, Tx, may_mark, marked_access, cause_earlier, later_than, read_none, read_more, read_same, read_size}, Walking.{walk_begins, read_refused, next_inside, linked_parts, spare_is, spare_inside, missing, with_value_mark, without_value_mark, ends_broken, ends_past, goes_on, ends_at_cell}, walk.walk.Goals.{then-with_value, else-with_value}}
+use Rattle.iso_hash.proofs.{Words.{arith, ◌≡◌, ◌∙◌, sym, ap, ◌+◌, ◌*◌, [], ◌∷◌, take, refl, word_at, walk, look_access, Tx, may_mark, marked_access, cause_earlier, later_than, read_none, read_more, read_same, read_size}, Walking.{walk_begins, read_refused, next_inside, linked_parts, spare_is, spare_inside, missing, with_value_mark, without_value_mark, ends_broken, ends_past, goes_on, ends_at_cell}, walk.walk.Goals.{then-with_value, else-with_value}}
 use Rattle.iso_hash.proofs.walk.walk.Goals as goal
 
 pub loop-position-init : goal.loop-position-init
-loop-position-init g c = record {
-  here = walk_begins c.args.area c.args.key.now c.args.with_value c.bucket_of-bucket.result c.last_position-position-end.result (g.T.TxBlocks.state c.args.tx.now) c.bucket_of-bucket.ensures.value c.last_position-position-end.ensures.value;
-  inside = omega arith;
-  before = omega (arith, c.requires.within.area.least);
-  spare = tt;
-  reads = read_none (g.T.TxBlocks.state c.args.tx.now);
-  later = record { faults = omega arith; down = λ d. d };
-  passed = refl;
-}
+loop-position-init g c = grind (arith, walk_begins, read_none)
 
 pub returns-in-Err-clause-walked : goal.returns-in-Err-clause-walked
 returns-in-Err-clause-walked g c =
@@ -22,9 +14,7 @@ pub returns-in-Err-clause-reads : goal.returns-in-Err-clause-reads
 returns-in-Err-clause-reads g c = let state = g.T.TxBlocks.state in read_same (state c.args.tx.now) (state c.loop-position.tx) (state c.look.new.tx) c.loop-position.invariant.reads c.in-Err.ensures.kept
 
 pub returns-in-Err-clause-cause : goal.returns-in-Err-clause-cause
-returns-in-Err-clause-cause g c =
-    let device = g.T.TxBlocks.device in
-    cause_earlier (g.T.TxBlocks.state c.look.new.tx) 1 1 (device c.args.tx.now) (device c.loop-position.tx) (device c.look.new.tx) c.in-Err.e (omega arith) c.loop-position.invariant.passed c.in-Err.ensures.cause
+returns-in-Err-clause-cause g c = grind (arith, cause_earlier)
 
 pub returns-in-Err-clause-later : goal.returns-in-Err-clause-later
 returns-in-Err-clause-later g c = later_than (g.T.TxBlocks.device c.args.tx.now) (g.T.TxBlocks.device c.loop-position.tx) (g.T.TxBlocks.device c.look.new.tx) c.loop-position.invariant.later c.in-Err.ensures.later
@@ -67,13 +57,7 @@ returns-in-Some-clause-walked g c =
     ])
 
 pub returns-in-Some-clause-is_open : goal.returns-in-Some-clause-is_open
-returns-in-Some-clause-is_open g c =
-    let state = g.T.TxBlocks.state in
-    let before : (state c.look.new.tx).is_open ≡ true = ap (λ (t : Tx). t.is_open) c.in_default.ensures.read ∙ c.in_default.ensures.is_open in
-    elim c.if-with_value.branch [
-      | then-with_value w ↦ ap (λ t. (state t).is_open) w.tx-is ∙ ap (λ (t : Tx). t.is_open) w.mark.ensures.marked ∙ before
-      | else-with_value w ↦ ap (λ t. (state t).is_open) w.tx-is ∙ before
-    ]
+returns-in-Some-clause-is_open g c = grind arith
 
 pub returns-in-Some-clause-reads : goal.returns-in-Some-clause-reads
 returns-in-Some-clause-reads g c =
@@ -84,22 +68,10 @@ returns-in-Some-clause-reads g c =
     ]
 
 pub returns-in-Some-clause-later : goal.returns-in-Some-clause-later
-returns-in-Some-clause-later g c =
-    let device = g.T.TxBlocks.device in
-    let here = later_than (device c.args.tx.now) (device c.loop-position.tx) (device c.look.new.tx) c.loop-position.invariant.later c.in_default.ensures.later in
-    elim c.if-with_value.branch [
-      | then-with_value w ↦ subst (Rattle.tx_blocks.specs.Tx.IsLater (device c.args.tx.now)) (sym (ap device w.tx-is ∙ w.mark.ensures.device)) here
-      | else-with_value w ↦ subst (Rattle.tx_blocks.specs.Tx.IsLater (device c.args.tx.now)) (sym (ap device w.tx-is)) here
-    ]
+returns-in-Some-clause-later g c = grind (arith, later_than)
 
 pub returns-in-Some-clause-passed : goal.returns-in-Some-clause-passed
-returns-in-Some-clause-passed g c =
-    let device = g.T.TxBlocks.device in
-    let here = c.in_default.ensures.passed ∙ c.loop-position.invariant.passed in
-    elim c.if-with_value.branch [
-      | then-with_value w ↦ ap (λ (d : Rattle.tx_blocks.specs.Tx.Device). d.faults) (ap device w.tx-is ∙ w.mark.ensures.device) ∙ here
-      | else-with_value w ↦ ap (λ (d : Rattle.tx_blocks.specs.Tx.Device). d.faults) (ap device w.tx-is) ∙ here
-    ]
+returns-in-Some-clause-passed g c = grind arith
 
 pub returns-in-Some-clause-inside : goal.returns-in-Some-clause-inside
 returns-in-Some-clause-inside g c = (record { block = c.loop-position.invariant.inside; cell = c.in-Some.ensures.below }, c.loop-position.invariant.before)
@@ -123,11 +95,7 @@ pub returns-then-next-eq0-clause-later : goal.returns-then-next-eq0-clause-later
 returns-then-next-eq0-clause-later g c = later_than (g.T.TxBlocks.device c.args.tx.now) (g.T.TxBlocks.device c.loop-position.tx) (g.T.TxBlocks.device c.look.new.tx) c.loop-position.invariant.later c.in_default.ensures.later
 
 pub returns-then-next-eq0-clause-inside : goal.returns-then-next-eq0-clause-inside
-returns-then-next-eq0-clause-inside g c = (
-  spare_inside c.args.area c.loop-position.spare c.loop-position.block c.unused_cell.result c.first_spare-spare.result c.first_spare-spare.ensures c.loop-position.invariant.spare c.loop-position.invariant.inside c.unused_cell.ensures.below,
-  c.loop-position.invariant.inside,
-  omega (arith, c.last_position-position-end.ensures.most, c.loop-position-test.true),
-)
+returns-then-next-eq0-clause-inside g c = grind (arith, spare_inside)
 
 pub loop-position-preserved : goal.loop-position-preserved
 loop-position-preserved g c =

@@ -1,8 +1,7 @@
 use Rattle.iso_hash.proofs.Words.{◌≡◌, ◌-◌, ◌<◌, IfSome, walk, walk_from, IsLater, HasRead, IsAt, IsSpot}
-use Rattle.iso_hash.proofs.walk.walk.Given as goal
 
 -- the blocks of the chain that are left are what is left of the walk
-abbrev pub invariant-loop-position : goal.invariant-loop-position
+abbrev pub invariant-loop-position : Rattle.iso_hash.proofs.walk.walk.Given.invariant-loop-position
 invariant-loop-position g l = record {
   here : IsAt (walk l.area l.key l.with_value) (walk_from l.area l.key l.bucket l.with_value (l.position-end - l.position) l.position l.before l.block l.spare) (g.T.TxBlocks.state l.fn.tx) (g.T.TxBlocks.state l.tx);
   inside : l.block < l.area.blocks;

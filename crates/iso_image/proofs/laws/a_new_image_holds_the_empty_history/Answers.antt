@@ -1,5 +1,4 @@
 use Rattle.iso_image.proofs.Empty.{empty_held}
-use Rattle.iso_image.proofs.laws.a_new_image_holds_the_empty_history.Goals as goal
 
-pub returns : goal.returns
+pub returns : Rattle.iso_image.proofs.laws.a_new_image_holds_the_empty_history.Goals.returns
 returns _ = empty_held

@@ -1,8 +1,7 @@
 use Rattle.iso_image.proofs.Switches.{switching, switched}
-use Rattle.iso_image.proofs.laws.an_open_gate_switches_halves.Goals as goal
 
-pub returns-clause-moments : goal.returns-clause-moments
+pub returns-clause-moments : Rattle.iso_image.proofs.laws.an_open_gate_switches_halves.Goals.returns-clause-moments
 returns-clause-moments _ = switching
 
-pub returns-clause-opened : goal.returns-clause-opened
+pub returns-clause-opened : Rattle.iso_image.proofs.laws.an_open_gate_switches_halves.Goals.returns-clause-opened
 returns-clause-opened _ = switched

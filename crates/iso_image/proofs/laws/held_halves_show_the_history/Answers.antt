@@ -1,5 +1,4 @@
 use Rattle.iso_image.proofs.Histories.{half_shows}
-use Rattle.iso_image.proofs.laws.held_halves_show_the_history.Goals as goal
 
-pub returns : goal.returns
+pub returns : Rattle.iso_image.proofs.laws.held_halves_show_the_history.Goals.returns
 returns _ = half_shows

@@ -1,7 +1,6 @@
 use Rattle.iso_log.proofs.Words.{◌≡◌, ◌+◌, ◌-◌, ℕ, List, length, take, drop, ap, ◌∙◌, arith, length-drop, paste, take-paste, rules, with_items_is, places}
-use Rattle.iso_log.proofs.ahead.move_up.Goals as goal
 
-pub returns-clause-front : goal.returns-clause-front
+pub returns-clause-front : Rattle.iso_log.proofs.ahead.move_up.Goals.returns-clause-front
 returns-clause-front c =
     let all = c.as_mut_slice.result.now in
     let count = c.args.end - c.args.from in

@@ -40,14 +40,10 @@ returns-then-from-window-clause-damaged g c at cause is image told =
     }
 
 pub returns-then-rest-lt-HEAD-clause-test : goal.returns-then-rest-lt-HEAD-clause-test
-returns-then-rest-lt-HEAD-clause-test g c at cause is =
-    let some = c.requires.some in
-    test_before c.args.gate (c.args.gate + c.args.rest) (Short 0) c.damaged.result c.damaged.ensures (omega (arith, some)) at cause is
+returns-then-rest-lt-HEAD-clause-test g c at cause is = grind (arith, test_before)
 
 pub returns-then-from-window-clause-test : goal.returns-then-from-window-clause-test
-returns-then-from-window-clause-test g c at cause is =
-    let long = c.if-rest-lt-HEAD.false in
-    test_before c.args.gate (c.args.gate + c.args.rest) (Short 8) c.damaged-then-from-window.result c.damaged-then-from-window.ensures (omega (arith, long)) at cause is
+returns-then-from-window-clause-test g c at cause is = grind (arith, test_before)
 
 pub damaged-requires-in-Err : goal.damaged-requires-in-Err
 damaged-requires-in-Err g c =
@@ -55,18 +51,13 @@ damaged-requires-in-Err g c =
     omega (arith, c.in-Err.ensures.inside, c.in_ok-ask-2.ensures.enough, c.ask-2.ensures.within, c.requires.fits, whole)
 
 pub returns-in-Err-clause-test : goal.returns-in-Err-clause-test
-returns-in-Err-clause-test g c at cause is =
-    test_before c.args.gate (c.args.gate + c.args.rest) c.in-Err.fault c.damaged-in-Err.result c.damaged-in-Err.ensures (omega (arith, c.in-Err.ensures.inside, c.in_ok-ask-2.ensures.enough, c.ask-2.ensures.within)) at cause is
+returns-in-Err-clause-test g c at cause is = grind (arith, test_before)
 
 pub test_front-requires-clause-opens : goal.test_front-requires-clause-opens
-test_front-requires-clause-opens g c =
-    let long : 20 ≤ length c.ask.new.self = omega (arith, c.in_ok-ask.ensures.enough, c.min.ensures, c.if-rest-lt-HEAD.false) in
-    gate_later c.ask.new.self c.ask-2.new.self c.ask-2.ensures.front long (ap (λ (l : List ℕ). get_or l 0 0) (sym c.as_slice-bytes.ensures) ∙ c.if-bytes-ne1.false)
+test_front-requires-clause-opens g c = grind (arith, gate_later)
 
 pub test_front-requires-clause-size : goal.test_front-requires-clause-size
-test_front-requires-clause-size g c =
-    let long : 20 ≤ length c.ask.new.self = omega (arith, c.in_ok-ask.ensures.enough, c.min.ensures, c.if-rest-lt-HEAD.false) in
-    c.record_window-window.ensures ∙ ap record_window c.as_slice-bytes.ensures ∙ window_later c.ask.new.self c.ask-2.new.self c.ask-2.ensures.front long
+test_front-requires-clause-size g c = grind (arith, window_later)
 
 pub returns-in-Ok-clause-first : goal.returns-in-Ok-clause-first
 returns-in-Ok-clause-first g c image told =

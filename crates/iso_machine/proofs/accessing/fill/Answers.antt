@@ -1,14 +1,13 @@
 use Rattle.iso_machine.proofs.{Words.{◌∙◌, refl, ap, length, replicate, slice_index, ◌++◌, ◌∷◌, [], ℕ, List, not, ◌==◌, None, false, write_access, fill_step, Doing}, Accesses.{step_allowed, step_refused, fill_is}}
 use Rattle.script_model.specs.declared.script.Reply.TheVariants as reply
-use Rattle.iso_machine.proofs.accessing.fill.Goals as goal
 
-pub returns-in-Some-clause-given : goal.returns-in-Some-clause-given
+pub returns-in-Some-clause-given : Rattle.iso_machine.proofs.accessing.fill.Goals.returns-in-Some-clause-given
 returns-in-Some-clause-given c W t active =
     step_refused W t c.args.work.now active (fill_step W t c.args.block c.args.bytes.now) c.args.block (not (length c.args.bytes.now == 1)) (not (length c.args.bytes.now == 1))
     reply.Done (write_access c.args.block (replicate W.geometry.block (slice_index c.args.bytes.now 0))) c.in-Some.reply (fill_is W t c.args.block c.args.bytes.now) refl
     (c.in-Some.ensures.refused W t active.is_work reply.Done (write_access c.args.block (replicate W.geometry.block (slice_index c.args.bytes.now 0))))
 
-pub returns-clause-given : goal.returns-clause-given
+pub returns-clause-given : Rattle.iso_machine.proofs.accessing.fill.Goals.returns-clause-given
 returns-clause-given c W t active =
     let full : List ℕ = replicate W.geometry.block (slice_index c.args.bytes.now 0) in
     step_allowed W t c.args.work.now active (fill_step W t c.args.block c.args.bytes.now) c.args.block (not (length c.args.bytes.now == 1)) reply.Done

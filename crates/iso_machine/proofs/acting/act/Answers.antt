@@ -1,41 +1,20 @@
-use Rattle.iso_machine.proofs.{Words.{◌≡◌, ◌⊎◌, inl, inr, ℕ, List, ap, Option, Mode, Op, World, Live, disk_of, act_step}, Accesses.{refused, shown_given}}
+use Rattle.iso_machine.proofs.{Words.{◌≡◌, refl, ℕ, List, Op, World, Live, disk_of, act_step}, Accesses.{refused, shown_given}}
 use Rattle.script_model.specs.declared.script.Op.TheVariants as op
 use Rattle.script_model.specs.declared.script.Reply.TheVariants as reply
-use Rattle.iso_machine.proofs.acting.act.Goals as goal
 
 -- any other operation
-others : (W : World) (t : Live) (o : Op) → ((m : Option Mode) × (o ≡ op.Begin m)) ⊎ (o ≡ op.End) ⊎ (o ≡ op.Abort) ⊎ ((x : List ℕ) × (o ≡ op.Release x)) ⊎ ((x : List ℕ) × (o ≡ op.Takeover x))
-    ⊎ ((x : List ℕ) × (o ≡ op.Await x)) ⊎ ((xs : List (List ℕ)) × (o ≡ op.Group xs)) ⊎ (o ≡ op.Trim) ⊎ (o ≡ op.Stat) ⊎ (o ≡ op.Compact) ⊎ (o ≡ op.Upgrade)
-    ⊎ ((k : List ℕ) × (v : List ℕ) × (o ≡ op.HashPut k v)) ⊎ ((k : List ℕ) × (o ≡ op.HashGet k)) ⊎ ((k : List ℕ) × (o ≡ op.HashDelete k))
-    ⊎ ((k : List ℕ) × (v : List ℕ) × (o ≡ op.TreePut k v)) ⊎ ((k : List ℕ) × (o ≡ op.TreeGet k)) ⊎ ((k : List ℕ) × (o ≡ op.TreeDelete k))
-    ⊎ ((f : List ℕ) × (t : List ℕ) × (m : ℕ) × (o ≡ op.TreeScan f t m))
-    ⊎ ((n : List ℕ) × (o ≡ op.FileNew n)) ⊎ ((n : List ℕ) × (f : ℕ) × (x : List ℕ) × (o ≡ op.FileWrite n f x)) ⊎ ((n : List ℕ) × (f : ℕ) × (l : ℕ) × (o ≡ op.FileRead n f l))
-    ⊎ ((f : List ℕ) × (u : List ℕ) × (o ≡ op.FileMove f u)) ⊎ ((n : List ℕ) × (o ≡ op.FileDelete n)) → act_step W t o ≡ (reply.NotInTx, W)
-others W t o (inl (m, is)) = ap (act_step W t) is
-others W t o (inr (inl is)) = ap (act_step W t) is
-others W t o (inr (inr (inl is))) = ap (act_step W t) is
-others W t o (inr (inr (inr (inl (x, is))))) = ap (act_step W t) is
-others W t o (inr (inr (inr (inr (inl (x, is)))))) = ap (act_step W t) is
-others W t o (inr (inr (inr (inr (inr (inl (x, is))))))) = ap (act_step W t) is
-others W t o (inr (inr (inr (inr (inr (inr (inl (xs, is)))))))) = ap (act_step W t) is
-others W t o (inr (inr (inr (inr (inr (inr (inr (inl is)))))))) = ap (act_step W t) is
-others W t o (inr (inr (inr (inr (inr (inr (inr (inr (inl is))))))))) = ap (act_step W t) is
-others W t o (inr (inr (inr (inr (inr (inr (inr (inr (inr (inl is)))))))))) = ap (act_step W t) is
-others W t o (inr (inr (inr (inr (inr (inr (inr (inr (inr (inr (inl is))))))))))) = ap (act_step W t) is
-others W t o (inr (inr (inr (inr (inr (inr (inr (inr (inr (inr (inr (inl (k, v, is))))))))))))) = ap (act_step W t) is
-others W t o (inr (inr (inr (inr (inr (inr (inr (inr (inr (inr (inr (inr (inl (k, is)))))))))))))) = ap (act_step W t) is
-others W t o (inr (inr (inr (inr (inr (inr (inr (inr (inr (inr (inr (inr (inr (inl (k, is))))))))))))))) = ap (act_step W t) is
-others W t o (inr (inr (inr (inr (inr (inr (inr (inr (inr (inr (inr (inr (inr (inr (inl (k, v, is)))))))))))))))) = ap (act_step W t) is
-others W t o (inr (inr (inr (inr (inr (inr (inr (inr (inr (inr (inr (inr (inr (inr (inr (inl (k, is))))))))))))))))) = ap (act_step W t) is
-others W t o (inr (inr (inr (inr (inr (inr (inr (inr (inr (inr (inr (inr (inr (inr (inr (inr (inl (k, is)))))))))))))))))) = ap (act_step W t) is
-others W t o (inr (inr (inr (inr (inr (inr (inr (inr (inr (inr (inr (inr (inr (inr (inr (inr (inr (inl (f, u, m, is))))))))))))))))))) = ap (act_step W t) is
-others W t o (inr (inr (inr (inr (inr (inr (inr (inr (inr (inr (inr (inr (inr (inr (inr (inr (inr (inr (inl (n, is)))))))))))))))))))) = ap (act_step W t) is
-others W t o (inr (inr (inr (inr (inr (inr (inr (inr (inr (inr (inr (inr (inr (inr (inr (inr (inr (inr (inr (inl (n, f, x, is))))))))))))))))))))) = ap (act_step W t) is
-others W t o (inr (inr (inr (inr (inr (inr (inr (inr (inr (inr (inr (inr (inr (inr (inr (inr (inr (inr (inr (inr (inl (n, f, l, is)))))))))))))))))))))) = ap (act_step W t) is
-others W t o (inr (inr (inr (inr (inr (inr (inr (inr (inr (inr (inr (inr (inr (inr (inr (inr (inr (inr (inr (inr (inr (inl (f, u, is))))))))))))))))))))))) = ap (act_step W t) is
-others W t o (inr (inr (inr (inr (inr (inr (inr (inr (inr (inr (inr (inr (inr (inr (inr (inr (inr (inr (inr (inr (inr (inr (n, is))))))))))))))))))))))) = ap (act_step W t) is
+others : (W : World) (t : Live) (o : Op) → ((b f : ℕ) (x : List ℕ) → o ≡ op.Put b f x → ⊥) → ((b : ℕ) → o ≡ op.Read b → ⊥) → ((b f n : ℕ) → o ≡ op.Get b f n → ⊥)
+    → ((b : ℕ) (x : List ℕ) → o ≡ op.Write b x → ⊥) → ((b : ℕ) (x : List ℕ) → o ≡ op.Fill b x → ⊥) → ((f n : ℕ) → o ≡ op.Mark f n → ⊥) → act_step W t o ≡ (reply.NotInTx, W)
+others W t (op.Put b f x) put read get write fill mark = absurd (put b f x refl)
+others W t (op.Read b) put read get write fill mark = absurd (read b refl)
+others W t (op.Get b f n) put read get write fill mark = absurd (get b f n refl)
+others W t (op.Write b x) put read get write fill mark = absurd (write b x refl)
+others W t (op.Fill b x) put read get write fill mark = absurd (fill b x refl)
+others W t (op.Mark f n) put read get write fill mark = absurd (mark f n refl)
+others W t o put read get write fill mark = refl
 
-pub returns-in-Begin-clause-given : goal.returns-in-Begin-clause-given
-returns-in-Begin-clause-given g c W t of tx active =
+pub returns-in_default-clause-given : Rattle.iso_machine.proofs.acting.act.Goals.returns-in_default-clause-given
+returns-in_default-clause-given g c W t of tx active =
+    let other = c.in_default in
     shown_given (g.D.Disk.state (disk_of c.args.core.now)) W t (act_step W t c.args.op.now) c.args.work.now reply.NotInTx
-    (refused W t c.args.work.now active (act_step W t c.args.op.now) reply.NotInTx (others W t c.args.op.now c.in-Begin.is))
+    (refused W t c.args.work.now active (act_step W t c.args.op.now) reply.NotInTx (others W t c.args.op.now other.not-Put other.not-Read other.not-Get other.not-Write other.not-Fill other.not-Mark))

@@ -1,19 +1,18 @@
 use Rattle.iso_machine.proofs.{Words.{◌∙◌, up}, Endings.nothing_ahead}
-use Rattle.iso_machine.proofs.ending.end_whole.Goals as goal
 
-pub end-requires : goal.end-requires
+pub end-requires : Rattle.iso_machine.proofs.ending.end_whole.Goals.end-requires
 end-requires g c =
     let (W, t, of, tx, work) = c.requires.stands in
     (W, up, t, of, tx, work, nothing_ahead W t c.begun_at.result of.kept_of.world tx.among (c.begun_at.ensures ∙ work.begin))
 
-pub returns-clause-ended : goal.returns-clause-ended
+pub returns-clause-ended : Rattle.iso_machine.proofs.ending.end_whole.Goals.returns-clause-ended
 returns-clause-ended g c W t of tx work =
     c.end.ensures.ended W t of tx work (nothing_ahead W t c.begun_at.result of.kept_of.world tx.among (c.begun_at.ensures ∙ work.begin))
 
-pub returns-clause-refused : goal.returns-clause-refused
+pub returns-clause-refused : Rattle.iso_machine.proofs.ending.end_whole.Goals.returns-clause-refused
 returns-clause-refused g c W t of tx work =
     c.end.ensures.refused W t of tx work (nothing_ahead W t c.begun_at.result of.kept_of.world tx.among (c.begun_at.ensures ∙ work.begin))
 
-pub returns-clause-moments : goal.returns-clause-moments
+pub returns-clause-moments : Rattle.iso_machine.proofs.ending.end_whole.Goals.returns-clause-moments
 returns-clause-moments g c W t of tx work =
     c.end.ensures.moments W t of tx work (nothing_ahead W t c.begun_at.result of.kept_of.world tx.among (c.begun_at.ensures ∙ work.begin))

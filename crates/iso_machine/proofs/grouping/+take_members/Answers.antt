@@ -1,14 +1,13 @@
 use Rattle.iso_machine.proofs.{Words.{arith, take}, Taking.{nothing_taken, on_both, still_distinct}}
-use Rattle.iso_machine.proofs.grouping.+take_members.Goals as goal
 
-pub returns-in_default-clause-taken : goal.returns-in_default-clause-taken
+pub returns-in_default-clause-taken : Rattle.iso_machine.proofs.grouping.+take_members.Goals.returns-in_default-clause-taken
 returns-in_default-clause-taken t c =
     nothing_taken c.args.labels.now c.args.live.now.items c.args.taken.now.answers.items (take c.args.taken.now.count c.args.ends.now) c.in_default.ensures.cases
 
-pub returns-in_default-clause-listed : goal.returns-in_default-clause-listed
+pub returns-in_default-clause-listed : Rattle.iso_machine.proofs.grouping.+take_members.Goals.returns-in_default-clause-listed
 returns-in_default-clause-listed t c = c.requires.known.listed
 
-pub take_members-requires : goal.take_members-requires
+pub take_members-requires : Rattle.iso_machine.proofs.grouping.+take_members.Goals.take_members-requires
 take_members-requires t c =
     let shorter = c.in-Some.ensures.cases.1 in (
       omega (arith, shorter, c.decreases),
@@ -22,7 +21,7 @@ take_members-requires t c =
       ),
     )
 
-pub returns-clause-taken : goal.returns-clause-taken
+pub returns-clause-taken : Rattle.iso_machine.proofs.grouping.+take_members.Goals.returns-clause-taken
 returns-clause-taken t c =
     on_both c.take_members.result c.in-Some.first.now c.in-Some.others.now c.args.labels.now c.args.live.now.items c.take_member.new.live.items c.take_members.new.live.items c.args.taken.now.answers.items
     c.take_member.new.taken.answers.items c.take_members.new.taken.answers.items (take c.args.taken.now.count c.args.ends.now) (take c.take_member.new.taken.count c.take_member.new.ends)

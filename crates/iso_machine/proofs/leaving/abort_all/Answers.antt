@@ -1,5 +1,4 @@
 use Rattle.iso_machine.proofs.{Words.{◌≡◌, ◌∙◌, inl, sym, refl, subst, List, ◌∷◌, map, eq-eqb, with_live, World, Live, without, AreDistinct, IsTx, StandsFor, up, Attached, live_of}, Lists.without_others}
-use Rattle.iso_machine.proofs.leaving.abort_all.Goals as goal
 
 first_is_tx : (W : World) (a : Attached) (others rest : List Attached) → rest ≡ a ∷ others → IsTx (with_live W (map live_of rest)) a.tx (live_of a)
 first_is_tx W a others rest is = subst (λ (l : List Attached). IsTx (with_live W (map live_of l)) a.tx (live_of a)) (sym is) (record { number = refl; among = inl refl })
@@ -9,7 +8,7 @@ others_stay a others rest is =
     subst (λ (l : List Attached). AreDistinct (map live_of l) → without a.tx (map live_of l) ≡ map live_of others) (sym is)
     (λ distinct. rw (eq-eqb a.tx a.tx refl) (without_others (live_of a) a.tx (map live_of others) distinct.0 refl))
 
-pub abort-requires : goal.abort-requires
+pub abort-requires : Rattle.iso_machine.proofs.leaving.abort_all.Goals.abort-requires
 abort-requires g c =
     let (W, of) = c.requires in (
       with_live W (map live_of c.loop-first.rest.now),
@@ -19,7 +18,7 @@ abort-requires g c =
       first_is_tx W c.in-Some.first.now c.in-Some.others.now c.loop-first.rest.now c.in-Some.ensures.cases.0,
     )
 
-pub loop-first-preserved : goal.loop-first-preserved
+pub loop-first-preserved : Rattle.iso_machine.proofs.leaving.abort_all.Goals.loop-first-preserved
 loop-first-preserved g c =
     let rest = c.loop-first.rest.now in
     let first = c.in-Some.first.now in

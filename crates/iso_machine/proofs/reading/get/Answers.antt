@@ -1,8 +1,7 @@
 use Rattle.iso_machine.proofs.{Words.{arith, ℕ, List, take, drop, length, ◌≡◌, ◌∙◌, sym, refl, ap, ◌++◌, ◌∷◌, [], None, Some, false, Access, Span, is_outside, mark_fault, marked, get_access, read_access, shown_to, get_step, with_access, marked_last, disk_of, Doing, span_at}, Accesses.{get_is, may_mark, one_more, shown_bytes, shown_given, step_is, step_refused, still_work, take_front}}
 use Rattle.script_model.specs.declared.script.Reply.TheVariants as reply
-use Rattle.iso_machine.proofs.reading.get.Goals as goal
 
-pub returns-in-Some-clause-given : goal.returns-in-Some-clause-given
+pub returns-in-Some-clause-given : Rattle.iso_machine.proofs.reading.get.Goals.returns-in-Some-clause-given
 returns-in-Some-clause-given g c W t of tx active =
     let answer = reply.Shown (take c.args.len (drop c.args.off (shown_to W t c.args.block))) in
     let access = get_access c.args.block c.args.off c.args.len in
@@ -12,7 +11,7 @@ returns-in-Some-clause-given g c W t of tx active =
     (c.is_outside.ensures ∙ ap (λ (n : ℕ). is_outside n c.args.off c.args.len) (c.block_size-size.ensures.size ∙ active.is_work.size))
     (c.in-Some.ensures.refused W t active.is_work answer access))
 
-pub mark_within-requires-clause-may : goal.mark_within-requires-clause-may
+pub mark_within-requires-clause-may : Rattle.iso_machine.proofs.reading.get.Goals.mark_within-requires-clause-may
 mark_within-requires-clause-may g c =
     let reads = λ (w : Doing). record w { accesses = w.accesses ++ read_access c.args.block ∷ []; ready = None; settled = false } in
     let made : c.read_into.new.work ≡ reads c.args.work.now = c.in_default-read_into.ensures.work ∙ ap reads c.in_default-reserve.ensures.ok in
@@ -21,7 +20,7 @@ mark_within-requires-clause-may g c =
     ap (λ (w : Doing). mark_fault w.size c.args.off c.args.len w.accesses) made
     ∙ may_mark c.args.work.now.size c.args.off c.args.len c.args.work.now.accesses (read_access c.args.block) refl outside
 
-pub returns-clause-given : goal.returns-clause-given
+pub returns-clause-given : Rattle.iso_machine.proofs.reading.get.Goals.returns-clause-given
 returns-clause-given g c W t of tx active =
     let old = c.args.work.now in
     let span : Span = span_at c.args.off c.args.len in

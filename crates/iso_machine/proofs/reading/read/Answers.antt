@@ -1,14 +1,13 @@
 use Rattle.iso_machine.proofs.{Words.{arith, ℕ, List, drop, length, ◌∙◌, ◌≡◌, sym, whole_range, refl, ap, ◌++◌, ◌∷◌, [], None, Some, false, read_access, shown_to, read_step, with_access, disk_of, Doing}, Accesses.{one_more, read_is, shown_bytes, shown_given, step_is, step_refused, still_work, take_front}, Ranges.length-shown}
 use Rattle.script_model.specs.declared.script.Reply.TheVariants as reply
-use Rattle.iso_machine.proofs.reading.read.Goals as goal
 
-pub returns-in-Some-clause-given : goal.returns-in-Some-clause-given
+pub returns-in-Some-clause-given : Rattle.iso_machine.proofs.reading.read.Goals.returns-in-Some-clause-given
 returns-in-Some-clause-given g c W t of tx active =
     shown_given (g.D.Disk.state (disk_of c.args.core.now)) W t (read_step W t c.args.block) c.args.work.now c.in-Some.reply
     (step_refused W t c.args.work.now active (read_step W t c.args.block) c.args.block false false (reply.Shown (shown_to W t c.args.block)) (read_access c.args.block) c.in-Some.reply (read_is W t c.args.block) refl
     (c.in-Some.ensures.refused W t active.is_work (reply.Shown (shown_to W t c.args.block)) (read_access c.args.block)))
 
-pub returns-in-Ok-read_into-clause-given : goal.returns-in-Ok-read_into-clause-given
+pub returns-in-Ok-read_into-clause-given : Rattle.iso_machine.proofs.reading.read.Goals.returns-in-Ok-read_into-clause-given
 returns-in-Ok-read_into-clause-given g c W t of tx active =
     let may = c.in_default.ensures.allowed refl in
     shown_bytes (g.D.Disk.state (disk_of c.args.core.now)) W t (read_step W t c.args.block) c.of.result (shown_to W t c.args.block) (with_access W t (read_access c.args.block)) c.read_into.new.work

@@ -1,7 +1,6 @@
 use Rattle.iso_memdisk.proofs.Words.{◌≡◌, ◌+◌, ◌-◌, length, drop, arith, length-take, length-drop, take-put_mid_below, drop-put_mid, common_steps}
-use Rattle.iso_memdisk.proofs.record.scribble.Goals as goal
 
-pub returns : goal.returns
+pub returns : Rattle.iso_memdisk.proofs.record.scribble.Goals.returns
 returns c =
     let image = c.args.image.now in
     let drawn = c.loop-byte.byte-items in

@@ -1,5 +1,4 @@
 use Rattle.iso_memdisk.proofs.Steps.{IsStable}
-use Rattle.iso_memdisk.proofs.record.stable_calls.Given as goal
 
-abbrev pub invariant-loop-i : goal.invariant-loop-i
+abbrev pub invariant-loop-i : Rattle.iso_memdisk.proofs.record.stable_calls.Given.invariant-loop-i
 invariant-loop-i l = IsStable l.calls l.i l.stable

@@ -1,7 +1,6 @@
 use Rattle.iso_memdisk.proofs.{Words.{◌≡◌, ◌+◌, ℕ, List, length, refl, sym, ◌∙◌, ap, subst, arith, rules, spliced, Torn, torn_same, spliced_torn}, Steps.{IsTornSoFar, torn_write, fits_at, no_sync_at}, record.tear.Goals.{in-Write+in-0, in-Write+in-1, in-Write+in_default-pick, in_default}}
-use Rattle.iso_memdisk.proofs.record.tear.Goals as goal
 
-pub loop-call-preserved : goal.loop-call-preserved
+pub loop-call-preserved : Rattle.iso_memdisk.proofs.record.tear.Goals.loop-call-preserved
 loop-call-preserved c =
     let calls = c.args.calls.now in
     let first = c.args.image.now in

@@ -1,5 +1,4 @@
 use Rattle.iso_model.proofs.Groups.{group_of_one}
-use Rattle.iso_model.proofs.group_laws.a_group_of_one_is_an_end.Goals as goal
 
-pub returns : goal.returns
+pub returns : Rattle.iso_model.proofs.group_laws.a_group_of_one_is_an_end.Goals.returns
 returns c = group_of_one

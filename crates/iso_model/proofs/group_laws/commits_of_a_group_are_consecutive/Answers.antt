@@ -1,5 +1,4 @@
 use Rattle.iso_model.proofs.Groups.{consecutive}
-use Rattle.iso_model.proofs.group_laws.commits_of_a_group_are_consecutive.Goals as goal
 
-pub returns : goal.returns
+pub returns : Rattle.iso_model.proofs.group_laws.commits_of_a_group_are_consecutive.Goals.returns
 returns c = consecutive

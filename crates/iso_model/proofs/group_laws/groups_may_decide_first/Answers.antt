@@ -1,5 +1,4 @@
 use Rattle.iso_model.proofs.Groups.{group_is}
-use Rattle.iso_model.proofs.group_laws.groups_may_decide_first.Goals as goal
 
-pub returns : goal.returns
+pub returns : Rattle.iso_model.proofs.group_laws.groups_may_decide_first.Goals.returns
 returns c = group_is

@@ -1,8 +1,7 @@
 use Rattle.iso_model.proofs.{Recorded.same_effect, Unique.runs_recorded}
-use Rattle.iso_model.proofs.laws.records_keep_the_effect.Goals as goal
 
-pub returns-clause-effect : goal.returns-clause-effect
+pub returns-clause-effect : Rattle.iso_model.proofs.laws.records_keep_the_effect.Goals.returns-clause-effect
 returns-clause-effect c = same_effect
 
-pub returns-clause-runs : goal.returns-clause-runs
+pub returns-clause-runs : Rattle.iso_model.proofs.laws.records_keep_the_effect.Goals.returns-clause-runs
 returns-clause-runs c = runs_recorded

@@ -1,7 +1,6 @@
 use Rattle.iso_recover.proofs.{Words.{◌≡◌, None, arith, ap, sym, ◌∙◌, subst, header_place, HalfPlace, in_form, header_refusal, IsSaid, front_said}, Headers.said_is}
-use Rattle.iso_recover.proofs.halves.front_of.Goals as goal
 
-pub returns-clause-said : goal.returns-clause-said
+pub returns-clause-said : Rattle.iso_recover.proofs.halves.front_of.Goals.returns-clause-said
 returns-clause-said c =
     let geometry = c.args.geometry.now in
     let header = c.args.header.now in

@@ -1,7 +1,6 @@
 use Rattle.iso_recover.proofs.{Words.{ℕ, sym, ◌∙◌, subst, stays_settled, IsFront, IsShaped}, Opens.{base_of, opens_to, settled_ok, told_history}}
-use Rattle.iso_recover.proofs.image.read_image.Goals as goal
 
-pub returns-in-Ok-read_log-clause-opened : goal.returns-in-Ok-read_log-clause-opened
+pub returns-in-Ok-read_log-clause-opened : Rattle.iso_recover.proofs.image.read_image.Goals.returns-in-Ok-read_log-clause-opened
 returns-in-Ok-read_log-clause-opened g c =
     let (told, read, logs) = c.in-Ok-read_log.ensures.read in
     let law = g.met.D.Disk.lawful in
@@ -23,5 +22,5 @@ returns-in-Ok-read_log-clause-opened g c =
       }) c.in-Ok-new.buffer,
     )
 
-pub returns-in-Err-read_log-clause-shape : goal.returns-in-Err-read_log-clause-shape
+pub returns-in-Err-read_log-clause-shape : Rattle.iso_recover.proofs.image.read_image.Goals.returns-in-Err-read_log-clause-shape
 returns-in-Err-read_log-clause-shape g c = subst (λ (n : ℕ). IsShaped n c.in-Err-read_log.error) c.read_front.ensures.unwritten.moments.same_size c.in-Err-read_log.ensures.shape

@@ -1,5 +1,4 @@
 use Rattle.iso_shared.proofs.PostsBefore.{look_was_posted}
-use Rattle.iso_shared.proofs.laws.looks_find_what_was_posted.Goals as goal
 
-pub returns : goal.returns
+pub returns : Rattle.iso_shared.proofs.laws.looks_find_what_was_posted.Goals.returns
 returns c = look_was_posted

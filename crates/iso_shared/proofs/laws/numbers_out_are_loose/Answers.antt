@@ -1,5 +1,4 @@
 use Rattle.iso_shared.proofs.Trace.{out_is}
-use Rattle.iso_shared.proofs.laws.numbers_out_are_loose.Goals as goal
 
-pub returns : goal.returns
+pub returns : Rattle.iso_shared.proofs.laws.numbers_out_are_loose.Goals.returns
 returns c = out_is

@@ -1,5 +1,4 @@
 use Rattle.iso_shared.proofs.Words.{length}
-use Rattle.iso_shared.proofs.works.+put_replies.Given as goal
 
-abbrev pub decreases-put_replies : goal.decreases-put_replies
+abbrev pub decreases-put_replies : Rattle.iso_shared.proofs.works.+put_replies.Given.decreases-put_replies
 decreases-put_replies l = length l.ends.now

@@ -1,20 +1,19 @@
 use Rattle.iso_top.proofs.{Words.{[], false, refl, sym, subst, ap, DrawnState, DigestedState, drawn_state, digested_state, disk_of, IsMachineOf, bench_text, bench_world, World, HasRun}, Benches.{printed_bench, printed_line}, Runs.{run_alone, up_on}}
-use Rattle.iso_top.proofs.bench.answer_drawn.Goals as goal
 
-pub run-end-requires : goal.run-end-requires
+pub run-end-requires : Rattle.iso_top.proofs.bench.answer_drawn.Goals.run-end-requires
 run-end-requires g c = (bench_world, c.over-machine.ensures.stands bench_world c.requires.world refl)
 
-pub disk_behind-image-requires : goal.disk_behind-image-requires
+pub disk_behind-image-requires : Rattle.iso_top.proofs.bench.answer_drawn.Goals.disk_behind-image-requires
 disk_behind-image-requires g c =
     let ran = c.run-end.ensures.ran bench_world (c.over-machine.ensures.stands bench_world c.requires.world refl) in
     let machine = c.run-end.new.machine in
     up_on (IsMachineOf g.I.Disk.state machine ran.answered.final) ((V : World) × IsMachineOf g.I.Disk.state machine V)
     (λ is. (ran.answered.final, is)) c.run-end.result ran.answered.world
 
-pub returns-clause-plain : goal.returns-clause-plain
+pub returns-clause-plain : Rattle.iso_top.proofs.bench.answer_drawn.Goals.returns-clause-plain
 returns-clause-plain g c = c.drawn_scripts_are_good.ensures.plain c.args.seed c.args.count c.requires.count
 
-pub returns-clause-ran : goal.returns-clause-ran
+pub returns-clause-ran : Rattle.iso_top.proofs.bench.answer_drawn.Goals.returns-clause-ran
 returns-clause-ran g c =
     let state = g.I.Disk.state in
     let fresh : DrawnState = record { left = bench_text c.args.count c.args.seed; is_ended = false } in

@@ -1,11 +1,10 @@
 use Rattle.iso_top.proofs.{Words.{◌∙◌, inl, inr, refl, subst, ℕ, List, None, Printed}, ClientsMet.{may_begin, none_begun, ran_lines, ran_none}}
-use Rattle.iso_top.proofs.clients.run_clients.Goals as goal
 
-pub run_lines-requires-after_bounds : goal.run_lines-requires-after_bounds
+pub run_lines-requires-after_bounds : Rattle.iso_top.proofs.clients.run_clients.Goals.run_lines-requires-after_bounds
 run_lines-requires-after_bounds g c κs within =
     may_begin g.I.Disk.state (g.met.I.Disk g.world.𝓛 g.world.𝓜 g.world.𝓡 ((λ s x. x), (λ x. x), (λ x. x), λ x. x)).lawful c.args.name.now c.args.image c.in-Ok.core c.in-Ok.ensures.begun (record { core = c.in-Ok.core; given = c.of-given.result }) refl c.of-given.ensures
 
-pub returns-in-Err : goal.returns-in-Err
+pub returns-in-Err : Rattle.iso_top.proofs.clients.run_clients.Goals.returns-in-Err
 returns-in-Err g c =
     inl (
       c.in-Err.error,
@@ -14,13 +13,13 @@ returns-in-Err g c =
           (g.K.Sink.state c.refused.new.output) c.in-Err.ensures.unbegun c.refused.ensures.image c.refused.ensures.printed,
     )
 
-pub returns-in-Ok-read_script : goal.returns-in-Ok-read_script
+pub returns-in-Ok-read_script : Rattle.iso_top.proofs.clients.run_clients.Goals.returns-in-Ok-read_script
 returns-in-Ok-read_script g c =
     inr (ran_lines g.I.Disk.state (g.met.I.Disk g.world.𝓛 g.world.𝓜 g.world.𝓡 ((λ s x. x), (λ x. x), (λ x. x), λ x. x)).lawful c.args.name.now c.args.image c.in-Ok.core c.in-Ok.ensures.begun (record { core = c.in-Ok.core; given = c.of-given.result }) refl c.of-given.ensures
     c.in-Ok-read_script.lines.items c.run_lines.result.status c.run_lines.result.image (g.S.Source.state c.args.input.now) (g.S.Source.state c.read_script.new.input) (g.K.Sink.state c.args.output.now)
     (g.K.Sink.state c.run_lines.new.output) c.in-Ok-read_script.ensures.lines c.run_lines.ensures)
 
-pub returns-in-Err-read_script : goal.returns-in-Err-read_script
+pub returns-in-Err-read_script : Rattle.iso_top.proofs.clients.run_clients.Goals.returns-in-Err-read_script
 returns-in-Err-read_script g c =
     let old = g.K.Sink.state c.args.output.now in
     let new = g.K.Sink.state c.put_last.new.output in

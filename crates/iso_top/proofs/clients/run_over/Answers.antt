@@ -1,7 +1,6 @@
 use Rattle.iso_top.proofs.Words.{sym, subst, port_view, Came}
-use Rattle.iso_top.proofs.clients.run_over.Goals as goal
 
-pub returns-in-Ok-clause-ended : goal.returns-in-Ok-clause-ended
+pub returns-in-Ok-clause-ended : Rattle.iso_top.proofs.clients.run_over.Goals.returns-in-Ok-clause-ended
 returns-in-Ok-clause-ended g c =
     let state = g.I.Disk.state in
     let entries = (port_view c.par_lines-end.new.port).seen in

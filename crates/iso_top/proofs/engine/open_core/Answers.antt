@@ -1,7 +1,6 @@
 use Rattle.iso_top.proofs.Beginnings.{opened_core}
-use Rattle.iso_top.proofs.engine.open_core.Goals as goal
 
-pub returns-in-Ok-clause-begun : goal.returns-in-Ok-clause-begun
+pub returns-in-Ok-clause-begun : Rattle.iso_top.proofs.engine.open_core.Goals.returns-in-Ok-clause-begun
 returns-in-Ok-clause-begun g c =
     let f = c.in-Ok.ensures in
     let b = c.in_default.ensures in

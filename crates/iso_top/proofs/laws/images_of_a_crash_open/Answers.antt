@@ -1,14 +1,13 @@
 use Rattle.iso_top.proofs.Plainly.{clients_open, exit_opens, since_opens, told_opens}
-use Rattle.iso_top.proofs.laws.images_of_a_crash_open.Goals as goal
 
-pub returns-clause-since : goal.returns-clause-since
+pub returns-clause-since : Rattle.iso_top.proofs.laws.images_of_a_crash_open.Goals.returns-clause-since
 returns-clause-since g c = λ made name e old new input_old input_new output_old output_new. since_opens g.I.Disk.state name old new input_old input_new output_old output_new made e
 
-pub returns-clause-exit : goal.returns-clause-exit
+pub returns-clause-exit : Rattle.iso_top.proofs.laws.images_of_a_crash_open.Goals.returns-clause-exit
 returns-clause-exit g c = λ made name e old new input_old input_new output_old output_new. exit_opens g.I.Disk.state name old new input_old input_new output_old output_new made e
 
-pub returns-clause-told : goal.returns-clause-told
+pub returns-clause-told : Rattle.iso_top.proofs.laws.images_of_a_crash_open.Goals.returns-clause-told
 returns-clause-told g c = λ made name e old new input_old input_new output_old output_new. told_opens g.I.Disk.state name old new input_old input_new output_old output_new made e
 
-pub returns-clause-clients : goal.returns-clause-clients
+pub returns-clause-clients : Rattle.iso_top.proofs.laws.images_of_a_crash_open.Goals.returns-clause-clients
 returns-clause-clients g c = λ name status old new input_old input_new output_old output_new. clients_open g.I.Disk.state name old new input_old input_new output_old output_new status

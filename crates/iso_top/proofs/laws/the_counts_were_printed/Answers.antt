@@ -1,7 +1,6 @@
 use Rattle.iso_top.proofs.Counted.{counts_printed}
-use Rattle.iso_top.proofs.laws.the_counts_were_printed.Goals as goal
 
-pub returns : goal.returns
+pub returns : Rattle.iso_top.proofs.laws.the_counts_were_printed.Goals.returns
 returns g c seed count name old new input_old input_new output_old output_new met few =
     counts_printed g.I.Disk.state name old new input_old input_new output_old output_new seed count met
     (c.drawn_scripts_are_good.ensures.plain seed count few)

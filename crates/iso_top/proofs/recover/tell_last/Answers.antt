@@ -1,7 +1,6 @@
 use Rattle.iso_top.proofs.{Words.{ap, arith, disk_of, up, Stat}, Results.printed_digest}
-use Rattle.iso_top.proofs.recover.tell_last.Goals as goal
 
-pub returns-clause-printed : goal.returns-clause-printed
+pub returns-clause-printed : Rattle.iso_top.proofs.recover.tell_last.Goals.returns-clause-printed
 returns-clause-printed g c W stands base =
     let stat = c.stat-stat.ensures W up stands in
     printed_digest c.put_digest-status.result (g.I.Disk.state (disk_of c.args.core)) W.history (g.K.Sink.state c.args.output.now) (g.K.Sink.state c.put_digest-status.new.output) c.digest_of-told.result

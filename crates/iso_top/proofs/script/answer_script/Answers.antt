@@ -1,10 +1,9 @@
 use Rattle.iso_top.proofs.{Words.{sym, subst, ap, disk_of, IsMachineOf, World, HasRun}, Runs.{run_alone, up_on}}
-use Rattle.iso_top.proofs.script.answer_script.Goals as goal
 
-pub run-end-requires : goal.run-end-requires
+pub run-end-requires : Rattle.iso_top.proofs.script.answer_script.Goals.run-end-requires
 run-end-requires g c = let (W, stands, idle) = c.requires in (W, c.over-machine.ensures.stands W stands idle)
 
-pub disk_behind-image-requires : goal.disk_behind-image-requires
+pub disk_behind-image-requires : Rattle.iso_top.proofs.script.answer_script.Goals.disk_behind-image-requires
 disk_behind-image-requires g c =
     let (W, stands, idle) = c.requires in
     let ran = c.run-end.ensures.ran W (c.over-machine.ensures.stands W stands idle) in
@@ -12,7 +11,7 @@ disk_behind-image-requires g c =
     up_on (IsMachineOf g.I.Disk.state machine ran.answered.final) ((V : World) × IsMachineOf g.I.Disk.state machine V)
     (λ is. (ran.answered.final, is)) c.run-end.result ran.answered.world
 
-pub returns : goal.returns
+pub returns : Rattle.iso_top.proofs.script.answer_script.Goals.returns
 returns g c W stands idle =
     let state = g.I.Disk.state in
     let input_old = g.S.Source.state c.args.input.now in

@@ -1,7 +1,6 @@
 use Rattle.iso_top.proofs.Words.{◌∙◌, sym, subst, ℕ, List, RunEnd, PrintedEnd, Printed}
-use Rattle.iso_top.proofs.script.put_end.Goals as goal
 
-pub returns-in-BadLine : goal.returns-in-BadLine
+pub returns-in-BadLine : Rattle.iso_top.proofs.script.put_end.Goals.returns-in-BadLine
 returns-in-BadLine g c =
     let old = g.K.Sink.state c.args.output.now in
     let new = g.K.Sink.state c.put_last.new.output in

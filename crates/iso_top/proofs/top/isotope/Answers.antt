@@ -1,7 +1,6 @@
 use Rattle.iso_top.proofs.{Words.{sym, subst, Task, HasMet}, Causes.met_all}
-use Rattle.iso_top.proofs.top.isotope.Goals as goal
 
-pub returns-in-Par-clause-complete : goal.returns-in-Par-clause-complete
+pub returns-in-Par-clause-complete : Rattle.iso_top.proofs.top.isotope.Goals.returns-in-Par-clause-complete
 returns-in-Par-clause-complete g c =
     let state = g.I.Disk.state in
     let input_old = g.S.Source.state c.args.input.now in
@@ -13,7 +12,7 @@ returns-in-Par-clause-complete g c =
     rw (sym c.in-Ok-Some.ensures.request) (rw c.in-Ok-Some.field-0-is
     (λ accepted good d i o. met_all state name c.run_clients.result.status c.args.image c.run_clients.result.image input_old input_new old new d i o c.in-Ok-Some.request.task accepted good met))
 
-pub returns-in-New-clause-complete : goal.returns-in-New-clause-complete
+pub returns-in-New-clause-complete : Rattle.iso_top.proofs.top.isotope.Goals.returns-in-New-clause-complete
 returns-in-New-clause-complete g c =
     rw (sym c.in-Ok-Some.ensures.request) (rw c.in-Ok-Some.field-0-is
     (λ accepted good d i o. met_all g.I.Disk.state c.in-Ok-Some.request.image.now c.meet.result.status c.args.image c.meet.result.image (g.S.Source.state c.args.input.now)

@@ -1,7 +1,6 @@
 use Rattle.iso_top.proofs.{Words.{◌∙◌, inr, sym, subst, ap, Option, Some, None, Task, made_geometry, disk_of, lasts, Geometry, HasCore, HasMet}, Answered.answered, Tasks.{benched, recovered}}
-use Rattle.iso_top.proofs.top.meet.Goals as goal
 
-pub returns-in-New : goal.returns-in-New
+pub returns-in-New : Rattle.iso_top.proofs.top.meet.Goals.returns-in-New
 returns-in-New g c =
     let state = g.I.Disk.state in
     let name = c.args.request.now.image.now in
@@ -15,7 +14,7 @@ returns-in-New g c =
     subst (λ (task : Task). HasMet state task name c.answer_script.result.status c.args.image new input_old input_new output_old output_new) (sym c.in-New.is)
     (inr (e, status, answered state (Some c.in-New.geometry) name c.args.image new c.in-Ok.core has input_old input_new output_old replied e run output_new last))
 
-pub returns-in-Run : goal.returns-in-Run
+pub returns-in-Run : Rattle.iso_top.proofs.top.meet.Goals.returns-in-Run
 returns-in-Run g c =
     let state = g.I.Disk.state in
     let name = c.args.request.now.image.now in
@@ -29,7 +28,7 @@ returns-in-Run g c =
     subst (λ (task : Task). HasMet state task name c.answer_script-in-Run.result.status c.args.image new input_old input_new output_old output_new) (sym c.in-Run.is)
     (inr (e, status, answered state None name c.args.image new c.in-Ok.core has input_old input_new output_old replied e run output_new last))
 
-pub returns-in-Recover : goal.returns-in-Recover
+pub returns-in-Recover : Rattle.iso_top.proofs.top.meet.Goals.returns-in-Recover
 returns-in-Recover g c =
     let state = g.I.Disk.state in
     let name = c.args.request.now.image.now in
@@ -41,7 +40,7 @@ returns-in-Recover g c =
     (inr (recovered state name c.tell_last.result.status c.args.image c.tell_last.result.image c.in-Ok.core source old new has c.tell_last.ensures.printed (lasts (g.met.I.Disk.lawful (disk_of c.in-Ok.core)) has.untouched c.tell_last.ensures.unwritten) c.tell_last.ensures.failed
     c.tell_last.ensures.passed))
 
-pub returns-in-Bench : goal.returns-in-Bench
+pub returns-in-Bench : Rattle.iso_top.proofs.top.meet.Goals.returns-in-Bench
 returns-in-Bench g c =
     let state = g.I.Disk.state in
     let name = c.args.request.now.image.now in

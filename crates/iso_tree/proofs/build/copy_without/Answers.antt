@@ -1,33 +1,28 @@
 use Rattle.iso_tree.proofs.{Words.{◌≡◌, ◌∙◌, sym, refl, ap, ◌+◌, ◌*◌, ◌<◌, ◌≤◌, ℕ, List, not, cond, [], ◌∷◌, ◌++◌, length, take, drop, arith, bytes_eq, cell_count, keys_end, key_at, are_key_parts, value_mark, bytes_in, count_of, node_bytes}, Building.{copied, copied_more, copied_long, copied_fit}, Facts.node_parts, Fits.key_short}
-use Rattle.iso_tree.proofs.build.copy_without.Goals as goal
 
-pub piece-part-requires : goal.piece-part-requires
+pub piece-part-requires : Rattle.iso_tree.proofs.build.copy_without.Goals.piece-part-requires
 piece-part-requires c =
     let old = c.args.old.now in
     let keys = take (keys_end (length old)) old in
-    let keys_is : c.piece-keys.result.now ≡ keys = c.piece-keys.ensures.value ∙ ap (λ (n : ℕ). take (64 + 31 * n) old) c.cell_count.ensures in
     let parts = node_parts (length old) 0 keys c.requires.node in
-    omega (arith, c.requires.size.whole, parts.few, c.loop-cell-test.true, c.count_of-cell-end.ensures, ap count_of keys_is, c.cell_count.ensures)
+    omega (arith, c.requires.size.whole, parts.few, c.loop-cell-test.true, c.count_of-cell-end.ensures, ap count_of (c.piece-keys.ensures.value ∙ ap (λ (n : ℕ). take (64 + 31 * n) old) c.cell_count.ensures), c.cell_count.ensures)
 
-pub key_of-requires-clause-parts : goal.key_of-requires-clause-parts
+pub key_of-requires-clause-parts : Rattle.iso_tree.proofs.build.copy_without.Goals.key_of-requires-clause-parts
 key_of-requires-clause-parts c =
     let old = c.args.old.now in
     let keys = take (keys_end (length old)) old in
-    let keys_is : c.piece-keys.result.now ≡ keys = c.piece-keys.ensures.value ∙ ap (λ (n : ℕ). take (64 + 31 * n) old) c.cell_count.ensures in
-    ap (are_key_parts (length old)) keys_is ∙ (node_parts (length old) 0 keys c.requires.node).parts
+    ap (are_key_parts (length old)) (c.piece-keys.ensures.value ∙ ap (λ (n : ℕ). take (64 + 31 * n) old) c.cell_count.ensures) ∙ (node_parts (length old) 0 keys c.requires.node).parts
 
-pub add_other-kept-requires-clause-other : goal.add_other-kept-requires-clause-other
+pub add_other-kept-requires-clause-other : Rattle.iso_tree.proofs.build.copy_without.Goals.add_other-kept-requires-clause-other
 add_other-kept-requires-clause-other c =
     let old = c.args.old.now in
     let keys = take (keys_end (length old)) old in
     let keys_is : c.piece-keys.result.now ≡ keys = c.piece-keys.ensures.value ∙ ap (λ (n : ℕ). take (64 + 31 * n) old) c.cell_count.ensures in
     let parts = node_parts (length old) 0 keys c.requires.node in
     let inside : c.loop-cell.cell < cell_count (length old) = omega (arith, parts.few, c.loop-cell-test.true, c.count_of-cell-end.ensures, ap count_of keys_is) in
-    let short = key_short (length old) keys c.loop-cell.cell parts.parts inside in
-    let same : c.key_of.result.now ≡ key_at keys c.loop-cell.cell = c.key_of.ensures ∙ ap (λ (k : List ℕ). key_at k c.loop-cell.cell) keys_is in
-    omega (arith, short, ap length same)
+    omega (arith, (key_short (length old) keys c.loop-cell.cell parts.parts inside), ap length (c.key_of.ensures ∙ ap (λ (k : List ℕ). key_at k c.loop-cell.cell) keys_is))
 
-pub loop-cell-preserved : goal.loop-cell-preserved
+pub loop-cell-preserved : Rattle.iso_tree.proofs.build.copy_without.Goals.loop-cell-preserved
 loop-cell-preserved c =
     let old = c.args.old.now in
     let size = length old in
@@ -35,7 +30,6 @@ loop-cell-preserved c =
     let cell = c.loop-cell.cell in
     let keys = take (keys_end (length old)) old in
     let keys_is : c.piece-keys.result.now ≡ keys = c.piece-keys.ensures.value ∙ ap (λ (n : ℕ). take (64 + 31 * n) old) c.cell_count.ensures in
-    let parts = node_parts (length old) 0 keys c.requires.node in
     let inside : cell ≤ count_of keys = omega (arith, c.loop-cell-test.true, c.count_of-cell-end.ensures, ap count_of keys_is) in
     let same : c.key_of.result.now ≡ key_at keys cell = c.key_of.ensures ∙ ap (λ (k : List ℕ). key_at k cell) keys_is in
     let part : c.piece-part.result.now ≡ bytes_in (value_mark size cell) old = c.piece-part.ensures.value ∙ ap (λ (n : ℕ). take 33 (drop (64 + 31 * n + 33 * cell) old)) c.cell_count.ensures in

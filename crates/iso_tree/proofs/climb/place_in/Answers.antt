@@ -1,11 +1,10 @@
 use Rattle.iso_tree.proofs.{Words.{◌≡◌, ◌∙◌, refl, ap, ℕ, zero, suc, ◌+◌, ◌-◌, ◌*◌, List, take, arith, keys_end, Cell, count_of, used_cells, row_from, upto_from, put_after, placed}, Filling.{row_is, leaf_row_is}}
-use Rattle.iso_tree.proofs.climb.place_in.Goals as goal
 
 zero_placed : (level : ℕ) (key : List ℕ) (new : Cell) (cs : List Cell) → level ≡ 0 → put_after key new cs ≡ placed level key new cs
 zero_placed zero key new cs e = refl
 zero_placed (suc level) key new cs e = absurd (omega arith)
 
-pub returns-then-level-eq0-clause-row : goal.returns-then-level-eq0-clause-row
+pub returns-then-level-eq0-clause-row : Rattle.iso_tree.proofs.climb.place_in.Goals.returns-then-level-eq0-clause-row
 returns-then-level-eq0-clause-row c = λ new.
     let node = c.args.node.now in
     let size = c.args.size in
@@ -16,12 +15,5 @@ returns-then-level-eq0-clause-row c = λ new.
     let place : c.upto.result ≡ upto_from key K 0 (count_of K) = c.upto.ensures.value ∙ ap (λ (k : List ℕ). upto_from key k 0 (count_of k - 0)) keys_is ∙ ap (upto_from key K 0) z in
     ap (λ (p : ℕ). row_from size node p new 0 (count_of K + 1)) place ∙ leaf_row_is size node key new ∙ zero_placed c.args.level key new (used_cells size node) c.if-level-eq0.true
 
-pub returns-clause-row : goal.returns-clause-row
-returns-clause-row c = λ new.
-    let node = c.args.node.now in
-    let size = c.args.size in
-    let key = c.args.key.now in
-    let K = take (keys_end size) node in
-    let keys_is : c.piece-keys.result.now ≡ K = c.piece-keys.ensures.value ∙ ap (λ (n : ℕ). take (64 + 31 * n) node) c.cell_count.ensures in
-    let place : c.upto-2.result ≡ upto_from key K 1 (count_of K - 1) = c.upto-2.ensures.value ∙ ap (λ (k : List ℕ). upto_from key k 1 (count_of k - 1)) keys_is in
-    ap (λ (p : ℕ). row_from size node (1 + p) new 0 (count_of K + 1)) place ∙ row_is size node key c.args.level new c.if-level-eq0.false c.requires.some
+pub returns-clause-row : Rattle.iso_tree.proofs.climb.place_in.Goals.returns-clause-row
+returns-clause-row c = grind (arith, row_is) steps 100000

@@ -1,8 +1,7 @@
 use Rattle.iso_tree.proofs.Words.{◌≡◌, ◌-◌, ◌<◌, [], length, AreInside, descend, IsLater, HasRead, IsAt}
-use Rattle.iso_tree.proofs.descent.descend.Given as goal
 
 -- the levels that are left are what is left of the descent
-abbrev pub invariant-loop-passed : goal.invariant-loop-passed
+abbrev pub invariant-loop-passed : Rattle.iso_tree.proofs.descent.descend.Given.invariant-loop-passed
 invariant-loop-passed g l = record {
   here : IsAt (descend l.area l.key l.with_value l.level l.root []) (descend l.area l.key l.with_value (l.level - l.passed) l.block l.path) (g.T.TxBlocks.state l.fn.tx) (g.T.TxBlocks.state l.tx);
   inside : l.block < l.area.blocks;

@@ -1,26 +1,19 @@
-use Rattle.iso_tree.proofs.{Words.{looked_as, ◌≡◌, ◌∙◌, sym, refl, ap, subst, ◌+◌, [], ◌∷◌, Some, None, arith, Span, keys_mark, value_mark, bytes_in, look_access, mark_refusal, with_accesses, may_mark, marked_access, cell_of, cut_first, leaf_further}, Facts.{missing, cell_used, node_parts, nothing_is}, Looking.{IsNodeOf, bytes_after, node_of, not_node, leaf_not_node, leaf_plain, leaf_missing, leaf_found, ok_marked}, descent.read_leaf.Goals.In-Some}
-use Rattle.iso_tree.proofs.descent.read_leaf.Given as given
+use Rattle.iso_tree.proofs.{Words.{looked_as, ◌≡◌, ◌∙◌, sym, refl, ap, subst, ◌+◌, [], ◌∷◌, Some, None, arith, Span, keys_mark, value_mark, bytes_in, look_access, mark_refusal, with_accesses, may_mark, marked_access, cell_of, cut_first}, Facts.{missing, cell_used, node_parts, nothing_is}, Looking.{IsNodeOf, bytes_after, node_of, not_node, leaf_not_node, leaf_plain, leaf_missing, leaf_found, ok_marked}, descent.read_leaf.Goals.In-Some}
 use Rattle.iso_tree.proofs.descent.read_leaf.Goals as goal
 
 -- the leaf that the view shows
-node_at : (g : given.Over) (c : In-Some g) → IsNodeOf c.args.area 0 c.look.new.into c.in-Some.node
+node_at : (g : Rattle.iso_tree.proofs.descent.read_leaf.Given.Over) (c : In-Some g) → IsNodeOf c.args.area 0 c.look.new.into c.in-Some.node
 node_at g c = node_of c.args.area 0 c.look.new.into c.in-Some.node c.region_of.result (c.look.auto.into ∙ c.requires.block.long) c.in-Some.ensures.value c.region_of.ensures (c.in-Some.ensures.some.0 refl)
 
 pub returns-in_default-of-clause-run : goal.returns-in_default-of-clause-run
-returns-in_default-of-clause-run g c =
-    let state = g.T.TxBlocks.state in
-    let a = c.args.area in
-    let access = looked_as (state c.args.tx.now) (state c.look.new.tx) (a.start + c.args.block) _ _ c.in_default.ensures.read c.keys_mark.ensures in
-    leaf_not_node a (state c.args.tx.now) (state c.look.new.tx) c.look.new.into (g.met.T.TxBlocks.limits c.look.new.tx).count c.args.block c.in_default.ensures.bytes c.args.key.now c.args.with_value access
-    (not_node a 0 c.look.new.into (c.look.auto.into ∙ c.requires.block.long) (λ e. nothing_is (c.in_default-of.ensures.some.1 e)))
+returns-in_default-of-clause-run g c = grind (arith, looked_as, leaf_not_node, not_node, nothing_is)
 
 pub returns-then-not-with_value-clause-run : goal.returns-then-not-with_value-clause-run
 returns-then-not-with_value-clause-run g c =
     let state = g.T.TxBlocks.state in
-    let a = c.args.area in
     let node = node_at g (goal.at.returns-then-not-with_value-clause-run g c).In-Some in
-    let access = looked_as (state c.args.tx.now) (state c.look.new.tx) (a.start + c.args.block) _ _ c.in_default.ensures.read c.keys_mark.ensures in
-    leaf_plain a (state c.args.tx.now) (state c.look.new.tx) c.look.new.into (g.met.T.TxBlocks.limits c.look.new.tx).count c.args.block c.in_default.ensures.bytes c.args.key.now c.args.with_value c.if-not-with_value.true access node.passes
+    let access = looked_as (state c.args.tx.now) (state c.look.new.tx) (c.args.area.start + c.args.block) _ _ c.in_default.ensures.read c.keys_mark.ensures in
+    leaf_plain c.args.area (state c.args.tx.now) (state c.look.new.tx) c.look.new.into (g.met.T.TxBlocks.limits c.look.new.tx).count c.args.block c.in_default.ensures.bytes c.args.key.now c.args.with_value c.if-not-with_value.true access node.passes
 
 pub returns-in_default-cell-clause-run : goal.returns-in_default-cell-clause-run
 returns-in_default-cell-clause-run g c =
@@ -32,17 +25,7 @@ returns-in_default-cell-clause-run g c =
     leaf_missing a (state c.args.tx.now) (state c.look.new.tx) c.look.new.into (g.met.T.TxBlocks.limits c.look.new.tx).count c.args.block c.in_default.ensures.bytes c.args.key.now c.args.with_value c.if-not-with_value.false none access node.passes
 
 pub mark-requires : goal.mark-requires
-mark-requires g c =
-    let state = g.T.TxBlocks.state in
-    let a = c.args.area in
-    let node = node_at g (goal.at.mark-requires g c).In-Some in
-    let some : cell_of c.args.key.now (bytes_in (keys_mark a.size) c.look.new.into) ≡ Some c.in-Some-cell.cell =
-    ap (cell_of c.args.key.now) (sym node.keys_are) ∙ sym c.cell.ensures.value ∙ c.in-Some-cell.is in
-    let parts = node_parts a.size 0 (bytes_in (keys_mark a.size) c.look.new.into) node.passes in
-    let used = cell_used c.args.key.now (bytes_in (keys_mark a.size) c.look.new.into) c.in-Some-cell.cell some in
-    subst (λ (s : Span). mark_refusal (state c.look.new.tx) s.off s.len ≡ None) (sym c.value_mark.ensures)
-    (may_mark (state c.args.tx.now) (state c.look.new.tx) (look_access (a.start + c.args.block) (c.keys_mark.result ∷ [])) (value_mark a.size c.in-Some-cell.cell)
-    c.in_default.ensures.read c.in_default.ensures.is_open (record { some = omega arith; fits = omega (arith, c.requires.block.within.size, used, parts.few, c.requires.block.within.area.least_size) }) (omega arith))
+mark-requires g c = grind (arith, node_at, node_parts, cell_used, may_mark)
 
 pub returns-clause-run : goal.returns-clause-run
 returns-clause-run g c =
@@ -51,8 +34,6 @@ returns-clause-run g c =
     let node = node_at g (goal.at.returns-clause-run g c).In-Some in
     let some : cell_of c.args.key.now (bytes_in (keys_mark a.size) c.look.new.into) ≡ Some c.in-Some-cell.cell =
     ap (cell_of c.args.key.now) (sym node.keys_are) ∙ sym c.cell.ensures.value ∙ c.in-Some-cell.is in
-    let parts = node_parts a.size 0 (bytes_in (keys_mark a.size) c.look.new.into) node.passes in
-    let used = cell_used c.args.key.now (bytes_in (keys_mark a.size) c.look.new.into) c.in-Some-cell.cell some in
     let access : state c.mark.new.tx ≡ with_accesses (state c.args.tx.now) (look_access (a.start + c.args.block) (keys_mark a.size ∷ value_mark a.size c.in-Some-cell.cell ∷ []) ∷ []) =
     marked_access (state c.args.tx.now) (state c.look.new.tx) (state c.mark.new.tx) _ _ c.in_default.ensures.read c.mark.ensures.marked
     ∙ (λ i. with_accesses (state c.args.tx.now) (look_access (a.start + c.args.block) (c.keys_mark.ensures i ∷ c.value_mark.ensures i ∷ []) ∷ [])) in
@@ -60,20 +41,16 @@ returns-clause-run g c =
 
 pub returns-clause-reads : goal.returns-clause-reads
 returns-clause-reads g c =
-    let state = g.T.TxBlocks.state in
-    let device = g.T.TxBlocks.device in
-    ok_marked (state c.args.tx.now) (state c.look.new.tx) (state c.mark.new.tx) _ _ (device c.args.tx.now) (device c.look.new.tx) (device c.mark.new.tx)
+    ok_marked (g.T.TxBlocks.state c.args.tx.now) (g.T.TxBlocks.state c.look.new.tx) (g.T.TxBlocks.state c.mark.new.tx) _ _ (g.T.TxBlocks.device c.args.tx.now) (g.T.TxBlocks.device c.look.new.tx) (g.T.TxBlocks.device c.mark.new.tx)
     c.in_default.ensures.read c.mark.ensures.marked refl c.in_default.ensures.later c.in_default.ensures.passed c.mark.ensures.device (record { block = c.args.block; cell = c.cell.result; count = c.count.result }) c.in_default.ensures.is_open
 
 pub returns-then-not-with_value-clause-bytes : goal.returns-then-not-with_value-clause-bytes
 returns-then-not-with_value-clause-bytes g c =
-    let state = g.T.TxBlocks.state in
-    bytes_after (state c.args.tx.now) (state c.look.new.tx) _ (c.args.area.start + c.args.block) c.look.new.into c.in_default.ensures.bytes c.in_default.ensures.read refl
+    bytes_after (g.T.TxBlocks.state c.args.tx.now) (g.T.TxBlocks.state c.look.new.tx) _ (c.args.area.start + c.args.block) c.look.new.into c.in_default.ensures.bytes c.in_default.ensures.read refl
 
 pub returns-in_default-cell-clause-bytes : goal.returns-in_default-cell-clause-bytes
 returns-in_default-cell-clause-bytes g c =
-    let state = g.T.TxBlocks.state in
-    bytes_after (state c.args.tx.now) (state c.look.new.tx) _ (c.args.area.start + c.args.block) c.look.new.into c.in_default.ensures.bytes c.in_default.ensures.read refl
+    bytes_after (g.T.TxBlocks.state c.args.tx.now) (g.T.TxBlocks.state c.look.new.tx) _ (c.args.area.start + c.args.block) c.look.new.into c.in_default.ensures.bytes c.in_default.ensures.read refl
 
 pub returns-clause-bytes : goal.returns-clause-bytes
 returns-clause-bytes g c =
@@ -82,6 +59,4 @@ returns-clause-bytes g c =
     (marked_access (state c.args.tx.now) (state c.look.new.tx) (state c.mark.new.tx) _ _ c.in_default.ensures.read c.mark.ensures.marked) refl
 
 pub returns-in-Err-clause-run : goal.returns-in-Err-clause-run
-returns-in-Err-clause-run g c =
-    cut_first (c.args.area.start + c.args.block) (keys_mark c.args.area.size) (leaf_further c.args.area c.args.key.now c.args.with_value) _
-    (g.T.TxBlocks.state c.args.tx.now) (g.T.TxBlocks.state c.look.new.tx) (g.T.TxBlocks.device c.args.tx.now) (g.T.TxBlocks.device c.look.new.tx) c.in-Err.e c.in-Err.ensures.kept c.in-Err.ensures.cause
+returns-in-Err-clause-run g c = grind (arith, cut_first) steps 100000

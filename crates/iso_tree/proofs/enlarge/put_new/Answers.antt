@@ -1,17 +1,13 @@
-use Rattle.iso_tree.proofs.{Words.{refl, arith, looked_as, read_one, behaves_next, refused_first}, Joining.{map_refused, map_run, shown_still}}
+use Rattle.iso_tree.proofs.{Words.{refl, arith, looked_as, read_one, behaves_next, refused_first}, Enlarging.{map_refused, map_run, shown_still}}
 use Rattle.store_model.specs.declared.stores.TxError.TheVariants as error
 use Rattle.iso_tree.proofs.enlarge.put_new.Goals as goal
 
 pub returns-in_default-clause-run : goal.returns-in_default-clause-run
 returns-in_default-clause-run g c =
-    let state = g.T.TxBlocks.state in
-    let device = g.T.TxBlocks.device in
-    map_refused c.args.area c.args.key.now c.args.value.now c.args.path.now (state c.args.tx.now) (state c.args.tx.now) (device c.args.tx.now) (device c.args.tx.now) error.Memory refl refl
+    map_refused c.args.area c.args.key.now c.args.value.now c.args.path.now (g.T.TxBlocks.state c.args.tx.now) (g.T.TxBlocks.state c.args.tx.now) (g.T.TxBlocks.device c.args.tx.now) (g.T.TxBlocks.device c.args.tx.now) error.Memory refl refl
 
 pub returns-in-Err-clause-run : goal.returns-in-Err-clause-run
-returns-in-Err-clause-run g c =
-    let state = g.T.TxBlocks.state in
-    map_refused c.args.area c.args.key.now c.args.value.now c.args.path.now (state c.args.tx.now) (state c.look.new.tx) (g.T.TxBlocks.device c.args.tx.now) (g.T.TxBlocks.device c.look.new.tx) c.in-Err.e c.in-Err.ensures.kept c.in-Err.ensures.cause
+returns-in-Err-clause-run g c = grind (arith, map_refused) steps 100000
 
 pub returns-in-Err-clause-behaves : goal.returns-in-Err-clause-behaves
 returns-in-Err-clause-behaves g c = refused_first c.in-Err.e c.in-Err.ensures.kept c.in-Err.ensures.cause c.in-Err.ensures.later (omega arith)
@@ -34,5 +30,4 @@ returns-clause-run g c =
 
 pub returns-clause-behaves : goal.returns-clause-behaves
 returns-clause-behaves g c =
-    let state = g.T.TxBlocks.state in
-    behaves_next (read_one (state c.args.tx.now) (state c.look.new.tx) _ c.in_default-look.ensures.read refl) c.in_default-look.ensures.later c.in_default-look.ensures.passed c.put_taken.ensures.behaves (omega arith)
+    behaves_next (read_one (g.T.TxBlocks.state c.args.tx.now) (g.T.TxBlocks.state c.look.new.tx) _ c.in_default-look.ensures.read refl) c.in_default-look.ensures.later c.in_default-look.ensures.passed c.put_taken.ensures.behaves (omega arith)

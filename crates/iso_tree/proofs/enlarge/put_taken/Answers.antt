@@ -1,10 +1,8 @@
-use Rattle.iso_tree.proofs.{Words.{◌∙◌, sym, ap, subst, ℕ, suc, ◌+◌, ◌*◌, ◌<◌, ◌≤◌, List, length, take, arith, Region, cell_count, map_mark, bytes_in, behaves_next, AreInside, full_row, need_of}, Enlarging.{all_taken, need_taken, room_taken, row_taken, used_same}, Joining.{shown_taken, news_are, taken_is, few_run, taken_refused, taken_run}}
+use Rattle.iso_tree.proofs.{Words.{◌∙◌, sym, ap, subst, ℕ, suc, ◌+◌, ◌*◌, ◌<◌, ◌≤◌, List, length, take, arith, Region, cell_count, map_mark, bytes_in, behaves_next, AreInside, full_row, need_of}, Enlarging.{all_taken, need_taken, room_taken, row_taken, used_same, shown_taken, news_are, taken_is, few_run, taken_refused, taken_run}}
 use Rattle.iso_tree.proofs.enlarge.put_taken.Goals as goal
 
 pub returns-then-free-need-clause-run : goal.returns-then-free-need-clause-run
-returns-then-free-need-clause-run g c =
-    few_run c.args.area c.requires.within.area c.args.path.now c.args.map.now c.full_row-full.result c.need_of-need.result c.free_blocks-free.result c.full_row-full.ensures.value c.need_of-need.ensures
-    c.region_of-region.result.size (ap (λ (r : Region). r.size) c.region_of-region.ensures) c.free_blocks-free.ensures c.args.key.now c.args.value.now (g.T.TxBlocks.state c.args.tx.now) c.if-free-need.true
+returns-then-free-need-clause-run g c = grind (arith, few_run) steps 100000
 
 pub look_nodes-requires-clause-usable : goal.look_nodes-requires-clause-usable
 look_nodes-requires-clause-usable g c =
@@ -23,8 +21,7 @@ put_writes-requires-clause-path g c =
 pub put_writes-requires-clause-full : goal.put_writes-requires-clause-full
 put_writes-requires-clause-full g c =
     let n = cell_count c.args.area.size in
-    let e = c.full_row-full.ensures.value in
-    e ∙ sym (row_taken n c.args.path.now) ∙ ap (λ (f : ℕ). full_row n (take (suc f) c.args.path.now)) (sym e) ∙ ap (full_row n) (sym c.written-rows.ensures)
+    c.full_row-full.ensures.value ∙ sym (row_taken n c.args.path.now) ∙ ap (λ (f : ℕ). full_row n (take (suc f) c.args.path.now)) (sym c.full_row-full.ensures.value) ∙ ap (full_row n) (sym c.written-rows.ensures)
 
 pub put_writes-requires-clause-nodes : goal.put_writes-requires-clause-nodes
 put_writes-requires-clause-nodes g c =

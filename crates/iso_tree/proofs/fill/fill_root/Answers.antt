@@ -1,5 +1,4 @@
 use Rattle.iso_tree.proofs.Words.{◌∙◌, ◌≡◌, refl, ap, ℕ, zero, suc, List, [], ◌∷◌, length, arith, Cell, child_part, node_bytes, root_cells}
-use Rattle.iso_tree.proofs.fill.fill_root.Goals as goal
 
 zero_root : (level below : ℕ) (new : Cell) → level ≡ 0 → new ∷ [] ≡ root_cells level below new
 zero_root zero below new e = refl
@@ -9,17 +8,16 @@ more_root : (level below : ℕ) (new : Cell) → (level ≡ 0 → ⊥) → ([], 
 more_root zero below new other = absurd (other refl)
 more_root (suc level) below new other = refl
 
-pub returns-then-level-eq0 : goal.returns-then-level-eq0
+pub returns-then-level-eq0 : Rattle.iso_tree.proofs.fill.fill_root.Goals.returns-then-level-eq0
 returns-then-level-eq0 c =
     let size = length c.args.into.now in
     c.add_cell.ensures.added size c.args.level [] c.empty_node.ensures refl tt c.empty_node.auto.into
     ∙ ap (node_bytes size c.args.level) (zero_root c.args.level c.args.below (c.args.key.now, c.args.part.now) c.if-level-eq0.true)
 
-pub returns : goal.returns
+pub returns : Rattle.iso_tree.proofs.fill.fill_root.Goals.returns
 returns c =
     let size = length c.args.into.now in
     let first = c.add_cell-2.ensures.added size c.args.level [] c.empty_node.ensures refl tt c.empty_node.auto.into in
     let named : ◌≡◌ {A = List Cell} (([], c.child_part.result) ∷ []) (([], child_part c.args.below) ∷ []) = ap (λ (p : List ℕ). ([], p) ∷ []) c.child_part.ensures in
-    let long : length (child_part c.args.below) ≡ 33 = refl in
-    c.add_cell-3.ensures.added size c.args.level (([], child_part c.args.below) ∷ []) (first ∙ ap (node_bytes size c.args.level) named) refl ((omega arith, long), tt) (c.add_cell-2.auto.into ∙ c.empty_node.auto.into)
+    c.add_cell-3.ensures.added size c.args.level (([], child_part c.args.below) ∷ []) (first ∙ ap (node_bytes size c.args.level) named) refl ((omega arith, refl), tt) (c.add_cell-2.auto.into ∙ c.empty_node.auto.into)
     ∙ ap (node_bytes size c.args.level) (more_root c.args.level c.args.below (c.args.key.now, c.args.part.now) c.if-level-eq0.false)

@@ -1,6 +1,5 @@
 use Rattle.iso_tree.proofs.Words.{◌≡◌, ◌+◌, ◌-◌, upto_from}
-use Rattle.iso_tree.proofs.fill.upto.Given as goal
 
 -- those passed and those that are left
-abbrev pub invariant-loop-cell : goal.invariant-loop-cell
+abbrev pub invariant-loop-cell : Rattle.iso_tree.proofs.fill.upto.Given.invariant-loop-cell
 invariant-loop-cell l = (l.cell - l.first) + upto_from l.key l.keys l.cell (l.count - l.cell) ≡ upto_from l.key l.keys l.first (l.count - l.first)

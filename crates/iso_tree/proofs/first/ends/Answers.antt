@@ -1,5 +1,4 @@
-use Rattle.iso_tree.proofs.FirstWrite.{ends_at}
-use Rattle.iso_tree.proofs.first.ends.Goals as goal
+use Rattle.iso_tree.proofs.Growing.{ends_at}
 
-pub returns : goal.returns
+pub returns : Rattle.iso_tree.proofs.first.ends.Goals.returns
 returns c = ends_at c.args.news.now c.requires

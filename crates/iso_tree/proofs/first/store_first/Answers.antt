@@ -1,4 +1,4 @@
-use Rattle.iso_tree.proofs.{Words.{◌≡◌, ◌∙◌, sym, subst, ℕ, ◌+◌, ◌-◌, ◌/◌, [], ◌∷◌, ◌++◌, length, take, drop, Option, arith, w32, to_be_bytes, block_with, laid_at, with_accesses, first_access}, Facts.missing_pair, FirstWrite.{ends_of, mark_inside, stored_map, stored_root}, Rereading.map_ok}
+use Rattle.iso_tree.proofs.{Words.{◌≡◌, ◌∙◌, sym, subst, ℕ, ◌+◌, ◌-◌, ◌/◌, [], ◌∷◌, ◌++◌, length, take, drop, Option, arith, w32, to_be_bytes, block_with, laid_at, with_accesses, first_access}, Facts.missing_pair, Growing.{ends_of, mark_inside, stored_map, stored_root}, Rereading.map_ok}
 use Rattle.iso_tree.proofs.first.store_first.Goals as goal
 
 pub fill_map-requires-clause-rising : goal.fill_map-requires-clause-rising
@@ -30,11 +30,10 @@ store-requires-2-clause-spans g c =
 pub returns-in_default-clause-stored : goal.returns-in_default-clause-stored
 returns-in_default-clause-stored g c =
     let state = g.T.TxBlocks.state in
-    let a = c.args.area in
     let e = c.ends-low.ensures in
     map_ok c.store.result (λ is. λ first used.
-    subst (λ (o : Option (ℕ × ℕ)). state c.store.new.tx ≡ with_accesses (state c.args.tx.now) (first_access a first c.args.news.now o ∷ [])) (sym (missing_pair c.args.root c.in_default.not-Some))
-    (stored_map a c.requires.area c.args.map.now c.args.news.now c.requires.map c.requires.some c.requires.rising c.requires.news first used (state c.args.tx.now) (state c.store.new.tx) c.changed_mark-changed.result c.fill_map.new.into
+    subst (λ (o : Option (ℕ × ℕ)). state c.store.new.tx ≡ with_accesses (state c.args.tx.now) (first_access c.args.area first c.args.news.now o ∷ [])) (sym (missing_pair c.args.root c.in_default.not-Some))
+    (stored_map c.args.area c.requires.area c.args.map.now c.args.news.now c.requires.map c.requires.some c.requires.rising c.requires.news first used (state c.args.tx.now) (state c.store.new.tx) c.changed_mark-changed.result c.fill_map.new.into
     (c.changed_mark-changed.ensures ∙ (λ i. record { off = 64 + (e i).0 / 8; len = (e i).1 / 8 + 1 - (e i).0 / 8 }))
     (c.fill_map.ensures ∙ (λ i. block_with (length c.args.map.now) (64 + (e i).0 / 8) (take ((e i).1 / 8 + 1 - (e i).0 / 8) (drop (64 + (e i).0 / 8) c.args.map.now)))) is)) c.store.ensures.stored
 

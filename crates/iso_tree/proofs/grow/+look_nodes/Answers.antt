@@ -1,4 +1,4 @@
-use Rattle.iso_tree.proofs.{Words.{◌≡◌, ◌∙◌, sym, refl, ap, subst, ℕ, suc, ◌+◌, ◌*◌, ◌≤◌, [], ◌∷◌, length, rules, arith, look_access, Tx, HasArea, IsTreeArea, read_one}, Descending.reads_after, Rereading.{map_ok, map_err, first_refused, rest_refused, rest_read, shown_after, here_after, before_after, none_again, path_room, usable_more}}
+use Rattle.iso_tree.proofs.{Words.{◌≡◌, ◌∙◌, sym, refl, ap, subst, ℕ, suc, ◌+◌, ◌*◌, ◌≤◌, [], ◌∷◌, length, rules, arith, look_access, Tx, HasArea, IsTreeArea, read_one}, Descending.reads_after, Rereading.{few_nodes, map_ok, map_err, first_refused, rest_refused, rest_read, shown_after, here_after, before_after, none_again, path_room, usable_more}}
 use Rattle.iso_tree.proofs.grow.+look_nodes.Goals as goal
 
 pub returns-in-Err-clause-refused : goal.returns-in-Err-clause-refused
@@ -11,11 +11,7 @@ lay-requires g t c =
     omega (arith, (path_room c.args.area.size c.args.i (length c.args.nodes.now) c.in-Some.block c.in-Some.count c.in-Some.rest.now c.args.path.now c.in-Some.ensures.some c.requires.nodes).0, c.look_whole.auto.into, c.requires.into)
 
 pub overflow_add-i : goal.overflow_add-i
-overflow_add-i g t c =
-    let least = c.requires.within.area.least_size in
-    let room = (path_room c.args.area.size c.args.i (length c.args.nodes.now) c.in-Some.block c.in-Some.count c.in-Some.rest.now c.args.path.now c.in-Some.ensures.some c.requires.nodes).0 in
-    let le : c.args.i * 1 ≤ c.args.i * c.args.area.size = Rattle.std.proofs.Math.Nat.mul-le-mul_left c.args.i (omega arith) in
-    omega (arith, c.requires.short)
+overflow_add-i g t c = omega (arith, few_nodes c.args.i c.args.area.size _ c.requires.within.area.least_size (path_room c.args.area.size c.args.i (length c.args.nodes.now) c.in-Some.block c.in-Some.count c.in-Some.rest.now c.args.path.now c.in-Some.ensures.some c.requires.nodes).0 c.requires.short)
 
 pub look_nodes-requires : goal.look_nodes-requires
 look_nodes-requires g t c κs within =
@@ -56,15 +52,13 @@ returns-clause-usable g t c =
 
 pub returns-clause-kept : goal.returns-clause-kept
 returns-clause-kept g t c =
-    let a = c.args.area in
-    let room = (path_room a.size c.args.i (length c.args.nodes.now) c.in-Some.block c.in-Some.count c.in-Some.rest.now c.args.path.now c.in-Some.ensures.some c.requires.nodes).0 in
-    before_after a.size c.args.i c.look_whole.new.into c.args.nodes.now c.lay.new.into c.look_nodes.new.nodes room c.lay.ensures c.look_nodes.ensures.kept
+    let room = (path_room c.args.area.size c.args.i (length c.args.nodes.now) c.in-Some.block c.in-Some.count c.in-Some.rest.now c.args.path.now c.in-Some.ensures.some c.requires.nodes).0 in
+    before_after c.args.area.size c.args.i c.look_whole.new.into c.args.nodes.now c.lay.new.into c.look_nodes.new.nodes room c.lay.ensures c.look_nodes.ensures.kept
 
 pub returns-clause-reads : goal.returns-clause-reads
 returns-clause-reads g t c =
     let state = g.T.TxBlocks.state in
-    let device = g.T.TxBlocks.device in
-    reads_after (state c.args.tx.now) (state c.look_whole.new.tx) (state c.look_nodes.new.tx) (device c.args.tx.now) (device c.look_whole.new.tx) (device c.look_nodes.new.tx) c.look_nodes.result
+    reads_after (state c.args.tx.now) (state c.look_whole.new.tx) (state c.look_nodes.new.tx) (g.T.TxBlocks.device c.args.tx.now) (g.T.TxBlocks.device c.look_whole.new.tx) (g.T.TxBlocks.device c.look_nodes.new.tx) c.look_nodes.result
     (read_one (state c.args.tx.now) (state c.look_whole.new.tx) (look_access (c.args.area.start + c.in-Some.block) []) c.in_default-look_whole.ensures.read refl)
     c.in_default-look_whole.ensures.later c.in_default-look_whole.ensures.passed c.look_nodes.ensures.reads
 

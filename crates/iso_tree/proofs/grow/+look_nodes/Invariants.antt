@@ -1,5 +1,4 @@
 use Rattle.iso_tree.proofs.Words.{length}
-use Rattle.iso_tree.proofs.grow.+look_nodes.Given as goal
 
-abbrev pub decreases-look_nodes : goal.decreases-look_nodes
+abbrev pub decreases-look_nodes : Rattle.iso_tree.proofs.grow.+look_nodes.Given.decreases-look_nodes
 decreases-look_nodes g l = length l.path.now

@@ -1,23 +1,19 @@
-use Rattle.iso_tree.proofs.{Words.{◌≡◌, ◌∙◌, sym, subst, ℕ, ◌+◌, ◌≤◌, List, length, take, arith, cell_count, keys_end, HasRun, behaves_next, NeedsBlocks, with_map}, Facts.{cell_used, missing, node_parts}, Inserting.{put_refused, put_found, put_room, put_full, leaf_usable, full_needs}}
+use Rattle.iso_tree.proofs.{Words.{refl, false, [], put_at, ◌≡◌, ◌∙◌, sym, subst, ℕ, ◌+◌, ◌≤◌, List, length, take, arith, cell_count, keys_end, HasRun, behaves_next, NeedsBlocks, with_map}, Facts.{cell_used, missing, node_parts}, Getting.{below_refused, put_found, put_room, put_full, leaf_usable, full_needs}}
 use Rattle.iso_tree.proofs.insert.put_below.Goals as goal
 
 pub returns-in-Err-clause-run : goal.returns-in-Err-clause-run
 returns-in-Err-clause-run g c =
     let state = g.T.TxBlocks.state in
-    put_refused c.args.area c.args.key.now c.args.value.now c.args.root c.args.level c.if-root-eq0.false (state c.args.tx.now) (state c.descend.new.tx) c.descend.new.path c.descend.new.buffer c.in-Err.e c.in-Err.ensures.run
+    below_refused (with_map c.args.area c.args.key.now c.args.value.now []) c.args.area c.args.key.now false c.args.root c.args.level (put_at c.args.area c.args.key.now c.args.value.now) c.if-root-eq0.false (λ block. refl) (state c.args.tx.now) (state c.descend.new.tx) c.descend.new.path c.descend.new.buffer c.in-Err.e c.in-Err.ensures.run
 
 pub put_value-requires-clause-cell : goal.put_value-requires-clause-cell
 put_value-requires-clause-cell g c =
     let keys = take (keys_end c.args.area.size) c.descend.new.buffer in
-    let parts = node_parts c.args.area.size 0 keys c.in-Ok.ensures.leaf.node in
     let used = cell_used c.args.key.now keys c.in-Some.cell (sym c.in-Ok.ensures.leaf.cell ∙ c.in-Some.is) in
-    omega (arith, used, parts.few)
+    omega (arith, used, (node_parts c.args.area.size 0 keys c.in-Ok.ensures.leaf.node).few)
 
 pub returns-in-Some-clause-run : goal.returns-in-Some-clause-run
-returns-in-Some-clause-run g c =
-    let state = g.T.TxBlocks.state in
-    put_found c.args.area c.args.key.now c.args.value.now c.args.root c.args.level c.if-root-eq0.false (state c.args.tx.now) (state c.descend.new.tx) c.descend.new.path c.descend.new.buffer c.in-Ok.leaf c.in-Ok.ensures.leaf c.in-Ok.ensures.run
-    c.in-Some.cell (state c.put_value.new.tx) c.put_value.result c.in-Some.is c.put_value.ensures.run
+returns-in-Some-clause-run g c = grind (arith, put_found)
 
 pub returns-in-Some-clause-behaves : goal.returns-in-Some-clause-behaves
 returns-in-Some-clause-behaves g c = behaves_next c.in-Ok.ensures.reads.reads c.in-Ok.ensures.reads.later c.in-Ok.ensures.reads.passed c.put_value.ensures.behaves (omega arith)
@@ -48,11 +44,7 @@ put_new-requires-2-clause-path g c =
     })
 
 pub returns-clause-run : goal.returns-clause-run
-returns-clause-run g c =
-    let state = g.T.TxBlocks.state in
-    put_full c.args.area c.args.key.now c.args.value.now c.args.root c.args.level c.if-root-eq0.false (state c.args.tx.now) (state c.descend.new.tx) c.descend.new.path c.descend.new.buffer c.in-Ok.leaf c.in-Ok.ensures.leaf c.in-Ok.ensures.run
-    (state c.put_new-2.new.tx) c.put_new-2.result (missing c.in-Ok.leaf.cell c.in_default.not-Some) (omega (arith, c.if-leaf-cell_count.false, c.cell_count.ensures))
-    (subst (λ (p : List (ℕ × ℕ)). HasRun (with_map c.args.area c.args.key.now c.args.value.now p) (state c.descend.new.tx) (state c.put_new-2.new.tx) c.put_new-2.result) (c.nodes.ensures ∙ c.push.ensures) c.put_new-2.ensures.run)
+returns-clause-run g c = grind (arith, put_full, missing)
 
 pub returns-clause-behaves : goal.returns-clause-behaves
 returns-clause-behaves g c = behaves_next c.in-Ok.ensures.reads.reads c.in-Ok.ensures.reads.later c.in-Ok.ensures.reads.passed c.put_new-2.ensures.behaves (omega arith)

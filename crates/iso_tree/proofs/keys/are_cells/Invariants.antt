@@ -1,7 +1,6 @@
-use Rattle.iso_tree.proofs.{Words.{◌≡◌, ◌≢◌, ◌-◌, all_from, key_at}, Passing.fits_in}
-use Rattle.iso_tree.proofs.keys.are_cells.Given as goal
+use Rattle.iso_tree.proofs.{Words.{◌≡◌, ◌≢◌, ◌-◌, all_from, key_at}, Passes.fits_in}
 
 -- the cells that are left decide, and the last key is that of the cell before
-abbrev pub invariant-loop-cell : goal.invariant-loop-cell
+abbrev pub invariant-loop-cell : Rattle.iso_tree.proofs.keys.are_cells.Given.invariant-loop-cell
 invariant-loop-cell l =
     (all_from (fits_in l.keys l.count) l.cell (l.cell-end - l.cell) ≡ all_from (fits_in l.keys l.count) 0 l.cell-end) × (l.cell ≢ 0 → l.last ≡ key_at l.keys (l.cell - 1))

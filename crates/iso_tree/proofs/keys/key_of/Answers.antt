@@ -1,7 +1,6 @@
 use Rattle.iso_tree.proofs.Words.{◌≡◌, ap, ◌≤◌, ℕ, true, arith, List, get_or, and_parts, leb-true, is_part, key_mark, cell_count, bytes_in, all_at}
-use Rattle.iso_tree.proofs.keys.key_of.Goals as goal
 
-pub text_of-requires : goal.text_of-requires
+pub text_of-requires : Rattle.iso_tree.proofs.keys.key_of.Goals.text_of-requires
 text_of-requires c =
     let part : is_part 28 (bytes_in (key_mark c.args.cell) c.args.keys.now) ≡ true =
     all_at (λ i. is_part 28 (bytes_in (key_mark i) c.args.keys.now)) 0 (cell_count c.args.size) c.args.cell c.requires.parts (omega arith) (omega (arith, c.requires.cell)) in

@@ -1,26 +1,23 @@
 use Rattle.iso_tree.proofs.{Words.{◌≡◌, ◌∙◌, refl, ap, ℕ, ◌+◌, ◌-◌, ◌*◌, List, length, take, arith, keys_end, are_key_parts, Cell, count_of, node_bytes, row_from, upto_from}, Facts.node_parts, Filling.leaf_row_is}
-use Rattle.iso_tree.proofs.leaf.fill_leaf.Goals as goal
 
-pub upto-place-requires-clause-parts : goal.upto-place-requires-clause-parts
+pub upto-place-requires-clause-parts : Rattle.iso_tree.proofs.leaf.fill_leaf.Goals.upto-place-requires-clause-parts
 upto-place-requires-clause-parts c =
     let old = c.args.old.now in
-    let keys_is : c.piece-keys.result.now ≡ take (keys_end (length old)) old = c.piece-keys.ensures.value ∙ ap (λ (n : ℕ). take (64 + 31 * n) old) c.cell_count.ensures in
-    ap (are_key_parts (length old)) keys_is ∙ (node_parts (length old) 0 (take (keys_end (length old)) old) c.requires.node).parts
+    ap (are_key_parts (length old)) (c.piece-keys.ensures.value ∙ ap (λ (n : ℕ). take (64 + 31 * n) old) c.cell_count.ensures) ∙ (node_parts (length old) 0 (take (keys_end (length old)) old) c.requires.node).parts
 
-pub fill_row-requires-clause-gets : goal.fill_row-requires-clause-gets
+pub fill_row-requires-clause-gets : Rattle.iso_tree.proofs.leaf.fill_leaf.Goals.fill_row-requires-clause-gets
 fill_row-requires-clause-gets c =
     let old = c.args.old.now in
     let K = take (keys_end (length old)) old in
-    let keys_is : c.piece-keys.result.now ≡ K = c.piece-keys.ensures.value ∙ ap (λ (n : ℕ). take (64 + 31 * n) old) c.cell_count.ensures in
     record {
       long = refl;
       parts = (node_parts (length old) 0 K c.requires.node).parts;
-      inside = omega (arith, c.upto-place.ensures.most, ap count_of keys_is, c.requires.count, c.requires.room);
+      inside = omega (arith, c.upto-place.ensures.most, ap count_of (c.piece-keys.ensures.value ∙ ap (λ (n : ℕ). take (64 + 31 * n) old) c.cell_count.ensures), c.requires.count, c.requires.room);
       key = c.requires.key;
       part = c.requires.part;
     }
 
-pub returns : goal.returns
+pub returns : Rattle.iso_tree.proofs.leaf.fill_leaf.Goals.returns
 returns c =
     let old = c.args.old.now in
     let size = length old in

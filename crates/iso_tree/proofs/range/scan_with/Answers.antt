@@ -1,13 +1,12 @@
 use Rattle.iso_tree.proofs.{Words.{Err, inl, scan_below}, Getting.head_refused, Scanning.{head_scanned, scan_run}}
-use Rattle.iso_tree.proofs.range.scan_with.Goals as goal
 
-pub returns-in-Err-clause-run : goal.returns-in-Err-clause-run
+pub returns-in-Err-clause-run : Rattle.iso_tree.proofs.range.scan_with.Goals.returns-in-Err-clause-run
 returns-in-Err-clause-run g c =
     let state = g.T.TxBlocks.state in
     scan_run c.args.area c.args.from.now c.args.to.now c.args.max (state c.args.tx.now) (state c.read_head.new.tx) (Err c.in-Err.e) c.requires.keys
     (inl (head_refused c.args.area (scan_below c.args.area c.args.from.now c.args.to.now c.args.max) (state c.args.tx.now) (state c.read_head.new.tx) c.in-Err.e c.in-Err.ensures.run))
 
-pub returns-in-Ok-clause-run : goal.returns-in-Ok-clause-run
+pub returns-in-Ok-clause-run : Rattle.iso_tree.proofs.range.scan_with.Goals.returns-in-Ok-clause-run
 returns-in-Ok-clause-run g c =
     let state = g.T.TxBlocks.state in
     scan_run c.args.area c.args.from.now c.args.to.now c.args.max (state c.args.tx.now) (state c.scan_below.new.tx) c.scan_below.result c.requires.keys

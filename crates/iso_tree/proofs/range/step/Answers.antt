@@ -1,18 +1,16 @@
-use Rattle.iso_tree.proofs.{Words.{◌≡◌, ◌∙◌, ap, ◌+◌, ◌-◌, ◌*◌, ◌++◌, ℕ, length, map, take, drop, are_key_parts, bytes_in, pairs_with, parts_of, child_of, keys_of, values_mark, values_of}, Facts.node_parts, Rereading.{map_err, map_ok}, Scanning.{inner_step, leaf_step, step_memory, step_refused, unread_in}}
+use Rattle.iso_tree.proofs.{Words.{arith, ◌≡◌, ◌∙◌, ap, ◌+◌, ◌-◌, ◌*◌, ◌++◌, ℕ, length, map, take, drop, are_key_parts, bytes_in, pairs_with, parts_of, child_of, keys_of, values_mark, values_of}, Facts.node_parts, Rereading.{map_err, map_ok}, Scanning.{inner_step, leaf_step, step_memory, step_refused, unread_in}}
 use Rattle.iso_tree.proofs.range.step.Goals as goal
 
 pub returns-in-Err-clause-refused : goal.returns-in-Err-clause-refused
 returns-in-Err-clause-refused g c =
-    let state = g.T.TxBlocks.state in
     let a = c.args.area in
-    step_refused a c.args.from.now c.args.to.now c.args.level c.args.block c.args.unread.now c.args.max c.args.found.now c.requires.few (state c.args.tx.now) (state c.read_node.new.tx) c.in-Err.e c.in-Err.ensures.refused
+    step_refused a c.args.from.now c.args.to.now c.args.level c.args.block c.args.unread.now c.args.max c.args.found.now c.requires.few (g.T.TxBlocks.state c.args.tx.now) (g.T.TxBlocks.state c.read_node.new.tx) c.in-Err.e c.in-Err.ensures.refused
 
 pub add_pairs-requires-clause-parts : goal.add_pairs-requires-clause-parts
 add_pairs-requires-clause-parts g c =
     let a = c.args.area in
-    let bytes = c.read_node.new.buffer in
-    let keys_are : c.piece-keys.result.now ≡ keys_of a bytes = c.piece-keys.ensures.value ∙ ap (λ (n : ℕ). take (64 + 31 * n) (drop 0 bytes)) c.cell_count.ensures in
-    ap (are_key_parts a.size) keys_are ∙ (node_parts a.size c.args.level (keys_of a bytes) c.in-Ok.ensures.visited.node).parts
+    let keys_are : c.piece-keys.result.now ≡ keys_of a c.read_node.new.buffer = c.piece-keys.ensures.value ∙ ap (λ (n : ℕ). take (64 + 31 * n) (drop 0 c.read_node.new.buffer)) c.cell_count.ensures in
+    ap (are_key_parts a.size) keys_are ∙ (node_parts a.size c.args.level (keys_of a c.read_node.new.buffer) c.in-Ok.ensures.visited.node).parts
 
 pub returns-then-level-eq0-clause-run : goal.returns-then-level-eq0-clause-run
 returns-then-level-eq0-clause-run g c =
@@ -46,9 +44,4 @@ returns-clause-refused g c =
     map_err c.add_children.result (λ e is. step_memory a c.args.from.now c.args.to.now c.args.level c.args.block c.args.unread.now c.args.max c.args.found.now c.requires.few (state c.args.tx.now) (state c.read_node.new.tx) c.read_node.new.buffer c.in-Ok.ensures.run e is) c.add_children.ensures.memory
 
 pub returns-clause-nodes : goal.returns-clause-nodes
-returns-clause-nodes g c =
-    let a = c.args.area in
-    let bytes = c.read_node.new.buffer in
-    let values_are : c.values-values.result.now ≡ values_of a c.in-Ok.visit bytes = c.values-values.ensures.value ∙ ap (λ (n : ℕ). bytes_in (values_mark n c.in-Ok.visit.first c.in-Ok.visit.many) bytes) c.in-Ok.ensures.size in
-    map_ok c.add_children.result (λ added. unread_in a c.args.from.now c.args.to.now c.args.level bytes c.in-Ok.visit c.args.unread.now c.add_children.new.unread c.in-Ok.ensures.visited c.if-level-eq0.false c.requires.nodes
-    (added ∙ ap (λ v. map {B = ℕ × ℕ} (λ part. (c.args.level - 1, child_of part)) (parts_of v c.in-Ok.visit.many) ++ c.args.unread.now) values_are)) c.add_children.ensures.ok
+returns-clause-nodes g c = grind (arith, map_ok, unread_in)

@@ -1,8 +1,7 @@
 use Rattle.iso_tree.proofs.Words.{◌≡◌, ◌-◌, [], length, IsLater, HasRead, IsAt, scan_nodes, AreIn}
-use Rattle.iso_tree.proofs.range.walk.Given as goal
 
 -- the unread nodes are what is left of the walk
-abbrev pub invariant-loop-alloc : goal.invariant-loop-alloc
+abbrev pub invariant-loop-alloc : Rattle.iso_tree.proofs.range.walk.Given.invariant-loop-alloc
 invariant-loop-alloc g l = record {
   here : IsAt (scan_nodes l.area l.from l.to l.fn.unread l.max []) (scan_nodes l.area l.from l.to l.unread (l.max - length l.found) l.found) (g.T.TxBlocks.state l.fn.tx) (g.T.TxBlocks.state l.tx);
   nodes : AreIn l.area l.unread;
@@ -11,5 +10,5 @@ invariant-loop-alloc g l = record {
   passed : (g.T.TxBlocks.device l.tx).faults ≡ (g.T.TxBlocks.device l.fn.tx).faults;
 }
 
-abbrev pub decreases-loop-alloc : goal.decreases-loop-alloc
+abbrev pub decreases-loop-alloc : Rattle.iso_tree.proofs.range.walk.Given.decreases-loop-alloc
 decreases-loop-alloc g l = 4096 - length (g.T.TxBlocks.state l.tx).accesses

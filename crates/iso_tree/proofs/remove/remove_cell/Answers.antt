@@ -1,7 +1,5 @@
 use Rattle.iso_tree.proofs.Words.{◌∙◌, ap, ℕ, node_bytes, used_cells, without_key}
-use Rattle.iso_tree.proofs.remove.remove_cell.Goals as goal
 
-pub returns-clause-run : goal.returns-clause-run
+pub returns-clause-run : Rattle.iso_tree.proofs.remove.remove_cell.Goals.returns-clause-run
 returns-clause-run g c =
-    let old = c.args.old.now in
-    c.store_leaf.ensures.run old (without_key c.args.key.now) c.requires.bytes (c.copy_without.ensures ∙ ap (λ (n : ℕ). node_bytes n 0 (without_key c.args.key.now (used_cells n old))) c.requires.old)
+    c.store_leaf.ensures.run c.args.old.now (without_key c.args.key.now) c.requires.bytes (c.copy_without.ensures ∙ ap (λ (n : ℕ). node_bytes n 0 (without_key c.args.key.now (used_cells n c.args.old.now))) c.requires.old)

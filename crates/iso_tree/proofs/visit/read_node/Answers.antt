@@ -1,10 +1,9 @@
-use Rattle.iso_tree.proofs.{Words.{◌≡◌, ◌∙◌, sym, refl, ap, ◌+◌, ◌*◌, ◌==◌, ℕ, Bool, List, [], ◌∷◌, true, false, not, cond, Some, None, Ok, Err, arith, list_all, Span, cell_count, keys_mark, bytes_in, with_further, look_access, first_in, many_in, parts_of, is_part_at, Device, IsLater, Passed, Ran, with_accesses, looked_as, may_mark, values_mark, node_read, visit_program}, Looking.{broken_read, later_as, ok_read}, Visiting.{AreKeysOf, keys_read, marked_so, one_more, visit_end, visit_refused}, visit.read_node.Goals.{After-is_node, After-are_parts}}
+use Rattle.iso_tree.proofs.{Words.{◌≡◌, ◌∙◌, sym, refl, ap, ◌+◌, ◌==◌, ℕ, Bool, List, [], ◌∷◌, true, false, not, cond, Some, None, Ok, Err, arith, list_all, Span, cell_count, keys_mark, bytes_in, with_further, look_access, first_in, many_in, parts_of, is_part_at, Device, IsLater, Passed, Ran, with_accesses, looked_as, may_mark, values_mark, node_read, visit_program}, Looking.{broken_read, later_as, ok_read}, Visiting.{AreKeysOf, keys_read, marked_so, one_more, visit_end, visit_refused}, visit.read_node.Goals.{After-is_node, After-are_parts}}
 use Rattle.store_model.specs.declared.stores.StoreError.TheVariants as store
-use Rattle.iso_tree.proofs.visit.read_node.Given as given
 use Rattle.iso_tree.proofs.visit.read_node.Goals as goal
 
 -- the key parts, once they have passed their test
-keys_at : (g : given.Over) (c : After-is_node g) → c.is_node.result ≡ true → AreKeysOf c.args.area c.args.level c.look.new.into c.piece-keys.result.now
+keys_at : (g : Rattle.iso_tree.proofs.visit.read_node.Given.Over) (c : After-is_node g) → c.is_node.result ≡ true → AreKeysOf c.args.area c.args.level c.look.new.into c.piece-keys.result.now
 keys_at g c good = keys_read c.args.area c.args.level c.look.new.into c.piece-keys.result.now c.cell_count.result c.is_node.result c.piece-keys.ensures.value c.cell_count.ensures c.is_node.ensures good
 
 pub cells_between-visit-requires-clause-parts : goal.cells_between-visit-requires-clause-parts
@@ -22,10 +21,9 @@ mark_values-requires-clause-inside g c =
 
 pub mark_values-requires-clause-open : goal.mark_values-requires-clause-open
 mark_values-requires-clause-open g c =
-    let state = g.T.TxBlocks.state in
     let a = c.args.area in
     let keys = keys_at g (goal.at.mark_values-requires-clause-open g c).After-is_node c.if-not-is_node.false in
-    λ some. may_mark (state c.args.tx.now) (state c.look.new.tx) (look_access (a.start + c.args.block) (c.keys_mark.result ∷ [])) (values_mark a.size c.cells_between-visit.result.first c.cells_between-visit.result.many)
+    λ some. may_mark (g.T.TxBlocks.state c.args.tx.now) (g.T.TxBlocks.state c.look.new.tx) (look_access (a.start + c.args.block) (c.keys_mark.result ∷ [])) (values_mark a.size c.cells_between-visit.result.first c.cells_between-visit.result.many)
     c.in_default.ensures.read c.in_default.ensures.is_open (record { some = omega arith; fits = omega (arith, c.requires.block.within.size, c.cells_between-visit.ensures.inside, keys.few, c.requires.block.within.area.least_size) }) (omega arith)
 
 pub values-requires-clause-inside : goal.values-requires-clause-inside
@@ -33,7 +31,7 @@ values-requires-clause-inside g c =
     let keys = keys_at g (goal.at.values-requires-clause-inside g c).After-is_node c.if-not-is_node.false in omega (arith, c.cells_between-visit.ensures.inside, keys.few, ap cell_count (c.look.auto.into ∙ c.requires.block.long))
 
 -- what the exits behind the test of the value parts share
-module _ (g : given.Over) (c : After-are_parts g) where
+module _ (g : Rattle.iso_tree.proofs.visit.read_node.Given.Over) (c : After-are_parts g) where
   abbrev first : ℕ
   first = c.cells_between-visit.result.first
 
@@ -91,6 +89,4 @@ returns-clause-reads g c =
     ok_read (g.T.TxBlocks.state c.args.tx.now) (g.T.TxBlocks.state c.mark_values.new.tx) _ (g.T.TxBlocks.device c.args.tx.now) (g.T.TxBlocks.device c.mark_values.new.tx) c.cells_between-visit.result (access g s) refl c.in_default.ensures.is_open (later g s) (passed g s)
 
 pub returns-in-Err-clause-refused : goal.returns-in-Err-clause-refused
-returns-in-Err-clause-refused g c =
-    let state = g.T.TxBlocks.state in
-    visit_refused c.args.area c.args.from.now c.args.to.now c.args.level c.args.block (state c.args.tx.now) (state c.look.new.tx) (g.T.TxBlocks.device c.args.tx.now) (g.T.TxBlocks.device c.look.new.tx) c.in-Err.e c.in-Err.ensures.kept c.in-Err.ensures.cause
+returns-in-Err-clause-refused g c = grind (arith, visit_refused) steps 100000

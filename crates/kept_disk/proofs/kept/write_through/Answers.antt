@@ -1,7 +1,6 @@
 use Rattle.kept_disk.proofs.{Words.{ℕ, List, ◌∙◌, sym, subst, arith, spliced, length-contents, Stand}, Slices.told_from}
-use Rattle.kept_disk.proofs.kept.write_through.Goals as goal
 
-pub returns-clause-stand : goal.returns-clause-stand
+pub returns-clause-stand : Rattle.kept_disk.proofs.kept.write_through.Goals.returns-clause-stand
 returns-clause-stand g c x told =
     let state = g.D.Disk.state in
     let was = told_from (λ (l : List ℕ). spliced l c.args.at c.args.bytes.now) (state c.args.disk.now).contents x (sym c.in_default.ensures.written ∙ told) in

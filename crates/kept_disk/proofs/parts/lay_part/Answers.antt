@@ -1,7 +1,6 @@
 use Rattle.kept_disk.proofs.{Words.{◌+◌, ◌/◌, ◌%◌, ℕ, List, sym, subst, arith, spliced, IsHeld, Stand, from_of}, Paging.at_page, Standing.{stand_apart, stand_put}}
-use Rattle.kept_disk.proofs.parts.lay_part.Goals as goal
 
-pub returns-then-holds : goal.returns-then-holds
+pub returns-then-holds : Rattle.kept_disk.proofs.parts.lay_part.Goals.returns-then-holds
 returns-then-holds c l fits stand =
     let q = c.args.at / 4096 in
     let is = at_page c.args.at in
@@ -12,7 +11,7 @@ returns-then-holds c l fits stand =
     (subst (λ v. Stand c.put.new.self.numbers.items v.items (spliced pages.bytes.items (from_of pages.ends.items (q % 2048) + c.args.at % 4096) c.args.bytes.now) (spliced l c.args.at c.args.bytes.now)) (sym c.put.ensures.ends)
     (λ n held. laid n (subst (λ v. IsHeld v.items n) c.put.ensures.numbers held)))
 
-pub returns-else-holds : goal.returns-else-holds
+pub returns-else-holds : Rattle.kept_disk.proofs.parts.lay_part.Goals.returns-else-holds
 returns-else-holds c l fits stand =
     let q = c.args.at / 4096 in
     let is = at_page c.args.at in

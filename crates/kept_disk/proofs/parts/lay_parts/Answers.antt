@@ -1,7 +1,6 @@
 use Rattle.kept_disk.proofs.{Words.{◌≡◌, ◌+◌, ◌-◌, ◌≤◌, ℕ, List, length, take, subst, arith, take_all, length-take-le, spliced, length-spliced, Stand}, Slices.{length-slice, laid_further}}
-use Rattle.kept_disk.proofs.parts.lay_parts.Goals as goal
 
-pub loop-done-preserved : goal.loop-done-preserved
+pub loop-done-preserved : Rattle.kept_disk.proofs.parts.lay_parts.Goals.loop-done-preserved
 loop-done-preserved c =
     let done = c.loop-done.done in
     let count = c.part_len-count.result in
@@ -16,6 +15,6 @@ loop-done-preserved c =
           (c.lay_part.ensures (spliced l c.args.at (take done bytes)) (omega (arith, fits, within, size, length-slice (done + count - done) done bytes)) (c.loop-done.invariant.stand l fits stand));
     }
 
-pub returns : goal.returns
+pub returns : Rattle.kept_disk.proofs.parts.lay_parts.Goals.returns
 returns c l fits stand =
     subst (λ (b : List ℕ). Stand c.loop-done.pages.numbers.items c.loop-done.pages.ends.items c.loop-done.pages.bytes.items (spliced l c.args.at b)) (take_all c.loop-done.done c.args.bytes.now c.loop-done-test.false) (c.loop-done.invariant.stand l fits stand)

@@ -1,7 +1,6 @@
 use Rattle.kept_disk.proofs.{Words.{◌/◌, ◌%◌, ℕ, length, take, drop, ◌∙◌, ap, arith, length-contents, from_of}, Paging.at_page, Standing.taken}
-use Rattle.kept_disk.proofs.parts.read_part.Goals as goal
 
-pub returns-clause-bytes : goal.returns-clause-bytes
+pub returns-clause-bytes : Rattle.kept_disk.proofs.parts.read_part.Goals.returns-clause-bytes
 returns-clause-bytes g c l told =
     let q = c.args.at / 4096 in
     let is = at_page c.args.at in

@@ -1,25 +1,24 @@
 use Rattle.kept_disk.proofs.{Words.{◌≡◌, ◌<◌, ◌/◌, ◌%◌, ◌+◌, ◌-◌, ◌≤◌, ℕ, length, take, drop, sym, ◌∙◌, ap, subst, arith, mod-lt, length-spliced, on_ok_weaker, IsHeld, Pages}, Moments.further, Paging.{held_in, held_further, held_page}, Slices.{length-slice, lent_part, read_further}}
-use Rattle.kept_disk.proofs.parts.read_parts.Goals as goal
 
-pub returns-then-is_in_one_page-clause-held : goal.returns-then-is_in_one_page-clause-held
+pub returns-then-is_in_one_page-clause-held : Rattle.kept_disk.proofs.parts.read_parts.Goals.returns-then-is_in_one_page-clause-held
 returns-then-is_in_one_page-clause-held g c range =
     let one = c.is_in_one_page.ensures c.if-is_in_one_page.true in
     let here = c.read_part.ensures.held (range c.args.at (omega arith) (omega (arith, one.0))) in
     (here.0, here.1)
 
-pub returns-then-is_in_one_page-clause-holds : goal.returns-then-is_in_one_page-clause-holds
+pub returns-then-is_in_one_page-clause-holds : Rattle.kept_disk.proofs.parts.read_parts.Goals.returns-then-is_in_one_page-clause-holds
 returns-then-is_in_one_page-clause-holds g c =
     let one = c.is_in_one_page.ensures c.if-is_in_one_page.true in
     let place : c.args.at / 4096 % 2048 < 2048 = mod-lt (c.args.at / 4096) (omega arith) in
     on_ok_weaker c.read_part.result (λ holds enough small. held_page c.read_part.new.pages.numbers.items c.args.at (length c.args.into.now) one.1 (holds (omega (arith, place, enough)))) c.read_part.ensures.holds
 
-pub returns-in_err-read_part-clause-held : goal.returns-in_err-read_part-clause-held
+pub returns-in_err-read_part-clause-held : Rattle.kept_disk.proofs.parts.read_parts.Goals.returns-in_err-read_part-clause-held
 returns-in_err-read_part-clause-held g c range =
     let so_far = c.loop-done.invariant.held range in
     let ended = c.in_err-read_part.ensures.held (subst (λ (p : Pages). IsHeld p.numbers.items ((c.args.at + c.loop-done.done) / 4096)) (sym so_far.1) (held_in c.args.pages.now.numbers.items c.args.at (length c.args.into.now) c.loop-done.done (omega (arith, c.loop-done-test.true, c.loop-done.auto.into)) range)) in
     absurd (cc (ended.0))
 
-pub loop-done-preserved : goal.loop-done-preserved
+pub loop-done-preserved : Rattle.kept_disk.proofs.parts.read_parts.Goals.loop-done-preserved
 loop-done-preserved g c =
     let done = c.loop-done.done in
     let count = c.part_len-count.result in

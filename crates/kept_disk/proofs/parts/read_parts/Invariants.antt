@@ -1,7 +1,6 @@
 use Rattle.kept_disk.proofs.Words.{◌≡◌, ◌-◌, ◌≤◌, length, take, drop, ForSome, Elapses, HoldsRange, Stand}
-use Rattle.kept_disk.proofs.parts.read_parts.Given as goal
 
-abbrev pub invariant-loop-done : goal.invariant-loop-done
+abbrev pub invariant-loop-done : Rattle.kept_disk.proofs.parts.read_parts.Given.invariant-loop-done
 invariant-loop-done g l = record {
   within : l.done ≤ length l.into;
   bytes : ForSome (g.D.Disk.state l.fn.disk).contents (λ c. take l.done l.into ≡ take l.done (drop l.at c));
@@ -14,5 +13,5 @@ invariant-loop-done g l = record {
   holds : 2048 ≤ length l.fn.pages.numbers.items → length l.fn.into ≤ 65536 → HoldsRange l.pages.numbers.items l.at l.done;
 }
 
-abbrev pub decreases-loop-done : goal.decreases-loop-done
+abbrev pub decreases-loop-done : Rattle.kept_disk.proofs.parts.read_parts.Given.decreases-loop-done
 decreases-loop-done g l = length l.into - l.done

@@ -1,4 +1,2 @@
-use Rattle.lock_tests.proofs.turn_tests.add.Given as goal
-
-abbrev pub ghosts-give : goal.ghosts-give
+abbrev pub ghosts-give : Rattle.lock_tests.proofs.turn_tests.add.Given.ghosts-give
 ghosts-give g a = record { entry = a.entry }

@@ -1,9 +1,4 @@
-use Rattle.std.proofs.Common.{refl}
-use Rattle.iso_model.specs.World.{World, fresh}
-use Rattle.machine_tests.proofs.tests.opened.Goals as goal
-
-pub returns-in-Ok : goal.returns-in-Ok
+pub returns-in-Ok : Rattle.machine_tests.proofs.tests.opened.Goals.returns-in-Ok
 returns-in-Ok c =
-    let is = c.in-Ok.ensures.opened in
-    let W : World = fresh is.geometry is.generation is.history in
-    record { world = W; stands = c.over.ensures.stands W is.stands refl }
+    let is = c.in-Ok.ensures in
+    record { world = is.world; stands = c.over.ensures.stands is.world is.stands is.live }

@@ -1,8 +1,7 @@
 -- Each byte is in the first part or in the second.
 use Rattle.merge_write.proofs.Words.{◌≡◌, ◌∙◌, ◌+◌, ◌-◌, true, false, nat_le, nat_lt, inl, inr, arith, cases_lt, nat_tests}
-use Rattle.merge_write.proofs.copy.copy_range.Goals as goal
 
-pub returns-then-count-le8 : goal.returns-then-count-le8
+pub returns-then-count-le8 : Rattle.merge_write.proofs.copy.copy_range.Goals.returns-then-count-le8
 returns-then-count-le8 c k =
     let from = c.args.from in
     let to = c.args.to in

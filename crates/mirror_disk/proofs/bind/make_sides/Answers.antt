@@ -1,7 +1,6 @@
 use Rattle.mirror_disk.proofs.{Words.{[], ◌∙◌, sym, subst, Marks, StandsBy}, Adopted.stands_both, Blank.{blank_both, blank_image, blank_now, blank_pair, blank_told}}
-use Rattle.mirror_disk.proofs.bind.make_sides.Goals as goal
 
-pub returns-clause-stands : goal.returns-clause-stands
+pub returns-clause-stands : Rattle.mirror_disk.proofs.bind.make_sides.Goals.returns-clause-stands
 returns-clause-stands g c =
     subst (λ (m : Marks). StandsBy (g.A.Disk.state c.lay_header.new.disk) (g.B.Disk.state c.lay_header-2.new.disk) m []) (sym c.blank.ensures) (stands_both (blank_pair (g.A.Disk.state c.lay_header.new.disk) (g.B.Disk.state c.lay_header-2.new.disk) c.args.size (g.met.A.Disk.lawful c.lay_header.new.disk) (g.met.B.Disk.lawful c.lay_header-2.new.disk) c.in_ok-lay_header.ensures.settled c.in_ok-lay_header-2.ensures.settled
     (c.lay_header.ensures.size ∙ c.in_ok-bind_side.ensures.size) (c.lay_header-2.ensures.size ∙ c.in_ok-bind_side-2.ensures.size)
@@ -11,14 +10,14 @@ returns-clause-stands g c =
     (blank_image (g.A.Disk.state c.bind_side.new.side) (g.A.Disk.state c.lay_header.new.disk) c.args.size c.in_ok-bind_side.ensures.blank c.in_ok-lay_header.ensures.written c.in_ok-lay_header.ensures.settled)
     (blank_image (g.B.Disk.state c.bind_side-2.new.side) (g.B.Disk.state c.lay_header-2.new.disk) c.args.size c.in_ok-bind_side-2.ensures.blank c.in_ok-lay_header-2.ensures.written c.in_ok-lay_header-2.ensures.settled)))
 
-pub returns-clause-blank : goal.returns-clause-blank
+pub returns-clause-blank : Rattle.mirror_disk.proofs.bind.make_sides.Goals.returns-clause-blank
 returns-clause-blank g c =
     blank_told (g.A.Disk.state c.lay_header.new.disk) (g.B.Disk.state c.lay_header-2.new.disk) c.args.size (g.met.A.Disk.lawful c.lay_header.new.disk) (g.met.B.Disk.lawful c.lay_header-2.new.disk) c.in_ok-lay_header.ensures.settled c.in_ok-lay_header-2.ensures.settled
     (c.lay_header.ensures.size ∙ c.in_ok-bind_side.ensures.size) (c.lay_header-2.ensures.size ∙ c.in_ok-bind_side-2.ensures.size)
     (blank_image (g.A.Disk.state c.bind_side.new.side) (g.A.Disk.state c.lay_header.new.disk) c.args.size c.in_ok-bind_side.ensures.blank c.in_ok-lay_header.ensures.written c.in_ok-lay_header.ensures.settled)
     (blank_image (g.B.Disk.state c.bind_side-2.new.side) (g.B.Disk.state c.lay_header-2.new.disk) c.args.size c.in_ok-bind_side-2.ensures.blank c.in_ok-lay_header-2.ensures.written c.in_ok-lay_header-2.ensures.settled)
 
-pub returns-clause-blank_after_crash : goal.returns-clause-blank_after_crash
+pub returns-clause-blank_after_crash : Rattle.mirror_disk.proofs.bind.make_sides.Goals.returns-clause-blank_after_crash
 returns-clause-blank_after_crash g c =
     blank_now (g.A.Disk.state c.lay_header.new.disk) (g.B.Disk.state c.lay_header-2.new.disk) c.args.size (g.met.A.Disk.lawful c.lay_header.new.disk) (g.met.B.Disk.lawful c.lay_header-2.new.disk) c.in_ok-lay_header.ensures.settled c.in_ok-lay_header-2.ensures.settled
     (c.lay_header.ensures.size ∙ c.in_ok-bind_side.ensures.size) (c.lay_header-2.ensures.size ∙ c.in_ok-bind_side-2.ensures.size)

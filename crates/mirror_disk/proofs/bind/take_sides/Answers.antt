@@ -1,7 +1,6 @@
 use Rattle.mirror_disk.proofs.{Words.{first_name, second_name}, Blank.named_taken}
-use Rattle.mirror_disk.proofs.bind.take_sides.Goals as goal
 
-pub returns-in-Ok-clause-existing : goal.returns-in-Ok-clause-existing
+pub returns-in-Ok-clause-existing : Rattle.mirror_disk.proofs.bind.take_sides.Goals.returns-in-Ok-clause-existing
 returns-in-Ok-clause-existing g c =
     let a = g.A.Disk.state c.args.first.now in
     let b = g.B.Disk.state c.args.second.now in

@@ -1,7 +1,6 @@
 use Rattle.mirror_disk.proofs.Words.{◌≡◌, ◌-◌, ◌≤◌, ℕ, List, Some, length, take, LeavesOnly, TellsTorn, TornFrom, WritesNothing, body}
-use Rattle.mirror_disk.proofs.copy.copy_body.Given as goal
 
-abbrev pub invariant-loop-done : goal.invariant-loop-done
+abbrev pub invariant-loop-done : Rattle.mirror_disk.proofs.copy.copy_body.Given.invariant-loop-done
 invariant-loop-done g l = record {
   within : l.done ≤ l.count;
   size : length l.piece ≡ 4096;
@@ -13,5 +12,5 @@ invariant-loop-done g l = record {
   later : (g.O.Disk.state l.fn.to).faults ≤ (g.O.Disk.state l.to).faults;
 }
 
-abbrev pub decreases-loop-done : goal.decreases-loop-done
+abbrev pub decreases-loop-done : Rattle.mirror_disk.proofs.copy.copy_body.Given.decreases-loop-done
 decreases-loop-done g l = l.count - l.done

@@ -1,7 +1,6 @@
 use Rattle.mirror_disk.proofs.{Words.{◌≡◌, ◌+◌, ℕ, List, length, sym, ◌∙◌, ap, subst, arith, TellsTorn, spliced, body}, Asked.{laid, told_of}, Copying.piece_of}
-use Rattle.mirror_disk.proofs.copy.copy_piece.Goals as goal
 
-pub returns-clause-torn : goal.returns-clause-torn
+pub returns-clause-torn : Rattle.mirror_disk.proofs.copy.copy_piece.Goals.returns-clause-torn
 returns-clause-torn g c =
     let old = g.O.Disk.state c.args.to.now in
     let new = g.O.Disk.state c.write.new.self in
@@ -9,7 +8,7 @@ returns-clause-torn g c =
     let same : length piece ≡ length c.args.piece.now = c.read.auto.into in
     subst (λ (n : ℕ). TellsTorn (64 + c.args.at) n old new) same (told_of old new (64 + c.args.at) piece (g.met.O.Disk.lawful c.args.to.now) (omega (arith, same, c.requires.to)) c.write.result c.write.ensures.written c.write.ensures.failed)
 
-pub returns-clause-copied : goal.returns-clause-copied
+pub returns-clause-copied : Rattle.mirror_disk.proofs.copy.copy_piece.Goals.returns-clause-copied
 returns-clause-copied g c done x y told told' =
     let old = g.O.Disk.state c.args.to.now in
     let new = g.O.Disk.state c.write.new.self in

@@ -1,11 +1,10 @@
 use Rattle.mirror_disk.proofs.Words.{◌≡◌, ◌<◌, ◌+◌, ℕ, zero, suc, List, ◌++◌, ◌∷◌, [], length, take, subst, sym, lit<, IsAscii, IsUtf8, IsUtf8-append, IsUtf8-from_ascii}
-use Rattle.mirror_disk.proofs.name.bind_side.Goals as goal
 
 one_ascii : (digit : ℕ) → digit < 128 → IsAscii (digit ∷ [])
 one_ascii digit less zero = less
 one_ascii digit less (suc i) = lit< tt
 
-pub unreachable-requires : goal.unreachable-requires
+pub unreachable-requires : Rattle.mirror_disk.proofs.name.bind_side.Goals.unreachable-requires
 unreachable-requires g c =
     let name = c.args.name.now in
     let digit = c.args.digit in

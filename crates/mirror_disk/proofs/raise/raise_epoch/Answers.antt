@@ -1,10 +1,10 @@
 use Rattle.mirror_disk.proofs.{Words.{arith, at_end, weakened, joined}, Raises.{keeps_twice, raising_on, raising_still, still_on}}
-use Rattle.mirror_disk.proofs.raise.raise_epoch.Goals as goal
+use Rattle.std.proofs.Common.{rules}
 
-pub returns-in_err-shut_slot-clause-moments : goal.returns-in_err-shut_slot-clause-moments
+pub returns-in_err-shut_slot-clause-moments : Rattle.mirror_disk.proofs.raise.raise_epoch.Goals.returns-in_err-shut_slot-clause-moments
 returns-in_err-shut_slot-clause-moments g c e marked le = weakened (c.in_err-shut_slot.ensures.moments e marked) (raising_still c.args.slot e c.args.next)
 
-pub returns-in_err-put_epoch-clause-moments : goal.returns-in_err-put_epoch-clause-moments
+pub returns-in_err-put_epoch-clause-moments : Rattle.mirror_disk.proofs.raise.raise_epoch.Goals.returns-in_err-put_epoch-clause-moments
 returns-in_err-put_epoch-clause-moments g c e marked le =
     let mid = c.shut_slot.new.disk in
     let laws = g.met.D.Disk.lawful mid in
@@ -12,23 +12,23 @@ returns-in_err-put_epoch-clause-moments g c e marked le =
     let second = c.in_err-put_epoch.ensures.moments e (λ x now. (at_end laws first x now).marked) in
     weakened (joined first (weakened second (still_on c.args.slot e laws first))) (raising_still c.args.slot e c.args.next)
 
-pub open_slot-requires-clause-size : goal.open_slot-requires-clause-size
-open_slot-requires-clause-size g c =
+pub open_slot-requires : Rattle.mirror_disk.proofs.raise.raise_epoch.Goals.open_slot-requires
+open_slot-requires g c =
     let e = c.requires.marked in
     let mid = c.shut_slot.new.disk in
     let first = c.in_ok-shut_slot.ensures.moments e.0 e.1 in
     let second = c.in_ok-put_epoch.ensures.moments e.0 (λ x now. (at_end (g.met.D.Disk.lawful mid) first x now).marked) in
-    omega (arith, c.requires.size, first.same_size, second.same_size)
+    record {
+      size = omega (arith, c.requires.size, first.same_size, second.same_size);
+      gate = search rules;
+      closed = search rules;
+      last = search rules;
+      holds = search rules;
+      settled = search rules;
+      marked = (e.0, (λ x now. (at_end (g.met.D.Disk.lawful c.put_epoch.new.disk) second x now).marked), e.2);
+    }
 
-pub open_slot-requires-clause-marked : goal.open_slot-requires-clause-marked
-open_slot-requires-clause-marked g c =
-    let e = c.requires.marked in
-    let mid = c.shut_slot.new.disk in
-    let first = c.in_ok-shut_slot.ensures.moments e.0 e.1 in
-    let second = c.in_ok-put_epoch.ensures.moments e.0 (λ x now. (at_end (g.met.D.Disk.lawful mid) first x now).marked) in
-    (e.0, (λ x now. (at_end (g.met.D.Disk.lawful c.put_epoch.new.disk) second x now).marked), e.2)
-
-pub returns-clause-moments : goal.returns-clause-moments
+pub returns-clause-moments : Rattle.mirror_disk.proofs.raise.raise_epoch.Goals.returns-clause-moments
 returns-clause-moments g c e marked le =
     let mid = c.shut_slot.new.disk in
     let later = c.put_epoch.new.disk in

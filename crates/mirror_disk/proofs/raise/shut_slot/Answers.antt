@@ -1,17 +1,16 @@
 use Rattle.mirror_disk.proofs.{Words.{◌≡◌, ◌≤◌, ◌<◌, ◌+◌, ℕ, List, subst, sym, ◌∙◌, arith, TornFrom, LeavesOnly, at_end, weakened, joined, IsOpen, HasEpoch, Still, place, other}, Epochs.inside, Raises.{by_result, keeps_same, keeps_spliced, keeps_torn, keeps_twice, shut_image, still_here, still_on, gate_of_front}}
-use Rattle.mirror_disk.proofs.raise.shut_slot.Goals as goal
 
 at : {g : ℕ} (k : ℕ) → g ≡ k → {n : ℕ} {images : List ℕ → Type 0} (x : List ℕ) → TornFrom g n images x → TornFrom k n images x
 at k is {n = n} {images = images} x t = subst (λ (m : ℕ). TornFrom m n images x) is t
 
-pub returns-then-branch-clause-shut : goal.returns-then-branch-clause-shut
+pub returns-then-branch-clause-shut : Rattle.mirror_disk.proofs.raise.shut_slot.Goals.returns-then-branch-clause-shut
 returns-then-branch-clause-shut g c e marked x now is_open =
     let now_old = at_end (g.met.D.Disk.lawful c.stands_closed.new.disk) c.in_ok-stands_closed.ensures.unwritten.moments x now in
     let told = marked.told x now_old in
     let within : c.args.gate < 64 = omega (arith, c.requires.gate, inside c.args.slot) in
     (c.in_ok-stands_closed.ensures.closed told.0 told.1).0 c.if-branch.true (sym (gate_of_front x told.0 c.args.gate (marked.fronts x told.0 now_old told.1) within) ∙ is_open)
 
-pub returns-clause-moments : goal.returns-clause-moments
+pub returns-clause-moments : Rattle.mirror_disk.proofs.raise.shut_slot.Goals.returns-clause-moments
 returns-clause-moments g c e marked =
     let old = g.D.Disk.state c.args.disk.now in
     let mid = g.D.Disk.state c.stands_closed.new.disk in
@@ -27,7 +26,7 @@ returns-clause-moments g c e marked =
     subst (λ (m : ℕ). IsOpen m x) c.requires.gate (gate_of_front x told.0 c.args.gate (marked.fronts x told.0 was told.1) within ∙ (c.in_ok-stands_closed.ensures.open told.0 told.1).0 c.if-branch.false) in
     joined still (weakened c.shut_gate.ensures.moments (λ x t. still_on slot e laws still x (shut_image {old = mid} slot e each opened x (at (place (other slot)) c.requires.gate x t))))
 
-pub returns-clause-body : goal.returns-clause-body
+pub returns-clause-body : Rattle.mirror_disk.proofs.raise.shut_slot.Goals.returns-clause-body
 returns-clause-body g c =
     let within : c.args.gate + 1 ≤ 64 = omega (arith, c.requires.gate, inside c.args.slot) in
     let room : 64 ≤ (g.D.Disk.state c.stands_closed.new.disk).size = omega (arith, c.requires.size, c.in_ok-stands_closed.ensures.unwritten.moments.same_size) in

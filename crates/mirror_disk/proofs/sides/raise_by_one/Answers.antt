@@ -1,5 +1,4 @@
 use Rattle.mirror_disk.proofs.Words.{inl, refl, started}
-use Rattle.mirror_disk.proofs.sides.raise_by_one.Goals as goal
 
-pub returns-then-epoch-ge-LAST-clause-moments : goal.returns-then-epoch-ge-LAST-clause-moments
+pub returns-then-epoch-ge-LAST-clause-moments : Rattle.mirror_disk.proofs.sides.raise_by_one.Goals.returns-then-epoch-ge-LAST-clause-moments
 returns-then-epoch-ge-LAST-clause-moments g c = started (g.met.D.Disk.lawful c.args.disk.now) (λ x now. let has = c.requires.marked.each x now in (has.header, inl (has.epoch_is, (x, now, refl))))

@@ -1,5 +1,4 @@
 use Rattle.mv_index.proofs.Hiding.{hidden_of, of_hidden}
-use Rattle.mv_index.proofs.laws.hidden_versions_are_dropped.Goals as goal
 
-pub returns : goal.returns
+pub returns : Rattle.mv_index.proofs.laws.hidden_versions_are_dropped.Goals.returns
 returns _ = λ t v later. (hidden_of t v later, of_hidden t v later)

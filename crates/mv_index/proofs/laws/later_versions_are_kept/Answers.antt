@@ -1,5 +1,4 @@
 use Rattle.mv_index.proofs.Again.{shown_more}
-use Rattle.mv_index.proofs.laws.later_versions_are_kept.Goals as goal
 
-pub returns : goal.returns
+pub returns : Rattle.mv_index.proofs.laws.later_versions_are_kept.Goals.returns
 returns _ = shown_more

@@ -1,5 +1,4 @@
 use Rattle.mv_index.proofs.Layers.{byte_in-append}
-use Rattle.mv_index.proofs.laws.later_versions_come_first.Goals as goal
 
-pub returns : goal.returns
+pub returns : Rattle.mv_index.proofs.laws.later_versions_come_first.Goals.returns
 returns _ = byte_in-append

@@ -1,5 +1,4 @@
 use Rattle.mv_index.proofs.Again.{shown_again}
-use Rattle.mv_index.proofs.laws.trims_follow_one_another.Goals as goal
 
-pub returns : goal.returns
+pub returns : Rattle.mv_index.proofs.laws.trims_follow_one_another.Goals.returns
 returns _ = shown_again

@@ -1,11 +1,10 @@
 -- The version is laid over the pieces.
 use Rattle.mv_index.proofs.{Words.{◌≡◌, ◌≤◌, get_or, length, no_version, ◌∙◌, sym, ap, subst, arith, ℕ, ◌+◌, List, [], ◌∷◌, ◌++◌, drop, take, with_items_is, ArePieces, Version, backs, begun, ended, fronts, laid}, Laid.{laid_none, laid_over, pieces_laid}}
-use Rattle.mv_index.proofs.pieces.lay.Goals as goal
 
-pub returns-then-version-eq0-clause-laid : goal.returns-then-version-eq0-clause-laid
+pub returns-then-version-eq0-clause-laid : Rattle.mv_index.proofs.pieces.lay.Goals.returns-then-version-eq0-clause-laid
 returns-then-version-eq0-clause-laid c versions = laid_none c.args.version.now c.args.pieces.now.items versions c.if-version-eq0.true
 
-pub returns-then-is_over-clause-laid : goal.returns-then-is_over-clause-laid
+pub returns-then-is_over-clause-laid : Rattle.mv_index.proofs.pieces.lay.Goals.returns-then-is_over-clause-laid
 returns-then-is_over-clause-laid c versions were =
     let v : Version = c.args.version.now in
     let first : ℕ = c.find-first.result.0 in
@@ -17,7 +16,7 @@ returns-then-is_over-clause-laid c versions were =
     let is = laid_over v first c.find-first.result.1 c.args.pieces.now.items were.order within (c.is_over.ensures.one c.if-is_over.true) off len front back in
     subst (λ (l : List Version). ArePieces l (versions ++ v ∷ [])) (sym is) (pieces_laid v versions (omega (arith, c.if-version-eq0.false)) c.args.pieces.now.items were)
 
-pub returns-clause-laid : goal.returns-clause-laid
+pub returns-clause-laid : Rattle.mv_index.proofs.pieces.lay.Goals.returns-clause-laid
 returns-clause-laid c versions were =
     let v : Version = c.args.version.now in
     let end : ℕ = v.off + v.len in

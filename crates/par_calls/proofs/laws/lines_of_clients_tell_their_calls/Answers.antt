@@ -1,5 +1,4 @@
 use Rattle.par_calls.proofs.Tracing.{lines_tell}
-use Rattle.par_calls.proofs.laws.lines_of_clients_tell_their_calls.Goals as goal
 
-pub returns : goal.returns
+pub returns : Rattle.par_calls.proofs.laws.lines_of_clients_tell_their_calls.Goals.returns
 returns _ = lines_tell

@@ -1,15 +1,14 @@
 use Rattle.par_lines.proofs.{Words.{◌+◌, ◌-◌, ◌++◌, ap, length, replicate, subst, sym, ◌∙◌, Ok, Put, is_outside, Answered}, Putting.{refused_put, right_put, wrong_put}, Writing.wants}
-use Rattle.par_lines.proofs.accesses.put.Goals as goal
 
-pub returns-then-is_outside-clause-did : goal.returns-then-is_outside-clause-did
+pub returns-then-is_outside-clause-did : Rattle.par_lines.proofs.accesses.put.Goals.returns-then-is_outside-clause-did
 returns-then-is_outside-clause-did g c =
     subst (λ r. Answered g.O.Origin.start c.args.session.now (Put c.args.block c.args.off c.args.bytes.now) (Ok r) c.args.session.now) (sym c.wrong_bytes.ensures)
     (wrong_put g.O.Origin.start c.args.block c.args.off c.args.bytes.now c.args.geometry.now c.args.session.now c.requires.geometry (sym c.if-is_outside.ensures))
 
-pub returns-in-Err-clause-did : goal.returns-in-Err-clause-did
+pub returns-in-Err-clause-did : Rattle.par_lines.proofs.accesses.put.Goals.returns-in-Err-clause-did
 returns-in-Err-clause-did g c = wants g.O.Origin.start c.args.block c.args.bytes.now c.args.session.now (Put c.args.block c.args.off c.args.bytes.now)
 
-pub returns-in-Ok-clause-did : goal.returns-in-Ok-clause-did
+pub returns-in-Ok-clause-did : Rattle.par_lines.proofs.accesses.put.Goals.returns-in-Ok-clause-did
 returns-in-Ok-clause-did g c =
     subst (λ r. Answered g.O.Origin.start c.args.session.now (Put c.args.block c.args.off c.args.bytes.now) r c.mark_range.new.session) (sym c.accessed.ensures)
     (right_put g.O.Origin.start c.args.block c.args.off c.args.bytes.now (ap (λ h. is_outside h.block c.args.off (length c.args.bytes.now)) (sym c.requires.geometry) ∙ sym c.if-is_outside.ensures)
@@ -17,7 +16,7 @@ returns-in-Ok-clause-did g c =
     (c.as_slice.ensures.value ∙ c.in_default.ensures ∙ ap (λ h. replicate c.args.off 0 ++ c.args.bytes.now ++ replicate (h.block - (c.args.off + length c.args.bytes.now)) 0) c.requires.geometry)
     c.in-Ok.ensures.cause c.in-Ok.ensures.did c.mark_range.ensures.cause c.mark_range.ensures.did)
 
-pub returns-in-Err-write_block-clause-did : goal.returns-in-Err-write_block-clause-did
+pub returns-in-Err-write_block-clause-did : Rattle.par_lines.proofs.accesses.put.Goals.returns-in-Err-write_block-clause-did
 returns-in-Err-write_block-clause-did g c =
     subst (λ r. Answered g.O.Origin.start c.args.session.now (Put c.args.block c.args.off c.args.bytes.now) r c.write_block.new.self) (sym c.accessed-in-Err-write_block.ensures)
     (refused_put g.O.Origin.start c.args.block c.args.off c.args.bytes.now (ap (λ h. is_outside h.block c.args.off (length c.args.bytes.now)) (sym c.requires.geometry) ∙ sym c.if-is_outside.ensures)

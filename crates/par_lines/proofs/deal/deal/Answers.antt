@@ -1,7 +1,6 @@
 use Rattle.par_lines.proofs.{Words.{◌≡◌, ◌-◌, ◌==◌, ap, arith, length, ◌∙◌, filter, range_with_len, has_line, lines_of}, Dealing.{all_more, ids_more, length_more, rest_more}}
-use Rattle.par_lines.proofs.deal.deal.Goals as goal
 
-pub loop-client-preserved : goal.loop-client-preserved
+pub loop-client-preserved : Rattle.par_lines.proofs.deal.deal.Goals.loop-client-preserved
 loop-client-preserved c =
     let own : c.in_ok-own.own.items ≡ lines_of c.loop-client.client c.args.lines.items = c.in_ok-own.ensures.0 ∙ c.loop-client.invariant.rest c.loop-client.client (omega arith) in
     record {
@@ -11,7 +10,7 @@ loop-client-preserved c =
       lines = all_more (λ a. a.1.items ≡ lines_of a.0 c.args.lines.items) (length c.in_ok-own.own.items == 0) c.loop-client.dealt.items c.keep.new.dealt.items (c.loop-client.client, c.in_ok-own.own) c.in_ok-keep.ensures own c.loop-client.invariant.lines;
     }
 
-pub returns-clause-clients : goal.returns-clause-clients
+pub returns-clause-clients : Rattle.par_lines.proofs.deal.deal.Goals.returns-clause-clients
 returns-clause-clients c =
     let last : c.loop-client.client - 1 ≡ 64 = omega (arith, c.loop-client-test.false, c.loop-client.auto.client-end) in
     c.loop-client.invariant.clients ∙ ap (λ n. filter (has_line c.args.lines.items) (range_with_len 1 n)) last

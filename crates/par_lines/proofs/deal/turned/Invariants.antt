@@ -1,8 +1,7 @@
 use Rattle.par_lines.proofs.Words.{◌≡◌, ◌++◌, length, reverse}
-use Rattle.par_lines.proofs.deal.turned.Given as goal
 
-abbrev pub invariant-loop-line : goal.invariant-loop-line
+abbrev pub invariant-loop-line : Rattle.par_lines.proofs.deal.turned.Given.invariant-loop-line
 invariant-loop-line l = reverse l.initial.lines.items ≡ l.out.items ++ reverse l.lines.items
 
-abbrev pub decreases-loop-line : goal.decreases-loop-line
+abbrev pub decreases-loop-line : Rattle.par_lines.proofs.deal.turned.Given.decreases-loop-line
 decreases-loop-line l = length l.lines.items

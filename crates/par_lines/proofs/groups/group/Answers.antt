@@ -1,16 +1,15 @@
 use Rattle.par_lines.proofs.{Words.{subst, sym, port_view, Answered, Group}, Grouping.{answers, port_units, wants_memory}}
-use Rattle.par_lines.proofs.groups.group.Goals as goal
 
-pub returns-then-labels-gt-MAX_LABELS-clause-did : goal.returns-then-labels-gt-MAX_LABELS-clause-did
+pub returns-then-labels-gt-MAX_LABELS-clause-did : Rattle.par_lines.proofs.groups.group.Goals.returns-then-labels-gt-MAX_LABELS-clause-did
 returns-then-labels-gt-MAX_LABELS-clause-did g c = wants_memory g.O.Origin.start c.args.session.now c.args.labels.now
 
-pub returns-in_default-clause-did : goal.returns-in_default-clause-did
+pub returns-in_default-clause-did : Rattle.par_lines.proofs.groups.group.Goals.returns-in_default-clause-did
 returns-in_default-clause-did g c = wants_memory g.O.Origin.start c.args.session.now c.args.labels.now
 
-pub split_port-port-requires-clause-units : goal.split_port-port-requires-clause-units
+pub split_port-port-requires-clause-units : Rattle.par_lines.proofs.groups.group.Goals.split_port-port-requires-clause-units
 split_port-port-requires-clause-units g c = port_units (port_view c.args.session.now.port) c.args.session.now.tx c.requires.session.one c.requires.units
 
-pub returns-clause-did : goal.returns-clause-did
+pub returns-clause-did : Rattle.par_lines.proofs.groups.group.Goals.returns-clause-did
 returns-clause-did g c =
     subst (λ r. Answered g.O.Origin.start c.args.session.now (Group c.args.labels.now) r c.join_port.new.self) (sym c.grouped.ensures)
     (answers g.O.Origin.start c.args.session.now c.split_port-port.new.self c.join_port.new.self c.split_port-port.result c.look_all.new.port c.commit_group-answer.new.port c.args.labels.now c.look_all.new.found.items

@@ -1,11 +1,10 @@
 use Rattle.par_lines.proofs.{Words.{◌≡◌, ◌+◌, ◌∷◌, [], ap, arith, false, length, length-append, map, ◌∙◌, sum_by, lines_of, units_in, IsNew}, Dealing.{all_more, ids_turn}, Gathering.{all_last, units_more}}
-use Rattle.par_lines.proofs.par.make_jobs.Goals as goal
 
-pub new_job-requires-clause-own : goal.new_job-requires-clause-own
+pub new_job-requires-clause-own : Rattle.par_lines.proofs.par.make_jobs.Goals.new_job-requires-clause-own
 new_job-requires-clause-own g c =
     (all_last (λ a. a.1.items ≡ lines_of a.0 c.args.lines.now.value.items) c.loop-id.dealt.items c.pop.new.self.items (c.in-Some.id, c.in-Some.own) c.in-Some.ensures.items c.loop-id.invariant.dealt).0
 
-pub loop-id-preserved : goal.loop-id-preserved
+pub loop-id-preserved : Rattle.par_lines.proofs.par.make_jobs.Goals.loop-id-preserved
 loop-id-preserved g c =
     let size : length c.loop-id.dealt.items ≡ length c.pop.new.self.items + 1 = ap length c.in-Some.ensures.items ∙ length-append c.pop.new.self.items ((c.in-Some.id, c.in-Some.own) ∷ []) in
     let more : length c.push_reserved.new.self.items ≡ length c.loop-id.jobs.items + 1 = ap length c.push_reserved.ensures.items ∙ length-append c.loop-id.jobs.items (c.new_job.result ∷ []) in

@@ -1,7 +1,6 @@
 use Rattle.par_lines.proofs.Words.{◌≡◌, ◌+◌, ◌*◌, ◌<◌, ◌≤◌, ◌++◌, [], length, map, reverse, All, sum_by, vec_capacity, LAST, IsPort, port_view, lines_of, units_in, IsNew}
-use Rattle.par_lines.proofs.par.make_jobs.Given as goal
 
-abbrev pub invariant-loop-id : goal.invariant-loop-id
+abbrev pub invariant-loop-id : Rattle.par_lines.proofs.par.make_jobs.Given.invariant-loop-id
 invariant-loop-id g l = record {
   port : IsPort l.shared l.port;
   mine : (port_view l.port).mine ≡ [];
@@ -14,5 +13,5 @@ invariant-loop-id g l = record {
   clients : map (λ a. a.0) l.initial.dealt.items ≡ map (λ a. a.0) l.dealt.items ++ reverse (map (λ j. j.id) l.jobs.items);
 }
 
-abbrev pub decreases-loop-id : goal.decreases-loop-id
+abbrev pub decreases-loop-id : Rattle.par_lines.proofs.par.make_jobs.Given.decreases-loop-id
 decreases-loop-id g l = length l.dealt.items

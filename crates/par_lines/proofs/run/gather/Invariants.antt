@@ -1,7 +1,6 @@
 use Rattle.par_lines.proofs.Words.{◌≡◌, ◌+◌, ◌≤◌, ◌++◌, length, map, reverse, All, sum_by, times, IsPort, port_view, units_in, AllTold, Finished}
-use Rattle.par_lines.proofs.run.gather.Given as goal
 
-abbrev pub invariant-loop-job : goal.invariant-loop-job
+abbrev pub invariant-loop-job : Rattle.par_lines.proofs.run.gather.Given.invariant-loop-job
 invariant-loop-job g l = record {
   port : IsPort l.shared l.port;
   units : (port_view l.port).units + sum_by units_in l.jobs.items ≡ (port_view l.initial.port).units + sum_by units_in l.initial.jobs.items;
@@ -11,5 +10,5 @@ invariant-loop-job g l = record {
   told : AllTold g.O.Origin.start l.lines.value.items (port_view l.port).seen l.parts.items (λ p. times p (port_view l.port).mine);
 }
 
-abbrev pub decreases-loop-job : goal.decreases-loop-job
-decreases-loop-job g l = goal.left-loop-job g l
+abbrev pub decreases-loop-job : Rattle.par_lines.proofs.run.gather.Given.decreases-loop-job
+decreases-loop-job g l = Rattle.par_lines.proofs.run.gather.Given.left-loop-job g l

@@ -1,9 +1,8 @@
 use Rattle.par_lines.proofs.Words.{◌≡◌, LAST, IsPort, port_view, Swept}
-use Rattle.par_lines.proofs.run.sweep_all.Given as goal
 
-abbrev pub invariant-loop : goal.invariant-loop
+abbrev pub invariant-loop : Rattle.par_lines.proofs.run.sweep_all.Given.invariant-loop
 invariant-loop g l = record {
-  iterates : (goal.iterator-loop g).can_next l.iterator' × (goal.iterator-loop g).is_finite l.iterator';
+  iterates : (Rattle.par_lines.proofs.run.sweep_all.Given.iterator-loop g).can_next l.iterator' × (Rattle.par_lines.proofs.run.sweep_all.Given.iterator-loop g).is_finite l.iterator';
   port : IsPort l.initial.shared l.port;
   units : (port_view l.port).units ≡ LAST;
   swept : Swept (port_view l.initial.port) (port_view l.port);

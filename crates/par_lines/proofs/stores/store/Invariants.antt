@@ -1,6 +1,5 @@
 -- The visit begins with the session as it is at the call.
 use Rattle.par_lines.proofs.Words.{Some}
-use Rattle.par_lines.proofs.stores.store.Given as goal
 
-abbrev pub ghosts-visit : goal.ghosts-visit
+abbrev pub ghosts-visit : Rattle.par_lines.proofs.stores.store.Given.ghosts-visit
 ghosts-visit g a = record { before = Some a.session.now; name = a.session.ghost_name }

@@ -1,15 +1,14 @@
 use Rattle.par_lines.proofs.{Words.{own, Serial}, Storing.{has_own, may_call, visited}}
-use Rattle.par_lines.proofs.stores.visit.Goals as goal
 
-pub call-called-requires-clause-areas : goal.call-called-requires-clause-areas
+pub call-called-requires-clause-areas : Rattle.par_lines.proofs.stores.visit.Goals.call-called-requires-clause-areas
 call-called-requires-clause-areas g c =
     (may_call g.O.Origin.start g.V.Visit.before c.args.session.now c.args.region c.args.op.now c.blocks-blocks.result.visitor c.blocks-blocks.ensures c.requires.region c.requires.there c.requires.valid).0
 
-pub call-called-requires-clause-fits : goal.call-called-requires-clause-fits
+pub call-called-requires-clause-fits : Rattle.par_lines.proofs.stores.visit.Goals.call-called-requires-clause-fits
 call-called-requires-clause-fits g c =
     (may_call g.O.Origin.start g.V.Visit.before c.args.session.now c.args.region c.args.op.now c.blocks-blocks.result.visitor c.blocks-blocks.ensures c.requires.region c.requires.there c.requires.valid).1
 
-pub returns-clause-did : goal.returns-clause-did
+pub returns-clause-did : Rattle.par_lines.proofs.stores.visit.Goals.returns-clause-did
 returns-clause-did g c =
     let o = has_own (own c.args.session.now) Serial c.requires.mode in
     let left = c.leave-session.result in

@@ -1,8 +1,7 @@
 use Rattle.std.proofs.{Common.{◌≡◌, ◌+◌, ◌++◌, [], ◌∷◌, take, ap, sym, ◌∙◌, arith}, lemmas.List.take_more}
 use Rattle.par_runner.proofs.Goings.{went_more}
-use Rattle.par_runner.proofs.run.run_lines.Goals as goal
 
-pub loop-number-preserved : goal.loop-number-preserved
+pub loop-number-preserved : Rattle.par_runner.proofs.run.run_lines.Goals.loop-number-preserved
 loop-number-preserved g c =
     let more : take (c.loop-number.number-index + 1) c.args.lines.now ≡ take c.loop-number.number-index c.args.lines.now ++ c.loop-number-item.result ∷ []
     = take_more c.args.lines.now c.loop-number.number-index c.loop-number-item.result c.loop-number-test.true ∙ ap (λ v. take c.loop-number.number-index c.args.lines.now ++ v ∷ []) (sym c.loop-number-item.is)

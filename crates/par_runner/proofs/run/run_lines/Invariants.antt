@@ -1,8 +1,7 @@
 use Rattle.std.proofs.Common.{◌≡◌, take}
 use Rattle.par_runner.specs.Runs.{Went}
-use Rattle.par_runner.proofs.run.run_lines.Given as goal
 
-abbrev pub invariant-loop-number : goal.invariant-loop-number
+abbrev pub invariant-loop-number : Rattle.par_runner.proofs.run.run_lines.Given.invariant-loop-number
 invariant-loop-number g l = record {
   done : l.done ≡ l.number-index;
   fit : g.C.Client.fits l.client;

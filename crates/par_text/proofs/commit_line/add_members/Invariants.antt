@@ -1,5 +1,4 @@
 use Rattle.par_text.proofs.Words.{◌≡◌, ◌++◌, flat_map, take, commit_in}
-use Rattle.par_text.proofs.commit_line.add_members.Given as goal
 
-abbrev pub invariant-loop-answer : goal.invariant-loop-answer
+abbrev pub invariant-loop-answer : Rattle.par_text.proofs.commit_line.add_members.Given.invariant-loop-answer
 invariant-loop-answer l = l.commits.items ≡ l.initial.commits.items ++ flat_map (commit_in l.client l.line) (take l.answer-index l.answers)

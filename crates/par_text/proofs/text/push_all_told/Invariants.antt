@@ -1,5 +1,4 @@
 use Rattle.par_text.proofs.Words.{◌≡◌, ◌++◌, flat_map, take, concat, told_lines}
-use Rattle.par_text.proofs.text.push_all_told.Given as goal
 
-abbrev pub invariant-loop-part : goal.invariant-loop-part
+abbrev pub invariant-loop-part : Rattle.par_text.proofs.text.push_all_told.Given.invariant-loop-part
 invariant-loop-part l = l.out.items ≡ l.initial.out.items ++ concat (flat_map told_lines (take l.part-index l.parts))

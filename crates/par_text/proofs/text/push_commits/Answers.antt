@@ -1,11 +1,10 @@
 use Rattle.par_text.proofs.{Words.{get_or, get_or_default, CommitLine, commit_line}, Lines.{any_err, first_now, one_more}}
-use Rattle.par_text.proofs.text.push_commits.Goals as goal
 
-pub returns-in_err-push_commit-clause-err : goal.returns-in_err-push_commit-clause-err
+pub returns-in_err-push_commit-clause-err : Rattle.par_text.proofs.text.push_commits.Goals.returns-in_err-push_commit-clause-err
 returns-in_err-push_commit-clause-err c =
     any_err _ (first_now commit_line c.args.commits.now c.loop-commit.commit-index _ _ _ c.loop-commit-test.true c.loop-commit.invariant c.in_err-push_commit.ensures.err)
 
-pub loop-commit-preserved : goal.loop-commit-preserved
+pub loop-commit-preserved : Rattle.par_text.proofs.text.push_commits.Goals.loop-commit-preserved
 loop-commit-preserved c =
     let none : CommitLine = record { number = 0; client = 0; line = 0 } in
     one_more c.args.commits.now c.loop-commit.commit-index (get_or c.args.commits.now c.loop-commit.commit-index none) c.loop-commit-test.true

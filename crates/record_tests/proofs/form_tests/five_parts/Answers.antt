@@ -1,6 +1,5 @@
 use Rattle.record_tests.proofs.Parts.{five_lie}
-use Rattle.record_tests.proofs.form_tests.five_parts.Goals as goal
 
-pub returns-clause-lie : goal.returns-clause-lie
+pub returns-clause-lie : Rattle.record_tests.proofs.form_tests.five_parts.Goals.returns-clause-lie
 returns-clause-lie c =
     rw (c.in_ok-push-5.ensures.ok, c.in_ok-push-4.ensures.ok, c.in_ok-push-3.ensures.ok, c.in_ok-push-2.ensures.ok, c.in_ok-push.ensures.ok, c.empty-parts.ensures) five_lie

@@ -1,5 +1,4 @@
 use Rattle.record_tests.proofs.Parts.{put_lies}
-use Rattle.record_tests.proofs.form_tests.one_put.Goals as goal
 
-pub returns : goal.returns
+pub returns : Rattle.record_tests.proofs.form_tests.one_put.Goals.returns
 returns c = rw (c.in_ok-push.ensures.ok, c.empty-parts.ensures) put_lies

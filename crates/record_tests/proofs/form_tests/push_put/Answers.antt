@@ -1,5 +1,4 @@
 use Rattle.record_tests.proofs.Parts.{put_lies}
-use Rattle.record_tests.proofs.form_tests.push_put.Goals as goal
 
-pub finish-requires-clause-runs : goal.finish-requires-clause-runs
+pub finish-requires-clause-runs : Rattle.record_tests.proofs.form_tests.push_put.Goals.finish-requires-clause-runs
 finish-requires-clause-runs c = rw (c.in_ok-push_part.ensures.ok, c.requires) put_lies

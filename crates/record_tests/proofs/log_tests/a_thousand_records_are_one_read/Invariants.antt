@@ -1,9 +1,9 @@
 use Rattle.std.proofs.Common.{◌≡◌, ◌≤◌}
 use Rattle.iso_memdisk.specs.MemDisk.{state_of}
-use Rattle.record_tests.specs.{Ready.IsReady, Records.small}
-use Rattle.record_tests.proofs.log_tests.a_thousand_records_are_one_read.Given as goal
+use Rattle.record_tests.specs.Ready.{IsReady}
+use Rattle.test_images.specs.Small.{small}
 
-abbrev pub invariant-loop-number : goal.invariant-loop-number
+abbrev pub invariant-loop-number : Rattle.record_tests.proofs.log_tests.a_thousand_records_are_one_read.Given.invariant-loop-number
 invariant-loop-number g l = record {
   ready : IsReady small l.log (state_of l.disk);
   last : l.log.last ≡ l.number;

@@ -1,5 +1,4 @@
 use Rattle.record_tests.proofs.Disks.{failing_settled}
-use Rattle.record_tests.proofs.switch_tests.image.Goals as goal
 
-pub returns-clause-settled : goal.returns-clause-settled
+pub returns-clause-settled : Rattle.record_tests.proofs.switch_tests.image.Goals.returns-clause-settled
 returns-clause-settled c = failing_settled _ _ _ c.new-disk.ensures.stable c.fail.ensures.untouched

@@ -1,7 +1,6 @@
 use Rattle.script_model.proofs.{ScriptBytes.script_lines, Words.{empty_world_is, world_is_serial}, Steps.{step_leads, after_leads}}
-use Rattle.script_model.proofs.laws.worlds_stay_sound.Goals as goal
 
-pub returns : goal.returns
+pub returns : Rattle.script_model.proofs.laws.worlds_stay_sound.Goals.returns
 returns _ = record {
   made = empty_world_is;
   step = step_leads;

@@ -1,5 +1,4 @@
 use Rattle.script_model.proofs.CutInputs.{cut_bad}
-use Rattle.script_model.proofs.step_laws.cut_inputs_are_bad.Goals as goal
 
-pub returns : goal.returns
+pub returns : Rattle.script_model.proofs.step_laws.cut_inputs_are_bad.Goals.returns
 returns _ = cut_bad

@@ -1,5 +1,4 @@
 use Rattle.script_runner.proofs.Words.{inl, inr, ◌≡◌, ◌≢◌, ℕ, eqb, Bool, true, false, w8, sym, ap, ◌∙◌, arith, List, length, ◌+◌, ◌≤◌, not, map, replicate, cond, ◌%◌, ◌^◌, false≢true, eqb_tells, length-chunk, bitmask_splat, trailing_mask_l, run_in_chunk_fails, run_in_chunk_le, run_in_chunk_stops, none_from_empty_mask, prefix_len, count_trailing_zeros, chunk, mask_l, top, zip2}
-use Rattle.script_runner.proofs.feed.before_feed.Goals as goal
 
 abbrev is_feed : ℕ → Bool
 is_feed b = eqb b 10
@@ -23,23 +22,23 @@ feeds : (text : List ℕ) (at : ℕ) → at + 16 ≤ length text
     → mask_l (map (top 7) (zip2 (λ a b. cond (eqb a b) 255 0) (chunk at 16 text) (replicate 16 10))) % 2 ^ 64 ≡ mask_l (map is_feed (chunk at 16 text))
 feeds text at room = bitmask_splat w8 eqb (chunk at 16 text) 16 10 (length-chunk at 16 text room) (omega arith)
 
-pub returns-then-feeds-eq0-clause-before : goal.returns-then-feeds-eq0-clause-before
+pub returns-then-feeds-eq0-clause-before : Rattle.script_runner.proofs.feed.before_feed.Goals.returns-then-feeds-eq0-clause-before
 returns-then-feeds-eq0-clause-before c k from to =
     let text = c.args.text.now in
     other _ (none_from_empty_mask is_feed text c.args.at 16 0 c.requires (sym (feeds text c.args.at c.requires) ∙ c.if-feeds-eq0.true) k from to)
 
-pub returns-else-feeds-eq0-clause-within : goal.returns-else-feeds-eq0-clause-within
+pub returns-else-feeds-eq0-clause-within : Rattle.script_runner.proofs.feed.before_feed.Goals.returns-else-feeds-eq0-clause-within
 returns-else-feeds-eq0-clause-within c =
     let text = c.args.text.now in
     run_in_chunk_le is_feed text c.args.at 16 _ 0 c.requires (counted text c.args.at _ c.requires c.if-feeds-eq0.false (feeds text c.args.at c.requires))
 
-pub returns-else-feeds-eq0-clause-before : goal.returns-else-feeds-eq0-clause-before
+pub returns-else-feeds-eq0-clause-before : Rattle.script_runner.proofs.feed.before_feed.Goals.returns-else-feeds-eq0-clause-before
 returns-else-feeds-eq0-clause-before c k from to =
     let text = c.args.text.now in
     other _ (run_in_chunk_fails is_feed text c.args.at 16 _ 0 c.requires
     (counted text c.args.at _ c.requires c.if-feeds-eq0.false (feeds text c.args.at c.requires)) k from to)
 
-pub returns-else-feeds-eq0-clause-feed : goal.returns-else-feeds-eq0-clause-feed
+pub returns-else-feeds-eq0-clause-feed : Rattle.script_runner.proofs.feed.before_feed.Goals.returns-else-feeds-eq0-clause-feed
 returns-else-feeds-eq0-clause-feed c short =
     let text = c.args.text.now in
     same _ (run_in_chunk_stops is_feed text c.args.at 16 _ 0 c.requires

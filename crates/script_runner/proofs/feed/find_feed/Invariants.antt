@@ -1,15 +1,14 @@
 -- None of the bytes that were looked at is a line feed.
 use Rattle.script_runner.proofs.Words.{◌≢◌, ℕ, ◌<◌, ◌≤◌, ◌-◌, length, slice_index}
-use Rattle.script_runner.proofs.feed.find_feed.Given as goal
 
-abbrev pub invariant-loop-at : goal.invariant-loop-at
+abbrev pub invariant-loop-at : Rattle.script_runner.proofs.feed.find_feed.Given.invariant-loop-at
 invariant-loop-at l = (l.at ≤ length l.text) × ((k : ℕ) → k < l.at → slice_index l.text k ≢ 10)
 
-abbrev pub decreases-loop-at : goal.decreases-loop-at
+abbrev pub decreases-loop-at : Rattle.script_runner.proofs.feed.find_feed.Given.decreases-loop-at
 decreases-loop-at l = length l.text - l.at
 
-abbrev pub invariant-loop-at-2 : goal.invariant-loop-at-2
+abbrev pub invariant-loop-at-2 : Rattle.script_runner.proofs.feed.find_feed.Given.invariant-loop-at-2
 invariant-loop-at-2 l = (l.at ≤ length l.text) × ((k : ℕ) → k < l.at → slice_index l.text k ≢ 10)
 
-abbrev pub decreases-loop-at-2 : goal.decreases-loop-at-2
+abbrev pub decreases-loop-at-2 : Rattle.script_runner.proofs.feed.find_feed.Given.decreases-loop-at-2
 decreases-loop-at-2 l = length l.text - l.at

@@ -1,7 +1,6 @@
 use Rattle.script_runner.proofs.Words.{◌≡◌, ◌+◌, ◌≤◌, ◌++◌, ℕ, List, length, SinkState, World, Reads}
-use Rattle.script_runner.proofs.piece.answer_piece.Given as goal
 
-abbrev pub invariant-loop-line : goal.invariant-loop-line
+abbrev pub invariant-loop-line : Rattle.script_runner.proofs.piece.answer_piece.Given.invariant-loop-line
 invariant-loop-line g l = record {
   taken : List ℕ;
   split : l.fn.piece ≡ taken ++ l.rest;
@@ -12,5 +11,5 @@ invariant-loop-line g l = record {
       → Reads (g.M.ScriptMachine.stands l.machine) (g.M.ScriptMachine.disk m) (g.M.ScriptMachine.disk l.machine) k (g.K.Sink.state l.output) W (bytes ++ taken) l.progress.number l.progress.held.items;
 }
 
-abbrev pub decreases-loop-line : goal.decreases-loop-line
+abbrev pub decreases-loop-line : Rattle.script_runner.proofs.piece.answer_piece.Given.decreases-loop-line
 decreases-loop-line g l = length l.rest

@@ -1,7 +1,6 @@
 use Rattle.script_runner.proofs.Words.{◌≡◌, ◌+◌, ◌≤◌, ℕ, List, length, vec_len, MAX_INPUT, MAX_LINE, World, Gave, Reads}
-use Rattle.script_runner.proofs.runner.answer_input.Given as goal
 
-abbrev pub invariant-loop-left : goal.invariant-loop-left
+abbrev pub invariant-loop-left : Rattle.script_runner.proofs.runner.answer_input.Given.invariant-loop-left
 invariant-loop-left g l = record {
   bytes : List ℕ;
   gave : Gave (g.S.Source.state l.fn.input) (g.S.Source.state l.input) bytes;
@@ -14,5 +13,5 @@ invariant-loop-left g l = record {
       → Reads (g.M.ScriptMachine.stands l.machine) (g.M.ScriptMachine.disk l.fn.machine) (g.M.ScriptMachine.disk l.machine) (g.K.Sink.state l.fn.output) (g.K.Sink.state l.output) W bytes l.progress.number l.progress.held.items;
 }
 
-abbrev pub decreases-loop-left : goal.decreases-loop-left
+abbrev pub decreases-loop-left : Rattle.script_runner.proofs.runner.answer_input.Given.decreases-loop-left
 decreases-loop-left g l = l.left

@@ -1,15 +1,14 @@
 use Rattle.script_runner.proofs.{Words.{◌<◌, ℕ, List, length, subst, sym, ◌∙◌, parse, Gives, RunEnd, HasRun}, Endings.{done_runs, last_done, last_runs, none_held, some_held}, Said.{given_line, says_line}}
-use Rattle.script_runner.proofs.runner.answer_last.Goals as goal
 
-pub returns-then-is_empty : goal.returns-then-is_empty
+pub returns-then-is_empty : Rattle.script_runner.proofs.runner.answer_last.Goals.returns-then-is_empty
 returns-then-is_empty g c W m i j k bytes gave met few r =
     done_runs W bytes c.args.progress.now.number c.args.progress.now.held.items r i j gave met few
     (none_held _ c.args.progress.now.held.items c.args.progress.now.held.ok.0 (sym c.if-is_empty.true ∙ c.is_empty.ensures))
 
-pub answer_parsed-requires-clause-line : goal.answer_parsed-requires-clause-line
+pub answer_parsed-requires-clause-line : Rattle.script_runner.proofs.runner.answer_last.Goals.answer_parsed-requires-clause-line
 answer_parsed-requires-clause-line g c = given_line (parse _) c.parse_line-parsed.result c.parse_line-parsed.ensures (says_line _)
 
-pub returns-in-Ok : goal.returns-in-Ok
+pub returns-in-Ok : Rattle.script_runner.proofs.runner.answer_last.Goals.returns-in-Ok
 returns-in-Ok g c W m i j k bytes gave met few r =
     let given : Gives c.parse_line-parsed.result (parse c.args.progress.now.held.items) =
     subst (λ (xs : List ℕ). Gives c.parse_line-parsed.result (parse xs)) c.deref.ensures.value c.parse_line-parsed.ensures in
@@ -17,7 +16,7 @@ returns-in-Ok g c W m i j k bytes gave met few r =
     last_done W bytes c.args.progress.now.number c.args.progress.now.held.items r i j gave met few some (g.M.ScriptMachine.stands c.answer_parsed.new.machine)
     (g.M.ScriptMachine.disk c.answer_parsed.new.machine) (g.K.Sink.state c.answer_parsed.new.output) c.parse_line-parsed.result c.in-Ok.field-0 given (c.in-Ok.ensures r.ran.reached r.ran.world)
 
-pub returns-in-Err : goal.returns-in-Err
+pub returns-in-Err : Rattle.script_runner.proofs.runner.answer_last.Goals.returns-in-Err
 returns-in-Err g c W m i j k bytes gave met few r =
     let given : Gives c.parse_line-parsed.result (parse c.args.progress.now.held.items) =
     subst (λ (xs : List ℕ). Gives c.parse_line-parsed.result (parse xs)) c.deref.ensures.value c.parse_line-parsed.ensures in

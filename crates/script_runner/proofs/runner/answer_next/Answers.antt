@@ -1,15 +1,14 @@
 use Rattle.script_runner.{proofs.Words.{◌≡◌, ◌<◌, ◌≤◌, ◌+◌, ◌++◌, ℕ, List, length, take, length-append, length-take, refl, subst, sym, arith, MAX_INPUT, MAX_LINE, RunEnd, Gave, HasRun}, specs.declared.run_end.Halt.TheVariants.BadLine, proofs.Endings.{gave_more, halt_runs, input_runs, long_ends}}
-use Rattle.script_runner.proofs.runner.answer_next.Goals as goal
 
 fits : (bytes piece into : List ℕ) (count : ℕ) → length into ≡ length piece → length bytes + length piece ≤ MAX_INPUT → length (bytes ++ take count into) ≤ MAX_INPUT
 fits bytes piece into count same few = omega (arith, same, few, length-append bytes (take count into), length-take count into)
 
-pub returns-in-Err-clause-ends : goal.returns-in-Err-clause-ends
+pub returns-in-Err-clause-ends : Rattle.script_runner.proofs.runner.answer_next.Goals.returns-in-Err-clause-ends
 returns-in-Err-clause-ends g c W m i k bytes gave few r =
     input_runs W bytes c.args.progress.now.number c.args.progress.now.held.items (rw (← c.hand_on.ensures) at r) i (g.S.Source.state c.args.input.now) (g.S.Source.state c.take.new.self) gave
     (omega (arith, few, c.requires.room)) c.in-Err.ensures.err (c.in-Err.ensures.cause.failed refl)
 
-pub returns-in-Err-answer_piece-clause-ends : goal.returns-in-Err-answer_piece-clause-ends
+pub returns-in-Err-answer_piece-clause-ends : Rattle.script_runner.proofs.runner.answer_next.Goals.returns-in-Err-answer_piece-clause-ends
 returns-in-Err-answer_piece-clause-ends g c W m i k bytes gave few r =
     let piece = take c.in-Ok.count c.take.new.into in
     let given : Gave (g.S.Source.state c.args.input.now) (g.S.Source.state c.take.new.self) piece = record { took = c.in-Ok.ensures.bytes; faults = c.in-Ok.ensures.cause.passed } in
@@ -18,7 +17,7 @@ returns-in-Err-answer_piece-clause-ends g c W m i k bytes gave few r =
     (halt_runs i (g.S.Source.state c.take.new.self) W (bytes ++ piece) (gave_more i (g.S.Source.state c.args.input.now) (g.S.Source.state c.take.new.self) bytes piece gave given)
     (fits bytes c.args.piece.now c.take.new.into c.in-Ok.count c.take.auto.into few) c.in-Err-answer_piece.halt (c.in-Err-answer_piece.ensures.ends W m k bytes (rw (← c.hand_on.ensures) at r)))
 
-pub returns-then-len-gt-MAX_LINE-clause-ends : goal.returns-then-len-gt-MAX_LINE-clause-ends
+pub returns-then-len-gt-MAX_LINE-clause-ends : Rattle.script_runner.proofs.runner.answer_next.Goals.returns-then-len-gt-MAX_LINE-clause-ends
 returns-then-len-gt-MAX_LINE-clause-ends g c W m i k bytes gave few r =
     let piece = take c.in-Ok.count c.take.new.into in
     let held = c.answer_piece.new.progress.held in
@@ -28,5 +27,5 @@ returns-then-len-gt-MAX_LINE-clause-ends g c W m i k bytes gave few r =
     (fits bytes c.args.piece.now c.take.new.into c.in-Ok.count c.take.auto.into few) (BadLine (record { line = c.answer_piece.new.progress.number; cause = 7 }))
     (long_ends W (bytes ++ piece) c.answer_piece.new.progress.number held.items (c.in_default.ensures.reads W m k bytes (rw (← c.hand_on.ensures) at r)) long)
 
-pub returns-clause-reads : goal.returns-clause-reads
+pub returns-clause-reads : Rattle.script_runner.proofs.runner.answer_next.Goals.returns-clause-reads
 returns-clause-reads g c W m k bytes r = c.in_default.ensures.reads W m k bytes (rw (← c.hand_on.ensures) at r)

@@ -1,7 +1,6 @@
 use Rattle.script_text.proofs.Readings.{operation_of-printed, line_text-injective, parse-printed, words_of-printed}
-use Rattle.script_text.proofs.laws.printed_lines_are_read.Goals as goal
 
-pub returns : goal.returns
+pub returns : Rattle.script_text.proofs.laws.printed_lines_are_read.Goals.returns
 returns c = record {
   words = words_of-printed;
   operations = operation_of-printed;

@@ -1,12 +1,11 @@
 use Rattle.script_text.proofs.{Words.{◌≡◌, ◌∙◌, ◌≤◌, [], ◌∷◌, ◌++◌, List, ℕ, Ok, ap, append_assoc, decimal, length, subst, sym, MAX_LINE, parse, arguments_of, line_text, name_of, spaced, Says}, Readings.parse-printed}
-use Rattle.script_text.proofs.print.print_line.Goals as goal
 
 -- the parts of a line, pushed one after the other
 parts : (client op none first mid all : List ℕ) → none ≡ [] → first ≡ none ++ client → mid ≡ first ++ 32 ∷ [] → all ≡ mid ++ op → all ≡ client ++ 32 ∷ op
 parts client op none first mid all start one two three =
     three ∙ ap (λ (text : List ℕ). text ++ op) (two ∙ ap (λ (text : List ℕ). text ++ 32 ∷ []) (one ∙ ap (λ (text : List ℕ). text ++ client) start)) ∙ append_assoc client (32 ∷ []) op
 
-pub returns-clause-read : goal.returns-clause-read
+pub returns-clause-read : Rattle.script_text.proofs.print.print_line.Goals.returns-clause-read
 unfolding line_text
 returns-clause-read c = λ is short.
     let line = c.args.line.now in

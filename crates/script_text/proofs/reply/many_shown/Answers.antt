@@ -1,5 +1,4 @@
 use Rattle.script_text.proofs.Words.{◌≡◌, ◌⊎◌, ◌<◌, inl, inr, refl, sym, subst, ℕ, List, [], ◌∷◌, length, arith, Reply, Found, Shown, reply_text, IsLong, MOST_SHOWN}
-use Rattle.script_text.proofs.reply.many_shown.Goals as goal
 
 -- a value that has a byte is told as bytes that are shown
 found_long : (bytes : List ℕ) → MOST_SHOWN < length bytes → IsLong (Found bytes) bytes
@@ -13,6 +12,6 @@ is_long reply bytes shown (inl is) same many =
 is_long reply bytes shown (inr is) same many =
     subst (λ (r : Reply). IsLong r shown) (sym is) (subst (λ (xs : List ℕ). IsLong (Found bytes) xs) (sym same) (found_long bytes many))
 
-pub returns-then-len-gt-MOST_SHOWN : goal.returns-then-len-gt-MOST_SHOWN
+pub returns-then-len-gt-MOST_SHOWN : Rattle.script_text.proofs.reply.many_shown.Goals.returns-then-len-gt-MOST_SHOWN
 returns-then-len-gt-MOST_SHOWN c =
     is_long c.args.reply.now c.in-Shown.bytes c.as_slice.result.now c.in-Shown.is c.as_slice.ensures (omega (arith, c.len.ensures, c.if-len-gt-MOST_SHOWN.true))

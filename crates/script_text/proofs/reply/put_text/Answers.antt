@@ -1,5 +1,4 @@
 use Rattle.script_text.proofs.Words.{◌≡◌, ◌∙◌, ap, ℕ, List, ◌++◌, append_assoc, codes, decimal, reply_text}
-use Rattle.script_text.proofs.reply.put_text.Goals as goal
 
 -- six texts with their numbers, put two by two from the last
 six : (a m b n c o d p e q f r rest last mid all : List ℕ) → last ≡ e ++ q ++ f ++ r ++ rest → mid ≡ c ++ o ++ d ++ p ++ last → all ≡ a ++ m ++ b ++ n ++ mid
@@ -7,7 +6,7 @@ six : (a m b n c o d p e q f r rest last mid all : List ℕ) → last ≡ e ++ q
 six a m b n c o d p e q f r rest last mid all third second first =
     first ∙ ap (λ (t : List ℕ). a ++ m ++ b ++ n ++ t) (second ∙ ap (λ (t : List ℕ). c ++ o ++ d ++ p ++ t) third) ∙ simp append_assoc
 
-pub returns-in-Numbers-clause-text : goal.returns-in-Numbers-clause-text
+pub returns-in-Numbers-clause-text : Rattle.script_text.proofs.reply.put_text.Goals.returns-in-Numbers-clause-text
 unfolding reply_text
 returns-in-Numbers-clause-text c =
     let is = c.in-Numbers.is in

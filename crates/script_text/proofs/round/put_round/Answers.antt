@@ -1,6 +1,5 @@
 use Rattle.script_text.proofs.Words.{◌≡◌, ◌∙◌, ◌*◌, ap, sym, ℕ, List, [], ◌∷◌, ◌++◌, append_assoc, codes, decimal, hex_text, WithFront}
 use Rattle.std.proofs.Common.{append-nil}
-use Rattle.script_text.proofs.round.put_round.Goals as goal
 
 -- the lines of a round are their words, one behind the other
 one_behind_the_other : (b d get put fetch lay e f s four end p i q j v w : List ℕ)
@@ -23,7 +22,7 @@ put_in_turn b d get put fetch lay e f s four end p i q j v w none t1 t2 t3 t4 t5
     ++ (fetch ++ (q ++ (s ++ (i ++ (four ++ (end ++ (lay ++ (p ++ (s ++ (i ++ (s ++ (w ++ (end ++ (e ++ (end ++ (f ++ last))))))))))))))))))))))))))))))))) (append-nil end)
     ∙ sym (one_behind_the_other b d get put fetch lay e f s four end p i q j v w))
 
-pub returns : goal.returns
+pub returns : Rattle.script_text.proofs.round.put_round.Goals.returns
 returns c =
     let cleared = ap (λ (w : WithFront). w.text) c.clear.ensures in
     put_in_turn (codes "1 begin") (codes "2 begin") (codes "1 get ") (codes "1 put ") (codes "2 get ") (codes "2 put ") (codes "1 end") (codes "2 end")

@@ -1,5 +1,4 @@
 use Rattle.script_text.proofs.Words.{◌≡◌, ◌+◌, ℕ, true, List, ◌++◌, take, drop, refl, sym, ◌∙◌, ap, arith, list_all, drop-take, take-append-drop, take-take, list_all-append, is_word_byte}
-use Rattle.script_text.proofs.word.begun_length.Goals as goal
 
 -- the bytes up to a place and those behind it
 both : (text : List ℕ) (n m : ℕ) → list_all is_word_byte (take n text) ≡ true → list_all is_word_byte (take m (drop n text)) ≡ true
@@ -10,5 +9,5 @@ both text n m front back =
     ∙ take-append-drop n (take (n + m) text) in
     ap (list_all is_word_byte) (sym parts) ∙ list_all-append is_word_byte (take n text) (take m (drop n text)) ∙ rw (front, back) refl
 
-pub bytes-preserved : goal.bytes-preserved
+pub bytes-preserved : Rattle.script_text.proofs.word.begun_length.Goals.bytes-preserved
 bytes-preserved c = (omega arith, both c.args.rest.now c.bytes.at 16 c.bytes.invariant.1 (c.are_word_bytes.ensures c.if-not-are_word_bytes.false))

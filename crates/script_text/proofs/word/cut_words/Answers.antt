@@ -1,9 +1,8 @@
 -- A word that has bytes takes the next place, while there is one.
 use Rattle.script_text.proofs.{Words.{◌≡◌, ◌∙◌, ◌<◌, arith, Bor, ℕ, List, [], ◌∷◌, ◌++◌, length, take, nat_tests, length-set, words_of, texts, MOST_WORDS}, FirstItems.{first_grow, first_stay}, WordCuts.{cut_all, cut_more, cut_none, length_nil}, word.cut_words.Goals.{else-not-is_empty-via-then-not-is_empty+else-count-lt-MOST_WORDS, else-not-is_empty-via-else-not-is_empty}}
-use Rattle.script_text.proofs.word.cut_words.Goals as goal
 
 pub loop-rest-preserved-then-count-lt-MOST_WORDS :
-    goal.loop-rest-preserved-then-count-lt-MOST_WORDS
+    Rattle.script_text.proofs.word.cut_words.Goals.loop-rest-preserved-then-count-lt-MOST_WORDS
 loop-rest-preserved-then-count-lt-MOST_WORDS c =
     let was = c.loop-rest.invariant in
     let (cut, so, kept) = was.words in
@@ -19,7 +18,7 @@ loop-rest-preserved-then-count-lt-MOST_WORDS c =
       );
     }
 
-pub loop-rest-preserved : goal.loop-rest-preserved
+pub loop-rest-preserved : Rattle.script_text.proofs.word.cut_words.Goals.loop-rest-preserved
 loop-rest-preserved c =
     let was = c.loop-rest.invariant in
     let (cut, so, kept) = was.words in
@@ -45,7 +44,7 @@ loop-rest-preserved c =
       words = by_case;
     }
 
-pub returns-clause-words : goal.returns-clause-words
+pub returns-clause-words : Rattle.script_text.proofs.word.cut_words.Goals.returns-clause-words
 returns-clause-words c =
     let was = c.loop-rest.invariant in
     let (cut, so, kept) = was.words in

@@ -1,8 +1,7 @@
 -- What was cut off so far, and what is left of the line.
 use Rattle.script_text.proofs.Words.{◌≡◌, ◌≤◌, ◌++◌, Bor, ℕ, List, take, length, list_all, is_printable, words_of, MOST_WORDS, texts}
-use Rattle.script_text.proofs.word.cut_words.Given as goal
 
-abbrev pub invariant-loop-rest : goal.invariant-loop-rest
+abbrev pub invariant-loop-rest : Rattle.script_text.proofs.word.cut_words.Given.invariant-loop-rest
 invariant-loop-rest l = record {
   fits : l.count ≤ MOST_WORDS;
   room : length l.places ≡ MOST_WORDS;
@@ -10,5 +9,5 @@ invariant-loop-rest l = record {
   words : (cut : List (Bor (List ℕ))) × (words_of l.line ≡ texts cut ++ words_of l.rest) × (take l.count l.places ≡ take MOST_WORDS cut);
 }
 
-abbrev pub decreases-loop-rest : goal.decreases-loop-rest
+abbrev pub decreases-loop-rest : Rattle.script_text.proofs.word.cut_words.Given.decreases-loop-rest
 decreases-loop-rest l = length l.rest

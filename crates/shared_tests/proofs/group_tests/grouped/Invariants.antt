@@ -2,7 +2,6 @@
 use Rattle.iso_core.specs.Core.{disk_of}
 use Rattle.iso_memdisk.specs.MemDisk.{state_of}
 use Rattle.shared_tests.specs.Starts.{start_of}
-use Rattle.shared_tests.proofs.group_tests.grouped.Given as goal
 
-abbrev pub ghosts-run_group : goal.ghosts-run_group
+abbrev pub ghosts-run_group : Rattle.shared_tests.proofs.group_tests.grouped.Given.ghosts-run_group
 ghosts-run_group g a = record { start = start_of a.core; disk = state_of (disk_of a.core) }

@@ -1,5 +1,4 @@
 -- The ledger is the new one.
-use Rattle.shared_tests.proofs.refusal_tests.run_fault.Given as goal
 
-abbrev pub ghosts-ended : goal.ghosts-ended
+abbrev pub ghosts-ended : Rattle.shared_tests.proofs.refusal_tests.run_fault.Given.ghosts-ended
 ghosts-ended g a = record { name = a.blank.name; parts = a.blank.parts }

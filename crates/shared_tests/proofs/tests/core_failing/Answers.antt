@@ -1,14 +1,16 @@
-use Rattle.std.proofs.Common.{subst}
+use Rattle.std.proofs.Common.{replicate, subst}
 use Rattle.iso_core.specs.{Core.{StandsFor, disk_of}, Standing.up}
-use Rattle.iso_memdisk.{specs.{Laws.lawful, MemDisk.state_of}, proofs.Blank.{blank_now, still_starts}}
-use Rattle.iso_model.specs.{declared.access.Geometry.Geometry, World.{empty_history, fresh}}
-use Rattle.iso_shared.proofs.TestStarts.{may_start}
-use Rattle.shared_tests.proofs.tests.core_failing.Goals as goal
+use Rattle.iso_memdisk.{specs.{Laws.lawful, MemDisk.{Starts, state_of}, declared.disk.MemDisk.MemDisk}, proofs.Blank.still_starts}
+use Rattle.iso_model.specs.{declared.access.Geometry.Geometry, Geometry.image_size, World.{empty_history, fresh}}
+use Rattle.iso_shared.proofs.TestStarts.{may_start, ok_has}
 
-pub format_image-requires-clause-blank : goal.format_image-requires-clause-blank
-format_image-requires-clause-blank c = blank_now 8832 c.fail_kind.new.self c.in_ok-bytes.bytes.items (still_starts c.new-disk.result _ _ c.fail_kind.ensures.untouched c.new-disk.ensures.stable) c.in_ok-bytes.ensures
+pub core_on-requires-clause-blank : Rattle.shared_tests.proofs.tests.core_failing.Goals.core_on-requires-clause-blank
+core_on-requires-clause-blank c =
+    let zeros = replicate (image_size c.with_long_logs-geometry.result) 0 in
+    let made = ok_has (λ (d : MemDisk). Starts d zeros) c.blank.result c.in_ok-disk.disk c.in_ok-disk.ensures.value c.blank.ensures in
+    still_starts c.in_ok-disk.disk c.fail_kind.new.self zeros c.fail_kind.ensures.untouched made
 
-pub returns-in-Ok : goal.returns-in-Ok
+pub returns-in-Ok : Rattle.shared_tests.proofs.tests.core_failing.Goals.returns-in-Ok
 returns-in-Ok c =
     let core = c.in-Ok.core in
-    may_start state_of core (lawful (disk_of core)) (subst (λ (g : Geometry). StandsFor state_of core (fresh g 1 (empty_history g)) up) c.small.ensures.same c.in-Ok.ensures.stands)
+    may_start state_of core (lawful (disk_of core)) (subst (λ (g : Geometry). StandsFor state_of core (fresh g 1 (empty_history g)) up) c.with_long_logs-geometry.ensures.same c.in-Ok.ensures.stands)

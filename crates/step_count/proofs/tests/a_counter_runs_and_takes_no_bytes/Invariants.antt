@@ -1,5 +1,4 @@
 -- The ledger is the new one.
-use Rattle.step_count.proofs.tests.a_counter_runs_and_takes_no_bytes.Given as goal
 
-abbrev pub ghosts-bytes_of_a_counter : goal.ghosts-bytes_of_a_counter
+abbrev pub ghosts-bytes_of_a_counter : Rattle.step_count.proofs.tests.a_counter_runs_and_takes_no_bytes.Given.ghosts-bytes_of_a_counter
 ghosts-bytes_of_a_counter g a = record { name = a.blank.name; parts = a.blank.parts }

@@ -1,6 +1,5 @@
 use Rattle.store_calls.proofs.{Words.{◌≡◌, [], sym, refl, ap, ◌&&◌, ◌==◌, Bool, true, false, cond, ℕ, List, Err, eq-eqb, arith, Area, BadKey, Array, is_key, pairs_reply, Done, Program, outcome, Scanned, scan_below, scan_program, with_head, area_of, stored}, Called.{no_more, scan_refused}}
 use Rattle.script_model.specs.declared.script.Reply.TheVariants as reply
-use Rattle.store_calls.proofs.range.scan.Goals as goal
 
 not_both : (x y z : Bool) → (x && y && z) ≡ false → z ≡ true → (x && y) ≡ false
 not_both true true true e t = e
@@ -15,7 +14,7 @@ no_key a from to most room A bad =
     let call : Bool → Program Scanned = λ t. cond t (with_head a (scan_below a from to most)) (Done (Err BadKey)) in
     ap (λ t. stored pairs_reply (outcome room (call t) A)) bad
 
-pub returns-then-most-eq0-clause-called : goal.returns-then-most-eq0-clause-called
+pub returns-then-most-eq0-clause-called : Rattle.store_calls.proofs.range.scan.Goals.returns-then-most-eq0-clause-called
 returns-then-most-eq0-clause-called g c =
     let t = g.T.TxBlocks.state c.args.tx.now in
     let none : (c.args.most == 0) ≡ true = eq-eqb c.args.most 0 (omega (arith, c.if-most-eq0.true)) in
@@ -26,7 +25,7 @@ returns-then-most-eq0-clause-called g c =
       stopped = tt;
     }
 
-pub returns-in-Err : goal.returns-in-Err
+pub returns-in-Err : Rattle.store_calls.proofs.range.scan.Goals.returns-in-Err
 returns-in-Err g c =
     let t = g.T.TxBlocks.state c.args.tx.now in
     let both = scan_refused t (g.T.TxBlocks.state c.scan.new.tx) pairs_reply (g.T.TxBlocks.device c.args.tx.now) (g.T.TxBlocks.device c.scan.new.tx) 1 c.requires.is_open c.refusal.result

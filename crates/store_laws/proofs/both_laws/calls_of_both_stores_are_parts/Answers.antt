@@ -3,9 +3,8 @@ use Rattle.store_laws.proofs.{Words.{IsHashRegion, hash_map, IsTreeRegion, tree_
 use Rattle.store_model.specs.TreeCalls as tree
 use Rattle.store_laws.proofs.HashWrites as hash_writes
 use Rattle.store_laws.proofs.TreeWrites as tree_writes
-use Rattle.store_laws.proofs.both_laws.calls_of_both_stores_are_parts.Goals as goal
 
-pub returns : goal.returns
+pub returns : Rattle.store_laws.proofs.both_laws.calls_of_both_stores_are_parts.Goals.returns
 returns _ = record {
   hash_got = λ a b key A t u parts r area apart is ended local.
       hash_part a b (hash.get_program a key) A t u parts (Get key) (Got r) r apart is ended (hash_writes.get_within a key A t u r area is.base ended) (got_local (IsHashRegion a) (hash_map a) key t u r local);

@@ -1,9 +1,8 @@
 use Rattle.store_laws.proofs.{Words.{arith, inl, zeros, hash_area, tree_area, limits, hash_area_is, tree_area_is}, Zeros.zeros_blank}
 use Rattle.store_laws.proofs.HashBlank as hash
 use Rattle.store_laws.proofs.TreeBlank as tree
-use Rattle.store_laws.proofs.both_laws.stores_of_an_image_are_apart.Goals as goal
 
-pub returns : goal.returns
+pub returns : Rattle.store_laws.proofs.both_laws.stores_of_an_image_are_apart.Goals.returns
 returns _ = record {
   disjoint = λ g. inl (omega arith);
   areas = λ g valid first second. (hash_area_is g valid first, tree_area_is g valid second);

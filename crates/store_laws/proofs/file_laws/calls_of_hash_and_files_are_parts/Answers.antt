@@ -1,9 +1,8 @@
-use Rattle.store_laws.proofs.{Words.{IsHashRegion, hash_map, Del, Get, Got, Put, WasPut, WasThere, create_program, read_program, remove_program, rename_program, write_program, AreFileRegions, files, FileMade, FileRead, FileThere, MakeFile, ReadFile, RemoveFile, RenameFile, WriteFile}, FileCalls.{made_local, read_local, remove_local, rename_local, write_local}, FileParts.{file_part, hash_beside}, FileWrites.{create_in, ran_within, read_in, remove_in, rename_in, write_in}, KeyCalls.{del_local, got_local, put_local}}
+use Rattle.store_laws.proofs.{Words.{IsHashRegion, hash_map, Del, Get, Got, Put, WasPut, WasThere, create_program, read_program, remove_program, rename_program, write_program, AreFileRegions, files, FileMade, FileRead, FileThere, MakeFile, ReadFile, RemoveFile, RenameFile, WriteFile}, FileParts.{file_part, hash_beside}, FileWrites.{create_in, ran_within, read_in, remove_in, rename_in, write_in}, KeyCalls.{made_local, read_local, remove_local, rename_local, write_local, del_local, got_local, put_local}}
 use Rattle.store_model.specs.HashCalls as hash
 use Rattle.store_laws.proofs.HashWrites as hash_writes
-use Rattle.store_laws.proofs.file_laws.calls_of_hash_and_files_are_parts.Goals as goal
 
-pub returns : goal.returns
+pub returns : Rattle.store_laws.proofs.file_laws.calls_of_hash_and_files_are_parts.Goals.returns
 returns _ = record {
   hash_got = λ a b key A t u parts r area one two is ended local.
       hash_beside a b (hash.get_program a key) A t u parts (Get key) (Got r) r one two is ended (hash_writes.get_within a key A t u r area is.base ended) (got_local (IsHashRegion a) (hash_map a) key t u r local);

@@ -1,7 +1,6 @@
-use Rattle.store_laws.proofs.{Words.{AreFileRegions, files, FileMade, FileRead, FileThere, MakeFile, ReadFile, RemoveFile, RenameFile, WriteFile, file_store}, FileCalls.{made_local, read_local, remove_local, rename_local, write_local}, Growth.called}
-use Rattle.store_laws.proofs.file_laws.file_calls_are_parts.Goals as goal
+use Rattle.store_laws.proofs.{Words.{AreFileRegions, files, FileMade, FileRead, FileThere, MakeFile, ReadFile, RemoveFile, RenameFile, WriteFile, file_store}, Growth.called, KeyCalls.{made_local, read_local, remove_local, rename_local, write_local}}
 
-pub returns : goal.returns
+pub returns : Rattle.store_laws.proofs.file_laws.file_calls_are_parts.Goals.returns
 returns _ = record {
   made = λ a name A t u parts r is ended local. called (file_store a) A t u parts (MakeFile name) FileMade ended.done is ended.is (made_local (AreFileRegions a) (files a) name t u r local);
   was_read = λ a name off len A t u parts r is ended local. called (file_store a) A t u parts (ReadFile name off len) (FileRead r) ended.done is ended.is (read_local (AreFileRegions a) (files a) name off len t u r local);

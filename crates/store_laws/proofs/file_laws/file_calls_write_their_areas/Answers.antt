@@ -1,7 +1,6 @@
 use Rattle.store_laws.proofs.{Words.{create_program, read_program, remove_program, rename_program, write_program}, FileWrites.{create_in, ran_within, read_in, remove_in, rename_in, write_in}}
-use Rattle.store_laws.proofs.file_laws.file_calls_write_their_areas.Goals as goal
 
-pub returns : goal.returns
+pub returns : Rattle.store_laws.proofs.file_laws.file_calls_write_their_areas.Goals.returns
 returns _ = record {
   made = λ a name A t u r areas base run. ran_within a (create_program a name) A t u r (create_in a areas name) base run;
   was_read = λ a name off len A t u r areas base run. ran_within a (read_program a name off len) A t u r (read_in a name off len) base run;

@@ -1,7 +1,6 @@
 use Rattle.store_laws.proofs.{Words.{tree_store, files_are_of_their_blocks, file_store}, Looking.{commit_calls, commit_looks, live_looks}}
-use Rattle.store_laws.proofs.file_laws.looks_into_the_tree_beside_files_answer.Goals as goal
 
-pub returns : goal.returns
+pub returns : Rattle.store_laws.proofs.file_laws.looks_into_the_tree_beside_files_answer.Goals.returns
 returns _ = record {
   calls = λ b g H n areas. commit_calls (file_store b) (tree_store b.tree) (files_are_of_their_blocks b areas) (λ A regions. regions.tree) g H n;
   looks = λ b g H n areas. commit_looks (file_store b) (tree_store b.tree) (files_are_of_their_blocks b areas) (λ A regions. regions.tree) g H n;

@@ -1,8 +1,7 @@
 use Rattle.store_laws.proofs.{Words.{hash_store, tree_store, read_program, read_reads, get_reads, program_reads, file_store}, FileParts.reads_beside}
 use Rattle.store_model.specs.TreeCalls as tree
-use Rattle.store_laws.proofs.file_laws.tree_look_ups_stand_beside_files.Goals as goal
 
-pub returns : goal.returns
+pub returns : Rattle.store_laws.proofs.file_laws.tree_look_ups_stand_beside_files.Goals.returns
 returns _ = record {
   got = λ a b key A t u parts r is ended. reads_beside (hash_store a) (file_store b) (tree.get_program b.tree key) A t u parts r (get_reads b.tree key) is ended;
   found = λ a b from to most A t u parts r is ended.

@@ -1,7 +1,6 @@
 use Rattle.store_laws.proofs.{Growth.{begun, called, other, refused}, Longer.commits_by_calls}
-use Rattle.store_laws.proofs.laws.transactions_grow_by_parts.Goals as goal
 
-pub returns : goal.returns
+pub returns : Rattle.store_laws.proofs.laws.transactions_grow_by_parts.Goals.returns
 returns g c = record {
   begun = begun (g.S.RegionStore.store c.args.store.now);
   called = called (g.S.RegionStore.store c.args.store.now);

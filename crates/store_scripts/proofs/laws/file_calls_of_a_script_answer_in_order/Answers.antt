@@ -1,16 +1,4 @@
-use Rattle.store_scripts.proofs.{Words.{last, after, no_notes, notes_after, the_files}, Blocks.files_second, Commits.{commits_told, groups_told}, FileGoes.file_goes, Lines.{noted_after, noted_begins}, Order.{live_told, read_only_told}}
-use Rattle.store_scripts.proofs.laws.file_calls_of_a_script_answer_in_order.Goals as goal
+use Rattle.store_scripts.proofs.{Words.the_files, Blocks.files_second, Commits.{commits_told, groups_told}, FileGoes.file_goes, Whole.{calls_of, live_of, read_only_of}}
 
-pub returns : goal.returns
-returns _ = record {
-  by_calls = λ W lines begins good keeps.
-      (noted_after the_files files_second file_goes (Unit {0}) (last W.history) W (no_notes the_files) lines (noted_begins the_files files_second file_goes W begins) good (λ q. keeps)).by tt;
-  commits = commits_told the_files files_second file_goes;
-  grouped = groups_told the_files files_second file_goes;
-  live = λ W lines client t begins good keeps found kept.
-      live_told the_files files_second (last W.history) (after W lines) (notes_after the_files W (no_notes the_files) lines)
-      (noted_after the_files files_second file_goes (Unit {0}) (last W.history) W (no_notes the_files) lines (noted_begins the_files files_second file_goes W begins) good (λ q. keeps)) client t found kept;
-  read_only = λ W lines client t begins good keeps found none.
-      read_only_told the_files files_second (last W.history) (after W lines) (notes_after the_files W (no_notes the_files) lines)
-      (noted_after the_files files_second file_goes (Unit {0}) (last W.history) W (no_notes the_files) lines (noted_begins the_files files_second file_goes W begins) good (λ q. keeps)) client t found none;
-}
+pub returns : Rattle.store_scripts.proofs.laws.file_calls_of_a_script_answer_in_order.Goals.returns
+returns _ = record { by_calls = calls_of the_files files_second file_goes; commits = commits_told the_files files_second file_goes; grouped = groups_told the_files files_second file_goes; live = live_of the_files files_second file_goes; read_only = read_only_of the_files files_second file_goes }

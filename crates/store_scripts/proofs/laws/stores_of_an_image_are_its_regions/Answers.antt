@@ -1,7 +1,6 @@
 use Rattle.store_scripts.proofs.{Words.{IsHashRegion, hash_map, hash_area, tree_area, IsTreeRegion, tree_map, AreFileRegions, file_blocks, files, files_area}, Images.{begins_well, files_begin_well, if_any_is, none_is_empty}}
-use Rattle.store_scripts.proofs.laws.stores_of_an_image_are_its_regions.Goals as goal
 
-pub returns : goal.returns
+pub returns : Rattle.store_scripts.proofs.laws.stores_of_an_image_are_its_regions.Goals.returns
 returns _ = record {
   hash = λ g A. if_any_is g.hash (IsHashRegion (hash_area g) A) (hash_map (hash_area g) A);
   tree = λ g A. if_any_is g.tree (IsTreeRegion (tree_area g) A) (tree_map (tree_area g) A);

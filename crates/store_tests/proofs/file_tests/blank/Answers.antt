@@ -1,8 +1,7 @@
 use Rattle.std.proofs.{Common.{◌++◌, ap, List, ℕ, drop, length, length-append, arith}, lemmas.List.length-take-le}
 use Rattle.tx_blocks.specs.Tx.{Tx}
-use Rattle.store_tests.proofs.file_tests.blank.Goals as goal
 
-pub returns : goal.returns
+pub returns : Rattle.store_tests.proofs.file_tests.blank.Goals.returns
 returns c =
     let v = c.in_ok-bytes.bytes in
     let new = c.lay.new.into in

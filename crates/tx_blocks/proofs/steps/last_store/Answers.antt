@@ -1,7 +1,6 @@
 use Rattle.tx_blocks.proofs.{Words.{Ok, Result, StoreError, Program, Done, Store}, Progress.at_start, Refusals.cut_at_store}
-use Rattle.tx_blocks.proofs.steps.last_store.Goals as goal
 
-pub returns-in-Err-clause-run : goal.returns-in-Err-clause-run
+pub returns-in-Err-clause-run : Rattle.tx_blocks.proofs.steps.last_store.Goals.returns-in-Err-clause-run
 returns-in-Err-clause-run g c =
     let state = g.T.TxBlocks.state in
     let whole : Program (Result _ StoreError) = Store c.args.block c.args.spans.now c.args.bytes.now (Done (Ok c.args.answer)) in

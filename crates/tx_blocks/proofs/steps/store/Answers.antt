@@ -1,7 +1,6 @@
 use Rattle.tx_blocks.proofs.{Words.{◌∙◌, sym, ap, take, get_or, List, [], ◌∷◌, arith, length-take-le, take_more, Span, IsSpan, store_access, with_accesses}, Marking.{open_from, may_mark, marked_access, all_at}}
-use Rattle.tx_blocks.proofs.steps.store.Goals as goal
 
-pub mark-requires : goal.mark-requires
+pub mark-requires : Rattle.tx_blocks.proofs.steps.store.Goals.mark-requires
 mark-requires g c =
     let state = g.T.TxBlocks.state in
     let is_open = open_from (state c.args.tx.now) c.args.block _ _ c.in_ok-write_block.ensures.cause in
@@ -9,7 +8,7 @@ mark-requires g c =
     (all_at (IsSpan (state c.args.tx.now).size) c.args.spans.now c.loop-span.span-index _ c.requires.spans c.loop-span-test.true)
     (omega (arith, length-take-le c.loop-span.span-index c.args.spans.now (omega arith)))
 
-pub loop-span-preserved : goal.loop-span-preserved
+pub loop-span-preserved : Rattle.tx_blocks.proofs.steps.store.Goals.loop-span-preserved
 loop-span-preserved g c =
     let state = g.T.TxBlocks.state in
     let span : Span = get_or c.args.spans.now c.loop-span.span-index (record { off = 0; len = 0 }) in

@@ -1,8 +1,7 @@
 -- All marks have been added.
 use Rattle.tx_table.proofs.{Words.{◌≡◌, ◌∙◌, ℕ, ◌<◌, ap, arith, length, take, list_any, in_span}, Covered.spans_cover}
-use Rattle.tx_table.proofs.fold.covered_bytes.Goals as goal
 
-pub returns : goal.returns
+pub returns : Rattle.tx_table.proofs.fold.covered_bytes.Goals.returns
 returns c p =
     let row = c.args.row.now in
     let end : c.loop-at.at ≡ row.count = omega (arith, c.loop-at-test.false, c.loop-at.auto.at-end) in

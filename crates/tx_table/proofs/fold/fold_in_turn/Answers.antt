@@ -1,8 +1,7 @@
 -- One row more.
 use Rattle.tx_table.proofs.{Words.{◌<◌, sym, subst, Read, Write, Row, IsRow}, Covered.touched_more, Slots.all_there}
-use Rattle.tx_table.proofs.fold.fold_in_turn.Goals as goal
 
-pub loop-at-preserved : goal.loop-at-preserved
+pub loop-at-preserved : Rattle.tx_table.proofs.fold.fold_in_turn.Goals.loop-at-preserved
 loop-at-preserved c =
     let rows = c.args.rows.now in
     let row = c.index-rows-at.result in

@@ -1,11 +1,9 @@
-use Rattle.tx_table.proofs.{Words.{◌∙◌, ℕ, ap, arith, inl, inr, cases_lt, get_or_default, Serial, Begun}, Begins.{none_here, place_here}, Blocks.in_order, live.place_of.Goals.{else-place-entries-via-then-place-entries+else-entries-place, else-place-entries-via-else-place-entries}}
-use Rattle.tx_table.proofs.live.place_of.Goals as goal
+use Rattle.tx_table.proofs.{Words.{rules, ◌∙◌, ℕ, ap, arith, inl, inr, cases_lt, get_or_default, Serial, Begun}, Begins.{none_here, place_here}, Blocks.in_order, live.place_of.Goals.{else-place-entries-via-then-place-entries+else-entries-place, else-place-entries-via-else-place-entries}}
 
-pub returns-then-entries-place-clause-some : goal.returns-then-entries-place-clause-some
-returns-then-entries-place-clause-some c =
-    place_here c.args.tx c.place_from-place.result 0 c.args.entries.now _ c.requires c.if-place-entries.true c.if-entries-place.true
+pub returns-then-entries-place-clause-some : Rattle.tx_table.proofs.live.place_of.Goals.returns-then-entries-place-clause-some
+returns-then-entries-place-clause-some c = search (rules, arith, place_here)
 
-pub returns-clause-none : goal.returns-clause-none
+pub returns-clause-none : Rattle.tx_table.proofs.live.place_of.Goals.returns-clause-none
 returns-clause-none c =
     let es = c.args.entries.now in
     let place = c.place_from-place.result in

@@ -1,8 +1,7 @@
 -- The first slots are cleared.
 use Rattle.tx_table.proofs.Words.{◌≡◌, ℕ, ◌<◌, ◌≤◌, [], None, length, get_or, replicate}
-use Rattle.tx_table.proofs.patches.clear_slots.Given as goal
 
-abbrev pub invariant-loop-slot : goal.invariant-loop-slot
+abbrev pub invariant-loop-slot : Rattle.tx_table.proofs.patches.clear_slots.Given.invariant-loop-slot
 invariant-loop-slot l = record {
   len : length l.slots.items ≡ length l.initial.slots.items;
   cleared : (k : ℕ) → k < l.slot → get_or l.slots.items k [] ≡ replicate (length (get_or l.initial.slots.items k [])) None;

@@ -1,14 +1,13 @@
 -- Blocks that rise are parted by the test on the block.
 use Rattle.tx_table.proofs.{Words.{◌≡◌, ℕ, true, false, arith, rules, ltb, ltb-true, ltb-false, IsPartitionPoint, IsPartitionPoint-from_clause, IsPartitionedBy-ltb}, Blocks.in_order}
-use Rattle.tx_table.proofs.patches.place_of.Goals as goal
 
-point : (c : goal.After-partition_point) → IsPartitionPoint (λ e. ltb e.0 c.args.block ≡ true) (λ e. ltb e.0 c.args.block ≡ false) c.args.order.now c.partition_point.result
+point : (c : Rattle.tx_table.proofs.patches.place_of.Goals.After-partition_point) → IsPartitionPoint (λ e. ltb e.0 c.args.block ≡ true) (λ e. ltb e.0 c.args.block ≡ false) c.args.order.now c.partition_point.result
 point c =
     IsPartitionPoint-from_clause (λ (e : ℕ × ℕ). ltb e.0 c.args.block) _ _ c.partition_point.ensures.partitioned
     (IsPartitionedBy-ltb (λ (e : ℕ × ℕ). e.0) c.args.order.now c.args.block (λ i j d le lt. in_order 0 i j c.args.order.now d c.requires le lt)) (λ a r q h. search rules)
 
-pub returns-clause-before : goal.returns-clause-before
+pub returns-clause-before : Rattle.tx_table.proofs.patches.place_of.Goals.returns-clause-before
 returns-clause-before c k lt d = ltb-true _ _ ((point c).0 k d (omega arith) lt)
 
-pub returns-clause-after : goal.returns-clause-after
+pub returns-clause-after : Rattle.tx_table.proofs.patches.place_of.Goals.returns-clause-after
 returns-clause-after c k le lt d = ltb-false _ _ ((point c).1 k d le lt)

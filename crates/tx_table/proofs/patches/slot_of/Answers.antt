@@ -1,8 +1,7 @@
 -- Where the place of the block has another one, no place has it.
 use Rattle.tx_table.proofs.{Words.arith, Blocks.other_places}
-use Rattle.tx_table.proofs.patches.slot_of.Goals as goal
 
-pub returns-then-entry-block-clause-none : goal.returns-then-entry-block-clause-none
+pub returns-then-entry-block-clause-none : Rattle.tx_table.proofs.patches.slot_of.Goals.returns-then-entry-block-clause-none
 returns-then-entry-block-clause-none c k d lt =
     let place = c.place_of-place.result in
     other_places c.args.block place c.args.order.now _ c.requires (omega arith) c.place_of-place.ensures.before

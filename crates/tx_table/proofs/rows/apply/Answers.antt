@@ -1,11 +1,10 @@
 -- One row more.
 use Rattle.tx_table.proofs.{Words.{◌≡◌, ◌∙◌, ℕ, ◌+◌, true, false, List, ◌∷◌, [], ◌++◌, ap, sym, subst, length, get_or, take, map, IsTrue, Access, is_write, same_kind, Kind, Write, Row, has_patch, patch_at, AreEffects, Held, access_of, IsRow}, Applied.{patch_of_row, read_applied, rows_more, write_applied}, Slots.all_there, rows.apply.Goals.{in-Write, in-Read}}
-use Rattle.tx_table.proofs.rows.apply.Goals as goal
 
 row_is : (rows : List Row) (i : ℕ) (row : Row) (P : Row → Type 0) → row ≡ get_or rows i row → P (get_or rows i row) → P row
 row_is rows i row P is at = subst P (sym is) at
 
-pub set-requires-clause-held : goal.set-requires-clause-held
+pub set-requires-clause-held : Rattle.tx_table.proofs.rows.apply.Goals.set-requires-clause-held
 set-requires-clause-held c =
     let row = c.index-rows-at.result in
     let write : IsTrue (is_write (access_of row)) = ap (λ (k : Kind). same_kind Write k) c.in-Write.is in
@@ -13,14 +12,14 @@ set-requires-clause-held c =
     let held = patch_of_row c.loop-at.at c.args.rows.now row c.args.patches.now.entries c.requires.held c.loop-at-test.true there in
     c.loop-at.invariant.kept row.block ∙ subst (λ (r : Row). has_patch r.block c.args.patches.now.entries ≡ true) (sym c.index-rows-at.is) held
 
-pub set-requires-clause-bytes : goal.set-requires-clause-bytes
+pub set-requires-clause-bytes : Rattle.tx_table.proofs.rows.apply.Goals.set-requires-clause-bytes
 set-requires-clause-bytes c =
     let row = c.index-rows-at.result in
     let write : IsTrue (is_write (access_of row)) = ap (λ (k : Kind). same_kind Write k) c.in-Write.is in
     let fits : IsRow c.args.patches.now.size row = subst (IsRow c.args.patches.now.size) (sym c.index-rows-at.is) (all_there (IsRow c.args.patches.now.size) c.loop-at.at c.args.rows.now row c.requires.rows c.loop-at-test.true) in
     ap (length {A = ℕ}) c.as_slice.ensures.value ∙ fits.bytes write ∙ sym c.loop-at.invariant.size
 
-pub loop-at-preserved : goal.loop-at-preserved
+pub loop-at-preserved : Rattle.tx_table.proofs.rows.apply.Goals.loop-at-preserved
 loop-at-preserved c =
     let row = c.index-rows-at.result in
     let rows = c.args.rows.now in

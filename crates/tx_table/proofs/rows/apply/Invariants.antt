@@ -1,8 +1,7 @@
 -- The writes of the rows so far are in the patches.
 use Rattle.tx_table.proofs.Words.{◌≡◌, ℕ, take, map, has_patch, AreEffects, access_of}
-use Rattle.tx_table.proofs.rows.apply.Given as goal
 
-abbrev pub invariant-loop-at : goal.invariant-loop-at
+abbrev pub invariant-loop-at : Rattle.tx_table.proofs.rows.apply.Given.invariant-loop-at
 invariant-loop-at l = record {
   size : l.patches.size ≡ l.initial.patches.size;
   spare : l.patches.spare ≡ l.initial.patches.spare;

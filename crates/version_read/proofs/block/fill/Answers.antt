@@ -1,8 +1,7 @@
 -- A stretch is read, and what was seen behind it is passed.
 use Rattle.version_read.proofs.{Words.{◌∙◌, sym, refl, ◌-◌, arith, subst, length-contents, joined_unwritten, starts_unwritten, IsFilled}, Fills.{count_more, filled_more, filled_none, filled_passed}, Wanted.{unseen_le, unseen_none}}
-use Rattle.version_read.proofs.block.fill.Goals as goal
 
-pub loop-at-init : goal.loop-at-init
+pub loop-at-init : Rattle.version_read.proofs.block.fill.Goals.loop-at-init
 loop-at-init g c =
     let found = c.next_place-at.ensures in
     record {
@@ -15,13 +14,10 @@ loop-at-init g c =
       unwritten = starts_unwritten (g.met.D.Disk.lawful c.args.disk.now);
     }
 
-pub overflow_add-count : goal.overflow_add-count
-overflow_add-count g c =
-    let was = c.loop-at.invariant in
-    let le = unseen_le c.args.seen.now c.args.off (c.loop-at.at - c.args.off) in
-    omega (arith, le, was.count, was.from, c.next_place-to.ensures.within, c.requires.fits, c.requires.size)
+pub overflow_add-count : Rattle.version_read.proofs.block.fill.Goals.overflow_add-count
+overflow_add-count g c = search (arith, unseen_le)
 
-pub loop-at-preserved : goal.loop-at-preserved
+pub loop-at-preserved : Rattle.version_read.proofs.block.fill.Goals.loop-at-preserved
 loop-at-preserved g c =
     let was = c.loop-at.invariant in
     let ends = c.next_place-to.ensures in

@@ -1,8 +1,7 @@
 -- The bytes so far are the image's where they were wanted.
 use Rattle.version_read.proofs.{Words.{◌≡◌, ◌≤◌, ◌<◌, ◌-◌, false, ForSome, WritesNothing, is_seen, IsFilled}, Wanted.unseen}
-use Rattle.version_read.proofs.block.fill.Given as goal
 
-abbrev pub invariant-loop-at : goal.invariant-loop-at
+abbrev pub invariant-loop-at : Rattle.version_read.proofs.block.fill.Given.invariant-loop-at
 invariant-loop-at g l = record {
   from : l.off ≤ l.at;
   to : l.at ≤ l.end;
@@ -13,5 +12,5 @@ invariant-loop-at g l = record {
   unwritten : WritesNothing (g.D.Disk.state l.fn.disk) (g.D.Disk.state l.disk);
 }
 
-abbrev pub decreases-loop-at : goal.decreases-loop-at
+abbrev pub decreases-loop-at : Rattle.version_read.proofs.block.fill.Given.decreases-loop-at
 decreases-loop-at g l = l.end - l.at

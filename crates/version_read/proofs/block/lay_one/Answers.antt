@@ -1,12 +1,10 @@
 -- The bytes of one version are read where they are in the range.
-use Rattle.version_read.proofs.{Words.{sym, subst, length-contents, [], ◌∷◌, IsLaidIn}, Layings.{laid_none, laid_one}}
-use Rattle.version_read.proofs.block.lay_one.Goals as goal
+use Rattle.version_read.proofs.{Words.{arith, sym, subst, length-contents, [], ◌∷◌, IsLaidIn}, Layings.{laid_none, laid_one}}
 
-pub returns-then-first-last-clause-bytes : goal.returns-then-first-last-clause-bytes
-returns-then-first-last-clause-bytes g c = λ d is.
-    laid_none c.args.from c.args.to d c.args.version.now c.args.into.now c.max-first.result c.min-last.result c.max-first.ensures c.min-last.ensures c.if-first-last.true
+pub returns-then-first-last-clause-bytes : Rattle.version_read.proofs.block.lay_one.Goals.returns-then-first-last-clause-bytes
+returns-then-first-last-clause-bytes g c = grind (arith, laid_none)
 
-pub returns-clause-bytes : goal.returns-clause-bytes
+pub returns-clause-bytes : Rattle.version_read.proofs.block.lay_one.Goals.returns-clause-bytes
 returns-clause-bytes g c = λ d is.
     subst (IsLaidIn c.args.from c.args.to d (c.args.version.now ∷ []) c.args.into.now) (sym (c.in_ok-read_part.ensures.bytes d is))
     (laid_one c.args.from c.args.to d c.args.version.now c.args.into.now c.max-first.result c.min-last.result c.max-first.ensures c.min-last.ensures

@@ -1,8 +1,7 @@
 -- The next version is laid over what is there.
-use Rattle.version_read.proofs.{Words.{◌≡◌, ◌∙◌, List, take, arith, subst, take_all, joined_unwritten, Version, IsLaidIn}, Layings.laid_more}
-use Rattle.version_read.proofs.block.lay_over.Goals as goal
+use Rattle.version_read.proofs.{Words.{◌∙◌, arith, take_all, joined_unwritten}, Layings.laid_more}
 
-pub loop-version-preserved : goal.loop-version-preserved
+pub loop-version-preserved : Rattle.version_read.proofs.block.lay_over.Goals.loop-version-preserved
 loop-version-preserved g c =
     let was = c.loop-version.invariant in
     record {
@@ -12,7 +11,5 @@ loop-version-preserved g c =
       unwritten = joined_unwritten (g.met.D.Disk.lawful c.loop-version.disk) was.unwritten c.lay_one.ensures.unwritten;
     }
 
-pub returns-clause-bytes : goal.returns-clause-bytes
-returns-clause-bytes g c =
-    let all : take c.loop-version.version-index c.args.versions.now ≡ c.args.versions.now = take_all c.loop-version.version-index c.args.versions.now (omega (arith, c.loop-version-test.false)) in
-    λ d is. subst (λ (l : List Version). IsLaidIn c.args.from c.args.to d l c.args.into.now c.loop-version.into) all (c.loop-version.invariant.laid d is)
+pub returns-clause-bytes : Rattle.version_read.proofs.block.lay_over.Goals.returns-clause-bytes
+returns-clause-bytes g c = search (arith, take_all)

@@ -1,8 +1,7 @@
 -- Where a byte was seen, it is the one that the versions show.
 use Rattle.version_read.proofs.{Words.{◌≡◌, ◌≤◌, drop, length, ForSome, WritesNothing}, Walks.{AreDone, AreRight}, Wanted.unseen}
-use Rattle.version_read.proofs.block.read_block.Given as goal
 
-abbrev pub invariant-loop-left : goal.invariant-loop-left
+abbrev pub invariant-loop-left : Rattle.version_read.proofs.block.read_block.Given.invariant-loop-left
 invariant-loop-left g l = record {
   inside : l.left ≤ length l.versions;
   wanted : l.wanted ≡ unseen l.seen 0 (length l.fn.into);
@@ -12,5 +11,5 @@ invariant-loop-left g l = record {
   unwritten : WritesNothing (g.D.Disk.state l.fn.disk) (g.D.Disk.state l.disk);
 }
 
-abbrev pub decreases-loop-left : goal.decreases-loop-left
+abbrev pub decreases-loop-left : Rattle.version_read.proofs.block.read_block.Given.decreases-loop-left
 decreases-loop-left g l = l.left

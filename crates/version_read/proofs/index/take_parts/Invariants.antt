@@ -1,8 +1,7 @@
 -- The parts so far are taken, and the others follow.
 use Rattle.version_read.proofs.{Words.{◌+◌, map, part_of}, Additions.AreTaken}
-use Rattle.version_read.proofs.index.take_parts.Given as goal
 
-abbrev pub invariant-loop-part : goal.invariant-loop-part
+abbrev pub invariant-loop-part : Rattle.version_read.proofs.index.take_parts.Given.invariant-loop-part
 invariant-loop-part l =
-    (goal.iterator-loop-part).can_next l.part-iterator × (goal.iterator-loop-part).is_finite l.part-iterator
+    (Rattle.version_read.proofs.index.take_parts.Given.iterator-loop-part).can_next l.part-iterator × (Rattle.version_read.proofs.index.take_parts.Given.iterator-loop-part).is_finite l.part-iterator
     × AreTaken l.fn.index l.index l.number (l.gate + 20) l.at (map part_of l.view.parts) (map part_of l.part-iterator)

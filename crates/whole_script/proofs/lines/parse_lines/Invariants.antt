@@ -1,11 +1,10 @@
 use Rattle.whole_script.proofs.{Words.{◌+◌, ◌≤◌, length}, WholeScripts.AreFirst}
-use Rattle.whole_script.proofs.lines.parse_lines.Given as goal
 
-abbrev pub invariant-loop-line : goal.invariant-loop-line
+abbrev pub invariant-loop-line : Rattle.whole_script.proofs.lines.parse_lines.Given.invariant-loop-line
 invariant-loop-line l = record {
   count : l.number + length l.rest ≤ length l.bytes + 1;
   first : AreFirst l.bytes l.rest l.number l.lines.items;
 }
 
-abbrev pub decreases-loop-line : goal.decreases-loop-line
+abbrev pub decreases-loop-line : Rattle.whole_script.proofs.lines.parse_lines.Given.decreases-loop-line
 decreases-loop-line l = length l.rest

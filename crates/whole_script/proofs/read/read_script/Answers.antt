@@ -1,7 +1,6 @@
 use Rattle.whole_script.proofs.{Words.{◌<◌, ℕ, List, length, ap, sym, subst, ◌∙◌, arith, MAX_INPUT, script, IsWhyOf}, Reading.no_lines}
-use Rattle.whole_script.proofs.read.read_script.Goals as goal
 
-pub returns-in-Ok-parse_lines-clause-lines : goal.returns-in-Ok-parse_lines-clause-lines
+pub returns-in-Ok-parse_lines-clause-lines : Rattle.whole_script.proofs.read.read_script.Goals.returns-in-Ok-parse_lines-clause-lines
 returns-in-Ok-parse_lines-clause-lines g c =
     let same = c.as_slice.ensures.value in
     let whole : length c.in-Ok.bytes.items < MAX_INPUT = omega (arith, ap length same, c.in-Ok-parse_lines.ensures.whole) in
@@ -14,7 +13,7 @@ returns-in-Ok-parse_lines-clause-lines g c =
       passed = c.in-Ok.ensures.passed;
     }
 
-pub returns-clause-why : goal.returns-clause-why
+pub returns-clause-why : Rattle.whole_script.proofs.read.read_script.Goals.returns-clause-why
 returns-clause-why g c =
     let same = c.as_slice.ensures.value in
     no_lines (g.S.Source.state c.args.input.now) (g.S.Source.state c.take_all.new.source) c.in-Ok.bytes.items c.in-Ok.ensures.bytes (omega (arith, c.in-Ok.bytes.ok.0, c.in-Ok.ensures.limit))

@@ -1,6 +1,5 @@
 -- The first entries are copied.
 use Rattle.byte_marks.proofs.Words.{◌≡◌, take}
-use Rattle.byte_marks.proofs.touched.Touched.copy.Given as goal
 
-abbrev pub invariant-loop-entry : goal.invariant-loop-entry
+abbrev pub invariant-loop-entry : Rattle.byte_marks.proofs.touched.Touched.copy.Given.invariant-loop-entry
 invariant-loop-entry l = l.entries.items ≡ take l.entry-index l.entry-items

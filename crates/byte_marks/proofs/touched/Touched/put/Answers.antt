@@ -1,8 +1,7 @@
 -- A block that has an entry keeps it with more bytes; another gets one at its place.
-use Rattle.byte_marks.proofs.{Words.{◌≡◌, ◌≢◌, ℕ, ◌<◌, ◌≤◌, ◌&&◌, ◌||◌, ◌==◌, ◌∙◌, sym, ap, subst, arith, List, length, get_or, get_or_read, Extent, has, touches, RisesFrom}, Blocks.{in_order, rises_set, touches_set, rises_insert, touches_insert}, touched.Touched.put.Goals.{else-place-len-via-then-place-len+else-index-block, else-place-len-via-else-place-len}}
-use Rattle.byte_marks.proofs.touched.Touched.put.Goals as goal
+use Rattle.byte_marks.proofs.{Words.{rules, ◌≡◌, ◌≢◌, ℕ, ◌<◌, ◌≤◌, ◌&&◌, ◌||◌, ◌==◌, ◌∙◌, sym, ap, subst, arith, List, length, get_or, get_or_read, Extent, has, touches, RisesFrom}, Blocks.{in_order, rises_set, touches_set, rises_insert, touches_insert}, touched.Touched.put.Goals.{else-place-len-via-then-place-len+else-index-block, else-place-len-via-else-place-len}}
 
-pub invariant_of-self-then-index-block : goal.invariant_of-self-then-index-block
+pub invariant_of-self-then-index-block : Rattle.byte_marks.proofs.touched.Touched.put.Goals.invariant_of-self-then-index-block
 invariant_of-self-then-index-block c =
     let es = c.self.inside.entries.items in
     let place = c.place_of-place.result in
@@ -12,7 +11,7 @@ invariant_of-self-then-index-block c =
     let same = get_or_read es place was within c.index_mut.ensures.value e in
     rises_set 0 place es e c.self.invariant (ap (λ (x : ℕ × List Extent). x.0) same)
 
-pub returns-in_ok-union-clause-set : goal.returns-in_ok-union-clause-set
+pub returns-in_ok-union-clause-set : Rattle.byte_marks.proofs.touched.Touched.put.Goals.returns-in_ok-union-clause-set
 returns-in_ok-union-clause-set c b p =
     let es = c.self.inside.entries.items in
     let place = c.place_of-place.result in
@@ -35,7 +34,7 @@ later_blocks es place block rises first k le lt d =
     let here = first (omega arith) d in
     omega (arith, here, in_order 0 place k es d rises le lt)
 
-pub invariant_of-self-in-Continue-branch-2 : goal.invariant_of-self-in-Continue-branch-2
+pub invariant_of-self-in-Continue-branch-2 : Rattle.byte_marks.proofs.touched.Touched.put.Goals.invariant_of-self-in-Continue-branch-2
 invariant_of-self-in-Continue-branch-2 c =
     let es = c.self.inside.entries.items in
     let place = c.place_of-place.result in
@@ -61,13 +60,5 @@ invariant_of-self-in-Continue-branch-2 c =
     rises_insert 0 place es e c.self.invariant zero_below below (λ k le lt. later_blocks es place c.args.block c.self.invariant first k le lt e) within in
     subst (λ (l : List (ℕ × List Extent)). RisesFrom 0 l) (sym c.in_ok-insert.ensures.items) risen
 
-pub returns-in_ok-insert-clause-set : goal.returns-in_ok-insert-clause-set
-returns-in_ok-insert-clause-set c b p =
-    let es = c.self.inside.entries.items in
-    let place = c.place_of-place.result in
-    let e : ℕ × List Extent = (c.args.block, c.args.marks) in
-    let within : place ≤ length es =
-    subst (λ (l : List (ℕ × List Extent)). place ≤ length l) c.as_slice.ensures.value c.place_of-place.ensures.within in
-    ap (λ (l : List (ℕ × List Extent)). touches l b p) c.in_ok-insert.ensures.items
-    ∙ touches_insert b p place es e within
-    ∙ ap (λ (l : List (ℕ × List Extent)). touches l b p || ((c.args.block == b) && has c.args.marks p)) c.self.view_is
+pub returns-in_ok-insert-clause-set : Rattle.byte_marks.proofs.touched.Touched.put.Goals.returns-in_ok-insert-clause-set
+returns-in_ok-insert-clause-set c b p = search (rules, arith, touches_insert)

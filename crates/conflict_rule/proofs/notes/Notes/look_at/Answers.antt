@@ -1,8 +1,7 @@
 -- The last note that is not above the number is that of the number, or there is none.
 use Rattle.conflict_rule.proofs.{Words.{◌≡◌, ◌≢◌, ◌∙◌, ℕ, ◌-◌, ◌<◌, ◌≤◌, List, ap, arith, length, get_or, sym, Some, None, inl, inr, cases_lt, get_or_default, Held, Note, note_of, RisesFrom}, Numbers.{note_at, no_note, in_order}, notes.Notes.look_at.Goals.{else-place-gt0-via-then-place-gt0+else-index-number, else-place-gt0-via-else-place-gt0}}
-use Rattle.conflict_rule.proofs.notes.Notes.look_at.Goals as goal
 
-pub returns-then-index-number-clause-note : goal.returns-then-index-number-clause-note
+pub returns-then-index-number-clause-note : Rattle.conflict_rule.proofs.notes.Notes.look_at.Goals.returns-then-index-number-clause-note
 returns-then-index-number-clause-note g c =
     let xs = c.self.inside.notes.items in
     let i = c.place_after-place.result in
@@ -28,7 +27,7 @@ absent number i notes rises within before after other = no_note number notes (λ
   | inr more ↦ (λ same. (let past = after k more lt d in omega (arith, past, same)))
 ])
 
-pub returns-else-place-gt0-clause-note : goal.returns-else-place-gt0-clause-note
+pub returns-else-place-gt0-clause-note : Rattle.conflict_rule.proofs.notes.Notes.look_at.Goals.returns-else-place-gt0-clause-note
 returns-else-place-gt0-clause-note g c =
     let xs = c.self.inside.notes.items in
     let i = c.place_after-place.result in

@@ -1,7 +1,6 @@
 use Rattle.core_blocks.proofs.{Words.{◌≡◌, ◌∙◌, sym, ap, subst, arith, Some, Err, Array, own, block_at, read_access, up, Doing, Seen}, Guests.{access_keeps, counts_failed, counts_ok, goes_on, if_told, ready_keeps, told_still}}
-use Rattle.core_blocks.proofs.guest.Guest.read.Goals as goal
 
-pub invariant_of-self-in-Ok : goal.invariant_of-self-in-Ok
+pub invariant_of-self-in-Ok : Rattle.core_blocks.proofs.guest.Guest.read.Goals.invariant_of-self-in-Ok
 invariant_of-self-in-Ok g c =
     let guest = c.self.invariant.2 in
     let kept = access_keeps c.self.inside.work.now c.reserve.new.self c.read.new.self c.args.block (read_access c.args.block) c.in_default.ensures.ok c.read.ensures.work in (
@@ -12,7 +11,7 @@ invariant_of-self-in-Ok g c =
           (omega (arith, kept.1, c.room.ensures, c.if-room-eq0.false)),
     )
 
-pub invariant_of-self-in-Err-fetch : goal.invariant_of-self-in-Err-fetch
+pub invariant_of-self-in-Err-fetch : Rattle.core_blocks.proofs.guest.Guest.read.Goals.invariant_of-self-in-Err-fetch
 invariant_of-self-in-Err-fetch g c =
     let guest = c.self.invariant.2 in
     let kept = ready_keeps c.self.inside.work.now c.reserve.new.self c.args.block c.in_default.ensures.ok in (
@@ -23,7 +22,7 @@ invariant_of-self-in-Err-fetch g c =
           (c.fetch.ensures.cause.failed (c.in-Err-fetch.is ∙ ap Err (c.in-Err-fetch.ensures.disk guest.world (guest.stands guest.world guest.was)))) c.fetch.ensures.cause.later) kept.0 (omega (arith, kept.1, guest.limits.count)),
     )
 
-pub returns-in-Ok-clause-bytes : goal.returns-in-Ok-clause-bytes
+pub returns-in-Ok-clause-bytes : Rattle.core_blocks.proofs.guest.Guest.read.Goals.returns-in-Ok-clause-bytes
 returns-in-Ok-clause-bytes g c =
     let guest = c.self.invariant.2 in
     subst (λ (v : Seen). (A : Array) → v.tx.base ≡ Some A → c.read.new.into ≡ block_at (own A v.tx.accesses) c.args.block) c.self.view_is (λ A told.

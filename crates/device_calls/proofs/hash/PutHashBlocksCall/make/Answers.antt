@@ -1,6 +1,4 @@
-use Rattle.device_calls.proofs.hash.PutHashBlocksCall.make.Goals as goal
-
-pub returns : goal.returns
+pub returns : Rattle.device_calls.proofs.hash.PutHashBlocksCall.make.Goals.returns
 returns g c = record {
   answers = record { local = c.put.ensures.local; bad_key = c.put.ensures.bad_key; cause = c.put.ensures.cause; later = c.put.ensures.later; passed = c.put.ensures.passed };
   ended = c.put.ensures.ended;

@@ -1,7 +1,6 @@
 use Rattle.device_calls.proofs.Visiting.{unwritten}
-use Rattle.device_calls.proofs.tree.DeleteTreeBlocksCall.make.Goals as goal
 
-pub returns : goal.returns
+pub returns : Rattle.device_calls.proofs.tree.DeleteTreeBlocksCall.make.Goals.returns
 returns g c = record {
   answers = record { local = c.del.ensures.local; bad_key = c.del.ensures.bad_key; cause = c.del.ensures.cause; later = c.del.ensures.later; passed = c.del.ensures.passed };
   ended = c.del.ensures.ended;

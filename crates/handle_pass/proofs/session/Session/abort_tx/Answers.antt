@@ -1,7 +1,6 @@
 use Rattle.handle_pass.proofs.{Words.{ap, sym, ◌∙◌, own_in, own_of}, Entering.made_gone}
-use Rattle.handle_pass.proofs.session.Session.abort_tx.Goals as goal
 
-pub returns-clause-did : goal.returns-clause-did
+pub returns-clause-did : Rattle.handle_pass.proofs.session.Session.abort_tx.Goals.returns-clause-did
 returns-clause-did g c =
     let was = sym c.take.ensures.value ∙ c.in-Some.is in (
       own_in c.in-Some.tx,

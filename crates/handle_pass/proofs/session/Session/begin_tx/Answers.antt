@@ -1,7 +1,6 @@
 use Rattle.handle_pass.proofs.{Words.{ap, subst, sym, ◌∙◌, ℕ, Some, Checked, Begin, checked_of, own_of, Made}, Entering.{is_none, made_new, made_port, new_own}}
-use Rattle.handle_pass.proofs.session.Session.begin_tx.Goals as goal
 
-pub returns-in-Ok-clause-did : goal.returns-in-Ok-clause-did
+pub returns-in-Ok-clause-did : Rattle.handle_pass.proofs.session.Session.begin_tx.Goals.returns-in-Ok-clause-did
 returns-in-Ok-clause-did g c =
     let A = g.O.Origin.start in
     let s = c.args.self.now in
@@ -17,12 +16,12 @@ returns-in-Ok-clause-did g c =
       ap own_of c.attach.ensures ∙ ap Some (new_own t c.at-at.result c.at-at.ensures c.in-Ok.ensures.tx.1),
     )
 
-pub returns-in-Err-clause-did : goal.returns-in-Err-clause-did
+pub returns-in-Err-clause-did : Rattle.handle_pass.proofs.session.Session.begin_tx.Goals.returns-in-Err-clause-did
 returns-in-Err-clause-did g c =
     let s = c.args.self.now in
     let none = ap own_of (is_none s.tx (sym c.is_some.ensures ∙ c.if-is_some.false)) in
     let m = c.in-Err.ensures.err in
     (none, none, m.0, m.1, made_port g.O.Origin.start s c.begin.new.port _ c.requires.session m.2 c.in-Err.ensures.units)
 
-pub returns-in-Ok-clause-checked : goal.returns-in-Ok-clause-checked
+pub returns-in-Ok-clause-checked : Rattle.handle_pass.proofs.session.Session.begin_tx.Goals.returns-in-Ok-clause-checked
 returns-in-Ok-clause-checked g c = ap checked_of c.attach.ensures ∙ ap (λ (k : Checked). k.upto) c.in-Ok.ensures.checked ∙ sym c.at-at.ensures

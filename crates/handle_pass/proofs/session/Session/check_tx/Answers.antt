@@ -1,10 +1,9 @@
 use Rattle.handle_pass.proofs.{Words.{ap, inl, inr, refl, subst, sym, ◌∙◌, ℕ, Some, Checked, view, Recent, Refused, cause_of, checked_of, own_in, own_of, OfRecent}, Entering.{Through, made_through, own_by_parts, own_same}, session.Session.check_tx.Goals.After-tell_port}
 use Rattle.iso_shared.specs.Ports.{Made}
-use Rattle.handle_pass.proofs.session.Session.check_tx.Given as given
 use Rattle.handle_pass.proofs.session.Session.check_tx.Goals as goal
 
 -- the call behind which the port is told
-through : (g : given.Over) (c : After-tell_port g) → Through g.O.Origin.start c.args.self.now c.tell_port.new.port c.in-Some.tx c.tell_tx.new.tx c.recent-recent.new.tx c.tell_port.new.tx
+through : (g : Rattle.handle_pass.proofs.session.Session.check_tx.Given.Over) (c : After-tell_port g) → Through g.O.Origin.start c.args.self.now c.tell_port.new.port c.in-Some.tx c.tell_tx.new.tx c.recent-recent.new.tx c.tell_port.new.tx
 through g c =
     let a = c.tell_tx.new.tx in
     record {

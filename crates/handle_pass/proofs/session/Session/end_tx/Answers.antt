@@ -1,7 +1,6 @@
 use Rattle.handle_pass.proofs.{Words.{ap, refl, subst, sym, ◌∙◌, ◌+◌, ◌≤◌, ℕ, Some, CoreError, view, prefix_self, most_steps, left_by, checked_of, own_in, own_of}, Entering.{left_kept, made_gone, made_kept, own_same}}
-use Rattle.handle_pass.proofs.session.Session.end_tx.Goals as goal
 
-pub returns-in-Ok-clause-did : goal.returns-in-Ok-clause-did
+pub returns-in-Ok-clause-did : Rattle.handle_pass.proofs.session.Session.end_tx.Goals.returns-in-Ok-clause-did
 returns-in-Ok-clause-did g c =
     let A = g.O.Origin.start in
     let s = c.args.self.now in
@@ -14,7 +13,7 @@ returns-in-Ok-clause-did g c =
       subst (λ (k : ℕ). c.end.new.steps ≤ c.args.steps.now + most_steps A m.before k) (sym (ap checked_of was)) (c.in-Ok.ensures.steps m.before _ m.seen),
     )
 
-pub returns-in-None-clause-did : goal.returns-in-None-clause-did
+pub returns-in-None-clause-did : Rattle.handle_pass.proofs.session.Session.end_tx.Goals.returns-in-None-clause-did
 returns-in-None-clause-did g c =
     let A = g.O.Origin.start in
     let s = c.args.self.now in
@@ -31,7 +30,7 @@ returns-in-None-clause-did g c =
       subst (λ (k : ℕ). c.end.new.steps ≤ c.args.steps.now + most_steps A m.before k) (sym (ap checked_of was)) (took m.before _ m.seen),
     )
 
-pub returns-in-Some-back-clause-did : goal.returns-in-Some-back-clause-did
+pub returns-in-Some-back-clause-did : Rattle.handle_pass.proofs.session.Session.end_tx.Goals.returns-in-Some-back-clause-did
 returns-in-Some-back-clause-did g c =
     let A = g.O.Origin.start in
     let s = c.args.self.now in

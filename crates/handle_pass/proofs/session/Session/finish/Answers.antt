@@ -1,7 +1,6 @@
 use Rattle.handle_pass.proofs.{Words.{ap, refl, subst, sym, None, Option, view, EndsWith, own_of, Own}, Entering.made_gone}
-use Rattle.handle_pass.proofs.session.Session.finish.Goals as goal
 
-pub returns-in-Some-clause-did : goal.returns-in-Some-clause-did
+pub returns-in-Some-clause-did : Rattle.handle_pass.proofs.session.Session.finish.Goals.returns-in-Some-clause-did
 returns-in-Some-clause-did g c =
     let A = g.O.Origin.start in
     let s = c.args.self in

@@ -1,7 +1,6 @@
 use Rattle.handle_pass.proofs.{Words.{ap, Some, own_in, own_of}, Entering.{own_by_parts, rested_by}}
-use Rattle.handle_pass.proofs.session.Session.mark_accessed.Goals as goal
 
-pub returns-in-Ok-clause-did : goal.returns-in-Ok-clause-did
+pub returns-in-Ok-clause-did : Rattle.handle_pass.proofs.session.Session.mark_accessed.Goals.returns-in-Ok-clause-did
 returns-in-Ok-clause-did g c =
     let t = c.in-Some.tx in (
       own_in t,

@@ -2,9 +2,8 @@ use Rattle.handle_pass.{proofs.Words.{◌≡◌, ℕ, List, Err, ap, refl, subst
 use Rattle.handle_pass.specs.declared.errors.PostTxError.TheVariants as error
 use Rattle.tx_table.specs.declared.rack.PostError.{PostError}
 use Rattle.tx_table.specs.declared.rack.PostError.TheVariants as cause
-use Rattle.handle_pass.proofs.session.Session.post_tx.Goals as goal
 
-pub returns-in-Ok-clause-did : goal.returns-in-Ok-clause-did
+pub returns-in-Ok-clause-did : Rattle.handle_pass.proofs.session.Session.post_tx.Goals.returns-in-Ok-clause-did
 returns-in-Ok-clause-did g c =
     let s = c.args.self.now in
     let was = sym c.take.ensures.value ∙ c.in-Some.is in (
@@ -20,7 +19,7 @@ unposted : {D O : Type 0} (A : Start) (s t : Session D O) (label : List ℕ) (wh
 unposted A s t label cause.LabelTaken said taken memory is = subst (λ e. HasPosted A s label (Err e) t) (sym (taken refl)) is
 unposted A s t label cause.Memory said taken memory is = subst (λ e. HasPosted A s label (Err e) t) (sym (memory refl)) is
 
-pub returns-in-Err-clause-did : goal.returns-in-Err-clause-did
+pub returns-in-Err-clause-did : Rattle.handle_pass.proofs.session.Session.post_tx.Goals.returns-in-Err-clause-did
 returns-in-Err-clause-did g c =
     let A = g.O.Origin.start in
     let s = c.args.self.now in

@@ -1,7 +1,6 @@
 use Rattle.handle_pass.proofs.{Words.{ap, ◌∙◌, ◌≡◌, Some, write_access, with_access, own_in, own_of}, Entering.{own_by_parts, rested_by}}
-use Rattle.handle_pass.proofs.session.Session.write_block.Goals as goal
 
-pub returns-in_default-clause-did : goal.returns-in_default-clause-did
+pub returns-in_default-clause-did : Rattle.handle_pass.proofs.session.Session.write_block.Goals.returns-in_default-clause-did
 returns-in_default-clause-did g c =
     let t = c.in-Some.tx in
     let r = c.reserve.new.self in

@@ -1,10 +1,9 @@
 use Rattle.handle_pass.proofs.{Words.{ap, sym, ◌∙◌, Seen}, Looking.tried}
-use Rattle.handle_pass.proofs.visitor.Visitor.fetch.Goals as goal
 
-pub read_block-answer-requires-clause-size : goal.read_block-answer-requires-clause-size
+pub read_block-answer-requires-clause-size : Rattle.handle_pass.proofs.visitor.Visitor.fetch.Goals.read_block-answer-requires-clause-size
 read_block-answer-requires-clause-size g c = c.requires.size ∙ sym (ap (λ (v : Seen). v.tx.size) c.self.view_is)
 
-pub invariant_of-self : goal.invariant_of-self
+pub invariant_of-self : Rattle.handle_pass.proofs.visitor.Visitor.fetch.Goals.invariant_of-self
 invariant_of-self g c =
     let r = c.read_block-answer in
     let size = r.auto.into ∙ c.requires.size ∙ sym (ap (λ (v : Seen). v.tx.size) c.self.view_is) in (
@@ -13,7 +12,7 @@ invariant_of-self g c =
           r.new.into c.self.view_is c.requires.sound c.self.invariant.1 r.ensures.session r.ensures.cause r.ensures.did size c.failures_of-self-inside.ensures c.sets_down-self-inside.ensures).0,
     )
 
-pub returns : goal.returns
+pub returns : Rattle.handle_pass.proofs.visitor.Visitor.fetch.Goals.returns
 returns g c =
     let r = c.read_block-answer in
     let size = r.auto.into ∙ c.requires.size ∙ sym (ap (λ (v : Seen). v.tx.size) c.self.view_is) in

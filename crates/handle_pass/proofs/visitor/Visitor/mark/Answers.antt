@@ -1,14 +1,13 @@
 use Rattle.handle_pass.proofs.{Words.{subst, Marked, Seen, seen_by}, Looking.marked_by}
-use Rattle.handle_pass.proofs.visitor.Visitor.mark.Goals as goal
 
-pub invariant_of-self : goal.invariant_of-self
+pub invariant_of-self : Rattle.handle_pass.proofs.visitor.Visitor.mark.Goals.invariant_of-self
 invariant_of-self g c =
     let r = c.mark_accessed in (
       c.self.invariant.0,
       (marked_by g.O.Origin.start g.V.Visit.before c.self.inside.session.now r.new.self c.self.inside.failures c.self.inside.is_down c.args.off c.args.len r.result c.self.invariant.1 r.ensures.session r.ensures.cause r.ensures.did).visit,
     )
 
-pub returns : goal.returns
+pub returns : Rattle.handle_pass.proofs.visitor.Visitor.mark.Goals.returns
 returns g c =
     let r = c.mark_accessed in
     record {

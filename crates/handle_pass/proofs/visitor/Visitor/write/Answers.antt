@@ -1,17 +1,16 @@
 use Rattle.handle_pass.proofs.{Words.{ap, subst, sym, ◌∙◌, Wrote, Seen, seen_by}, Looking.wrote}
-use Rattle.handle_pass.proofs.visitor.Visitor.write.Goals as goal
 
-pub write_block-requires-clause-size : goal.write_block-requires-clause-size
+pub write_block-requires-clause-size : Rattle.handle_pass.proofs.visitor.Visitor.write.Goals.write_block-requires-clause-size
 write_block-requires-clause-size g c = c.requires ∙ sym (ap (λ (v : Seen). v.tx.size) c.self.view_is)
 
-pub invariant_of-self : goal.invariant_of-self
+pub invariant_of-self : Rattle.handle_pass.proofs.visitor.Visitor.write.Goals.invariant_of-self
 invariant_of-self g c =
     let r = c.write_block in (
       c.self.invariant.0,
       (wrote g.O.Origin.start g.V.Visit.before c.self.inside.session.now r.new.self c.self.inside.failures c.self.inside.is_down c.args.block c.args.bytes.now r.result c.self.invariant.1 r.ensures.session r.ensures.cause r.ensures.did).visit,
     )
 
-pub returns : goal.returns
+pub returns : Rattle.handle_pass.proofs.visitor.Visitor.write.Goals.returns
 returns g c =
     let r = c.write_block in
     record {

@@ -1,5 +1,4 @@
 -- The ledger is the new one.
-use Rattle.index_tests.proofs.versions_tests.OneBlock.found.Given as goal
 
-abbrev pub ghosts-found_by : goal.ghosts-found_by
+abbrev pub ghosts-found_by : Rattle.index_tests.proofs.versions_tests.OneBlock.found.Given.ghosts-found_by
 ghosts-found_by a = record { name = a.blank.name; parts = a.blank.parts }

@@ -1,7 +1,6 @@
 use Rattle.iso_core.proofs.{Words.{◌+◌, ◌++◌, ◌∷◌, [], mode_named, up}, Begins.begun, Standings.{if_ok, stands_on}}
-use Rattle.iso_core.proofs.core_itself.Core.begin.Goals as goal
 
-pub returns-clause-begun : goal.returns-clause-begun
+pub returns-clause-begun : Rattle.iso_core.proofs.core_itself.Core.begin.Goals.returns-clause-begun
 returns-clause-begun g c W stands =
     let d = g.D.Disk.state c.args.self.now.disk in
     if_ok c.begin.result (λ b is. (

@@ -1,8 +1,7 @@
 -- All bytes of the block.
 use Rattle.iso_core.proofs.Words.{◌≡◌, ◌∙◌, sym, ap, ◌<◌, length, subst, Geometry, array_at, array_shape, block_at, on_ok_weaker, whole_range}
-use Rattle.iso_core.proofs.core_itself.Core.fetch.Goals as goal
 
-pub returns-clause-block : goal.returns-clause-block
+pub returns-clause-block : Rattle.iso_core.proofs.core_itself.Core.fetch.Goals.returns-clause-block
 returns-clause-block g c W t of here =
     let (V, standing, u, stands, live, below, long) = c.requires in
     let same : V.geometry ≡ W.geometry = sym stands.kept_of.keeps.geometry ∙ of.kept_of.keeps.geometry in

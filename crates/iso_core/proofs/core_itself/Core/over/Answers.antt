@@ -1,7 +1,6 @@
 use Rattle.iso_core.proofs.Words.{sym, subst, ℕ, AllHold, opened_world}
-use Rattle.iso_core.proofs.core_itself.Core.over.Goals as goal
 
-pub returns-clause-stands : goal.returns-clause-stands
+pub returns-clause-stands : Rattle.iso_core.proofs.core_itself.Core.over.Goals.returns-clause-stands
 returns-clause-stands g c H is size images = record {
   kept_of = c.keep.ensures.kept H is;
   is_down = c.keep.ensures.up;

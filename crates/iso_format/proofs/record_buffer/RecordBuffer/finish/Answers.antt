@@ -1,19 +1,15 @@
 use Rattle.iso_format.proofs.{Words.{◌≡◌, ℕ, ◌+◌, ◌-◌, ◌++◌, [], length, take, drop, ap, ◌∙◌, arith, body_length, spell, Spelled, spelled, head}, Parts.{body_bound, count_bound}, Buffers.{finished, finished_is, parts_length, parts_count}}
-use Rattle.iso_format.proofs.record_buffer.RecordBuffer.finish.Goals as goal
 
-pub overflow_cast-self-inside : goal.overflow_cast-self-inside
-overflow_cast-self-inside c =
-    let parts = c.args.self.now.parts in
-    let same = ap (λ (s : Spelled). length s.parts) c.self.view_is in
-    omega (arith, same, count_bound parts, body_bound parts c.requires.runs, parts_count c.self.inside.start c.self.inside.count c.self.inside.bytes.items c.self.invariant)
+pub overflow_cast-self-inside : Rattle.iso_format.proofs.record_buffer.RecordBuffer.finish.Goals.overflow_cast-self-inside
+overflow_cast-self-inside c = grind (arith, count_bound, body_bound, parts_count)
 
-pub overflow_cast-length : goal.overflow_cast-length
+pub overflow_cast-length : Rattle.iso_format.proofs.record_buffer.RecordBuffer.finish.Goals.overflow_cast-length
 overflow_cast-length c =
     let parts = c.args.self.now.parts in
     let same = ap (λ (s : Spelled). body_length s.parts) c.self.view_is in
     omega (arith, same, c.len-end.ensures, body_bound parts c.requires.runs, parts_length c.self.inside.start c.self.inside.count c.self.inside.bytes.items c.self.invariant)
 
-pub returns-clause-ok : goal.returns-clause-ok
+pub returns-clause-ok : Rattle.iso_format.proofs.record_buffer.RecordBuffer.finish.Goals.returns-clause-ok
 returns-clause-ok c =
     let start = c.self.inside.start in
     let count = c.self.inside.count in

@@ -1,7 +1,6 @@
 use Rattle.iso_log.proofs.{Words.{◌≡◌, ◌+◌, ◌-◌, ◌++◌, ℕ, List, length, take, sym, ap, arith, ◌∙◌, subst, length-contents, slice_range, StandAt}, Pieces.{range_size, stand_more}}
-use Rattle.iso_log.proofs.ahead.ReadAhead.read_on.Goals as goal
 
-pub returns-clause-told : goal.returns-clause-told
+pub returns-clause-told : Rattle.iso_log.proofs.ahead.ReadAhead.read_on.Goals.returns-clause-told
 returns-clause-told g c image told stands =
     let have = c.self.inside.end - c.self.inside.from in
     let want = c.max-want.result in

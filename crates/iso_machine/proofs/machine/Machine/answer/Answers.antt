@@ -89,39 +89,25 @@ IsStoreOp o =
     ⊎ ((n : List ℕ) × (o ≡ op.FileNew n)) ⊎ ((n : List ℕ) × (f : ℕ) × (x : List ℕ) × (o ≡ op.FileWrite n f x)) ⊎ ((n : List ℕ) × (f : ℕ) × (l : ℕ) × (o ≡ op.FileRead n f l))
     ⊎ ((f : List ℕ) × (u : List ℕ) × (o ≡ op.FileMove f u)) ⊎ ((n : List ℕ) × (o ≡ op.FileDelete n))
 
-store_is : (W : World) (c : ℕ) (o : Op) → IsStoreOp o → in_transaction W (attached W c) (λ t. store_act W t o) ≡ step W c o
+store_so : (W : World) (c : ℕ) (o : Op) → IsStoreOp o → (in_transaction W (attached W c) (λ t. store_act W t o) ≡ step W c o) × (IsPlain o → ⊥)
 unfolding step hash_put_step hash_get_step hash_delete_step tree_put_step tree_get_step tree_delete_step tree_scan_step file_new_step file_write_step file_read_step file_move_step file_delete_step store_step
-store_is W c o (inl (k, v, is)) = rw is refl
-store_is W c o (inr (inl (k, is))) = rw is refl
-store_is W c o (inr (inr (inl (k, is)))) = rw is refl
-store_is W c o (inr (inr (inr (inl (k, v, is))))) = rw is refl
-store_is W c o (inr (inr (inr (inr (inl (k, is)))))) = rw is refl
-store_is W c o (inr (inr (inr (inr (inr (inl (k, is))))))) = rw is refl
-store_is W c o (inr (inr (inr (inr (inr (inr (inl (f, u, m, is)))))))) = rw is refl
-store_is W c o (inr (inr (inr (inr (inr (inr (inr (inl (n, is))))))))) = rw is refl
-store_is W c o (inr (inr (inr (inr (inr (inr (inr (inr (inl (n, f, x, is)))))))))) = rw is refl
-store_is W c o (inr (inr (inr (inr (inr (inr (inr (inr (inr (inl (n, f, l, is))))))))))) = rw is refl
-store_is W c o (inr (inr (inr (inr (inr (inr (inr (inr (inr (inr (inl (f, u, is)))))))))))) = rw is refl
-store_is W c o (inr (inr (inr (inr (inr (inr (inr (inr (inr (inr (inr (n, is)))))))))))) = rw is refl
-
-store_not_plain : (o : Op) → IsStoreOp o → IsPlain o → ⊥
-store_not_plain o (inl (k, v, is)) plain = rw is at plain
-store_not_plain o (inr (inl (k, is))) plain = rw is at plain
-store_not_plain o (inr (inr (inl (k, is)))) plain = rw is at plain
-store_not_plain o (inr (inr (inr (inl (k, v, is))))) plain = rw is at plain
-store_not_plain o (inr (inr (inr (inr (inl (k, is)))))) plain = rw is at plain
-store_not_plain o (inr (inr (inr (inr (inr (inl (k, is))))))) plain = rw is at plain
-store_not_plain o (inr (inr (inr (inr (inr (inr (inl (f, u, m, is)))))))) plain = rw is at plain
-store_not_plain o (inr (inr (inr (inr (inr (inr (inr (inl (n, is))))))))) plain = rw is at plain
-store_not_plain o (inr (inr (inr (inr (inr (inr (inr (inr (inl (n, f, x, is)))))))))) plain = rw is at plain
-store_not_plain o (inr (inr (inr (inr (inr (inr (inr (inr (inr (inl (n, f, l, is))))))))))) plain = rw is at plain
-store_not_plain o (inr (inr (inr (inr (inr (inr (inr (inr (inr (inr (inl (f, u, is)))))))))))) plain = rw is at plain
-store_not_plain o (inr (inr (inr (inr (inr (inr (inr (inr (inr (inr (inr (n, is)))))))))))) plain = rw is at plain
+store_so W c o (inl (k, v, is)) = rw is (refl, λ plain. plain)
+store_so W c o (inr (inl (k, is))) = rw is (refl, λ plain. plain)
+store_so W c o (inr (inr (inl (k, is)))) = rw is (refl, λ plain. plain)
+store_so W c o (inr (inr (inr (inl (k, v, is))))) = rw is (refl, λ plain. plain)
+store_so W c o (inr (inr (inr (inr (inl (k, is)))))) = rw is (refl, λ plain. plain)
+store_so W c o (inr (inr (inr (inr (inr (inl (k, is))))))) = rw is (refl, λ plain. plain)
+store_so W c o (inr (inr (inr (inr (inr (inr (inl (f, u, m, is)))))))) = rw is (refl, λ plain. plain)
+store_so W c o (inr (inr (inr (inr (inr (inr (inr (inl (n, is))))))))) = rw is (refl, λ plain. plain)
+store_so W c o (inr (inr (inr (inr (inr (inr (inr (inr (inl (n, f, x, is)))))))))) = rw is (refl, λ plain. plain)
+store_so W c o (inr (inr (inr (inr (inr (inr (inr (inr (inr (inl (n, f, l, is))))))))))) = rw is (refl, λ plain. plain)
+store_so W c o (inr (inr (inr (inr (inr (inr (inr (inr (inr (inr (inl (f, u, is)))))))))))) = rw is (refl, λ plain. plain)
+store_so W c o (inr (inr (inr (inr (inr (inr (inr (inr (inr (inr (inr (n, is)))))))))))) = rw is (refl, λ plain. plain)
 
 pub returns-in-HashPut : goal.returns-in-HashPut
 returns-in-HashPut g c W of isop =
-    never_plain c.stored.result (store_not_plain c.args.op.now c.in-HashPut.is) (λ why may. tt)
-    (told_as (store_is W c.args.client c.args.op.now c.in-HashPut.is) (c.stored.ensures W of))
+    let so = store_so W c.args.client c.args.op.now c.in-HashPut.is in
+    never_plain c.stored.result so.1 (λ why may. tt) (told_as so.0 (c.stored.ensures W of))
 
 -- a group
 pub group-requires-clause-op : goal.group-requires-clause-op

@@ -1,16 +1,15 @@
 use Rattle.iso_machine.proofs.{Words.{◌∙◌, sym, refl, ap, subst, ◌≡◌, List, Some, None, IsSome, remove, as_reply, end_step, disk_of, Attached, AreOf, live_of}, Accesses.prepared, Endings.{end_is, end_keeps, has_gone, unwritten}, Lists.remove_set, Machines.{at_place, left, worked_on}, Quiet.{answered, answers_as, answers_by, stays_with}, Refusals.{blames, refused}}
-use Rattle.iso_machine.proofs.machine.Machine.end.Goals as goal
 
-pub returns-in_default : goal.returns-in_default
+pub returns-in_default : Rattle.iso_machine.proofs.machine.Machine.end.Goals.returns-in_default
 returns-in_default g c W of = stays_with (g.met.D.Disk.lawful (disk_of c.args.self.now.core)) of refl (end_is W c.args.client None (c.in_default.ensures.here W of)) of
 
-pub end_whole-requires-clause-stands : goal.end_whole-requires-clause-stands
+pub end_whole-requires-clause-stands : Rattle.iso_machine.proofs.machine.Machine.end.Goals.end_whole-requires-clause-stands
 end_whole-requires-clause-stands g c =
     let (W, of) = c.requires in
     let (h, active) = at_place W c.args.client c.args.self.now.live.items c.in-Some.i (c.in-Some.ensures.here W of) c.index_mut-attached.ensures.value c.deref_mut.ensures.value in
     (W, live_of c.index_mut-attached.result.now, of.core_of, h.tx, active.is_work)
 
-pub returns-in-Err : goal.returns-in-Err
+pub returns-in-Err : Rattle.iso_machine.proofs.machine.Machine.end.Goals.returns-in-Err
 returns-in-Err g c W of =
     let m = c.args.self.now in
     let d = c.index_mut-attached.result.now in
@@ -30,7 +29,7 @@ returns-in-Err g c W of =
       cause = blames e c.in-Err.ensures.cause;
     })))
 
-pub returns : goal.returns
+pub returns : Rattle.iso_machine.proofs.machine.Machine.end.Goals.returns
 returns g c W of =
     let m = c.args.self.now in
     let d = c.index_mut-attached.result.now in

@@ -1,5 +1,4 @@
 -- The ledger is the new one.
-use Rattle.iso_machine.proofs.machine.Machine.end.Given as goal
 
-abbrev pub ghosts-end_whole : goal.ghosts-end_whole
+abbrev pub ghosts-end_whole : Rattle.iso_machine.proofs.machine.Machine.end.Given.ghosts-end_whole
 ghosts-end_whole g a = record { name = a.blank.name; parts = a.blank.parts }

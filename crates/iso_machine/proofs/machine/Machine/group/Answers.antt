@@ -1,6 +1,5 @@
 use Rattle.iso_machine.proofs.{Words.{◌≡◌, ◌∙◌, take, Geometry, IsTrue, is_block_size, refl, sym, ap, subst, List, [], Option, arith, map, with_items_is, GroupReply, found_ones, looks, group_step, grouped, reply_in, disk_of, up, HasTaken, filled}, Begins.valid_block, Ended.{behind, few, group_fails, moments_of, nobody, nobody_stands, ready, replies_are, stands, step_is}, Machines.known, Quiet.{answered, answers_as, answers_by, stays_with, wants_memory}, Taking.from_none, machine.Machine.group.Goals.In_default-take_members}
 use Rattle.script_model.specs.declared.script.Reply.TheVariants as reply
-use Rattle.iso_machine.proofs.machine.Machine.group.Given as given
 use Rattle.iso_machine.proofs.machine.Machine.group.Goals as goal
 
 pub take_members-requires-clause-known : goal.take_members-requires-clause-known
@@ -17,7 +16,7 @@ returns-in-Err g c W of = wants_memory (g.met.D.Disk.lawful (disk_of c.args.self
 pub returns-in-Err-take_members : goal.returns-in-Err-take_members
 returns-in-Err-take_members g c W of = wants_memory (g.met.D.Disk.lawful (disk_of c.args.self.now.core)) of refl (λ may. absurd may)
 
-taken : (g : given.Over) (c : In_default-take_members g) → HasTaken c.args.labels.now c.args.self.now.live.items c.take_members.new.live.items [] c.take_members.new.taken.answers.items [] (take c.take_members.new.taken.count c.take_members.new.ends)
+taken : (g : Rattle.iso_machine.proofs.machine.Machine.group.Given.Over) (c : In_default-take_members g) → HasTaken c.args.labels.now c.args.self.now.live.items c.take_members.new.live.items [] c.take_members.new.taken.answers.items [] (take c.take_members.new.taken.count c.take_members.new.ends)
 taken g c = from_none c.nothing_taken-taken.ensures.answers (ap (λ n. take n c.as_mut_slice-ends.result.now) c.nothing_taken-taken.ensures.count) c.in_default-take_members.ensures.taken
 
 pub returns-then-taken-eq0 : goal.returns-then-taken-eq0

@@ -1,20 +1,19 @@
 use Rattle.iso_machine.proofs.{Words.{◌≤◌, refl, sym, ap, subst, Option, length, Ok, in_transaction, World, Live, IsWorld, accesses_are, live_at, disk_of, Doing, IsWorkedTo, Always, live_of, store_act, shows}, Machines.{at_place, worked_on}, Quiet.stays_with, Told.{store_keeps, stored_so, told_as, told_so}}
 use Rattle.script_model.specs.declared.script.Reply.TheVariants as reply
-use Rattle.iso_machine.proofs.machine.Machine.stored.Goals as goal
 
-pub returns-in_default : goal.returns-in_default
+pub returns-in_default : Rattle.iso_machine.proofs.machine.Machine.stored.Goals.returns-in_default
 returns-in_default g c W of =
     told_so {known = Always} (Ok reply.NotInTx) (λ why may. may)
     (stays_with (g.met.D.Disk.lawful (disk_of c.args.self.now.core)) of refl (ap (λ (o : Option Live). in_transaction W o (λ t. store_act W t c.args.op.now)) (c.in_default.ensures.here W of)) of)
 
-pub store-requires : goal.store-requires
+pub store-requires : Rattle.iso_machine.proofs.machine.Machine.stored.Goals.store-requires
 store-requires g c =
     let (W, of) = c.requires in
     let d = c.index_mut-attached.result.now in
     let (h, active) = at_place W c.args.client c.args.self.now.live.items c.in-Some.i (c.in-Some.ensures.here W of) c.index_mut-attached.ensures.value c.deref_mut.ensures.value in
     (W, live_of d, of.core_of, h.tx, active, subst (λ (w : Doing). length w.accesses ≤ 4096) (sym c.deref_mut.ensures.value) (live_at W c.args.client (live_of d) of.core_of.kept_of.world h.here).count)
 
-pub returns : goal.returns
+pub returns : Rattle.iso_machine.proofs.machine.Machine.stored.Goals.returns
 returns g c W of =
     let m = c.args.self.now in
     let state = g.D.Disk.state in

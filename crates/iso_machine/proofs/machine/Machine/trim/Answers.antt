@@ -1,13 +1,12 @@
 use Rattle.iso_machine.proofs.{Words.{◌≡◌, ◌∙◌, sym, refl, ap, ℕ, after_trim, step, World, floor, disk_of}, Quiet.stays_with}
 use Rattle.script_model.specs.declared.script.Op.TheVariants as op
 use Rattle.script_model.specs.declared.script.Reply.TheVariants as reply
-use Rattle.iso_machine.proofs.machine.Machine.trim.Goals as goal
 
 trim_step : (W : World) (c : ℕ) → step W c op.Trim ≡ (reply.Trimmed (floor W), after_trim W)
 unfolding step
 trim_step W c = refl
 
-pub returns : goal.returns
+pub returns : Rattle.iso_machine.proofs.machine.Machine.trim.Goals.returns
 returns g c W of =
     let is = c.trim.ensures.trimmed W of.core_of in
     let at : c.in-Ok.at ≡ floor W = cc (c.in-Ok.ensures.trimmed W of.core_of).0 in

@@ -1,11 +1,10 @@
 use Rattle.iso_shared.proofs.{Words.{sym, subst, ◌∷◌, ArePaired, IsNoteOf}, HandedBack.{alone_by, note_of_on}}
-use Rattle.iso_shared.proofs.shared.Shared.+join_members.Goals as goal
 
-pub returns-clause-alone : goal.returns-clause-alone
+pub returns-clause-alone : Rattle.iso_shared.proofs.shared.Shared.+join_members.Goals.returns-clause-alone
 returns-clause-alone g t c some =
     alone_by c.args.self.now g.O.Origin.start c.in-Some.rest.now c.join_member.new.port.pass.me.0.holds c.join_members.new.port.pass.me.0.holds c.join_member.ensures.alone c.join_members.ensures.holds c.join_members.ensures.alone
 
-pub returns-clause-group : goal.returns-clause-group
+pub returns-clause-group : Rattle.iso_shared.proofs.shared.Shared.+join_members.Goals.returns-clause-group
 returns-clause-group g t c =
     let s = c.args.self.now in
     let A = g.O.Origin.start in

@@ -1,4 +1,4 @@
-use Rattle.iso_shared.proofs.{Words.{inl, ◌≡◌, [], ◌∷◌, ◌++◌, ap, refl, sym, subst, arith, ◌∙◌, rules, None, ℕ, IsTrue, unwrap_or, Checked, Mode, is_block_size, held_first, held_after, View, Doing, Entry, IsLegal, handed, returned, IsAhead, IsOwn, faults_of, standing_of, opened, state_at, begin_entry}, Begins.{began_ahead, began_own, begun_mode, block_size}, Cores.did_begin, Follows.follows_all, Giving.{entry_may, lends, stands_answer}, Mades.held_same}
+use Rattle.iso_shared.proofs.{Words.{inl, ◌≡◌, [], ◌∷◌, ◌++◌, ap, refl, sym, subst, arith, ◌∙◌, rules, None, ℕ, IsTrue, unwrap_or, Checked, Mode, is_block_size, held_first, View, Doing, Entry, IsLegal, IsAhead, IsOwn, faults_of, standing_of, opened, state_at, begin_entry}, Begins.{began_ahead, began_own, begun_mode, block_size}, Cores.did_begin, Follows.follows_all, Giving.{entry_may, lends, stands_answer}, Mades.held_same}
 use Rattle.iso_shared.specs.declared.entry.Call.TheVariants as call
 use Rattle.iso_shared.specs.declared.entry.Entry.TheVariants as entry
 use Rattle.iso_shared.proofs.shared.Shared.begin.Goals as goal
@@ -15,15 +15,11 @@ pub give-requires-clause-held : goal.give-requires-clause-held
 give-requires-clause-held g c = entry_may _ _ (call.Begin c.args.named) (λ t. entry.Begin t.tx t.at t.mode) _ (λ x. (tt, tt)) tt c.begin-result.result
 
 pub split-pass-requires-clause-number : goal.split-pass-requires-clause-number
-split-pass-requires-clause-number g c =
-    let holds = c.take-turn.new.pass.me.0.holds in
-    let is = c.give.ensures.holds ∙ ap (λ r. held_after handed returned (begin_entry (faults_of g.D.Disk.state c.of-before.result.value) (faults_of g.D.Disk.state c.begin-result.new.self) c.args.named r) holds) c.in-Ok.is in
-    ((held_same c.in-Ok.begun.tx _ _ is (held_first c.in-Ok.begun.tx holds), tt), λ some. omega arith)
+split-pass-requires-clause-number g c = grind (arith, held_same, held_first)
 
 pub begin-requires : goal.begin-requires
 begin-requires g c =
-    let A = g.O.Origin.start in
-    let S = state_at A c.take-turn.new.pass.me.0.seen in
+    let S = state_at g.O.Origin.start c.take-turn.new.pass.me.0.seen in
     let h = (lends c.value-guarded.ensures.value c.take-turn.ensures.value c.take-turn.ensures.out).at.core in
     let geometry = c.geometry-geometry.ensures S.world (standing_of S.lost) h.world in
     subst (λ (k : ℕ). IsTrue (is_block_size k)) (sym (ap (λ v. v.block) geometry)) (block_size S.world h.world.kept_of.world)

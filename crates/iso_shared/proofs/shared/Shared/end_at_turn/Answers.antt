@@ -1,7 +1,6 @@
 use Rattle.iso_shared.proofs.{Words.{ap, refl, sym, ◌∙◌, subst, CoreError, List, Result, ℕ, AreHeld, numbers_handed, faults_of, group_entry, handed, held_after, returned, standing_of, State, state_at, txs_of, members_at, ends_at}, Ends.if_err_by, Giving.{Lends, entry_may, lends, refused_holds, stands_answer}, Groupings.{Groups, did_group, each_lent, group_args, group_only, held_again, moved_group}, Mades.made_by, shared.Shared.end_at_turn.Goals.After-end_group-result}
 use Rattle.iso_shared.specs.declared.entry.Call.TheVariants as call
 use Rattle.iso_shared.specs.declared.entry.Entry.TheVariants as entry
-use Rattle.iso_shared.proofs.shared.Shared.end_at_turn.Given as given
 use Rattle.iso_shared.proofs.shared.Shared.end_at_turn.Goals as goal
 
 pub end_group-result-requires-clause-ready : goal.end_group-result-requires-clause-ready
@@ -11,7 +10,7 @@ end_group-result-requires-clause-ready g c =
     (S.world, standing_of S.lost, txs_of S.world (members_at c.args.ends.now), l.at.core.world, each_lent l c.args.port.now.pass.me.0 _ c.take-turn.ensures.seen c.take-turn.ensures.same.1 c.requires.ends c.requires.held)
 
 -- what the core's call says of what the turn lent
-module _ (g : given.Over) (c : After-end_group-result g) where
+module _ (g : Rattle.iso_shared.proofs.shared.Shared.end_at_turn.Given.Over) (c : After-end_group-result g) where
   abbrev S : State
   S = state_at g.O.Origin.start c.take-turn.new.pass.me.0.seen
 

@@ -5,9 +5,8 @@ use Rattle.iso_shared.proofs.shared.Shared.end_in_turn.Goals as goal
 
 pub end-result-requires : goal.end-result-requires
 end-result-requires g c =
-    let A = g.O.Origin.start in
     let n = c.args.tx.now.number in
-    let S = state_at A c.take-turn.new.pass.me.0.seen in
+    let S = state_at g.O.Origin.start c.take-turn.new.pass.me.0.seen in
     let work = c.settle.new.work in
     let l = lends c.value-guarded.ensures.value c.take-turn.ensures.value c.take-turn.ensures.out in
     let t = settled_turn (at_turn l c.args.tx.now c.requires.tx.1 c.take-turn.ensures.seen c.take-turn.ensures.same.1) work c.settle.ensures.work in (
@@ -96,7 +95,6 @@ pub returns-clause-made : goal.returns-clause-made
 returns-clause-made g c =
     let d = g.D.Disk.state in
     let A = g.O.Origin.start in
-    let n = c.args.tx.now.number in
     let x = faults_of d c.of-before.result.value in
     let y = faults_of d c.end-result.new.self in
     let es = c.take-turn.new.pass.me.0.seen in
@@ -104,12 +102,11 @@ returns-clause-made g c =
       x,
       y,
       made_by A c.args.tx.now.pass.me.0 c.args.tx.now.pass.me.0 c.take-turn.new.pass.me.0 c.give.new.pass.me.0 _ c.take-turn.ensures.seen c.take-turn.ensures.seen c.take-turn.ensures.same.0
-          (c.give.ensures.seen ∙ ap (λ a. es ++ end_entry x y n a c.end-result.result ∷ []) accesses) c.give.ensures.mine c.give.ensures.legal,
+          (c.give.ensures.seen ∙ ap (λ a. es ++ end_entry x y c.args.tx.now.number a c.end-result.result ∷ []) accesses) c.give.ensures.mine c.give.ensures.legal,
     )
 
 pub returns-clause-steps : goal.returns-clause-steps
 returns-clause-steps g c list e seen =
-    let d = g.D.Disk.state in
     let A = g.O.Origin.start in
     let n = c.args.tx.now.number in
     let es = c.take-turn.new.pass.me.0.seen in
@@ -120,6 +117,6 @@ returns-clause-steps g c list e seen =
     let t = settled_turn (at_turn l c.args.tx.now c.requires.tx.1 c.take-turn.ensures.seen c.take-turn.ensures.same.1) work c.settle.ensures.work in
     let same : es ≡ list = init_same es list _ e (sym c.give.ensures.seen ∙ seen) in
     subst (λ l. c.end-result.new.steps ≤ c.args.steps.now + most_steps A l upto) same
-    (by_lost d S c.value-guarded.result.now.core (c.end-result.new.steps ≤ c.args.steps.now + most_steps A es upto) l.at.core
+    (by_lost g.D.Disk.state S c.value-guarded.result.now.core (c.end-result.new.steps ≤ c.args.steps.now + most_steps A es upto) l.at.core
     (λ is stands. c.end-result.ensures.steps S.world (tx_of S.world n work.accesses) stands (is_tx S.world n work.accesses t.live) (checked_of S n work c.args.tx.now.checked t.own t.live t.ahead))
     (λ lost is stands. let none : c.end-result.new.steps ≡ c.args.steps.now = c.end-result.ensures.no_steps S.world lost stands in omega arith))

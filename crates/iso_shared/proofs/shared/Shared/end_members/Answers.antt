@@ -70,7 +70,6 @@ returns-in_default g c =
     let noted = c.join_members.ensures.group in
     let parts = c.split_members.ensures.group in
     let many = noted_many s A _ group _ noted in
-    let parted = parts_many s A _ _ _ parts in
     let back = back_all s A m.seen w.seen group _ _ _ (made_seen A m w _ c.in-Err.ensures.err.2) noted (c.in-Err.ensures.back c.in_default.not-Disk) parts in
     let (before, now, made) = c.in-Err.ensures.err in record {
       port = c.split_members.ensures.port;
@@ -83,7 +82,7 @@ returns-in_default g c =
             c.split_members.ensures.seen (λ p. ap (times p) c.split_members.ensures.mine),
       );
       gone = λ is. absurd (c.in_default.not-Disk is);
-      many = omega (arith, many, c.end_joined.ensures.many, parted);
+      many = omega (arith, many, c.end_joined.ensures.many, parts_many s A _ _ _ parts);
       notes = λ is. absurd (c.in_default.not-Disk is);
       back = λ other. (
         omega (arith, many, c.end_joined.ensures.many, c.end_joined.ensures.units, c.join_members.ensures.units, c.split_members.ensures.units),

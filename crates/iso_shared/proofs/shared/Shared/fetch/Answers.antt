@@ -1,4 +1,4 @@
-use Rattle.iso_shared.proofs.{Words.{[], refl, sym, ◌∙◌, rules, ◌<◌, subst, ℕ, faults_of, opened, state_at}, Cores.did_fetch, Follows.follows_all, Giving.{asked, entry_may, fetch_holds, lends, live_lent, moved_fetch, stands_answer}, Mades.{held_same, made_by, one_more, tx_on}}
+use Rattle.iso_shared.proofs.{Words.{arith, [], refl, sym, ◌∙◌, rules, ◌<◌, subst, ℕ, faults_of, opened, state_at}, Cores.did_fetch, Follows.follows_all, Giving.{asked, entry_may, fetch_holds, lends, live_lent, moved_fetch, stands_answer}, Mades.{held_same, made_by, one_more, tx_on}}
 use Rattle.iso_shared.specs.declared.entry.Call.TheVariants as call
 use Rattle.iso_shared.specs.declared.entry.Entry.TheVariants as entry
 use Rattle.iso_shared.proofs.shared.Shared.fetch.Goals as goal
@@ -30,10 +30,7 @@ give-requires-clause-value g c =
     c.fetch-result.ensures.block c.fetch-result.ensures.same c.fetch-result.ensures.down c.fetch-result.ensures.disk c.fetch-result.ensures.unwritten c.fetch-result.ensures.cause)
 
 pub give-requires-clause-held : goal.give-requires-clause-held
-give-requires-clause-held g c =
-    let n = c.args.tx.now.number in
-    let held = held_same n _ _ c.take-turn.ensures.same.1 c.requires.tx.1.held in
-    entry_may _ _ (call.Fetch n c.args.block) (λ x. entry.Fetch n c.args.block c.fetch-result.new.into) _ (λ x. ((held, tt), tt)) (held, tt) c.fetch-result.result
+give-requires-clause-held g c = grind (arith, held_same, entry_may)
 
 pub returns-clause-tx : goal.returns-clause-tx
 returns-clause-tx g c =

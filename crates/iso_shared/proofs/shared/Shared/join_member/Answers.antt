@@ -1,14 +1,9 @@
-use Rattle.iso_shared.proofs.{Words.{◌≡◌, refl, sym, ap, subst, arith, ◌+◌, times, View, IsNote, IsPrefix}, HandedBack.holds_both, Mades.{ahead_on, own_on}}
-use Rattle.iso_shared.proofs.shared.Shared.join_member.Goals as goal
+use Rattle.iso_shared.proofs.{Words.{refl, sym, ap, subst, arith, View, IsNote, IsPrefix}, HandedBack.holds_both, Mades.{ahead_on, own_on}}
 
-pub returns-clause-holds : goal.returns-clause-holds
-returns-clause-holds g c n =
-    let old = c.args.port.now.pass.me.0 in
-    let new = c.join.new.pass.me.0 in
-    subst (λ p. times n new.holds ≡ times n old.holds + times n p.me.0.holds) c.replace-pass.ensures.value
-    (holds_both n old c.split-note.new.pass.me.0 c.replace-pass.result.me.0 new (ap (λ (v : View _). v.holds) c.split-note.ensures.kept) c.join.ensures.both)
+pub returns-clause-holds : Rattle.iso_shared.proofs.shared.Shared.join_member.Goals.returns-clause-holds
+returns-clause-holds g c n = grind (arith, holds_both)
 
-pub returns-clause-tx : goal.returns-clause-tx
+pub returns-clause-tx : Rattle.iso_shared.proofs.shared.Shared.join_member.Goals.returns-clause-tx
 returns-clause-tx g c =
     let A = g.O.Origin.start in
     let t = c.args.tx.now in

@@ -1,12 +1,11 @@
 use Rattle.iso_shared.proofs.{Words.{[], ◌∷◌, ◌++◌, ◌≡◌, ℕ, Option, Some, None, ap, rules, sym, ◌∙◌, bytes_eq, option_map, lookup, Checked, held_first, prefix_self, View, Entry, Posted, posting_in, state_at}, Begins.ahead_first, Giving.lends, Mades.{ahead_on, held_same, one_more, own_on}, Racked.{found_own, stands_look}}
 use Rattle.iso_shared.specs.declared.entry.Entry.TheVariants as entry
-use Rattle.iso_shared.proofs.shared.Shared.look.Goals as goal
 
-pub give-requires-clause-value : goal.give-requires-clause-value
+pub give-requires-clause-value : Rattle.iso_shared.proofs.shared.Shared.look.Goals.give-requires-clause-value
 give-requires-clause-value g c =
     stands_look (lends c.value-guarded.ensures.value c.take-turn.ensures.value c.take-turn.ensures.out) _ c.args.label.now c.look-found.result c.look-found.ensures.item c.look-found.ensures.rest
 
-pub returns-in-Some-clause-tx : goal.returns-in-Some-clause-tx
+pub returns-in-Some-clause-tx : Rattle.iso_shared.proofs.shared.Shared.look.Goals.returns-in-Some-clause-tx
 returns-in-Some-clause-tx g c =
     let A = g.O.Origin.start in
     let es = c.take-turn.new.pass.me.0.seen in
@@ -33,5 +32,5 @@ returns-in-Some-clause-tx g c =
       search rules,
     )
 
-pub returns-in-Some-clause-checked : goal.returns-in-Some-clause-checked
+pub returns-in-Some-clause-checked : Rattle.iso_shared.proofs.shared.Shared.look.Goals.returns-in-Some-clause-checked
 returns-in-Some-clause-checked g c = ap (λ (k : ℕ). let x : Checked = record { upto = k; clash = None } in x) c.begun_at-upto.ensures

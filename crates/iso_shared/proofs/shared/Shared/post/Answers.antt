@@ -1,43 +1,40 @@
 use Rattle.iso_shared.proofs.{Words.{[], ◌∷◌, ◌++◌, ◌≡◌, ℕ, Ok, Err, ◌<◌, ap, refl, rules, subst, sym, ◌∙◌, IsErr, bytes_eq, lookup, prefix_trans, Doing, Entry, Posted, IsAhead, IsOwn, state_at, times, IsOn, StandsAt, post_entry}, Giving.lends, Mades.{ahead_on, both_by, held_same, made_by, one_more, own_on, units_by}, Racked.{free_by, none_by, post_holds, stands_post, stands_unposted, taken_by}}
-use Rattle.iso_shared.proofs.shared.Shared.post.Goals as goal
 
 settled_same : (old new : Doing) → new ≡ old → new ≡ record old { settled = new.settled }
 settled_same old new is = subst (λ (w : Doing). w ≡ record old { settled = w.settled }) (sym is) refl
 
-pub give-requires-clause-value : goal.give-requires-clause-value
+pub give-requires-clause-value : Rattle.iso_shared.proofs.shared.Shared.post.Goals.give-requires-clause-value
 give-requires-clause-value g c =
-    let d = g.D.Disk.state in
     let A = g.O.Origin.start in
     let es = c.take-turn.new.pass.me.0.seen in
     let tx = c.tell_tx.new.tx in
     let p : Posted = record { number = tx.number; work = tx.work } in
     let entry_is : post_entry c.of-name.result.value c.of-item.result.value (Ok tt) ≡ post_entry c.args.label p (Ok tt) = λ i. post_entry (c.of-name.ensures i) (c.of-item.ensures i) (Ok tt) in
     let kept = c.value-guarded.result.now.rack in
-    subst (λ (e : Entry). StandsAt d A g.O.Origin.disk c.value-guarded.result.now.core c.post.new.self (es ++ e ∷ [])) (sym entry_is)
+    subst (λ (e : Entry). StandsAt g.D.Disk.state A g.O.Origin.disk c.value-guarded.result.now.core c.post.new.self (es ++ e ∷ [])) (sym entry_is)
     (stands_post (lends c.value-guarded.ensures.value c.take-turn.ensures.value c.take-turn.ensures.out) _ c.args.label p
     (held_same tx.number _ _ c.take-turn.ensures.same.1 c.tell_tx.ensures.tx.1.held)
     (own_on A _ es tx.number tx.work c.take-turn.ensures.seen c.tell_tx.ensures.tx.1.own)
     (none_by (lookup (bytes_eq c.args.label) kept) (λ is. (let no_error = subst (λ r. IsErr r) c.in-Ok.is (c.post.ensures.held is) in absurd (cc no_error))))
     c.in-Ok.ensures.ok)
 
-pub give-requires-in-Err-clause-value : goal.give-requires-in-Err-clause-value
+pub give-requires-in-Err-clause-value : Rattle.iso_shared.proofs.shared.Shared.post.Goals.give-requires-in-Err-clause-value
 give-requires-in-Err-clause-value g c =
     let d = g.D.Disk.state in
     let A = g.O.Origin.start in
-    let es = c.take-turn.new.pass.me.0.seen in
     let tx = c.tell_tx.new.tx in
     let p : Posted = record { number = tx.number; work = tx.work } in
     let e = c.in-Err.error in
     let entry_is : post_entry c.of-name.result.value c.of-item.result.value (Err e) ≡ post_entry c.args.label p (Err e) = λ i. post_entry (c.of-name.ensures i) (c.of-item.ensures i) (Err e) in
     let kept = c.value-guarded.result.now.rack in
-    subst (λ (x : Entry). StandsAt d A g.O.Origin.disk c.value-guarded.result.now.core c.post.new.self (es ++ x ∷ [])) (sym entry_is)
+    subst (λ (x : Entry). StandsAt d A g.O.Origin.disk c.value-guarded.result.now.core c.post.new.self (c.take-turn.new.pass.me.0.seen ++ x ∷ [])) (sym entry_is)
     (stands_unposted (lends c.value-guarded.ensures.value c.take-turn.ensures.value c.take-turn.ensures.out) _ c.args.label p e
     (held_same tx.number _ _ c.take-turn.ensures.same.1 c.tell_tx.ensures.tx.1.held)
     c.in-Err.ensures.err.0
     (taken_by (lookup (bytes_eq c.args.label) kept) e c.in-Err.ensures.free)
     (free_by (lookup (bytes_eq c.args.label) kept) e c.in-Err.ensures.taken))
 
-pub returns-in-Ok-clause-ok : goal.returns-in-Ok-clause-ok
+pub returns-in-Ok-clause-ok : Rattle.iso_shared.proofs.shared.Shared.post.Goals.returns-in-Ok-clause-ok
 returns-in-Ok-clause-ok g c =
     let A = g.O.Origin.start in
     let es = c.take-turn.new.pass.me.0.seen in
@@ -53,10 +50,9 @@ returns-in-Ok-clause-ok g c =
       units_by c.tell_tx.new.port.pass.me.0 c.args.port.now.pass.me.0 c.args.tx.pass.me.0 c.give.new.pass.me.0 c.take_back.new.port.pass.me.0 c.tell_tx.ensures.port.1 (c.give.ensures.units ∙ c.take-turn.ensures.same.2 ∙ same.2.2) c.take_back.ensures.units,
     )
 
-pub returns-in-Err-clause-err : goal.returns-in-Err-clause-err
+pub returns-in-Err-clause-err : Rattle.iso_shared.proofs.shared.Shared.post.Goals.returns-in-Err-clause-err
 returns-in-Err-clause-err g c =
     let A = g.O.Origin.start in
-    let es = c.take-turn.new.pass.me.0.seen in
     let same = c.tell_tx.ensures.same in
     let tx = c.tell_tx.new.tx in
     let back : c.in-Err.field-0-1 ≡ record { number = tx.number; work = tx.work } = c.in-Err.ensures.err.1 in
@@ -90,5 +86,5 @@ returns-in-Err-clause-err g c =
           (prefix_trans _ _ _ c.tell_tx.ensures.told c.take-turn.ensures.seen)
           (prefix_trans _ _ _ c.tell_tx.ensures.begins c.take-turn.ensures.seen)
           (c.take-turn.ensures.same.0 ∙ same.2.0)
-          (c.give-in-Err.ensures.seen ∙ ap (λ (x : Entry). es ++ x ∷ []) entry_is) c.give-in-Err.ensures.mine c.give-in-Err.ensures.legal,
+          (c.give-in-Err.ensures.seen ∙ ap (λ (x : Entry). c.take-turn.new.pass.me.0.seen ++ x ∷ []) entry_is) c.give-in-Err.ensures.mine c.give-in-Err.ensures.legal,
     )

@@ -1,7 +1,6 @@
-use Rattle.iso_shared.proofs.{Words.{inl, [], ◌∷◌, ◌++◌, ◌≡◌, ap, refl, rules, subst, sym, ◌∙◌, IsRecent, State, faults_of, state_at, tx_of, recent_entry}, Begins.{Recounts, did_recent, if_ok_by, is_recent, recent_state}, Cores.is_tx, Giving.{AtTurn, Lends, asked, at_turn, entry_may, lends, recent_holds, stands_answer}, Mades.{held_same, made_by, one_more, tx_on}, shared.Shared.recent.Goals.After-recent-result}
+use Rattle.iso_shared.proofs.{Words.{arith, inl, [], ◌∷◌, ◌++◌, ◌≡◌, ap, refl, rules, subst, sym, ◌∙◌, IsRecent, State, faults_of, state_at, tx_of, recent_entry}, Begins.{Recounts, did_recent, if_ok_by, is_recent, recent_state}, Cores.is_tx, Giving.{AtTurn, Lends, asked, at_turn, entry_may, lends, recent_holds, stands_answer}, Mades.{held_same, made_by, one_more, tx_on}, shared.Shared.recent.Goals.After-recent-result}
 use Rattle.iso_shared.specs.declared.entry.Call.TheVariants as call
 use Rattle.iso_shared.specs.declared.entry.Entry.TheVariants as entry
-use Rattle.iso_shared.proofs.shared.Shared.recent.Given as given
 use Rattle.iso_shared.proofs.shared.Shared.recent.Goals as goal
 
 pub recent-result-requires : goal.recent-result-requires
@@ -12,7 +11,7 @@ recent-result-requires g c =
     (W, standing, u, stands, is, t.from, t.ahead.to)
 
 -- what the core's call says of what the turn lent
-module _ (g : given.Over) (c : After-recent-result g) where
+module _ (g : Rattle.iso_shared.proofs.shared.Shared.recent.Given.Over) (c : After-recent-result g) where
   abbrev S : State
   S = state_at g.O.Origin.start c.take-turn.new.pass.me.0.seen
 
@@ -39,10 +38,7 @@ give-requires-clause-value g c =
     (did_recent g.D.Disk.state (S g s) _ n c.args.tx.now.checked.upto _ _ r (l g s).at.core (so g s))
 
 pub give-requires-clause-held : goal.give-requires-clause-held
-give-requires-clause-held g c =
-    let n = c.args.tx.now.number in
-    let held = held_same n _ _ c.take-turn.ensures.same.1 c.requires.tx.1.held in
-    entry_may _ _ (call.Recent n) (λ y. entry.Recent n y.upto) _ (λ y. ((held, tt), tt)) (held, tt) c.recent-result.result
+give-requires-clause-held g c = grind (arith, held_same, entry_may)
 
 pub returns-clause-tx : goal.returns-clause-tx
 returns-clause-tx g c =

@@ -1,9 +1,8 @@
-use Rattle.iso_shared.proofs.{Words.{inl, [], ap, refl, sym, ◌∙◌, subst, Err, ℕ, List, AreHeld, members_in, numbers_in, state_at, wanting_entry}, Giving.{entry_keeps, entry_may, lends, stands_call}, Groupings.{did_wanting, joined_args, numbers_member, wanting_holds}, Mades.made_by}
+use Rattle.iso_shared.proofs.{Words.{arith, inl, [], ap, refl, sym, subst, Err, ℕ, List, AreHeld, members_in, numbers_in, state_at, wanting_entry}, Giving.{entry_keeps, entry_may, lends, stands_call}, Groupings.{did_wanting, joined_args, numbers_member, wanting_holds}, Mades.made_by}
 use Rattle.iso_shared.specs.declared.entry.Call.TheVariants as call
 use Rattle.iso_shared.specs.declared.entry.Entry.TheVariants as entry
-use Rattle.iso_shared.proofs.shared.Shared.refuse_at_turn.Goals as goal
 
-pub give_wanting-requires-clause-value : goal.give_wanting-requires-clause-value
+pub give_wanting-requires-clause-value : Rattle.iso_shared.proofs.shared.Shared.refuse_at_turn.Goals.give_wanting-requires-clause-value
 give_wanting-requires-clause-value g c =
     let d = g.D.Disk.state in
     let A = g.O.Origin.start in
@@ -23,18 +22,13 @@ give_wanting-requires-clause-value g c =
     (did_wanting d S lent members error c.stat.result.down l.at.core args (λ W standing stands. ap (λ t. t.down) (c.stat.ensures W standing stands)) c.wanting-error.ensures.down c.wanting-error.ensures.up)
     (entry_keeps 0 0 (call.EndGroup members) (λ (done : Unit {0}). entry.EndGroup []) (λ x T. refl) (Err error))
 
-pub give_wanting-requires-clause-held : goal.give_wanting-requires-clause-held
-give_wanting-requires-clause-held g c =
-    let group = c.args.group.now in
-    let holds = c.take-turn.new.pass.me.0.holds in
-    let held = subst (λ (ns : List ℕ). AreHeld ns holds) (sym (numbers_member group)) (subst (λ (hs : List ℕ). AreHeld (numbers_in group) hs) (sym c.take-turn.ensures.same.1) c.requires.held.0) in
-    entry_may 0 0 (call.EndGroup (members_in group)) (λ (done : Unit {0}). entry.EndGroup []) holds (λ x. (tt, tt)) held (Err c.wanting-error.result)
+pub give_wanting-requires-clause-held : Rattle.iso_shared.proofs.shared.Shared.refuse_at_turn.Goals.give_wanting-requires-clause-held
+give_wanting-requires-clause-held g c = grind (arith, numbers_member, entry_may)
 
-pub returns-clause-holds : goal.returns-clause-holds
-returns-clause-holds g c =
-    c.give_wanting.ensures.holds ∙ wanting_holds (members_in c.args.group.now) c.wanting-error.result c.take-turn.new.pass.me.0.holds c.wanting-error.ensures.only ∙ c.take-turn.ensures.same.1
+pub returns-clause-holds : Rattle.iso_shared.proofs.shared.Shared.refuse_at_turn.Goals.returns-clause-holds
+returns-clause-holds g c = grind (arith, wanting_holds)
 
-pub returns-clause-made : goal.returns-clause-made
+pub returns-clause-made : Rattle.iso_shared.proofs.shared.Shared.refuse_at_turn.Goals.returns-clause-made
 returns-clause-made g c =
     let v = c.args.port.now.pass.me.0 in
     made_by g.O.Origin.start v v c.take-turn.new.pass.me.0 c.give_wanting.new.pass.me.0 _ c.take-turn.ensures.seen c.take-turn.ensures.seen c.take-turn.ensures.same.0 c.give_wanting.ensures.seen c.give_wanting.ensures.mine c.give_wanting.ensures.legal

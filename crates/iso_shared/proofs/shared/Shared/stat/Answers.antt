@@ -1,8 +1,7 @@
 use Rattle.iso_shared.proofs.{Words.{inl, refl, numbers_of}, Cores.did_stat, Giving.{lends, stands_call}}
 use Rattle.iso_shared.specs.declared.entry.Entry.TheVariants as entry
-use Rattle.iso_shared.proofs.shared.Shared.stat.Goals as goal
 
-pub give-requires-clause-value : goal.give-requires-clause-value
+pub give-requires-clause-value : Rattle.iso_shared.proofs.shared.Shared.stat.Goals.give-requires-clause-value
 give-requires-clause-value g c =
     let l = lends c.value-guarded.ensures.value c.take-turn.ensures.value c.take-turn.ensures.out in
     let e = entry.Stat (numbers_of c.stat-stat.result) in

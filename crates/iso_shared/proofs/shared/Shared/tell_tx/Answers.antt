@@ -1,7 +1,6 @@
 use Rattle.iso_shared.proofs.{Words.rules, Mades.{ahead_on, held_same, own_on}}
-use Rattle.iso_shared.proofs.shared.Shared.tell_tx.Goals as goal
 
-pub returns-clause-tx : goal.returns-clause-tx
+pub returns-clause-tx : Rattle.iso_shared.proofs.shared.Shared.tell_tx.Goals.returns-clause-tx
 returns-clause-tx g c = (
   search rules,
   record {

@@ -1,9 +1,8 @@
 use Rattle.iso_shared.proofs.{Words.{refl, Done, state_at}, Cores.did_upgrade, Giving.lends, Upkeeps.{switched_stands, switches}}
 use Rattle.iso_shared.specs.declared.entry.Call.TheVariants as call
 use Rattle.iso_shared.specs.declared.entry.Entry.TheVariants as entry
-use Rattle.iso_shared.proofs.shared.Shared.upgrade.Goals as goal
 
-pub give-requires-clause-value : goal.give-requires-clause-value
+pub give-requires-clause-value : Rattle.iso_shared.proofs.shared.Shared.upgrade.Goals.give-requires-clause-value
 give-requires-clause-value g c =
     let W = (state_at g.O.Origin.start c.take-turn.new.pass.me.0.seen).world in
     let said = c.upgrade-result.ensures in

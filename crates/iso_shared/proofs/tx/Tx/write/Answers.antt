@@ -1,5 +1,4 @@
 use Rattle.iso_shared.proofs.{Words.{subst, sym, IsTxOf}, Begins.gone_on}
-use Rattle.iso_shared.proofs.tx.Tx.write.Goals as goal
 
-pub returns-clause-tx : goal.returns-clause-tx
+pub returns-clause-tx : Rattle.iso_shared.proofs.tx.Tx.write.Goals.returns-clause-tx
 returns-clause-tx g c = subst (IsTxOf g.O.Origin.start) (sym c.uncheck.ensures.same) (gone_on c.args.self.now c.write.new.self c.write.ensures c.requires.tx)

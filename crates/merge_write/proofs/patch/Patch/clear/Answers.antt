@@ -1,8 +1,7 @@
 -- Masks that are all zero set no byte.
 use Rattle.merge_write.proofs.{Words.{◌≡◌, ◌∙◌, ℕ, ap, sym, arith, length, get_or, replicate, None, inl, inr, cases_lt, get_or_past}, Values.{cleared_values, length-values_from}}
-use Rattle.merge_write.proofs.patch.Patch.clear.Goals as goal
 
-pub returns : goal.returns
+pub returns : Rattle.merge_write.proofs.patch.Patch.clear.Goals.returns
 returns c =
     let masks = c.loop-at.self-inside.masks.items in
     let bytes = c.loop-at.self-inside.bytes.items in

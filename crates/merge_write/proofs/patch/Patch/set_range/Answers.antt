@@ -1,21 +1,15 @@
 -- The places from `from` up to `to` have the new bytes and their bits set, and the others what they had.
-use Rattle.merge_write.proofs.{Words.{◌≡◌, ◌∙◌, ap, sym, ℕ, ◌<◌, ◌&&◌, ◌||◌, List, Option, Some, None, cond, length, get_or, nat_le, nat_lt, arith, with_items_is, with_items, is_set, values_from}, Values.{length-values_from, ranged_values}}
+use Rattle.merge_write.proofs.{Words.{rules, ◌≡◌, ◌∙◌, ap, sym, ℕ, ◌<◌, ◌&&◌, ◌||◌, List, Option, Some, None, cond, length, get_or, nat_le, nat_lt, arith, with_items_is, with_items, is_set, values_from}, Values.{length-values_from, ranged_values}}
 use Rattle.merge_write.proofs.patch.Patch.set_range.Goals as goal
 
 pub copy_range-requires-clause-bytes : goal.copy_range-requires-clause-bytes
 copy_range-requires-clause-bytes c = omega (arith, c.requires.bytes, c.requires.range)
 
 pub copy_range-requires-clause-into : goal.copy_range-requires-clause-into
-copy_range-requires-clause-into c =
-    let long : length c.args.self.now ≡ length c.self.inside.bytes.items =
-    sym (ap length c.self.view_is) ∙ length-values_from c.self.inside.masks.items 0 c.self.inside.bytes.items in
-    omega (arith, long, c.requires.range, ap (length {A = ℕ}) c.deref_mut.ensures.value)
+copy_range-requires-clause-into c = search (rules, arith, length-values_from)
 
 pub set_bits-requires-clause-row : goal.set_bits-requires-clause-row
-set_bits-requires-clause-row c =
-    let long : length c.args.self.now ≡ length c.self.inside.bytes.items =
-    sym (ap length c.self.view_is) ∙ length-values_from c.self.inside.masks.items 0 c.self.inside.bytes.items in
-    omega (arith, long, c.self.invariant.1, ap (length {A = ℕ}) c.deref_mut-2.ensures.value)
+set_bits-requires-clause-row c = search (rules, arith, length-values_from)
 
 pub returns-clause-len : goal.returns-clause-len
 returns-clause-len c =

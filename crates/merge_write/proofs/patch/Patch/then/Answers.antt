@@ -1,24 +1,13 @@
 -- The later bytes are laid over the first ones, and their bits are set too.
-use Rattle.merge_write.proofs.{Values.{length-values_from, followed_values}, Words.{laid_at, followed_is, ◌≡◌, ◌∙◌, ap, sym, ℕ, ◌<◌, ◌||◌, List, Option, None, length, get_or, unwrap_or, arith, with_items_is, with_items, is_set, laid, followed, values_from}}
-use Rattle.merge_write.proofs.patch.Patch.then.Goals as goal
+use Rattle.merge_write.proofs.{Values.{length-values_from, followed_values}, Words.{rules, laid_at, followed_is, ◌≡◌, ◌∙◌, ap, sym, ℕ, ◌<◌, ◌||◌, List, Option, None, length, get_or, unwrap_or, arith, with_items_is, with_items, is_set, laid, followed, values_from}}
 
-pub lay-requires-clause-into : goal.lay-requires-clause-into
-lay-requires-clause-into c =
-    let first : length c.args.self.now ≡ length c.self.inside.bytes.items =
-    sym (ap length c.self.view_is) ∙ length-values_from c.self.inside.masks.items 0 c.self.inside.bytes.items in
-    let second : length c.args.later.now ≡ length c.later.inside.bytes.items =
-    sym (ap length c.later.view_is) ∙ length-values_from c.later.inside.masks.items 0 c.later.inside.bytes.items in
-    ap length c.deref_mut.ensures.value ∙ sym first ∙ sym c.requires ∙ second ∙ sym (ap length c.deref.ensures.value)
+pub lay-requires-clause-into : Rattle.merge_write.proofs.patch.Patch.then.Goals.lay-requires-clause-into
+lay-requires-clause-into c = search (rules, arith, length-values_from)
 
-pub join_bits-requires : goal.join_bits-requires
-join_bits-requires c =
-    let first : length c.args.self.now ≡ length c.self.inside.bytes.items =
-    sym (ap length c.self.view_is) ∙ length-values_from c.self.inside.masks.items 0 c.self.inside.bytes.items in
-    let second : length c.args.later.now ≡ length c.later.inside.bytes.items =
-    sym (ap length c.later.view_is) ∙ length-values_from c.later.inside.masks.items 0 c.later.inside.bytes.items in
-    omega (arith, first, second, c.requires, c.self.invariant.1, c.later.invariant.1, ap (length {A = ℕ}) c.deref-3.ensures.value, ap (length {A = ℕ}) c.deref_mut-2.ensures.value)
+pub join_bits-requires : Rattle.merge_write.proofs.patch.Patch.then.Goals.join_bits-requires
+join_bits-requires c = search (rules, arith, length-values_from)
 
-pub returns-clause-len : goal.returns-clause-len
+pub returns-clause-len : Rattle.merge_write.proofs.patch.Patch.then.Goals.returns-clause-len
 returns-clause-len c =
     let vec = c.self.inside.bytes in
     let new = c.lay.new.into in
@@ -29,7 +18,7 @@ returns-clause-len c =
     ∙ same
     ∙ sym first
 
-pub returns-clause-values : goal.returns-clause-values
+pub returns-clause-values : Rattle.merge_write.proofs.patch.Patch.then.Goals.returns-clause-values
 returns-clause-values c =
     let masks = c.self.inside.masks.items in
     let bytes = c.self.inside.bytes.items in

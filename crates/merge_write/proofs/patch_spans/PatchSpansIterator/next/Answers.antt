@@ -1,16 +1,10 @@
 -- The piece that comes next is the first of the maximal runs that are left.
-use Rattle.merge_write.proofs.{Words.{◌≡◌, ◌∙◌, sym, ap, ◌<◌, true, false, inl, inr, arith, length, map, cases_lt, is_set, piece}, Pieces.{none_left, next_piece}}
-use Rattle.merge_write.proofs.patch_spans.PatchSpansIterator.next.Goals as goal
+use Rattle.merge_write.proofs.{Words.{rules, ◌≡◌, ◌∙◌, sym, ◌<◌, true, false, inl, inr, arith, length, cases_lt, is_set}, Pieces.{none_left, next_piece}}
 
-pub returns-then-from-end-clause-steps : goal.returns-then-from-end-clause-steps
-returns-then-from-end-clause-steps c = (
-  sym c.self.view_is ∙ ap (map piece) (none_left c.self.inside.at c.self.inside.masks.now c.self.inside.bytes.now c.self.invariant.1
-      (λ k from below. c.next_place-from.ensures.passed k from (omega arith))),
-  ap (map piece) (none_left (length c.self.inside.bytes.now) c.self.inside.masks.now c.self.inside.bytes.now (omega arith)
-      (λ k from below. absurd (omega arith))),
-)
+pub returns-then-from-end-clause-steps : Rattle.merge_write.proofs.patch_spans.PatchSpansIterator.next.Goals.returns-then-from-end-clause-steps
+returns-then-from-end-clause-steps c = search (rules, arith, none_left)
 
-pub returns-clause-steps : goal.returns-clause-steps
+pub returns-clause-steps : Rattle.merge_write.proofs.patch_spans.PatchSpansIterator.next.Goals.returns-clause-steps
 returns-clause-steps c =
     let inside : c.next_place-from.result < length c.self.inside.bytes.now = omega arith in
     let starts : is_set c.self.inside.masks.now c.next_place-from.result ≡ true = c.next_place-from.ensures.stops inside in
@@ -25,6 +19,5 @@ returns-clause-steps c =
     ∙ next_piece c.self.inside.at c.next_place-from.result c.next_place-to.result c.self.inside.masks.now c.self.inside.bytes.now
     c.next_place-from.ensures.from some c.next_place-to.ensures.within c.next_place-from.ensures.passed c.next_place-to.ensures.passed c.next_place-to.ensures.stops
 
-pub returns-clause-goes : goal.returns-clause-goes
-returns-clause-goes c =
-    record { on = λ _. (tt, tt, omega (arith, ap length (returns-clause-steps c))); keeps = tt; rests = λ _. tt }
+pub returns-clause-goes : Rattle.merge_write.proofs.patch_spans.PatchSpansIterator.next.Goals.returns-clause-goes
+returns-clause-goes c = search (rules, arith, returns-clause-steps)

@@ -1,15 +1,14 @@
 use Rattle.mirror_disk.proofs.{Words.{Err, ap, DiskState, IsSettled}, Mirrored.state_pair}
-use Rattle.mirror_disk.proofs.mirror.Mirror.adopt.Goals as goal
 
-pub returns-in-Ok-clause-settled : goal.returns-in-Ok-clause-settled
+pub returns-in-Ok-clause-settled : Rattle.mirror_disk.proofs.mirror.Mirror.adopt.Goals.returns-in-Ok-clause-settled
 returns-in-Ok-clause-settled g c =
     state_pair c.in-Ok.marks.used c.in-Ok.ensures.pair (g.A.Disk.state c.adopt_sides.new.first) (g.B.Disk.state c.adopt_sides.new.second) c.start.result 0 0 (λ (d : DiskState). IsSettled d) c.in-Ok.ensures.settled
 
-pub returns-in-Ok-clause-alike : goal.returns-in-Ok-clause-alike
+pub returns-in-Ok-clause-alike : Rattle.mirror_disk.proofs.mirror.Mirror.adopt.Goals.returns-in-Ok-clause-alike
 returns-in-Ok-clause-alike g c is = (c.in-Ok.ensures.stands.both is).agree
 
-pub returns-in-Err-clause-not_second : goal.returns-in-Err-clause-not_second
+pub returns-in-Err-clause-not_second : Rattle.mirror_disk.proofs.mirror.Mirror.adopt.Goals.returns-in-Err-clause-not_second
 returns-in-Err-clause-not_second g c is = c.in-Err.ensures.not_second (ap Err is)
 
-pub returns-in-Err-clause-choice : goal.returns-in-Err-clause-choice
+pub returns-in-Err-clause-choice : Rattle.mirror_disk.proofs.mirror.Mirror.adopt.Goals.returns-in-Err-clause-choice
 returns-in-Err-clause-choice g c is = c.in-Err.ensures.choice (ap Err is)

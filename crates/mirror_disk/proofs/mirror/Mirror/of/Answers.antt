@@ -1,14 +1,4 @@
-use Rattle.mirror_disk.proofs.Words.{◌≡◌, Plain}
-use Rattle.mirror_disk.proofs.mirror.Mirror.of.Goals as goal
+use Rattle.mirror_disk.proofs.Words.{arith}
 
-pub invariant_of-result : goal.invariant_of-result
-invariant_of-result g c =
-    let plain : c.plain.result.used ≡ Plain = c.plain.ensures in
-    record {
-      stands = record {
-        pair = λ is. absurd (is.0 plain);
-        both = λ is. absurd (cc (plain, is));
-        first = λ is. absurd (cc (plain, is));
-        second = λ is. absurd (cc (plain, is));
-      };
-    }
+pub invariant_of-result : Rattle.mirror_disk.proofs.mirror.Mirror.of.Goals.invariant_of-result
+invariant_of-result g c = grind arith

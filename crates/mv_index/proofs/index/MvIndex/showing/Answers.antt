@@ -1,8 +1,7 @@
 -- The pieces of a block.
 use Rattle.mv_index.proofs.Words.{◌≡◌, ◌<◌, ◌∙◌, sym, ap, subst, List, length, get_or_default, AllLie, BlockVersions, block_of, no_versions}
-use Rattle.mv_index.proofs.index.MvIndex.showing.Goals as goal
 
-pub returns-clause-within : goal.returns-clause-within
+pub returns-clause-within : Rattle.mv_index.proofs.index.MvIndex.showing.Goals.returns-clause-within
 returns-clause-within c size area lie =
     let rows : c.self.inside.rows.items ≡ c.args.self.now = c.self.view_is in
     let inside : c.args.block < length c.self.inside.rows.items = subst (λ (l : List BlockVersions). c.args.block < length l) (sym rows) c.requires in

@@ -1,8 +1,7 @@
 -- One row more.
 use Rattle.mv_index.proofs.{Words.{◌≡◌, ◌∙◌, ◌<◌, ap, length, get_or, arith, get_or_default, BlockVersions, no_versions, shown_since}, Trims.trimmed_more}
-use Rattle.mv_index.proofs.index.MvIndex.trim_to.Goals as goal
 
-pub loop-row-preserved : goal.loop-row-preserved
+pub loop-row-preserved : Rattle.mv_index.proofs.index.MvIndex.trim_to.Goals.loop-row-preserved
 loop-row-preserved c =
     let inside : c.loop-row.row-index < length c.loop-row.row-items = omega (arith, c.loop-row-test.true, c.loop-row.auto.row-items) in
     let same : get_or c.loop-row.row-items c.loop-row.row-index c.row-item.result ≡ get_or c.loop-row.row-items c.loop-row.row-index no_versions = get_or_default c.loop-row.row-items c.loop-row.row-index c.row-item.result no_versions inside in

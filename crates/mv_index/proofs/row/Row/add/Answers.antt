@@ -1,14 +1,13 @@
 -- A version more, with the pieces over which it is laid.
 use Rattle.mv_index.proofs.{Words.{sym, subst, arith, ◌^◌, ◌-◌, List, Version, IsRow, AreAtMost, BlockVersions}, Showing.{pieces_lie, row_more}}
-use Rattle.mv_index.proofs.row.Row.add.Goals as goal
 
-pub lay-requires-clause-order : goal.lay-requires-clause-order
+pub lay-requires-clause-order : Rattle.mv_index.proofs.row.Row.add.Goals.lay-requires-clause-order
 lay-requires-clause-order c = c.self.invariant.pieces_of.order
 
-pub lay-requires-clause-placed : goal.lay-requires-clause-placed
+pub lay-requires-clause-placed : Rattle.mv_index.proofs.row.Row.add.Goals.lay-requires-clause-placed
 lay-requires-clause-placed c = pieces_lie c.self.inside.pieces.items c.self.inside.versions.items 4096 (2 ^ 64 - 1) c.self.invariant.pieces_of c.self.invariant.placed
 
-pub invariant_of-self : goal.invariant_of-self
+pub invariant_of-self : Rattle.mv_index.proofs.row.Row.add.Goals.invariant_of-self
 invariant_of-self c =
     subst (λ (l : List Version). IsRow l c.lay.new.pieces.items) (sym c.push_reserved.ensures.items)
     (row_more c.self.inside.versions.items c.self.inside.pieces.items c.lay.new.pieces.items c.args.version c.self.invariant

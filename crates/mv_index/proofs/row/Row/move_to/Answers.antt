@@ -1,14 +1,13 @@
 -- The pieces are moved with their versions.
 use Rattle.mv_index.proofs.{Words.{List, sym, subst, arith, Version, AreSplit, moved_to, IsRow, AllLie, BlockVersions}, Moves.row_moved, Showing.pieces_lie}
-use Rattle.mv_index.proofs.row.Row.move_to.Goals as goal
 
-pub move_list-requires : goal.move_list-requires
+pub move_list-requires : Rattle.mv_index.proofs.row.Row.move_to.Goals.move_list-requires
 move_list-requires c =
     let room = c.requires.room in
     let lie : AllLie room.0 room.1 c.self.inside.versions.items = subst (λ (r : BlockVersions). AllLie room.0 room.1 r.versions) (sym c.self.view_is) room.2 in
     record { room = λ i below. (let one = pieces_lie c.self.inside.pieces.items c.self.inside.versions.items room.0 room.1 c.self.invariant.pieces_of lie i below in omega (arith, one.inside, room.3)) }
 
-pub invariant_of-self : goal.invariant_of-self
+pub invariant_of-self : Rattle.mv_index.proofs.row.Row.move_to.Goals.invariant_of-self
 invariant_of-self c =
     let room = c.requires.room in
     let lie : AllLie room.0 room.1 c.self.inside.versions.items = subst (λ (r : BlockVersions). AllLie room.0 room.1 r.versions) (sym c.self.view_is) room.2 in

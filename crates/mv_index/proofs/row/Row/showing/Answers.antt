@@ -1,11 +1,9 @@
 -- The pieces of a row.
-use Rattle.mv_index.proofs.{Words.{sym, ap, subst, List, Version, ArePieces, BlockVersions, no_version}, Few.pieces_few, Layers.same_place, Orders.{once, some_at}, Showing.pieces_lie}
+use Rattle.mv_index.proofs.{Words.{arith, ArePieces, no_version}, Few.pieces_few, Layers.same_place, Orders.{once, some_at}, Showing.pieces_lie}
 use Rattle.mv_index.proofs.row.Row.showing.Goals as goal
 
 are : (c : goal.After-as_slice) → ArePieces c.as_slice.result.now c.args.self.now.versions
-are c =
-    subst (λ (l : List Version). ArePieces l c.args.self.now.versions) (sym c.as_slice.ensures.value)
-    (subst (ArePieces c.self.inside.pieces.items) (ap (λ (r : BlockVersions). r.versions) c.self.view_is) c.self.invariant.pieces_of)
+are c = grind arith
 
 pub returns-clause-order : goal.returns-clause-order
 returns-clause-order c = (are c).order

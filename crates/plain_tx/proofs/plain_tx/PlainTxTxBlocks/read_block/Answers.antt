@@ -2,9 +2,8 @@ use Rattle.std.proofs.Common.{◌∙◌, sym, ap, length, arith}
 use Rattle.iso_model.specs.{Array.Array, Premises.block_at, Effect.own}
 use Rattle.tx_table.specs.Work.{Doing}
 use Rattle.plain_tx.{specs.Plain.blocks_of, proofs.Causes.{copied, same_some}}
-use Rattle.plain_tx.proofs.plain_tx.PlainTxTxBlocks.read_block.Goals as goal
 
-pub returns-clause-bytes : goal.returns-clause-bytes
+pub returns-clause-bytes : Rattle.plain_tx.proofs.plain_tx.PlainTxTxBlocks.read_block.Goals.returns-clause-bytes
 returns-clause-bytes c = λ A told.
     let t = c.args.self.now in
     let same = same_some (blocks_of t.work.size t.count t.blocks.items) A told in

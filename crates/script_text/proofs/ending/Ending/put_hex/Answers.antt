@@ -1,7 +1,6 @@
 use Rattle.script_text.proofs.{Words.{◌∙◌, ◌++◌, ℕ, List, ap, arith, drop, hex_text, WithFront}, Fronts.from_part}
-use Rattle.script_text.proofs.ending.Ending.put_hex.Goals as goal
 
-pub returns-clause-text : goal.returns-clause-text
+pub returns-clause-text : Rattle.script_text.proofs.ending.Ending.put_hex.Goals.returns-clause-text
 returns-clause-text c =
     let room = ap (λ (w : WithFront). w.room) c.self.view_is in
     let text = ap (λ (w : WithFront). w.text) c.self.view_is in

@@ -1,11 +1,10 @@
 use Rattle.turn_lock.proofs.Keeps.{ends_full, ends_value, ends_places}
-use Rattle.turn_lock.proofs.lock.TurnLock.close.Goals as goal
 
-pub unwrap-requires : goal.unwrap-requires
+pub unwrap-requires : Rattle.turn_lock.proofs.lock.TurnLock.close.Goals.unwrap-requires
 unwrap-requires g c = ends_full g.V.Stands.stands g.V.Stands.hands g.V.Stands.takes _ _ _ _ _ c.requires.free.0 c.requires.all c.close_with-closed.ensures.values.2 c.take-value.ensures.value
 
-pub returns-clause-value : goal.returns-clause-value
+pub returns-clause-value : Rattle.turn_lock.proofs.lock.TurnLock.close.Goals.returns-clause-value
 returns-clause-value g c = ends_value g.V.Stands.stands g.V.Stands.hands g.V.Stands.takes _ _ _ _ _ _ c.requires.free.0 c.requires.all c.close_with-closed.ensures.values.2 c.take-value.ensures.value c.unwrap.ensures
 
-pub returns-clause-all : goal.returns-clause-all
+pub returns-clause-all : Rattle.turn_lock.proofs.lock.TurnLock.close.Goals.returns-clause-all
 returns-clause-all g c = ends_places g.V.Stands.stands g.V.Stands.hands g.V.Stands.takes _ _ _ _ _ c.requires.free.0 c.requires.all c.close_with-closed.ensures.values.2 c.take-value.ensures.value

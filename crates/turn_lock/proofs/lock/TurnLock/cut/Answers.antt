@@ -1,7 +1,6 @@
 use Rattle.turn_lock.proofs.{Words.rules, Keeps.splits}
-use Rattle.turn_lock.proofs.lock.TurnLock.cut.Goals as goal
 
-pub split_seat-requires : goal.split_seat-requires
+pub split_seat-requires : Rattle.turn_lock.proofs.lock.TurnLock.cut.Goals.split_seat-requires
 split_seat-requires g c = (
   search rules,
   search rules,

@@ -1,7 +1,6 @@
 use Rattle.tx_table.proofs.{Words.{◌∙◌, sym, ap, ℕ, List, map, subst, floor_of, Begun, BeginFrom, at_work}, Begins.floor_first}
-use Rattle.tx_table.proofs.live.Live.floor.Goals as goal
 
-pub returns : goal.returns
+pub returns : Rattle.tx_table.proofs.live.Live.floor.Goals.returns
 returns c =
     let is = sym c.deref.ensures.value ∙ c.in-Some.ensures.cases.0 in
     let begin = subst (BeginFrom 0) is c.self.invariant.2 in

@@ -1,7 +1,6 @@
 use Rattle.tx_table.proofs.{Words.{◌∙◌, sym, subst, AreBefore, BeginFrom, RisesFrom}, Begins.before_last}
-use Rattle.tx_table.proofs.live.Live.is_next.Goals as goal
 
-pub returns : goal.returns
+pub returns : Rattle.tx_table.proofs.live.Live.is_next.Goals.returns
 returns c =
     let is = sym c.deref.ensures.value ∙ c.in-Some.ensures.cases.0 in
     subst (AreBefore c.args.tx c.args.at) (sym is ∙ c.self.view_is)

@@ -1,7 +1,6 @@
 use Rattle.tx_table.proofs.{Words.{sym, arith, length, subst, List, ℕ, ◌<◌, Begun, BeginFrom, RisesFrom}, Begins.{begin_without, rises_without}}
-use Rattle.tx_table.proofs.live.Live.leave.Goals as goal
 
-pub invariant_of-self : goal.invariant_of-self
+pub invariant_of-self : Rattle.tx_table.proofs.live.Live.leave.Goals.invariant_of-self
 invariant_of-self c =
     let live = c.self.inside.begins.items in
     let place = c.in-Some.place in

@@ -1,5 +1,5 @@
 -- The first of the blank slots, at the place of the block.
-use Rattle.tx_table.proofs.{Words.{◌≡◌, ◌∙◌, ℕ, ◌+◌, ◌<◌, ◌≤◌, Bool, ◌||◌, ◌==◌, true, false, List, ◌∷◌, ◌++◌, [], Option, None, ap, sym, subst, arith, length, get_or, take, drop, replicate, nat_lt, vec_capacity, ltb-true, common_steps, has_patch, patch_at, Held, RisesFrom, entries_of, AreSlots, and_parts, or-true}, Blocks.{has_insert, patch_insert, rises_insert}, Slots.{entries_insert, key_at, length-entries, length_insert, rises_entries, rises_order, slots_insert}}
+use Rattle.tx_table.proofs.{Words.{rules, ◌≡◌, ◌∙◌, ℕ, ◌+◌, ◌<◌, ◌≤◌, Bool, ◌||◌, ◌==◌, true, false, List, ◌∷◌, ◌++◌, [], Option, None, ap, sym, subst, arith, length, get_or, take, drop, replicate, common_steps, has_patch, patch_at, Held, RisesFrom, entries_of, AreSlots, or-true}, Blocks.{has_insert, patch_insert, rises_insert}, Slots.{entries_insert, key_at, length-entries, length_insert, rises_entries, rises_order, slots_insert}}
 use Rattle.tx_table.proofs.patches.Patches.add.Goals as goal
 
 module _ (c : goal.After-insert_within) where
@@ -25,8 +25,7 @@ module _ (c : goal.After-insert_within) where
   new = ap (λ (h : Held). has_patch c.args.block h.entries) c.self.view_is ∙ c.requires.new
 
   spare : length order < length c.self.inside.slots.items
-  spare =
-      ltb-true _ _ (and_parts (nat_lt (length order) (length c.self.inside.slots.items)) (nat_lt (length order) (vec_capacity c.self.inside.order)) (ap (λ (h : Held). h.spare) c.self.view_is ∙ c.requires.room)).0
+  spare = search (rules, arith)
 
   -- the blocks still rise
   rises : RisesFrom 0 more

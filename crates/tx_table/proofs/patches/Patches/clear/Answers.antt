@@ -1,14 +1,13 @@
 -- All slots are blank, and the order stays.
-use Rattle.tx_table.proofs.{Words.{◌≡◌, ◌∙◌, ◌<◌, ℕ, [], None, ap, arith, length, get_or, replicate, has_patch, AreBlankFrom, Held, entries_of}, Blocks.all_blank, Held.{blank_sizes, cleared_slots, has_entries}, Slots.blank_at}
-use Rattle.tx_table.proofs.patches.Patches.clear.Goals as goal
+use Rattle.tx_table.proofs.{Words.{◌≡◌, ◌∙◌, ◌<◌, ℕ, [], None, ap, arith, length, get_or, replicate, AreBlankFrom, Held, entries_of}, Blocks.all_blank, Held.{blank_sizes, cleared_slots, has_entries}, Slots.blank_at}
 
-blank : (c : goal.After-clear_slots) → AreBlankFrom c.self.inside.size 0 c.clear_slots.new.slots.items
+blank : (c : Rattle.tx_table.proofs.patches.Patches.clear.Goals.After-clear_slots) → AreBlankFrom c.self.inside.size 0 c.clear_slots.new.slots.items
 blank c =
     let n : c.len.result ≡ length c.self.inside.order.items = c.len.ensures ∙ c.self.inside.order.ok.0 in
     cleared_slots c.self.inside.size (length c.self.inside.order.items) c.self.inside.slots.items c.clear_slots.new.slots.items c.self.invariant.3 c.clear_slots.ensures.len
     (λ k lt. c.clear_slots.ensures.cleared k (omega (arith, n))) (λ k le. c.clear_slots.ensures.kept k (omega (arith, n))) c.self.invariant.5 c.self.invariant.6
 
-pub invariant_of-self : goal.invariant_of-self
+pub invariant_of-self : Rattle.tx_table.proofs.patches.Patches.clear.Goals.invariant_of-self
 invariant_of-self c = (
   c.self.invariant.0,
   c.self.invariant.1,
@@ -19,11 +18,10 @@ invariant_of-self c = (
   λ k le lt. blank c k (omega arith) lt,
 )
 
-pub returns-clause-kept : goal.returns-clause-kept
-returns-clause-kept c b =
-    has_entries b c.clear_slots.new.slots.items c.self.inside.slots.items c.self.inside.order.items ∙ ap (λ (h : Held). has_patch b h.entries) c.self.view_is
+pub returns-clause-kept : Rattle.tx_table.proofs.patches.Patches.clear.Goals.returns-clause-kept
+returns-clause-kept c b = grind (arith, has_entries)
 
-pub returns-clause-values : goal.returns-clause-values
+pub returns-clause-values : Rattle.tx_table.proofs.patches.Patches.clear.Goals.returns-clause-values
 returns-clause-values c b =
     let order = c.self.inside.order.items in
     let new = c.clear_slots.new.slots.items in

@@ -1,8 +1,7 @@
 -- All slots are blank, and the order is empty.
 use Rattle.tx_table.proofs.{Words.{◌≡◌, ◌∙◌, ◌≤◌, ℕ, [], List, arith, length, subst, sym, AreBlankFrom, RisesFrom, AreSlots}, Held.{blank_sizes, cleared_slots}}
-use Rattle.tx_table.proofs.patches.Patches.forget.Goals as goal
 
-pub invariant_of-self : goal.invariant_of-self
+pub invariant_of-self : Rattle.tx_table.proofs.patches.Patches.forget.Goals.invariant_of-self
 invariant_of-self c =
     let order = c.self.inside.order.items in
     let slots = c.self.inside.slots.items in

@@ -1,8 +1,7 @@
 -- One blank patch more behind the others.
 use Rattle.tx_table.proofs.{Words.{◌≡◌, ◌∙◌, ◌+◌, ◌<◌, ℕ, ◌++◌, ◌∷◌, [], List, Option, ap, arith, length, length-append, nat_lt, true, Bool, ◌&&◌, refl, vec_capacity, common_steps, Held, entries_of}, Slots.entries_more}
-use Rattle.tx_table.proofs.patches.Patches.make_spare.Goals as goal
 
-pub returns-clause-ok : goal.returns-clause-ok
+pub returns-clause-ok : Rattle.tx_table.proofs.patches.Patches.make_spare.Goals.returns-clause-ok
 returns-clause-ok c =
     let order = c.self.inside.order.items in
     let slots = c.self.inside.slots.items in

@@ -17,9 +17,7 @@ index_mut-requires c = omega (arith, (here (goal.at.index_mut-requires c).In-Som
 
 -- its patch is as long as all are
 long : (c : After-index_mut) → c.in-Some.slot < length c.self.inside.slots.items → length c.index_mut.result.now ≡ c.self.inside.size
-long c inside =
-    ap (length {A = Option ℕ}) c.index_mut.ensures.value
-    ∙ all_there (λ (l : List (Option ℕ)). length l ≡ c.self.inside.size) c.in-Some.slot c.self.inside.slots.items c.index_mut.result.now c.self.invariant.5 inside
+long c inside = grind (arith, all_there)
 
 pub set_spans-requires-clause-bytes : goal.set_spans-requires-clause-bytes
 set_spans-requires-clause-bytes c =
@@ -27,8 +25,7 @@ set_spans-requires-clause-bytes c =
     c.requires.bytes ∙ sym (ap (λ (h : Held). h.size) c.self.view_is) ∙ sym (long s.After-index_mut (here s.In-Some).inside)
 
 pub set_spans-requires-clause-spans : goal.set_spans-requires-clause-spans
-set_spans-requires-clause-spans c k x lt =
-    rw (sym (set_spans-requires-clause-bytes c) ∙ c.requires.bytes) (c.requires.spans k x lt)
+set_spans-requires-clause-spans c k x lt = grind (arith, set_spans-requires-clause-bytes)
 
 pub invariant_of-self : goal.invariant_of-self
 invariant_of-self c =

@@ -1,24 +1,11 @@
 -- The last row has one mark more, and none of what is up to date has the last row.
-use Rattle.tx_table.proofs.{Words.{◌≡◌, ◌∙◌, ℕ, ◌+◌, ◌-◌, ◌<◌, ◌≤◌, false, ◌==◌, ◌&&◌, List, ◌∷◌, [], ◌++◌, Some, None, sym, ap, subst, arith, refl, inl, inr, length, get_or, set, map, take, ne_eqb, length-set, vec_capacity, get_or_default, AreTouched, Access, Read, Write, TooManyMarks, Span, mark_fault, marked, IsSpan, Row, AreEffects, HavePatches, access_of, Doing, IsRow, span_at}, Last.{all_set, fault_of, full_fault, have_kept, have_set, if_some, marked_row, marked_set, no_fault, take_set}, Slots.all_there}
-use Rattle.tx_table.proofs.work.Work.mark.Goals as goal
+use Rattle.tx_table.proofs.{Words.{◌≡◌, ◌∙◌, ℕ, ◌+◌, ◌-◌, ◌<◌, ◌≤◌, false, ◌==◌, ◌&&◌, List, ◌∷◌, [], ◌++◌, None, sym, ap, subst, arith, inl, inr, length, get_or, set, map, take, ne_eqb, length-set, vec_capacity, get_or_default, AreTouched, Access, Read, Write, Span, mark_fault, marked, IsSpan, Row, AreEffects, HavePatches, access_of, Doing, IsRow, span_at}, Last.{all_set, full_fault, have_kept, have_set, if_some, marked_row, marked_set, no_fault, take_set}, Slots.all_there}
 
-pub returns-then-index-ge-MAX_SPANS-clause-err : goal.returns-then-index-ge-MAX_SPANS-clause-err
-returns-then-index-ge-MAX_SPANS-clause-err c fault is =
-    let rows = c.self.inside.rows.items in
-    let size = c.self.inside.size in
-    let i = c.len-end.result - 1 in
-    let d = c.index.result.now in
-    let last : i + 1 ≡ length rows = omega (arith, c.len-end.ensures, c.self.inside.rows.ok.0, c.if-end-eq0.false) in
-    let all = all_there (λ r. IsRow size r × (r.block < c.self.inside.blocks)) i rows d c.self.invariant.2 (omega (arith, last)) in
-    let here : d ≡ get_or rows i d = c.index.ensures in
-    let full : 8 ≤ (get_or rows i d).count = subst (λ (r : Row). 8 ≤ r.count) here c.if-index-ge-MAX_SPANS.true in
-    let fits : c.args.off + c.args.len ≤ size = omega (arith, c.if-from-self.false, c.from.ensures, c.from-else-len-eq0.ensures) in
-    let found : mark_fault size c.args.off c.args.len (map access_of rows) ≡ Some TooManyMarks =
-    full_fault size c.args.off c.args.len i rows d c.if-len-eq0.false fits last all.0 full in
-    (sym (ap (λ (w : Doing). mark_fault w.size c.args.off c.args.len w.accesses) c.self.view_is) ∙ found ∙ fault_of TooManyMarks fault is, refl)
+pub returns-then-index-ge-MAX_SPANS-clause-err : Rattle.tx_table.proofs.work.Work.mark.Goals.returns-then-index-ge-MAX_SPANS-clause-err
+returns-then-index-ge-MAX_SPANS-clause-err c fault is = grind (arith, all_there, full_fault)
 
 -- the last row has room for a mark that is within its block
-module _ (c : goal.After-self-3-1) where
+module _ (c : Rattle.tx_table.proofs.work.Work.mark.Goals.After-self-3-1) where
   abbrev rows : List Row
   rows = c.self.inside.rows.items
 
@@ -37,7 +24,7 @@ module _ (c : goal.After-self-3-1) where
   fits : c.args.off + c.args.len ≤ c.self.inside.size
   fits = omega (arith, c.if-from-self.false, c.from.ensures, c.from-else-len-eq0.ensures)
 
-pub invariant_of-self : goal.invariant_of-self
+pub invariant_of-self : Rattle.tx_table.proofs.work.Work.mark.Goals.invariant_of-self
 invariant_of-self c =
     let rows = c.self.inside.rows.items in
     let size = c.self.inside.size in
@@ -82,7 +69,7 @@ invariant_of-self c =
       c.self.invariant.11,
     )
 
-pub returns-clause-ok : goal.returns-clause-ok
+pub returns-clause-ok : Rattle.tx_table.proofs.work.Work.mark.Goals.returns-clause-ok
 returns-clause-ok c =
     let rows = c.self.inside.rows.items in
     let size = c.self.inside.size in

@@ -1,8 +1,7 @@
 -- The patches are up to date, so their runs are those of the accesses.
 use Rattle.tx_table.proofs.{Words.{arith, length-map, take_all, ◌≡◌, ◌∙◌, sym, ap, subst, List, map, take, length, flat_map, Access, runs, runs_from, AreEffects, RisesFrom, access_of, Doing}, Covered.settled_is, Runs.runs_of_patches}
-use Rattle.tx_table.proofs.work.Work.patches.Goals as goal
 
-pub returns-clause-runs : goal.returns-clause-runs
+pub returns-clause-runs : Rattle.tx_table.proofs.work.Work.patches.Goals.returns-clause-runs
 returns-clause-runs c g is_size is_blocks =
     let rows = c.self.inside.rows.items in
     let size = c.self.inside.size in

@@ -1,8 +1,7 @@
 -- What is laid over the block are the own writes.
 use Rattle.tx_table.proofs.{Words.{length-map, ◌≡◌, ◌∙◌, ◌⊎◌, ℕ, ◌<◌, ◌≤◌, true, false, sym, ap, subst, arith, refl, List, [], map, take, length, Option, Some, vec_capacity, IfSome, both_ways, Read, is_write, AreBytes, has_patch, HavePatches, IsRow, Access, own, block_at, AreEffects, access_of, Doing}, Last.{appended, have_kept, unmarked_row}, Applied.{rows_have_bytes, shown_of}}
-use Rattle.tx_table.proofs.work.Work.read.Goals as goal
 
-pub returns-clause-shown : goal.returns-clause-shown
+pub returns-clause-shown : Rattle.tx_table.proofs.work.Work.read.Goals.returns-clause-shown
 returns-clause-shown c A is =
     let rows = c.self.inside.rows.items in
     let size = c.self.inside.size in
@@ -18,7 +17,7 @@ returns-clause-shown c A is =
     (c.apply.ensures.size ∙ same) all now long is c.lay.ensures
     ∙ ap (λ (l : List Access). block_at (own A l) c.args.block) (ap (λ (d : Doing). d.accesses) c.self.view_is)
 
-pub invariant_of-self : goal.invariant_of-self
+pub invariant_of-self : Rattle.tx_table.proofs.work.Work.read.Goals.invariant_of-self
 invariant_of-self c =
     let rows = c.self.inside.rows.items in
     let size = c.self.inside.size in

@@ -1,14 +1,13 @@
 -- All rows are applied, and so many of them are in what is touched as the count says.
 use Rattle.tx_table.proofs.{Words.{length-map, take_all, ◌≡◌, ◌∙◌, ◌≤◌, sym, subst, arith, inl, inr, List, map, take, length, AreTouched, Access, Read, Write, Row, AreEffects, HavePatches, access_of}, Last.{have_kept, if_some, rows_within}}
-use Rattle.tx_table.proofs.work.Work.settle.Goals as goal
 
-pub returns-then-self-len-clause-within : goal.returns-then-self-len-clause-within
+pub returns-then-self-len-clause-within : Rattle.tx_table.proofs.work.Work.settle.Goals.returns-then-self-len-clause-within
 returns-then-self-len-clause-within c = rows_within c.self.inside.size c.self.inside.blocks c.self.inside.rows.items c.self.invariant.2
 
-pub returns-clause-within : goal.returns-clause-within
+pub returns-clause-within : Rattle.tx_table.proofs.work.Work.settle.Goals.returns-clause-within
 returns-clause-within c = rows_within c.self.inside.size c.self.inside.blocks c.self.inside.rows.items c.self.invariant.2
 
-pub invariant_of-self-2 : goal.invariant_of-self-2
+pub invariant_of-self-2 : Rattle.tx_table.proofs.work.Work.settle.Goals.invariant_of-self-2
 invariant_of-self-2 c =
     let rows = c.self.inside.rows.items in
     let size = c.self.inside.size in

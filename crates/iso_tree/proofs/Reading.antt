@@ -1,2 +1,0 @@
--- Programs that read alone, and their answers: as crates above name them.
-pub use Rattle.tx_blocks.proofs.Programs.{cond_reads, same_ok}
