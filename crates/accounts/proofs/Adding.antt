@@ -104,11 +104,11 @@ taken region from to n had other more t u v w apart enough small sum fits one tw
         had = value;
         other_had = second;
         left = low;
-        calls_are = refl;
-        answers_are = refl;
         taken = omega arith;
         given = omega arith;
         small = fits;
+        calls_are = refl;
+        answers_are = refl;
       };
       adds = adds_then a t u w (Get from ∷ []) _ (Got (Some value) ∷ []) _ got.2
           (adds_then a u v w (Get to ∷ []) _ (Got (Some second) ∷ []) _ (adds_on t u v region (Get to ∷ []) (Got (Some second) ∷ []) one again.2)

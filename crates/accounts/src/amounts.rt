@@ -12,6 +12,13 @@ use std::alloc::Global;
 use store_model::Region;
 use tx_blocks::TxBlocks;
 
+/// Where the accounts are, and the memory that calls on them take.
+#[derive(Clone, Copy)]
+pub(crate) struct Place {
+    pub alloc: Global,
+    pub region: Region,
+}
+
 // The number that a value of eight bytes is.
 fn number_of(value: &[u8]) -> Option<u64>
     ensures is { IfSome result (λ n. amount value.now ≡ n) }
@@ -25,18 +32,17 @@ fn number_of(value: &[u8]) -> Option<u64>
 
 /// The amount of an account.
 pub(crate) fn amount_at<T: TxBlocks>(
-    alloc: Global,
     tx: &mut T,
-    region: Region,
+    place: Place,
     name: &[u8],
 ) -> Result<u64, AccountError>
-    requires area { IsHashArea (area_of (T.state tx.old) region) }
-    requires fits { region.start + region.size ≤ (T.state tx.old).blocks }
+    requires area { IsHashArea (area_of (T.state tx.old) place.region) }
+    requires fits { place.region.start + place.region.size ≤ (T.state tx.old).blocks }
     ensures same { OnOk result (SameBlocks (T.state tx.old) (T.state tx.new)) }
     ensures small { IfOk result (λ n. n < 18446744073709551616) }
-    ensures got { IfOk result (λ n. (value : List ℕ) × (amount value ≡ n) × Adds (area_of (T.state tx.old) region) (T.state tx.old) (T.state tx.new) (Get name.now ∷ []) (Got (Some value) ∷ [])) }
+    ensures got { IfOk result (λ n. (value : List ℕ) × (amount value ≡ n) × Adds (area_of (T.state tx.old) place.region) (T.state tx.old) (T.state tx.new) (Get name.now ∷ []) (Got (Some value) ∷ [])) }
 {
-    match get(alloc, tx, region, name) {
+    match get(place.alloc, tx, place.region, name) {
         Ok(Some(value)) => match number_of(value.as_slice()) {
             Some(n) => Ok(n),
             None => Err(AccountError::NoAmount),
@@ -48,17 +54,16 @@ pub(crate) fn amount_at<T: TxBlocks>(
 
 /// That there is no such account.
 pub(crate) fn is_free<T: TxBlocks>(
-    alloc: Global,
     tx: &mut T,
-    region: Region,
+    place: Place,
     name: &[u8],
 ) -> Result<(), AccountError>
-    requires area { IsHashArea (area_of (T.state tx.old) region) }
-    requires fits { region.start + region.size ≤ (T.state tx.old).blocks }
+    requires area { IsHashArea (area_of (T.state tx.old) place.region) }
+    requires fits { place.region.start + place.region.size ≤ (T.state tx.old).blocks }
     ensures same { OnOk result (SameBlocks (T.state tx.old) (T.state tx.new)) }
-    ensures got { OnOk result (Adds (area_of (T.state tx.old) region) (T.state tx.old) (T.state tx.new) (Get name.now ∷ []) (Got None ∷ [])) }
+    ensures got { OnOk result (Adds (area_of (T.state tx.old) place.region) (T.state tx.old) (T.state tx.new) (Get name.now ∷ []) (Got None ∷ [])) }
 {
-    match get(alloc, tx, region, name) {
+    match get(place.alloc, tx, place.region, name) {
         Ok(Some(_)) => Err(AccountError::IsOpen),
         Ok(None) => Ok(()),
         Err(error) => Err(AccountError::Store(error)),
@@ -67,18 +72,17 @@ pub(crate) fn is_free<T: TxBlocks>(
 
 /// Gives an account this amount.
 pub(crate) fn set_amount<T: TxBlocks>(
-    alloc: Global,
     tx: &mut T,
-    region: Region,
+    place: Place,
     name: &[u8],
     amount: u64,
 ) -> Result<(), AccountError>
-    requires area { IsHashArea (area_of (T.state tx.old) region) }
-    requires fits { region.start + region.size ≤ (T.state tx.old).blocks }
+    requires area { IsHashArea (area_of (T.state tx.old) place.region) }
+    requires fits { place.region.start + place.region.size ≤ (T.state tx.old).blocks }
     ensures same { OnOk result (SameBlocks (T.state tx.old) (T.state tx.new)) }
-    ensures put { OnOk result (Adds (area_of (T.state tx.old) region) (T.state tx.old) (T.state tx.new) (Put name.now (to_be_bytes w64 amount) ∷ []) (WasPut ∷ [])) }
+    ensures put { OnOk result (Adds (area_of (T.state tx.old) place.region) (T.state tx.old) (T.state tx.new) (Put name.now (to_be_bytes w64 amount) ∷ []) (WasPut ∷ [])) }
 {
-    match put(alloc, tx, region, name, &amount.to_be_bytes()) {
+    match put(place.alloc, tx, place.region, name, &amount.to_be_bytes()) {
         Ok(()) => Ok(()),
         Err(error) => Err(AccountError::Store(error)),
     }

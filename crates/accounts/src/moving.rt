@@ -6,87 +6,75 @@ ghost use Rattle.tx_blocks.specs.Runs.{area_of};
 ghost use Rattle.accounts.specs.Made.{Does, IsTaken, SameBlocks, calls_of, opening_of};
 
 use crate::account::{Account, AccountError, Step, Transfer, Work};
-use crate::amounts::{amount_at, is_free, set_amount};
+use crate::amounts::{Place, amount_at, is_free, set_amount};
 use std::alloc::Global;
 use store_model::Region;
 use tx_blocks::TxBlocks;
 
 // Takes an amount from the one account, and answers what the other one is to have with it.
 fn take_amount<T: TxBlocks>(
-    alloc: Global,
     tx: &mut T,
-    region: Region,
+    place: Place,
     transfer: &Transfer,
 ) -> Result<u64, AccountError>
-    requires area { IsHashArea (area_of (T.state tx.old) region) }
-    requires fits { region.start + region.size ≤ (T.state tx.old).blocks }
+    requires area { IsHashArea (area_of (T.state tx.old) place.region) }
+    requires fits { place.region.start + place.region.size ≤ (T.state tx.old).blocks }
     ensures same { OnOk result (SameBlocks (T.state tx.old) (T.state tx.new)) }
-    ensures taken { IfOk result (λ n. Does (area_of (T.state tx.old) region) (T.state tx.old) (T.state tx.new) (IsTaken transfer.now.from transfer.now.to transfer.now.amount n)) }
+    ensures taken { IfOk result (λ n. Does (area_of (T.state tx.old) place.region) (T.state tx.old) (T.state tx.new) (IsTaken transfer.now.from transfer.now.to transfer.now.amount n)) }
 {
     if transfer.from == transfer.to {
         return Err(AccountError::SameAccount);
     }
-    let had = amount_at(alloc, tx, region, &transfer.from)?;
-    let other = amount_at(alloc, tx, region, &transfer.to)?;
+    let had = amount_at(tx, place, &transfer.from)?;
+    let other = amount_at(tx, place, &transfer.to)?;
     if had < transfer.amount {
         return Err(AccountError::TooLittle);
     }
     let Some(more) = other.checked_add(transfer.amount) else {
         return Err(AccountError::TooMuch);
     };
-    set_amount(alloc, tx, region, &transfer.from, had - transfer.amount)?;
+    set_amount(tx, place, &transfer.from, had - transfer.amount)?;
     Ok(more)
 }
 
 // Moves an amount from one account to another one.
 fn move_amount<T: TxBlocks>(
-    alloc: Global,
     tx: &mut T,
-    region: Region,
+    place: Place,
     transfer: &Transfer,
 ) -> Result<(), AccountError>
-    requires area { IsHashArea (area_of (T.state tx.old) region) }
-    requires fits { region.start + region.size ≤ (T.state tx.old).blocks }
-    ensures moved { OnOk result (Does (area_of (T.state tx.old) region) (T.state tx.old) (T.state tx.new) (IsTransfer transfer.now.from transfer.now.to transfer.now.amount)) }
+    requires area { IsHashArea (area_of (T.state tx.old) place.region) }
+    requires fits { place.region.start + place.region.size ≤ (T.state tx.old).blocks }
+    ensures moved { OnOk result (Does (area_of (T.state tx.old) place.region) (T.state tx.old) (T.state tx.new) (IsTransfer transfer.now.from transfer.now.to transfer.now.amount)) }
 {
-    let more = take_amount(alloc, tx, region, transfer)?;
-    set_amount(alloc, tx, region, &transfer.to, more)?;
+    let more = take_amount(tx, place, transfer)?;
+    set_amount(tx, place, &transfer.to, more)?;
     Ok(())
 }
 
 // Opens one account.
-fn open_one<T: TxBlocks>(
-    alloc: Global,
-    tx: &mut T,
-    region: Region,
-    account: &Account,
-) -> Result<(), AccountError>
-    requires area { IsHashArea (area_of (T.state tx.old) region) }
-    requires fits { region.start + region.size ≤ (T.state tx.old).blocks }
+fn open_one<T: TxBlocks>(tx: &mut T, place: Place, account: &Account) -> Result<(), AccountError>
+    requires area { IsHashArea (area_of (T.state tx.old) place.region) }
+    requires fits { place.region.start + place.region.size ≤ (T.state tx.old).blocks }
     ensures same { OnOk result (SameBlocks (T.state tx.old) (T.state tx.new)) }
-    ensures opened { OnOk result (Does (area_of (T.state tx.old) region) (T.state tx.old) (T.state tx.new) (IsOpening (opening_of (account.now ∷ [])))) }
+    ensures opened { OnOk result (Does (area_of (T.state tx.old) place.region) (T.state tx.old) (T.state tx.new) (IsOpening (opening_of (account.now ∷ [])))) }
 {
-    is_free(alloc, tx, region, &account.name)?;
-    set_amount(alloc, tx, region, &account.name, account.amount)?;
+    is_free(tx, place, &account.name)?;
+    set_amount(tx, place, &account.name, account.amount)?;
     Ok(())
 }
 
 // Opens accounts, none of which is there.
-fn open_all<T: TxBlocks>(
-    alloc: Global,
-    tx: &mut T,
-    region: Region,
-    accounts: &[Account],
-) -> Result<(), AccountError>
-    requires area { IsHashArea (area_of (T.state tx.old) region) }
-    requires fits { region.start + region.size ≤ (T.state tx.old).blocks }
-    ensures opened { OnOk result (Does (area_of (T.state tx.old) region) (T.state tx.old) (T.state tx.new) (IsOpening (opening_of accounts.now))) }
+fn open_all<T: TxBlocks>(tx: &mut T, place: Place, accounts: &[Account]) -> Result<(), AccountError>
+    requires area { IsHashArea (area_of (T.state tx.old) place.region) }
+    requires fits { place.region.start + place.region.size ≤ (T.state tx.old).blocks }
+    ensures opened { OnOk result (Does (area_of (T.state tx.old) place.region) (T.state tx.old) (T.state tx.new) (IsOpening (opening_of accounts.now))) }
 {
     match accounts.split_first() {
         None => Ok(()),
         Some((first, rest)) => {
-            open_one(alloc, tx, region, first)?;
-            open_all(alloc, tx, region, rest)?;
+            open_one(tx, place, first)?;
+            open_all(tx, place, rest)?;
             Ok(())
         }
     }
@@ -105,17 +93,18 @@ pub(crate) fn do_step<T: TxBlocks>(
     requires fits { region.start + region.size ≤ (T.state tx.old).blocks }
     ensures done { IfOk result (λ n. Does (area_of (T.state tx.old) region) (T.state tx.old) (T.state tx.new) (calls_of (opening_of accounts.now) step n)) }
 {
+    let place = Place { alloc, region };
     match step {
         Step::Whole(Work::Open) => {
-            open_all(alloc, tx, region, accounts)?;
+            open_all(tx, place, accounts)?;
             Ok(0)
         }
         Step::Whole(Work::Move(transfer)) => {
-            move_amount(alloc, tx, region, &transfer)?;
+            move_amount(tx, place, &transfer)?;
             Ok(0)
         }
         Step::Take(transfer) => {
-            let more = take_amount(alloc, tx, region, &transfer)?;
+            let more = take_amount(tx, place, &transfer)?;
             Ok(more)
         }
     }

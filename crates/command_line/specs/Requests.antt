@@ -7,15 +7,7 @@ use Rattle.command_line.specs.{declared.task.Task.Task, declared.task.Task.TheVa
 
 -- an image of the first form
 abbrev pub geometry_with : (block blocks log : ℕ) → Mode → (hash tree : ℕ) → Geometry
-geometry_with block blocks log mode hash tree = record {
-  block = block;
-  blocks = blocks;
-  log = log;
-  mode = mode;
-  hash = hash;
-  tree = tree;
-  form = 1;
-}
+geometry_with block blocks log mode hash tree = record { block = block; blocks = blocks; log = log; mode = mode; hash = hash; tree = tree; form = 1 }
 
 -- a geometry, where it keeps its limits
 abbrev pub if_valid : Geometry → Option Geometry

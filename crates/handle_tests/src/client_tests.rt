@@ -14,6 +14,7 @@ use script_model::{Line, Parsed};
 use script_text::parse_line;
 use std::alloc::Global;
 use std::marker::Brand;
+use std::process::Abort;
 use std::sync::Wait;
 use std::test::Fail;
 use std::thread::Threads;
@@ -67,11 +68,16 @@ fn run<R: Threads + Wait + Sync>(rt: &R, alloc: Global, script: &[&[u8]]) -> Opt
     run_over::<Brand, R>(rt, alloc, core, lines)
 }
 
+/// That the clients of a script over a new image are told this text, all of it, with status 0.
+fn told(rt: &(impl Abort + Threads + Wait + Sync), alloc: Global, script: &[&[u8]], text: &[u8]) {
+    let ended = run(rt, alloc, script).expect(rt, "a run");
+    assert_eq!(rt; ended.status, 0);
+    assert!(rt; ended.text.as_slice() == text);
+}
+
 #[test]
 fn a_label_that_nobody_posts_is_not_found(rt: HostRuntime) -> Result<(), Fail> {
-    let ended = run(&rt, rt.alloc(), &[b"1 await q"]).expect(&rt, "a run");
-    assert_eq!(rt; ended.status, 0);
-    assert!(rt; ended.text.as_slice() == b"1 no-handle\n".as_slice());
+    told(&rt, rt.alloc(), &[b"1 await q"], b"1 no-handle\n");
     Ok(())
 }
 
@@ -85,12 +91,9 @@ fn a_client_commits_what_another_one_wrote(rt: HostRuntime) -> Result<(), Fail> 
         b"2 get 2 5 2",
         b"2 end",
     ];
-    let ended = run(&rt, rt.alloc(), script).expect(&rt, "a run");
-    assert_eq!(rt; ended.status, 0);
-    assert!(rt;
-        ended.text.as_slice()
-            == b"1 ok begin 0\n1 ok\n1 ok\n2 ok begin 0\n2 ok abcd\n2 ok commit 1\ncommit 1 by 2 line 6\n".as_slice()
-    );
+    let text =
+        b"1 ok begin 0\n1 ok\n1 ok\n2 ok begin 0\n2 ok abcd\n2 ok commit 1\ncommit 1 by 2 line 6\n";
+    told(&rt, rt.alloc(), script, text);
     Ok(())
 }
 
@@ -104,11 +107,8 @@ fn a_client_groups_what_stands_under_labels(rt: HostRuntime) -> Result<(), Fail>
         b"1 group q a a",
         b"1 end",
     ];
-    let ended = run(&rt, rt.alloc(), script).expect(&rt, "a run");
-    assert_eq!(rt; ended.status, 0);
-    assert!(rt;
-        ended.text.as_slice()
-            == b"1 ok begin 0\n1 ok\n1 ok\n1 ok begin 0\n1 ok none; commit 1; none\n1 ok read-only\ncommit 1 by 1 line 5\n".as_slice()
-    );
+    let text =
+        b"1 ok begin 0\n1 ok\n1 ok\n1 ok begin 0\n1 ok none; commit 1; none\n1 ok read-only\ncommit 1 by 1 line 5\n";
+    told(&rt, rt.alloc(), script, text);
     Ok(())
 }

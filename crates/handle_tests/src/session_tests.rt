@@ -7,7 +7,8 @@ ghost use Rattle.iso_shared.specs.TestImage.{small, MayStart};
 ghost use Rattle.handle_pass.specs.{Handles.IsHandle, Sessions.{device, own, units, IsSession}};
 
 use crate::small_image::new_core;
-use handle_pass::{EndError, Handle, Left, PostTxError, Session, Visit};
+use device_calls::end_now;
+use handle_pass::{Handle, Left, PostTxError, Session, Visit};
 use iso_core::{Core, Stat};
 use iso_memdisk::MemDisk;
 use iso_model::{EndReply, InTx, Label, NotInTx};
@@ -15,29 +16,10 @@ use iso_shared::{Origin, Shared};
 use std::alloc::Global;
 use std::marker::Brand;
 use std::sync::Wait;
-use std::sync::ledger::{Blank, Ledger};
 use std::test::Fail;
 use std::thread::{Threads, join_mut};
-use step_count::Steps;
 use test_images::with_long_logs;
 use tx_blocks::TxBlocks;
-
-/// The end of a session's transaction.
-fn ended<O: Origin, L: Ledger, R: Wait>(
-    blank: Blank,
-    rt: &R,
-    session: &mut Session<MemDisk, O>,
-) -> Result<EndReply, EndError>
-    requires name { blank.name ≡ L.name }
-    requires parts { blank.parts ≡ L.parts }
-    requires some { 0 < L.parts }
-    requires session { IsSession O.start session.old }
-    ensures session { IsSession O.start session.new }
-    ensures device { device session.new ≡ device session.old }
-{
-    let mut steps = Steps::<L>::start(blank);
-    session.end_tx(rt, &mut steps)
-}
 
 /// A transaction that has written a block.
 fn written<O: Origin, R: Wait>(
@@ -73,7 +55,7 @@ fn committed<O: Origin, R: Wait>(
     }
     let mut bytes = [0; 64];
     session.read_block(rt, 1, &mut bytes).ok()?;
-    let reply = ended::<O, Brand, R>(Blank::new(1), rt, session).ok()?;
+    let reply = end_now(rt, session).ok()?;
     Some((bytes[0], reply))
 }
 

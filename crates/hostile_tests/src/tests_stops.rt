@@ -7,8 +7,8 @@ use std::sync::Wait;
 use std::test::Fail;
 use std::thread::Threads;
 use top_calls::{
-    Failing, Fault, Outcome, PAR, RUN, SMALL, call_failing, call_on, faulty, isotope_on, run_image,
-    small_image,
+    BOTH_OF_TWO, Failing, Fault, NONE_OF_TWO, ONE_OF_TWO, Outcome, PAR, RUN, SHOW_TWO, SMALL,
+    TWO_PUTS, call_failing, call_on, faulty, isotope_on, run_image, small_image,
 };
 
 /// Whether the images for the picks 0 and 1 are opened so by a script, and the other ones in one of these two ways.
@@ -117,9 +117,6 @@ impl Case {
 
 const NO_IMAGE: &[u8] = b"! not an Isotope image\n";
 
-const EMPTY: &[u8] =
-    b"1 ok last 0 base 0 trim 0 live 0 used 0 versions 0\n1 ok begin 0\n1 ok 0000\n";
-
 const WITH_PUT: &[u8] =
     b"1 ok last 1 base 0 trim 0 live 0 used 30 versions 1\n1 ok begin 1\n1 ok abcd\n";
 
@@ -134,9 +131,9 @@ const MADE: Case = Case {
     told: &[(0, (5, FAULT)), (6, (5, CUT)), (10, (0, ONE_PUT_REPLIES))],
     left: &[
         (0, (NO_IMAGE, NO_IMAGE)),
-        (5, (NO_IMAGE, EMPTY)),
-        (6, (EMPTY, EMPTY)),
-        (9, (EMPTY, WITH_PUT)),
+        (5, (NO_IMAGE, NONE_OF_TWO)),
+        (6, (NONE_OF_TWO, NONE_OF_TWO)),
+        (9, (NONE_OF_TWO, WITH_PUT)),
         (10, (WITH_PUT, WITH_PUT)),
     ],
 };
@@ -155,18 +152,12 @@ fn a_disk_that_makes_no_call(rt: HostRuntime) -> Result<(), Fail> {
     Ok(())
 }
 
-const ONE_OF_TWO: &[u8] =
-    b"1 ok last 1 base 0 trim 0 live 0 used 29 versions 1\n1 ok begin 1\n1 ok aa00\n";
-
-const BOTH: &[u8] =
-    b"1 ok last 2 base 0 trim 0 live 0 used 58 versions 2\n1 ok begin 2\n1 ok aabb\n";
-
 /// A script of two puts on a small image, by these words and with what is told of it: opening the image takes six calls, and each
 /// commit four.
 pub(crate) fn two_puts(line: &'static str, told: &'static [Told]) -> Case {
     Case {
         line,
-        script: b"1 begin\n1 put 0 0 aa\n1 end\n1 begin\n1 put 0 1 bb\n1 end\n",
+        script: TWO_PUTS,
         show: SHOW_TWO,
         calls: 14,
         told,
@@ -174,15 +165,13 @@ pub(crate) fn two_puts(line: &'static str, told: &'static [Told]) -> Case {
     }
 }
 
-const SHOW_TWO: &[u8] = b"1 stat\n1 begin\n1 get 0 0 2\n";
-
 /// To what the images are opened that the two puts leave.
 const LEFT_OF_TWO: &[Left] = &[
-    (0, (EMPTY, EMPTY)),
-    (9, (EMPTY, ONE_OF_TWO)),
+    (0, (NONE_OF_TWO, NONE_OF_TWO)),
+    (9, (NONE_OF_TWO, ONE_OF_TWO)),
     (10, (ONE_OF_TWO, ONE_OF_TWO)),
-    (13, (ONE_OF_TWO, BOTH)),
-    (14, (BOTH, BOTH)),
+    (13, (ONE_OF_TWO, BOTH_OF_TWO)),
+    (14, (BOTH_OF_TWO, BOTH_OF_TWO)),
 ];
 
 /// What a run of the two puts is told.
@@ -232,7 +221,11 @@ const A_GROUP: Case = Case {
         (6, (5, CUT_GROUP)),
         (10, (0, GROUP_REPLIES)),
     ],
-    left: &[(0, (EMPTY, EMPTY)), (9, (EMPTY, BOTH)), (10, (BOTH, BOTH))],
+    left: &[
+        (0, (NONE_OF_TWO, NONE_OF_TWO)),
+        (9, (NONE_OF_TWO, BOTH_OF_TWO)),
+        (10, (BOTH_OF_TWO, BOTH_OF_TWO)),
+    ],
 };
 
 #[test]

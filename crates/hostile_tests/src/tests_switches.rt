@@ -24,14 +24,12 @@ const AT_THE_END: &[u8] = b"3 ok last 1 base 1 trim 1 live 0 used 0 versions 0\n
 /// A script that shows what an image is opened to.
 const SHOW: &[u8] = b"1 stat\n1 begin\n1 get 0 0 1\n";
 
-const WITHOUT_COMMIT: &[u8] =
-    b"1 ok last 0 base 0 trim 0 live 0 used 0 versions 0\n1 ok begin 0\n1 ok 00\n";
-
-const IN_THE_LOG: &[u8] =
-    b"1 ok last 1 base 0 trim 0 live 0 used 29 versions 1\n1 ok begin 1\n1 ok cc\n";
-
-const IN_THE_BASE: &[u8] =
-    b"1 ok last 1 base 1 trim 1 live 0 used 0 versions 0\n1 ok begin 1\n1 ok cc\n";
+/// What these are answered without the commit, with it in the log, and with it in the base.
+const SHOWN: [&[u8]; 3] = [
+    b"1 ok last 0 base 0 trim 0 live 0 used 0 versions 0\n1 ok begin 0\n1 ok 00\n",
+    b"1 ok last 1 base 0 trim 0 live 0 used 29 versions 1\n1 ok begin 1\n1 ok cc\n",
+    b"1 ok last 1 base 1 trim 1 live 0 used 0 versions 0\n1 ok begin 1\n1 ok cc\n",
+];
 
 /// Whether each image that a crash leaves is opened to a commit from the last one that was told of to the last one that was
 /// being made: `begun` says whether the commit may be there, and `told` whether its end was told of. In the base only behind
@@ -45,9 +43,9 @@ pub(crate) fn opens_at_the_commit(
     for pick in 0..6 {
         let opened = run_image(alloc, outcome.image(alloc, pick)?, SHOW)?;
         let found = opened.output.as_slice();
-        let none = found == WITHOUT_COMMIT && !told;
-        let logged = found == IN_THE_LOG && begun;
-        let moved = found == IN_THE_BASE && told;
+        let none = found == SHOWN[0] && !told;
+        let logged = found == SHOWN[1] && begun;
+        let moved = found == SHOWN[2] && told;
         if !(none || logged || moved) {
             return Ok(false);
         }

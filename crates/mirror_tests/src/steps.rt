@@ -1,4 +1,6 @@
 // Scripts whose steps are told of one after another, and what shows how many of them an image has.
+use top_calls::{BOTH_OF_TWO, NONE_OF_TWO, ONE_OF_TWO, SHOW_TWO, TWO_PUTS};
+
 /// A script of some steps.
 #[derive(Clone, Copy)]
 pub(crate) struct Steps {
@@ -61,33 +63,20 @@ const FIRST: &[u8] = b"1 ok begin 0\n1 ok\n1 ok commit 1\n";
 
 const BOTH: &[u8] = b"1 ok begin 0\n1 ok\n1 ok commit 1\n1 ok begin 1\n1 ok\n1 ok commit 2\n";
 
-const EMPTY: &[u8] =
-    b"1 ok last 0 base 0 trim 0 live 0 used 0 versions 0\n1 ok begin 0\n1 ok 0000\n";
-
-const ONE: &[u8] =
-    b"1 ok last 1 base 0 trim 0 live 0 used 29 versions 1\n1 ok begin 1\n1 ok aa00\n";
-
-const TWO: &[u8] =
-    b"1 ok last 2 base 0 trim 0 live 0 used 58 versions 2\n1 ok begin 2\n1 ok aabb\n";
-
-const PUTS: &[u8] = b"1 begin\n1 put 0 0 aa\n1 end\n1 begin\n1 put 0 1 bb\n1 end\n";
-
-const SHOW: &[u8] = b"1 stat\n1 begin\n1 get 0 0 2\n";
-
 /// Two commits on an image that is made first.
 pub(crate) const MADE: Steps = Steps {
-    input: PUTS,
+    input: TWO_PUTS,
     told: &[BEGUN, FIRST, BOTH],
-    show: SHOW,
-    shown: &[NO_IMAGE, EMPTY, ONE, TWO],
+    show: SHOW_TWO,
+    shown: &[NO_IMAGE, NONE_OF_TWO, ONE_OF_TWO, BOTH_OF_TWO],
 };
 
 /// Two commits on an image without any.
 pub(crate) const COMMITS: Steps = Steps {
-    input: PUTS,
+    input: TWO_PUTS,
     told: &[FIRST, BOTH],
-    show: SHOW,
-    shown: &[EMPTY, ONE, TWO],
+    show: SHOW_TWO,
+    shown: &[NONE_OF_TWO, ONE_OF_TWO, BOTH_OF_TWO],
 };
 
 /// Three commits that use 213 bytes of the log.
@@ -113,11 +102,11 @@ pub(crate) const COMMITS_THEN_COMPACTION: Steps = Steps {
         BOTH,
         b"1 ok begin 0\n1 ok\n1 ok commit 1\n1 ok begin 1\n1 ok\n1 ok commit 2\n1 ok compact 2\n",
     ],
-    show: SHOW,
+    show: SHOW_TWO,
     shown: &[
-        EMPTY,
-        ONE,
-        TWO,
+        NONE_OF_TWO,
+        ONE_OF_TWO,
+        BOTH_OF_TWO,
         b"1 ok last 2 base 2 trim 2 live 0 used 0 versions 0\n1 ok begin 2\n1 ok aabb\n",
     ],
 };
@@ -139,7 +128,7 @@ pub(crate) const COMPACTIONS: Steps = Steps {
         BESIDE,
         b"1 ok begin 0\n1 ok 00\n1 ok\n2 ok begin 0\n2 ok\n2 ok commit 1\n2 ok compact 0\n3 ok begin 0\n3 ok 00\n3 ok read-only\n3 ok compact 1\n",
     ],
-    show: SHOW,
+    show: SHOW_TWO,
     shown: AROUND,
 };
 
@@ -150,6 +139,6 @@ pub(crate) const UPGRADES: Steps = Steps {
         BESIDE,
         b"1 ok begin 0\n1 ok 00\n1 ok\n2 ok begin 0\n2 ok\n2 ok commit 1\n2 ok upgrade 0\n3 ok begin 0\n3 ok 00\n3 ok read-only\n3 ok upgrade 1\n",
     ],
-    show: SHOW,
+    show: SHOW_TWO,
     shown: AROUND,
 };

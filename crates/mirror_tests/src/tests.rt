@@ -9,7 +9,7 @@ use std::alloc::{AllocError, Global};
 use std::fmt::Debug;
 use std::process::Abort;
 use std::test::Fail;
-use top_calls::{Fault, no_disk, small_image};
+use top_calls::{Fault, TWO_PUTS, no_disk, small_image};
 
 // Two values that are to be the same. Each test that compared them itself would prove what is printed where they differ.
 pub(crate) fn same<T: PartialEq + Debug + Drop>(rt: &impl Abort, found: T, wanted: T) {
@@ -108,8 +108,7 @@ fn zeros_are_no_mirror(rt: HostRuntime) -> Result<(), Fail> {
 fn the_second_side_fails_at_its_third_write(rt: HostRuntime) -> Result<(), Fail> {
     let alloc = rt.alloc();
     let faults = (Fault::Never, Fault::OfKind(CallKind::Write, 3));
-    let script = b"1 begin\n1 put 0 0 aa\n1 end\n1 begin\n1 put 0 1 bb\n1 end\n";
-    let outcome = call_failing(alloc, RUN, &made_sides(alloc, b"")?, faults, script)?;
+    let outcome = call_failing(alloc, RUN, &made_sides(alloc, b"")?, faults, TWO_PUTS)?;
     let replies = b"1 ok begin 0\n1 ok\n1 ok commit 1\n1 ok begin 1\n1 ok\n1 ok commit 2\n";
     gave(&rt, &outcome, 0, replies);
     for pick in 0..6 {

@@ -1,5 +1,5 @@
 -- A transaction alone in a sound world: what is told of it stays true by a line that gives it further accesses.
-use Rattle.par_calls.proofs.Words.{◌≡◌, sym, refl, subst, ℕ, zero, suc, ◌<◌, ◌≤◌, ◌==◌, cond, IsTrue, List, [], length, Some, arith, AllByRecursion, Access, Geometry, MAX_ACCESSES, Array, is_valid, and_from, and_parts, le-leb, AreAccesses, HasShape, IsAccess, IsSpan, HasBytes, with_accesses, World, fresh, IsWorld, limits, all_weaker, fresh_is, Op, Reply, IsOp, step, Own, alone, live_of, IsToldOf, SecondStore, Notes, Told, nothing_told, told_more, SecondGoes, in_form, noted_step, IsNoted, IsSecond, told_by}
+use Rattle.par_calls.proofs.Words.{◌≡◌, sym, refl, subst, ℕ, zero, suc, ◌<◌, ◌≤◌, ◌==◌, cond, IsTrue, List, [], ◌∷◌, length, None, Some, arith, AllByRecursion, Access, Geometry, MAX_ACCESSES, Array, is_valid, and_from, and_parts, le-leb, AreAccesses, HasShape, IsAccess, IsSpan, HasBytes, with_accesses, World, fresh, IsWorld, limits, with_lives, all_weaker, fresh_is, Op, Reply, IsOp, step, Own, alone, live_of, IsToldOf, SecondStore, Notes, Told, nothing_told, told_more, SecondGoes, in_form, noted_step, IsNoted, IsSecond, told_by}
 
 -- the geometry of an image in which each transaction may have either mode
 abbrev pub second_form : Geometry → Geometry
@@ -38,33 +38,18 @@ sound_is g B o valid shape accesses few =
     let w : IsWorld (fresh h 1 (record { first = 1; base = B; commits = [] })) =
     fresh_is h 1 (record { first = 1; base = B; commits = [] }) (valid_second g valid)
     (record { first = omega arith; base = record { blocks = shape.blocks; bytes = shape.bytes; values = shape.values }; commits = tt }) (λ k from to. tt) tt (omega arith) (omega arith) (omega arith) in
-    record {
-      valid = w.valid;
-      history = w.history;
-      isolated = w.isolated;
-      records = w.records;
-      numbers = w.numbers;
-      since = w.since;
-      base = w.base;
-      trim = w.trim;
-      generation = w.generation;
-      room = w.room;
-      live = (
-        record {
-          accesses = accesses_in g h refl refl o.accesses accesses;
-          count = few;
-          since = omega arith;
-          begin = omega arith;
-          mode = λ one. absurd (cc one);
-          number = omega arith;
-          place = tt;
-        },
-        tt,
-      );
-      distinct = (tt, tt);
-      count = omega arith;
-      next = omega arith;
-    }
+    with_lives (alone h B None) (live_of (as_first o) ∷ []) 1 w (
+      record {
+        accesses = accesses_in g h refl refl o.accesses accesses;
+        count = few;
+        since = omega arith;
+        begin = omega arith;
+        mode = λ one. absurd (cc one);
+        number = omega arith;
+        place = tt;
+      },
+      tt,
+    ) (tt, tt) (omega arith) (omega arith)
 
 module _ (S : SecondStore) where
   -- what is told of a transaction that began with this array, whose accesses are ones that it may have made, is true if it is kept

@@ -1,5 +1,5 @@
 -- The words that the proofs of this crate cite from elsewhere.
-pub use Rattle.iso_model.{proofs.Bounds.limits, proofs.Bytes.{other_block, written_block}, proofs.FreshWorlds.fresh_is, proofs.Growth.{all_weaker, appended_is}, proofs.Recorded.array_shape, specs.Array.{Array, merged}, specs.Effect.{is_write, own, own as written}, specs.Geometry.is_serial, specs.Group.leave_all, specs.History.{History, all_own, array_at, last}, specs.Marks.{is_outside, mark_fault, marked}, specs.Premises.{AreAccesses, HasBytes, HasShape, IsAccess, IsHistory, IsSpan, block_at}, specs.Step.{after_leaving, get_access, put_access, read_access, shown_to, with_accesses, write_access}, specs.World.{Live, World, attached, fresh, unattached}, specs.Worlds.{Extends, IsWorld}, specs.declared.access.Access.Access, specs.declared.access.Commit.Commit, specs.declared.access.EndReply.TheVariants.{Committed, Conflict, ReadOnly}, specs.declared.access.Geometry.Geometry, specs.declared.access.GroupReply.GroupReply, specs.declared.access.MarkError.MarkError, specs.declared.access.Mode.Mode, specs.declared.access.Mode.TheVariants.Serial, specs.declared.access.Span.Span, specs.declared.limits.TheConstants.MAX_ACCESSES}
+pub use Rattle.iso_model.{proofs.Bounds.limits, proofs.Bytes.{other_block, written_block}, proofs.FreshWorlds.fresh_is, proofs.Growth.{all_weaker, appended_is}, proofs.Recorded.array_shape, proofs.Worlds.with_lives, specs.Array.{Array, merged}, specs.Effect.{is_write, own, own as written}, specs.Geometry.is_serial, specs.Group.leave_all, specs.History.{History, all_own, array_at, last}, specs.Marks.{is_outside, mark_fault, marked}, specs.Premises.{AreAccesses, HasBytes, HasShape, IsAccess, IsHistory, IsSpan, block_at}, specs.Step.{after_leaving, get_access, put_access, read_access, shown_to, with_accesses, write_access}, specs.World.{Live, World, attached, fresh, unattached}, specs.Worlds.{Extends, IsWorld}, specs.declared.access.Access.Access, specs.declared.access.Commit.Commit, specs.declared.access.EndReply.TheVariants.{Committed, Conflict, ReadOnly}, specs.declared.access.Geometry.Geometry, specs.declared.access.GroupReply.GroupReply, specs.declared.access.MarkError.MarkError, specs.declared.access.Mode.Mode, specs.declared.access.Mode.TheVariants.Serial, specs.declared.access.Span.Span, specs.declared.limits.TheConstants.MAX_ACCESSES}
 unfoldable pub use Rattle.iso_model.specs.{Array.put, Geometry.is_valid}
 pub use Rattle.iso_shared.{proofs.Racked.known_on, proofs.Begins.began_last, proofs.Follows.{Follows, follows_all, follows_next, last_longer}, proofs.Giving.fault_keeps, proofs.Grouped.after_live, proofs.Racked.IsPosting, proofs.Trace.{IsSound, after_append, legal_append, loose_is, opened_sound, sound_next}, specs.Legal.{AreLoose, Fits, IsLegal, LegalFrom, MayHaveMade}, specs.Ports.IsIsolatedAt, specs.States.{Start, State, after, after_all, after_fault, after_refusal, commits_made, is_live, is_loose, lost_commits, member_numbers, members_of, opened, posting_of, state_at, txs_of}, specs.declared.entry.Call.Call, specs.declared.entry.Cause.Cause, specs.declared.entry.Entry.Entry, specs.declared.entry.Member.Member, specs.declared.entry.MemberEnd.MemberEnd, specs.declared.entry.Posting.Posting}
 pub use Rattle.par_script.specs.{Lines.{Aborts, Begins, CallsStore, ClientLines, Compacts, Did, Does, Ends, EndsThen, Fetched, Fetches, GroupEnds, GroupWants, Groups, InStore, Looks, LooksFor, Own, Posts, Reads, Says, Stats, StopsAtLast, Trims, Upgrades, Walk, Where, WhereShown, aborts_after, aborts_of, alone, answer, blocks_read, fetches, found_ones, last_abort, live_of, member_for, members_for, own_after, own_among, refused_fetch, with_block}, Told.{FoundSome, entries_of, has_line, lines_of, lines_run}}

@@ -58,6 +58,23 @@ pub(crate) fn told_and_left<R: Abort + Threads + Wait + Sync>(
     Ok(())
 }
 
+/// That clients are answered so on the image that these words and a script make.
+pub(crate) fn told_behind<R: Abort + Threads + Wait + Sync>(
+    rt: &R,
+    alloc: Global,
+    made: (&str, &[u8]),
+    script: &[u8],
+    replies: &[u8],
+) -> Result<(), Fail> {
+    told(
+        rt,
+        alloc,
+        made_image(alloc, made.0, made.1)?,
+        script,
+        replies,
+    )
+}
+
 /// That the clients of a script on a small image are answered so.
 pub(crate) fn told_on_small<R: Abort + Threads + Wait + Sync>(
     rt: &R,
@@ -160,8 +177,8 @@ fn upkeep_beside_a_label_keeps_what_it_shows(rt: HostRuntime) -> Result<(), Fail
         b"1 begin\n1 get 0 0 1\n1 release a\n2 await a\n2 compact\n2 stat\n2 release b\n3 await b\n3 get 0 0 1\n3 end\n";
     let replies =
         b"1 ok begin 1\n1 ok aa\n1 ok\n2 ok begin 1\n2 ok compact 1\n2 ok last 1 base 1 trim 1 live 1 used 0 versions 0\n2 ok\n3 ok begin 1\n3 ok aa\n3 ok read-only\n";
-    let image = made_image(rt.alloc(), SMALL, b"1 begin\n1 put 0 0 aa\n1 end\n")?;
-    told(&rt, rt.alloc(), image, script, replies)
+    let made = (SMALL, b"1 begin\n1 put 0 0 aa\n1 end\n".as_slice());
+    told_behind(&rt, rt.alloc(), made, script, replies)
 }
 
 #[test]

@@ -1,7 +1,7 @@
 // Operations of a script in threads: `write`, `hdel`, `tget`, `tdel`, and a `begin` that names the mode serial.
-use crate::tests_clients::told;
+use crate::tests_clients::told_behind;
 use std::test::Fail;
-use top_calls::{made_image, repeated};
+use top_calls::repeated;
 
 /// Eight blocks of 256 bytes: a hash store, a tree store, and two blocks that are neither's.
 const BOTH: &str = "isotope new t.img --block-size 256 --blocks 8 --log 4096 --hash 3 --tree 3";
@@ -26,8 +26,7 @@ fn clients_write_blocks_and_delete_keys(rt: HostRuntime) -> Result<(), Fail> {
         128,
         b"\n2 bad-range\n2 ok commit 3\n2 ok begin 3\n2 ok none\n2 ok 42\ncommit 2 by 1 line 9\ncommit 3 by 2 line 21\n",
     )?;
-    let image = made_image(rt.alloc(), BOTH, made)?;
-    told(&rt, rt.alloc(), image, &script, &replies)
+    told_behind(&rt, rt.alloc(), (BOTH, made), &script, &replies)
 }
 
 /// The mode of this image is snapshot, and it has form 2, so that a begin may name the other mode.
@@ -40,6 +39,5 @@ fn a_client_begins_in_the_mode_that_it_names(rt: HostRuntime) -> Result<(), Fail
         b"1 begin serial\n1 get 0 0 1\n1 put 1 0 aa\n1 release a\n2 await a\n2 release b\n2 begin\n2 put 0 0 bb\n2 end\n2 takeover b\n2 end\n";
     let replies =
         b"1 ok begin 0\n1 ok 00\n1 ok\n1 ok\n2 ok begin 0\n2 ok\n2 ok begin 0\n2 ok\n2 ok commit 1\n2 ok begin 0\n2 conflict with 1 block 0 at 0\ncommit 1 by 2 line 9\n";
-    let image = made_image(rt.alloc(), SNAPSHOT, b"1 upgrade\n")?;
-    told(&rt, rt.alloc(), image, script, replies)
+    told_behind(&rt, rt.alloc(), (SNAPSHOT, b"1 upgrade\n"), script, replies)
 }

@@ -1,5 +1,5 @@
 // Stores that several clients call beside each other.
-use crate::tests_clients::{told, told_and_left};
+use crate::tests_clients::{told_and_left, told_behind};
 use std::test::Fail;
 use top_calls::made_image;
 
@@ -34,8 +34,7 @@ fn a_scan_of_one_client_meets_a_key_of_another(rt: HostRuntime) -> Result<(), Fa
         b"1 begin\n1 tscan 61 7a 9\n1 release a\n1 await b\n1 tput 64 34\n1 end\n2 await a\n2 release c\n2 begin\n2 tput 63 33\n2 end\n2 takeover c\n2 release b\n";
     let replies =
         b"1 ok begin 1\n1 ok 61=31 62=32\n1 ok\n1 ok begin 1\n1 ok\n1 conflict with 2 block 1 at 0\n2 ok begin 1\n2 ok\n2 ok begin 1\n2 ok\n2 ok commit 2\n2 ok begin 1\n2 ok\ncommit 2 by 2 line 11\n";
-    let image = made_image(rt.alloc(), TREE, made)?;
-    told(&rt, rt.alloc(), image, script, replies)
+    told_behind(&rt, rt.alloc(), (TREE, made), script, replies)
 }
 
 const FILES: &str = "isotope new t.img --block-size 256 --blocks 16 --log 8192 --tree 4";
@@ -68,6 +67,5 @@ fn a_client_goes_on_with_the_file_of_another(rt: HostRuntime) -> Result<(), Fail
         b"1 begin\n1 fnew 61\n1 fread 62 0 1\n1 release a\n2 await a\n2 fwrite 61 0 0102\n2 fmove 61 62\n2 fread 62 1 9\n2 fnew 62\n2 end\n";
     let replies =
         b"1 ok begin 0\n1 ok\n1 ok none\n1 ok\n2 ok begin 0\n2 ok\n2 ok\n2 ok 02\n2 exists\n2 ok commit 1\ncommit 1 by 2 line 10\n";
-    let image = made_image(rt.alloc(), FILES, b"")?;
-    told(&rt, rt.alloc(), image, script, replies)
+    told_behind(&rt, rt.alloc(), (FILES, b""), script, replies)
 }

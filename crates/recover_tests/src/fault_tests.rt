@@ -5,7 +5,8 @@ ghost use Rattle.recover_tests.specs.Cores.{IsDown};
 use crate::core_tests::{seen_on, switch, switched_on, with_two_commits};
 use crate::tests::same;
 use iso_core::Core;
-use iso_memdisk::{CallKind, MemDisk};
+use iso_memdisk::CallKind::{self, Read, Sync, Write};
+use iso_memdisk::MemDisk;
 use iso_model::{CoreError, Memory};
 use std::alloc::Global;
 use std::process::Abort;
@@ -14,31 +15,11 @@ use test_cores::opened;
 
 /// The calls of the disk in a switch to a half that stands closed: its gate, the base and the log of the other half are read;
 /// its base, header and records are written; then its gate.
-const CALLS: [CallKind; 9] = [
-    CallKind::Read,
-    CallKind::Read,
-    CallKind::Read,
-    CallKind::Write,
-    CallKind::Write,
-    CallKind::Write,
-    CallKind::Sync,
-    CallKind::Write,
-    CallKind::Sync,
-];
+const CALLS: [CallKind; 9] = [Read, Read, Read, Write, Write, Write, Sync, Write, Sync];
 
 /// And to one that stands open, whose gate is closed first.
 const CALLS_WITH_A_CLOSE: [CallKind; 11] = [
-    CallKind::Read,
-    CallKind::Write,
-    CallKind::Sync,
-    CallKind::Read,
-    CallKind::Read,
-    CallKind::Write,
-    CallKind::Write,
-    CallKind::Write,
-    CallKind::Sync,
-    CallKind::Write,
-    CallKind::Sync,
+    Read, Write, Sync, Read, Read, Write, Write, Write, Sync, Write, Sync,
 ];
 
 /// Whether a core that is down says so, and refuses each call that takes no transaction.

@@ -11,6 +11,7 @@ use iso_model::{Clash, CoreError, GroupReply};
 use iso_shared::{Origin, Port, Shared, Tx};
 use std::alloc::Global;
 use std::marker::Brand;
+use std::process::Abort;
 use std::sync::Wait;
 use std::test::Fail;
 
@@ -180,20 +181,16 @@ fn grouped<R: Wait>(rt: &R, alloc: Global, sync: u64, block: u32) -> Option<Ende
     run_group::<Brand, R>(rt, alloc, core, block)
 }
 
+/// That of two members the first one makes commit 1, and the second one is answered so.
+fn told_behind_one(rt: &impl Abort, told: Option<Ended>, second: GroupReply, last: u64) {
+    let replies = (Some(GroupReply::Committed(1)), Some(second));
+    same(rt, told, Some((Ok(replies), (last, 0, false))));
+}
+
 #[test]
 fn two_members_of_a_group_commit(rt: HostRuntime) -> Result<(), Fail> {
     let told = grouped(&rt, rt.alloc(), 0, 1);
-    same(
-        &rt,
-        told,
-        Some((
-            Ok((
-                Some(GroupReply::Committed(1)),
-                Some(GroupReply::Committed(2)),
-            )),
-            (2, 0, false),
-        )),
-    );
+    told_behind_one(&rt, told, GroupReply::Committed(2), 2);
     Ok(())
 }
 
@@ -205,17 +202,7 @@ fn a_member_conflicts_with_an_earlier_one(rt: HostRuntime) -> Result<(), Fail> {
         block: 0,
         at: 0,
     };
-    same(
-        &rt,
-        told,
-        Some((
-            Ok((
-                Some(GroupReply::Committed(1)),
-                Some(GroupReply::Conflict(clash)),
-            )),
-            (1, 0, false),
-        )),
-    );
+    told_behind_one(&rt, told, GroupReply::Conflict(clash), 1);
     Ok(())
 }
 

@@ -209,12 +209,12 @@ module _ (t : MapStore) (two : IsOfItsBlocks t) (A : Start) (es : List Entry) (s
   pub listed : AreCallsInOrderAt t A es
   listed = record {
     by_calls = history_by;
+    well = both_well_formed s t one two (world_at A es).geometry H n (last H) history_by all_by.within (omega arith);
     commits = commit_in_order;
     group_commits = member_in_order;
     read_only = read_by_map;
     group_read_only = member_by_map;
     live = live_in_order;
-    well = both_well_formed s t one two (world_at A es).geometry H n (last H) history_by all_by.within (omega arith);
   }
 
 pub stores_answer_at : (A : Start) (es : List Entry) → IsWorld A.world → A.world.live ≡ [] → IsLegal A es → IsIsolatedAt A es → StoresAnswerAt A es

@@ -1,7 +1,7 @@
 -- The file store as a store over the blocks of its regions: those of its tree and those of its files.
 use Rattle.std.specs.Prelude.{ℕ, Bool, ◌||◌, List, Option}
 use Rattle.store_model.specs.{declared.files.FileAreas.FileAreas, HashRegion.Pairs, FileCalls.{create_op, read_op, remove_op, rename_op, write_op}, FileRegion.{AreFileRegions, files}}
-use Rattle.store_laws.specs.{Calls.in_area, Region.MapStore}
+use Rattle.store_laws.specs.{Calls.in_area, Region.{MapStore, pairs_store}}
 
 -- a call on files
 pub data FileCall : Type 0 where
@@ -30,12 +30,4 @@ abbrev pub in_areas : FileAreas → ℕ → Bool
 in_areas a b = in_area a.tree b || in_area a.files b
 
 abbrev pub file_store : FileAreas → MapStore
-file_store a = record {
-  Map = Pairs;
-  Call = FileCall;
-  Answer = FileAnswer;
-  has_block = in_areas a;
-  IsWellFormed = AreFileRegions a;
-  map_of = files a;
-  act = file_act;
-}
+file_store a = pairs_store FileCall FileAnswer (in_areas a) (AreFileRegions a) (files a) file_act

@@ -1,6 +1,7 @@
 -- A store over the blocks of an array: its region, the map that it holds, and what its calls do to the map.
 use Rattle.std.specs.{Prelude.{◌≡◌, ℕ, Bool, IsTrue, IsFalse, List}, List.AllByRecursion}
 use Rattle.iso_model.specs.{declared.access.Access.Access, Array.Array, Effect.is_write, Premises.block_at}
+use Rattle.store_model.specs.HashRegion.{Pairs}
 
 -- The blocks of its region; when the region of an array is well formed, and which map it then holds; what a call answers on a
 -- map, and the map after it.
@@ -12,6 +13,10 @@ pub record MapStore : Type 1 where
   pub IsWellFormed : Array → Type 0
   pub map_of : Array → Map
   pub act : Call → Map → Answer × Map
+
+-- the store of a map from names to bytes
+abbrev pub pairs_store : (Call Answer : Type 0) → (has_block : ℕ → Bool) → (IsWellFormed : Array → Type 0) → (map_of : Array → Pairs) → (act : Call → Pairs → Answer × Pairs) → MapStore
+pairs_store Call Answer has_block IsWellFormed map_of act = record { Map = Pairs; Call = Call; Answer = Answer; has_block = has_block; IsWellFormed = IsWellFormed; map_of = map_of; act = act }
 
 -- arrays with the same blocks in the region
 abbrev pub SameRegion : MapStore → Array → Array → Type 0

@@ -1,9 +1,9 @@
 -- A core of the tests in which one transaction began and did something.
-use Rattle.std.{proofs.Common.{◌≡◌, ◌≢◌, ◌∙◌, sym, refl, ap, subst, inl, ℕ, ◌+◌, ◌-◌, ◌<◌, ◌≤◌, Bool, true, false, cond, ◌==◌, ◌&&◌, not, List, [], ◌∷◌, ◌++◌, length, map, take, drop, Option, None, arith, nat_lt, nat_le}, proofs.lemmas.List.drop-take, specs.List.AllByRecursion}
-use Rattle.conflict_rule.specs.Decision.{up_to}
+use Rattle.std.{proofs.Common.{◌≡◌, ◌≢◌, ◌∙◌, sym, refl, ap, subst, inl, ℕ, ◌+◌, ◌<◌, ◌≤◌, Bool, true, false, cond, ◌==◌, ◌&&◌, not, List, [], ◌∷◌, ◌++◌, length, map, None, arith, nat_lt, nat_le}, specs.List.AllByRecursion}
+use Rattle.conflict_rule.{proofs.Clashing.none_behind, specs.Decision.up_to}
 use Rattle.iso_core.{proofs.Standings.{kept_live, stands_on}, specs.{Calls.{IsCheckedOf, IsTx, IsWorkOf}, Core.StandsFor, Kept.bare, Standing.{Standing, up}, declared.core_itself.Core.Core}}
 use Rattle.iso_disk.specs.Disk.{DiskState}
-use Rattle.iso_model.specs.{Conflict.{clash, clash_from, first_after}, Effect.has_write, Geometry.same_mode, History.{History, last}, Premises.{AreAccesses, AreBytes, IsAccess}, Step.{after_begin, begin_step, with_live, write_access}, World.{Live, World, floor_of, unattached}, Worlds.{AreDistinct, IsLive}, declared.access.{Access.Access, Clash.Clash, Geometry.Geometry, Mode.Mode}, declared.core_reply.CoreReply.CoreReply, declared.limits.TheConstants.{LAST, MAX_ACCESSES, MAX_LIVE}}
+use Rattle.iso_model.{proofs.Worlds.with_lives, specs.{Conflict.clash, Geometry.same_mode, History.{History, last}, Premises.{AreAccesses, AreBytes, IsAccess}, Step.{after_begin, begin_step, with_live, write_access}, World.{Live, World, floor_of, unattached}, Worlds.{AreDistinct, IsLive}, declared.access.{Access.Access, Geometry.Geometry, Mode.Mode}, declared.core_reply.CoreReply.CoreReply, declared.limits.TheConstants.{LAST, MAX_ACCESSES, MAX_LIVE}}}
 use Rattle.iso_model.specs.declared.core_reply.CoreReply.TheVariants as reply
 use Rattle.tx_table.specs.Work.{Doing}
 use Rattle.test_cores.specs.Cores.{HasDone}
@@ -22,24 +22,8 @@ pub stands_with : {D : Type 0} (state : D → DiskState) (core : Core D) (V : Wo
 stands_with state core V was now of are same floors live distinct count =
     let world = of.kept_of.world in
     let old = of.kept_of.keeps in
-    stands_on (state core.disk) core.kept core.kept V up now V.next V.trim of refl refl (kept_live core.kept V core.kept.live core.kept.next V.next now of.kept_of (
-    record {
-      valid = world.valid;
-      history = world.history;
-      isolated = world.isolated;
-      records = world.records;
-      numbers = world.numbers;
-      since = world.since;
-      base = world.base;
-      trim = world.trim;
-      generation = world.generation;
-      room = world.room;
-      live = live;
-      distinct = distinct;
-      count = count;
-      next = world.next;
-    }
-    ) (record {
+    stands_on (state core.disk) core.kept core.kept V up now V.next V.trim of refl refl (kept_live core.kept V core.kept.live core.kept.next V.next now of.kept_of
+    (with_lives V now V.next world live distinct count world.next) (record {
       from = old.notes.from;
       before = (let least = subst (λ (l : List Live). old.notes.from ≤ floor_of (last V.history) l) are old.notes.before in omega arith);
       notes = old.notes.notes;
@@ -56,25 +40,12 @@ is_work V W t g at work same kept begin mode accesses did = record {
 }
 
 -- no commit is above the last one
-no_more : (test : Bool) (found : Option Clash) → None ≡ found → None ≡ cond test found None
-no_more true found is = is
-no_more false found is = refl
-
-drop_all : {X : Type 0} (n : ℕ) (list : List X) → drop n (take n list) ≡ []
-drop_all n list = subst (λ (k : ℕ). drop n (take k list) ≡ []) (omega arith) (drop-take n 0 list)
-
-checked_here : (g : Geometry) (H : History) (mode : Mode) (accesses : List Access) (upto : ℕ) → None ≡ clash g (up_to H upto) mode upto accesses
-unfolding clash
-checked_here g H mode accesses upto =
-    no_more (has_write accesses) (clash_from g mode accesses (first_after H upto) (drop (upto + 1 - H.first) (take (upto + 1 - H.first) H.commits)))
-    (ap (clash_from g mode accesses (first_after H upto)) (sym (drop_all (upto + 1 - H.first) H.commits)))
-
 is_checked : (W : World) (mode : Mode) (accesses : List Access) (upto : ℕ) → upto ≡ last W.history
     → IsCheckedOf (worked W mode accesses) (working W mode accesses) (record { upto = upto; clash = None })
 is_checked W mode accesses upto is = record {
   from = omega (arith, is);
   to = omega (arith, is);
-  clash = subst (λ (n : ℕ). None ≡ clash W.geometry (up_to W.history upto) mode n accesses) is (checked_here W.geometry W.history mode accesses upto);
+  clash = subst (λ (n : ℕ). None ≡ clash W.geometry (up_to W.history upto) mode n accesses) is (none_behind W.geometry W.history mode accesses upto);
 }
 
 -- a begin that is not refused is at the last commit
@@ -128,11 +99,4 @@ write_is g block bytes inside size values = record {
 -- the work of a transaction that made some accesses
 pub has_done : (g : Geometry) (at : ℕ) (accesses : List Access) (work : Doing) → AreAccesses g accesses → length accesses ≤ MAX_ACCESSES
     → work ≡ record { begin = at; mode = g.mode; size = g.block; blocks = g.blocks; accesses = accesses; ready = None; settled = false } → HasDone g at work
-has_done g at accesses work are few did = subst (HasDone g at) (sym did) (record {
-  begin = refl;
-  mode = refl;
-  size = refl;
-  blocks = refl;
-  accesses = are;
-  few = few;
-})
+has_done g at accesses work are few did = subst (HasDone g at) (sym did) (record { begin = refl; mode = refl; size = refl; blocks = refl; accesses = are; few = few })

@@ -16,4 +16,7 @@ pub use calls::{
 pub use disks::{Failing, Fault, faulty, no_disk};
 pub use images::{RECORD, change, one_put_image, part, small_image};
 pub use outcome::Outcome;
-pub use texts::{joined, of_each_client, repeated, text};
+pub use texts::{
+    BOTH_OF_TWO, NONE_OF_TWO, ONE_OF_TWO, SHOW_TWO, TWO_PUTS, joined, of_each_client, repeated,
+    text,
+};

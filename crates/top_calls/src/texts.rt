@@ -1,6 +1,22 @@
 // Texts that are expected.
 use std::alloc::{AllocError, Global};
 
+/// Two transactions, of which each puts a byte into block 0 of a small image.
+pub const TWO_PUTS: &[u8] = b"1 begin\n1 put 0 0 aa\n1 end\n1 begin\n1 put 0 1 bb\n1 end\n";
+
+/// Lines that show how many of the two an image has.
+pub const SHOW_TWO: &[u8] = b"1 stat\n1 begin\n1 get 0 0 2\n";
+
+/// What these are answered on an image with none of the two, with the first, and with both.
+pub const NONE_OF_TWO: &[u8] =
+    b"1 ok last 0 base 0 trim 0 live 0 used 0 versions 0\n1 ok begin 0\n1 ok 0000\n";
+
+pub const ONE_OF_TWO: &[u8] =
+    b"1 ok last 1 base 0 trim 0 live 0 used 29 versions 1\n1 ok begin 1\n1 ok aa00\n";
+
+pub const BOTH_OF_TWO: &[u8] =
+    b"1 ok last 2 base 0 trim 0 live 0 used 58 versions 2\n1 ok begin 2\n1 ok aabb\n";
+
 /// A text, with the 128 digits of a block of zeros for each Z.
 pub fn text(alloc: Global, short: &[u8]) -> Result<Vec<u8>, AllocError> {
     let mut all = Vec::new(alloc);

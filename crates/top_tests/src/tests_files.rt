@@ -1,6 +1,5 @@
 // Scripts on images with files, alone and beside a hash store.
 use crate::asked::{Scripts, gave};
-use crate::tests_commands::refused;
 use std::alloc::{AllocError, Global};
 use std::test::Fail;
 use top_calls::{answers_on, made_image, run_image};
@@ -100,15 +99,12 @@ fn writes_of_many_bytes_are_answered(rt: HostRuntime) -> Result<(), Fail> {
     Ok(())
 }
 
-#[test]
-fn files_are_refused(rt: HostRuntime) -> Result<(), Fail> {
-    let calls = [
-        b"1 fnew 61\n".as_slice(),
-        b"1 fnew -\n1 fread 61 0 1\n",
-        b"1 fnew 61\n1 fread - 0 0\n",
-    ];
-    refused(&rt, rt.alloc(), FILES, calls)
-}
+/// What `refused` asks of files.
+pub(crate) const REFUSED: [&[u8]; 3] = [
+    b"1 fnew 61\n",
+    b"1 fnew -\n1 fread 61 0 1\n",
+    b"1 fnew 61\n1 fread - 0 0\n",
+];
 
 #[test]
 fn files_stand_in_the_next_run(rt: HostRuntime) -> Result<(), Fail> {

@@ -1,6 +1,7 @@
 // Scripts on images with a hash store.
 use crate::asked::{Scripts, same};
 use crate::tests_commands::refused;
+use crate::{tests_files, tests_trees};
 use std::test::Fail;
 use top_calls::call;
 
@@ -69,12 +70,22 @@ fn a_chain_gives_its_last_block_back(rt: HostRuntime) -> Result<(), Fail> {
     Ok(())
 }
 
+// What `refused` asks of a hash store.
+const REFUSED: [&[u8]; 3] = [
+    b"1 hget 61\n",
+    b"1 hget 61\n1 hput - 31\n",
+    b"1 hget 61\n1 hdel -\n",
+];
+
 #[test]
-fn a_store_is_refused(rt: HostRuntime) -> Result<(), Fail> {
-    let calls = [
-        b"1 hget 61\n".as_slice(),
-        b"1 hget 61\n1 hput - 31\n",
-        b"1 hget 61\n1 hdel -\n",
+fn each_store_is_refused(rt: HostRuntime) -> Result<(), Fail> {
+    let stores = [
+        (STORE, REFUSED),
+        (tests_trees::TREE, tests_trees::REFUSED),
+        (tests_files::FILES, tests_files::REFUSED),
     ];
-    refused(&rt, rt.alloc(), STORE, calls)
+    for (words, calls) in stores {
+        refused(&rt, rt.alloc(), words, calls)?;
+    }
+    Ok(())
 }

@@ -1,10 +1,8 @@
 // Scripts on images with a tree store, alone and beside a hash store.
 use crate::asked::Scripts;
-use crate::tests_commands::refused;
-use std::test::Fail;
 
 // Eight blocks of 256 bytes, of which the first three are a tree store: nodes of three cells.
-const TREE: &str = "isotope new t.img --block-size 256 --blocks 8 --log 4096 --tree 3";
+pub(crate) const TREE: &str = "isotope new t.img --block-size 256 --blocks 8 --log 4096 --tree 3";
 
 // The same with one block more.
 const LARGER: &str = "isotope new t.img --block-size 256 --blocks 8 --log 4096 --tree 4";
@@ -97,12 +95,9 @@ pub(crate) const TOLD: &[(&str, &str, Scripts)] = &[
     ),
 ];
 
-#[test]
-fn a_tree_is_refused(rt: HostRuntime) -> Result<(), Fail> {
-    let calls = [
-        b"1 tget 61\n".as_slice(),
-        b"1 tput 61 31\n1 tdel 61\n",
-        b"1 tget 61\n1 tscan 61 62 0\n",
-    ];
-    refused(&rt, rt.alloc(), TREE, calls)
-}
+/// What `refused` asks of a tree.
+pub(crate) const REFUSED: [&[u8]; 3] = [
+    b"1 tget 61\n",
+    b"1 tput 61 31\n1 tdel 61\n",
+    b"1 tget 61\n1 tscan 61 62 0\n",
+];

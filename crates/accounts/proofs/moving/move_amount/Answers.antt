@@ -11,5 +11,5 @@ returns g c =
     let more = c.in_ok-more.more in
     let value = to_be_bytes w64 more in
     record {
-      moved = does_then c.args.region t u v (IsTaken from to n more) (IsPut to value) (IsTransfer from to n) (completed from to n more) c.in_ok-more.ensures.same c.in_ok-more.ensures.taken (does_put (area_of u c.args.region) u v to value c.in_ok-set_amount.ensures.put);
+      moved = does_then c.args.place.region t u v (IsTaken from to n more) (IsPut to value) (IsTransfer from to n) (completed from to n more) c.in_ok-more.ensures.same c.in_ok-more.ensures.taken (does_put (area_of u c.args.place.region) u v to value c.in_ok-set_amount.ensures.put);
     }

@@ -7,5 +7,5 @@ returns-clause-opened g c =
     let v = g.T.TxBlocks.state c.set_amount.new.tx in
     let name = c.args.account.now.name in
     let value = to_be_bytes w64 c.args.account.now.amount in
-    opened_one (area_of t c.args.region) t u v name value c.in_ok-is_free.ensures.got
-    (adds_on t u v c.args.region (Put name value ∷ []) (WasPut ∷ []) c.in_ok-is_free.ensures.same c.in_ok-set_amount.ensures.put)
+    opened_one (area_of t c.args.place.region) t u v name value c.in_ok-is_free.ensures.got
+    (adds_on t u v c.args.place.region (Put name value ∷ []) (WasPut ∷ []) c.in_ok-is_free.ensures.same c.in_ok-set_amount.ensures.put)
