@@ -1,5 +1,5 @@
 -- A machine whose members are taken out, and what it answers once the core has ended them.
-use Rattle.iso_machine.proofs.{Words.{◌≡◌, ◌∙◌, ◌⊎◌, inl, inr, sym, refl, ap, subst, ℕ, ◌≤◌, List, [], ◌∷◌, length, map, Option, Some, None, Err, arith, AllByRecursion, DiskState, LeavesOnly, Geometry, GroupReply, CoreError, World, Live, found_ones, group, group_step, grouped, label_replies, looks, step, Reply, Core, GroupEnd, StandsFor, AreEach, IsMember, up, ShowsEither, Attached, IsSized, live_of, AreOf, Answers, Never, answer_to, HasTaken, filled, found_in, left_in, member_of, stand_in, without_found, under, reply_in, AreListed, Finder}, Quiet.{answers_by, no_reply}, Groups.{are_members, filled_is, found_is, geometry_behind, live_behind, looks_is, none_found, stands_looked}}
+use Rattle.iso_machine.proofs.{Words.{◌≡◌, ◌∙◌, ◌⊎◌, inl, inr, sym, refl, ap, subst, ℕ, ◌≤◌, List, [], ◌∷◌, length, map, Option, Some, None, Err, arith, AllByRecursion, DiskState, LeavesOnly, Geometry, GroupReply, CoreError, World, Live, found_ones, group, group_step, grouped, label_replies, looks, step, Reply, Core, GroupEnd, StandsFor, AreEach, IsMember, up, ShowsEither, ShowsLast, Attached, IsSized, live_of, AreOf, Answers, Never, answer_to, HasTaken, filled, found_in, left_in, member_of, stand_in, without_found, under, reply_in, AreListed, Finder}, Quiet.{answers_by, no_reply}, Groups.{are_members, filled_is, found_is, geometry_behind, live_behind, looks_is, none_found, stands_looked}}
 use Rattle.iso_core.specs.Calls as core
 use Rattle.iso_model.specs.declared.core_error.CoreError.TheVariants as error
 use Rattle.script_model.specs.declared.script.Op.TheVariants as op
@@ -97,8 +97,8 @@ module _ {D : Type 0} {state : D → DiskState} {kernel : Core D} {table : Finde
 
 -- the disk failed, or memory was wanting
 pub group_fails : {T : Type 0} {stands : World → Type 0} {old new : DiskState} {W : World} {given : Reply × World} (e : CoreError) → (e ≡ error.Disk) ⊎ (e ≡ error.Memory) → LeavesOnly old new (ShowsEither W given.1)
-    → core.BlamesDisk {T = T} old.faults new.faults (Err e) → Answers Never stands old new W given (answer_to e)
-group_fails e (inl is) moments cause =
-    answers_by (ap answer_to is) (no_reply moments (λ e. absurd (cc e)) (record { later = cause.later; failed = λ x. cause.failed (ap Err is); passed = tt; memory = λ x. absurd (cc x) }) (λ may. absurd may))
-group_fails e (inr is) moments cause =
-    answers_by (ap answer_to is) (no_reply moments (λ e. absurd (cc e)) (record { later = cause.later; failed = λ x. absurd (cc x); passed = tt; memory = λ x. cause.other (λ y. cc (is, y)) }) (λ may. absurd may))
+    → (e ≡ error.Memory → LeavesOnly old new (ShowsLast W)) → core.BlamesDisk {T = T} old.faults new.faults (Err e) → Answers Never stands old new W given (answer_to e)
+group_fails e (inl is) moments unmade cause =
+    answers_by (ap answer_to is) (no_reply moments (λ e. absurd (cc e)) (λ e. absurd (cc e)) (record { later = cause.later; failed = λ x. cause.failed (ap Err is); passed = tt; memory = λ x. absurd (cc x) }) (λ may. absurd may))
+group_fails e (inr is) moments unmade cause =
+    answers_by (ap answer_to is) (no_reply moments (λ e. unmade is) (λ e. absurd (cc e)) (record { later = cause.later; failed = λ x. absurd (cc x); passed = tt; memory = λ x. cause.other (λ y. cc (is, y)) }) (λ may. absurd may))

@@ -68,6 +68,10 @@ unwritten old new e some (inr is) = is
 unwritten old new error.Disk some (inl wrote) = absurd (false≢true some)
 unwritten old new e some (inl wrote) = absurd wrote
 
+pub unwritten_for_memory : {D : Type 0} {old new : D} (e : CoreError) → e ≡ error.Memory → Writes (Err e) ⊎ (new ≡ old) → new ≡ old
+unwritten_for_memory e wants (inr is) = is
+unwritten_for_memory e wants (inl wrote) = absurd (subst (λ (x : CoreError). Writes (Err x)) wants wrote)
+
 -- by who is attached to the client
 pub end_is : (W : World) (c : ℕ) (o : Option Live) → attached W c ≡ o → step W c op.End ≡ in_transaction W o (λ t. as_step (end_step W t))
 unfolding step

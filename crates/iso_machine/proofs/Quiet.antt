@@ -1,12 +1,22 @@
 -- Answers that are given, and answers that write nothing.
-use Rattle.iso_machine.proofs.{Words.{◌≡◌, inl, ap, sym, refl, subst, ℕ, List, Result, Ok, Err, IfErr, IfOk, IsErrOf, OnErr, IsSome, Option, arith, DiskState, IsLawful, LeavesOnly, StaysTold, WritesNothing, started, stays, Reply, last, Shows, World, Live, Doing, Stop, ShowsEither, BlamesDisk, IsShown, IsWorkedTo, Answers, AreOf, Attached, Core, Finder, disk_of, shows}, Accesses.same_but_shown}
+use Rattle.iso_machine.proofs.{Words.{◌≡◌, inl, ap, sym, refl, subst, ℕ, List, Result, Ok, Err, IfErr, IfOk, IsErrOf, OnErr, IsSome, Option, arith, DiskState, IsLawful, LeavesOnly, StaysTold, WritesNothing, started, stays, Reply, last, Shows, World, Live, Doing, Stop, ShowsEither, ShowsLast, BlamesDisk, IsShown, IsWorkedTo, Answers, AreOf, Attached, Core, Finder, disk_of, shows}, Accesses.same_but_shown}
 use Rattle.iso_core.specs.Calls as core
 use Rattle.script_model.specs.declared.stop.Stop.TheVariants as stop
 
 -- a call that has no reply
-pub no_reply : {goes_on : Stop → Type 0} {stands : World → Type 0} {old new : DiskState} {W : World} {given : Reply × World} {why : Stop} → LeavesOnly old new (ShowsEither W given.1) → (why ≡ stop.Down → ⊥)
+pub no_reply : {goes_on : Stop → Type 0} {stands : World → Type 0} {old new : DiskState} {W : World} {given : Reply × World} {why : Stop} → LeavesOnly old new (ShowsEither W given.1) → (why ≡ stop.Memory → LeavesOnly old new (ShowsLast W)) → (why ≡ stop.Down → ⊥)
     → BlamesDisk old.faults new.faults (Err why) → (goes_on why → stands W) → Answers goes_on stands old new W given (Err why)
-no_reply moments not_down cause stopped = record { reply = tt; but_shown = tt; told = tt; world = tt; moments = moments; up = λ is. not_down (cc is); cause = cause; stopped = stopped }
+no_reply moments unmade not_down cause stopped = record {
+  reply = tt;
+  but_shown = tt;
+  told = tt;
+  world = tt;
+  moments = moments;
+  unmade = λ is. unmade (cc is);
+  up = λ is. not_down (cc is);
+  cause = cause;
+  stopped = stopped;
+}
 
 -- a call of the core that was answered
 pub answered : {T : Type 0} {goes_on : Stop → Type 0} {stands : World → Type 0} {old new : DiskState} {W : World} {given : Reply × World} {r : Reply} {answer : T} → r ≡ given.0 → StaysTold old new → stands given.1
@@ -17,6 +27,7 @@ answered {given = given} {r = r} is told after moments cause = record {
   told = told;
   world = after;
   moments = moments;
+  unmade = λ e. absurd (cc e);
   up = λ e. absurd (cc e);
   cause = record { later = cause.later; failed = λ e. absurd (cc e); passed = cause.passed; memory = λ e. absurd (cc e) };
   stopped = tt;
@@ -39,6 +50,7 @@ module _ {goes_on : Stop → Type 0} {stands : World → Type 0} {d : DiskState}
     told = λ told. told;
     world = stands_for;
     moments = started laws (λ c image. inl (here c image));
+    unmade = λ e. absurd (cc e);
     up = λ e. absurd (cc e);
     cause = record { later = omega arith; failed = λ e. absurd (cc e); passed = refl; memory = λ e. absurd (cc e) };
     stopped = tt;
@@ -46,7 +58,7 @@ module _ {goes_on : Stop → Type 0} {stands : World → Type 0} {d : DiskState}
 
   quiet_memory : {given : Reply × World} → (goes_on stop.Memory → stands W) → Answers goes_on stands d d W given (Err stop.Memory)
   quiet_memory still =
-      no_reply (started laws (λ c image. inl (here c image))) (λ e. absurd (cc e)) (record { later = omega arith; failed = λ e. absurd (cc e); passed = tt; memory = λ e. refl }) still
+      no_reply (started laws (λ c image. inl (here c image))) (λ e. started laws here) (λ e. absurd (cc e)) (record { later = omega arith; failed = λ e. absurd (cc e); passed = tt; memory = λ e. refl }) still
 
   -- a call on one transaction that writes nothing
   pub acted : {new : DiskState} {t : Live} {work : Doing} {given : Reply × World} (result : Result Reply Stop) → IfOk result (IsShown d W t given work)
@@ -57,11 +69,16 @@ module _ {goes_on : Stop → Type 0} {stands : World → Type 0} {d : DiskState}
     told = λ told. subst (λ (o : Option (List ℕ)). IsSome o) (sym still.same_contents) told;
     world = world is.worked;
     moments = stays still (λ c image. inl (here c image));
+    unmade = λ e. stays still here;
     up = not_down;
     cause = cause;
     stopped = tt;
   }
-  acted (Err e) is world kept still not_down cause = no_reply (stays still (λ c image. inl (here c image))) (λ is. not_down (ap Err is)) cause (λ on. kept)
+  acted (Err e) is world kept still not_down cause = no_reply (stays still (λ c image. inl (here c image))) (λ e. stays still here) (λ is. not_down (ap Err is)) cause (λ on. kept)
+
+-- a disk that is as it was shows the last commit alone
+pub shows_still : {D : Type 0} (state : D → DiskState) {old new : D} (W : World) → IsLawful (state old) → ((c : List ℕ) → (state old).now c → Shows c W.geometry W.history (last W.history)) → new ≡ old → LeavesOnly (state old) (state new) (ShowsLast W)
+shows_still state {old = old} W laws here still = subst (λ disk. LeavesOnly (state old) (state disk) (ShowsLast W)) (sym still) (started laws here)
 
 -- so, of a machine whose disk stays
 module _ {D : Type 0} {state : D → DiskState} {core new : Core D} {table now : Finder} {live list : List Attached} {W : World} {goes_on : Stop → Type 0} {given : Reply × World}

@@ -1,5 +1,5 @@
 -- Answers where a call of the core is refused.
-use Rattle.iso_machine.proofs.{Words.{◌≡◌, ◌≢◌, ◌∙◌, ◌⊎◌, inl, inr, sym, refl, ap, subst, ℕ, List, Bool, true, false, cond, Err, Ok, None, Some, IsSome, arith, DiskState, IsLawful, LeavesOnly, StaysTold, started, CoreError, CoreReply, as_reply, as_step, last, Shows, World, Refuses, ShowsEither, Stop, Answers, answer_to}, Accesses.same_but_shown, Quiet.no_reply}
+use Rattle.iso_machine.proofs.{Words.{◌≡◌, ◌≢◌, ◌∙◌, ◌⊎◌, inl, inr, sym, refl, ap, subst, ℕ, List, Bool, true, false, cond, Err, Ok, None, Some, IsSome, arith, DiskState, IsLawful, LeavesOnly, StaysTold, started, CoreError, CoreReply, as_reply, as_step, last, Shows, World, Refuses, ShowsEither, ShowsLast, Stop, Answers, answer_to}, Accesses.same_but_shown, Quiet.no_reply}
 use Rattle.iso_model.specs.declared.core_error.CoreError.TheVariants as error
 use Rattle.iso_model.specs.declared.core_reply.CoreReply.TheVariants as reply
 use Rattle.script_model.specs.declared.stop.Stop.TheVariants as stop
@@ -24,6 +24,7 @@ pub record Refused (stands : World → Type 0) (old new : DiskState) (W : World)
   pub same : e ≢ error.Disk → stands W
   pub told : IsSome (core.refusal_of e) → StaysTold old new
   pub moments : LeavesOnly old new (ShowsEither W given.1)
+  pub unmade : e ≡ error.Memory → LeavesOnly old new (ShowsLast W)
   pub cause : core.BlamesDisk {T = Unit {0}} old.faults new.faults (Err e)
 
 module _ {goes_on : Stop → Type 0} {stands : World → Type 0} {old new : DiskState} {W : World} {given : CoreReply × World} (fails : goes_on stop.Disk → stands W) where
@@ -34,6 +35,7 @@ module _ {goes_on : Stop → Type 0} {stands : World → Type 0} {old new : Disk
     told = λ told. of.told (subst IsSome some refl) told;
     world = subst stands (sym (of.keeps (subst IsRefusal is refusal))) (of.same other);
     moments = of.moments;
+    unmade = λ e. absurd (cc e);
     up = λ e. absurd (cc e);
     cause = record { later = of.cause.later; failed = λ e. absurd (cc e); passed = of.cause.other other; memory = λ e. absurd (cc e) };
     stopped = tt;
@@ -47,9 +49,9 @@ module _ {goes_on : Stop → Type 0} {stands : World → Type 0} {old new : Disk
       go error.Down of (inr (inl is)) = absurd (cc is)
       go error.Down of (inr (inr is)) = absurd (cc is)
       go error.Disk of is =
-          no_reply of.moments (λ e. absurd (cc e)) (record { later = of.cause.later; failed = λ e. of.cause.failed refl; passed = tt; memory = λ e. absurd (cc e) }) fails
+          no_reply of.moments (λ e. absurd (cc e)) (λ e. absurd (cc e)) (record { later = of.cause.later; failed = λ e. of.cause.failed refl; passed = tt; memory = λ e. absurd (cc e) }) fails
       go error.Memory of is =
-          no_reply of.moments (λ e. absurd (cc e)) (record { later = of.cause.later; failed = λ e. absurd (cc e); passed = tt; memory = λ e. of.cause.other (λ e. cc e) }) (λ may. of.same (λ e. cc e))
+          no_reply of.moments (λ e. of.unmade refl) (λ e. absurd (cc e)) (record { later = of.cause.later; failed = λ e. absurd (cc e); passed = tt; memory = λ e. of.cause.other (λ e. cc e) }) (λ may. of.same (λ e. cc e))
       go error.TooManyTx of (inl is) = absurd (cc is)
       go error.TooManyTx of (inr (inl is)) = absurd (cc is)
       go error.TooManyTx of (inr (inr is)) = replied error.TooManyTx reply.TooManyTx of refl (λ e. cc e) (cc is) tt
@@ -80,6 +82,7 @@ refused_still laws {W = W} here {given = given} e is keeps same = refused (λ ma
   same = λ other. same;
   told = λ some told. told;
   moments = started laws (λ c image. inl (here c image));
+  unmade = λ e. started laws here;
   cause = record { later = omega arith; failed = λ disk. absurd (not_disk given.0 e is (cc disk)); passed = tt; other = λ other. refl };
 })
 

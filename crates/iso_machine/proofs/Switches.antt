@@ -54,5 +54,6 @@ switch_refused {state = state} {core = core} {new = new} {W = W} form answer e o
       same = λ other. same of (stands other);
       told = λ some told. subst (λ d. IsSome (state d).contents) (sym (worn_still (disk_of core) (disk_of new) e still some)) told;
       moments = weakened moments (λ image shown. inl shown);
+      unmade = λ e. moments;
       cause = blames e cause;
     })

@@ -13,6 +13,7 @@ told_so {given = given} (Ok r) on is = record {
   told = is.told;
   world = record { world = given.1; is = is.world; known = λ how. refl; history = refl; geometry = refl };
   moments = is.moments;
+  unmade = is.unmade;
   up = is.up;
   cause = is.cause;
   stopped = tt;
@@ -23,6 +24,7 @@ told_so {W = W} (Err e) on is = record {
   told = tt;
   world = tt;
   moments = is.moments;
+  unmade = is.unmade;
   up = is.up;
   cause = is.cause;
   stopped = λ may. record { world = W; is = is.stopped (on e may); same = record { live = refl; rest = refl }; whole = λ call. refl };
@@ -49,6 +51,7 @@ never_plain (Ok r) never on is = record {
     geometry = is.world.geometry;
   };
   moments = is.moments;
+  unmade = is.unmade;
   up = is.up;
   cause = is.cause;
   stopped = tt;
@@ -59,6 +62,7 @@ never_plain (Err e) never on is = record {
   told = tt;
   world = tt;
   moments = is.moments;
+  unmade = is.unmade;
   up = is.up;
   cause = is.cause;
   stopped = λ may. let still = is.stopped (on e may) in record { world = still.world; is = still.is; same = still.same; whole = λ call. absurd (never call) };
@@ -103,6 +107,7 @@ module _ {goes_on : Stop → Type 0} {stands : World → Type 0} {old new : Disk
       geometry = ap (λ (V : World). V.geometry) is.worked.world ∙ sym geometry;
     };
     moments = stays still (λ c image. inl (here c image));
+    unmade = λ e. stays still here;
     up = not_down;
     cause = cause;
     stopped = tt;
@@ -113,6 +118,7 @@ module _ {goes_on : Stop → Type 0} {stands : World → Type 0} {old new : Disk
     told = tt;
     world = tt;
     moments = stays still (λ c image. inl (here c image));
+    unmade = λ e. stays still here;
     up = not_down;
     cause = cause;
     stopped = λ may. record {

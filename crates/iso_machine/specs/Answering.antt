@@ -1,7 +1,7 @@
 -- How a machine answers an operation.
 use Rattle.std.specs.Prelude.{◌≡◌, IfErr, IfOk, IsErrOf, IsSome, OnOk, Result}
 use Rattle.iso_disk.specs.Disk.{DiskState, LeavesOnly}
-use Rattle.iso_model.specs.{World.World, Between.ShowsEither}
+use Rattle.iso_model.specs.{World.World, Between.{ShowsEither, ShowsLast}}
 pub use Rattle.script_model.specs.CoreReplies.{refused as answer_to}
 use Rattle.script_model.specs.{declared.script.Reply.Reply, declared.stop.Stop.Stop}
 use Rattle.script_model.specs.declared.stop.Stop.TheVariants as stop
@@ -18,13 +18,15 @@ abbrev pub Never : Stop → Type 0
 Never why = ⊥
 
 -- From the world W, the reply and the world are those that are given, but for bytes that are shown and that the disk does
--- not tell. At each moment an image shows the world before or the world after. Without a reply it stands for W, if it goes on then.
+-- not tell. At each moment an image shows the world before or the world after, and the world before where memory was wanting. Without
+-- a reply it stands for W, if it goes on then.
 pub record Answers (goes_on : Stop → Type 0) (stands : World → Type 0) (old new : DiskState) (W : World) (given : Reply × World) (result : Result Reply Stop) : Type 0 where
   pub reply : IfOk result (λ r. IfTold old (r ≡ given.0))
   pub but_shown : IfOk result (λ r. SameButShown r given.0)
   pub told : OnOk result (IfTold old (IsSome new.contents))
   pub world : OnOk result (stands given.1)
   pub moments : LeavesOnly old new (ShowsEither W given.1)
+  pub unmade : IsErrOf result stop.Memory → LeavesOnly old new (ShowsLast W)
   pub up : ¬ IsErrOf result stop.Down
   pub cause : BlamesDisk old.faults new.faults result
   pub stopped : IfErr result (λ why. goes_on why → stands W)
@@ -36,6 +38,7 @@ pub record AnswersTold (goes_on : Stop → Type 0) (stands : World → Type 0) (
   pub told : OnOk result (IfTold old (IsSome new.contents))
   pub world : OnOk result (StandsSo stands old plain given.1)
   pub moments : LeavesOnly old new (ShowsEither W given.1)
+  pub unmade : IsErrOf result stop.Memory → LeavesOnly old new (ShowsLast W)
   pub up : ¬ IsErrOf result stop.Down
   pub cause : BlamesDisk old.faults new.faults result
   pub stopped : IfErr result (λ why. goes_on why → StandsStill stands plain W)

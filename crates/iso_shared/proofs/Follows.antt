@@ -1,5 +1,5 @@
 -- What stays along a list: the history grows, and a transaction keeps its begin and its mode for as long as it is live.
-use Rattle.iso_shared.proofs.{Words.{◌≡◌, ℕ, ◌+◌, ◌-◌, ◌<◌, ◌≤◌, ◌==◌, Bool, true, false, cond, List, [], ◌∷◌, ◌++◌, Option, Some, None, length, length-append, take, refl, sym, ap, ◌∙◌, subst, arith, nat_tests, take-append-le, Checked, up_to, Access, Commit, EndReply, Committed, ReadOnly, Conflict, Geometry, Mode, clash, clash_from, first_after, has_write, History, last, World, Live, without, Extends, extends_itself, extends_on, Doing, after_leaving, ahead, leave_all, Call, Cause, Entry, Member, IsAhead, IsOwn, Start, State, is_live, live_of, after, after_all, after_fault, after_group, after_refusal, after_sweep, lost_commit, lost_commits, members_of, state_at, txs_of, with_world, IsPrefix}, Grouped.{after_is, behind_it}, Trace.{after_append, live_snoc, live_without, of_snoc, of_without}}
+use Rattle.iso_shared.proofs.{Words.{◌≡◌, ℕ, ◌+◌, ◌-◌, ◌<◌, ◌≤◌, ◌==◌, Bool, true, false, cond, List, [], ◌∷◌, ◌++◌, Option, Some, None, length, length-append, take, refl, sym, ap, ◌∙◌, subst, arith, nat_tests, take-append-le, Checked, up_to, Access, Commit, EndReply, Committed, ReadOnly, Conflict, Geometry, Mode, clash, clash_from, first_after, has_write, History, last, World, Live, without, Extends, extends_itself, extends_on, Doing, after_leaving, ahead, leave_all, Call, Cause, Entry, Member, IsAhead, IsOwn, Start, State, is_live, live_of, after, after_all, after_fault, after_group, after_refusal, after_sweep, lost_commit, lost_commits, members_of, opened, state_at, txs_of, with_world, IsPrefix}, Grouped.{after_is, behind_it}, Trace.{after_append, live_snoc, live_without, of_snoc, of_without}}
 use Rattle.std.proofs.Common.{drop}
 use Rattle.iso_shared.specs.declared.entry.Call.TheVariants as call
 use Rattle.iso_shared.specs.declared.entry.Cause.TheVariants as cause
@@ -127,6 +127,9 @@ follows_all S (e ∷ es) = follows_on S (after S e) (after_all (after S e) es) (
 -- a list that begins with another one leads on from its state
 pub follows_prefix : (A : Start) (xs ys : List Entry) → IsPrefix xs ys → Follows (state_at A xs) (state_at A ys)
 follows_prefix A xs ys p = grind (arith, after_append, follows_all)
+
+pub histories_grow : (A : Start) (front later : List Entry) → Extends (state_at A front).world.history (state_at A (front ++ later)).world.history
+histories_grow A front later = subst (λ (T : State). Extends (state_at A front).world.history T.world.history) (sym (after_append (opened A) front later)) (follows_all (state_at A front) later).history
 
 pub own_kept : (S T : State) (tx : ℕ) (work : Doing) → Follows S T → IsOwn S tx work → IsOwn T tx work
 own_kept S T tx work f own = grind arith

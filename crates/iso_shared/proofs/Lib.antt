@@ -1,6 +1,7 @@
 pub mod Words
 pub mod Trace
 pub mod Grouped
+pub mod Handed
 pub mod HandedBack
 pub mod Follows
 pub mod Growing

@@ -94,6 +94,13 @@ not_without_its_accesses f = let e : Some 0 ≡ Some 1 = ap (option_map (λ (p :
 not_none : Fits (state_at start posted) (entry.Look (97 ∷ []) None) → ⊥
 not_none f = cc (f.answers)
 
+-- with the begin that it has, which is not always the first
+abbrev pub posted_late : List Entry
+posted_late = one_ended ++ entry.Begin 3 1 Serial ∷ entry.Post 3 (97 ∷ []) [] ∷ []
+
+looks_up_its_begin : Fits (state_at start posted_late) (entry.Look (97 ∷ []) (Some (record { number = 3; begin = 1; mode = Serial; accesses = [] })))
+looks_up_its_begin = record { needs = tt; takes = tt; answers = refl }
+
 -- a label is held once: another post is refused so, and not for want of memory
 held_once : Fits (state_at start posted) (entry.Post 1 (97 ∷ []) []) → ⊥
 held_once f = cc (f.answers)
@@ -140,6 +147,19 @@ no_disk may = cc (may.0.1)
 -- then the device is down: the transaction is gone, and nothing but an abort, a stat and the calls on labels is answered
 is_down : (is_some (state_at start fallen).lost ≡ true) × (is_loose 1 (state_at start fallen) ≡ false) × (is_loose 2 (state_at start fallen) ≡ true) × ((numbers_at (state_at start fallen)).down ≡ true)
 is_down = (refl, refl, refl, refl)
+
+-- with it a commit that would have begun where the transaction did and had its accesses; with a switch none
+abbrev pub fallen_late : List Entry
+fallen_late = one_ended ++ entry.Begin 3 1 Serial ∷ entry.Refused (call.End 3 (one_put ∷ [])) (cause.Disk 3 4) ∷ []
+
+is_lost : (state_at start fallen_late).lost ≡ Some (record { begin = 1; mode = Serial; accesses = one_put ∷ [] } ∷ [])
+is_lost = refl
+
+compact_falls : (state_at start (entry.Refused call.Compact (cause.Disk 3 4) ∷ [])).lost ≡ Some []
+compact_falls = refl
+
+upgrade_falls : (state_at start (entry.Refused call.Upgrade (cause.Disk 3 4) ∷ [])).lost ≡ Some []
+upgrade_falls = refl
 
 no_begin : Fits (state_at start fallen) (entry.Begin 3 0 Serial) → ⊥
 no_begin f = cc (f.answers.0)

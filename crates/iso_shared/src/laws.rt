@@ -1,6 +1,6 @@
 // The laws of legal lists: each function does nothing, and its contract is the law.
 ghost use Rattle.std.specs.{Prelude.{◌≡◌, ℕ, ◌<◌, List, [], ◌∷◌, ◌++◌, Some}, List.AllByRecursion};
-ghost use Rattle.iso_model.specs.declared.access.Mode.{Mode};
+ghost use Rattle.iso_model.specs.{declared.access.Mode.Mode, Worlds.Extends};
 ghost use Rattle.iso_shared.specs.{declared.entry.Entry.Entry, declared.entry.Entry.TheVariants.{Begin, Look}, declared.entry.Posting.Posting, Legal.{IsLegal, handed, returned}, Plain.{CommitsUpTo, WasPosted}, States.{Start, is_loose, opened, state_at}};
 ghost use Rattle.turn_lock.specs.Numbers.{is_out};
 
@@ -12,6 +12,11 @@ pub fn numbers_out_are_loose()
 /// What a look finds was posted under its label, as it was then, and nothing between the two took it out.
 pub fn looks_find_what_was_posted()
     ensures { (A : Start) (es : List Entry) (label : List ℕ) (p : Posting) → A.world.live ≡ [] → IsLegal A (es ++ Look label (Some p) ∷ []) → WasPosted (opened A) es label p }
+{}
+
+/// The history at a place of a list goes on from the one at each place before it, and so begins with the one at which the list began.
+pub fn histories_of_lists_grow()
+    ensures { (A : Start) (front later : List Entry) → Extends (state_at A front).world.history (state_at A (front ++ later)).world.history }
 {}
 
 /// A begin is at or above each commit that was told of before it.

@@ -44,6 +44,7 @@ run_alone stands disk_old disk_new input_old input_new output_old output_new W e
     reached_is = r.answered.reached_is;
     final_is = r.answered.final_is;
     final_on = r.answered.final_on;
+    whole_is = r.answered.whole_is;
     on_any_disk = r.answered.on_any_disk;
     exit = r.answered.exit;
     moments = r.answered.moments;

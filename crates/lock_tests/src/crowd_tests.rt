@@ -1,5 +1,5 @@
-//! A crowd. Nearly all threads sleep at once, and they went to sleep in another order than that of their tickets: a lock that
-//! wakes one of all sleepers, or one at the wrong door, stands still here.
+//! A crowd. Nearly all threads sleep at the gate at once, and look at it at nearly the same moment: a lock that passes the gate to
+//! a thread which is not there, or wakes nobody as it opens it, stands still here.
 ghost use Rattle.std.specs.Prelude.{◌≡◌, ◌<◌, ◌≤◌};
 ghost use denote.Param.Send.{IsSync};
 ghost use Rattle.turn_lock.specs.{Lock.lock_id, Pass.{view, HasNoTurn}};
@@ -14,7 +14,7 @@ use turn_lock::{Pass, TurnLock};
 
 const TURNS: u64 = 1000;
 
-// So many turns, each of 20 to 50 microseconds. The pauses between them bring tickets that are drawn at nearly the same moment.
+// So many turns, each of 20 to 50 microseconds. The pauses between them bring looks at the gate at nearly the same moment.
 fn held<R: Wait + Abort + Clock>(rt: &R, lock: &TurnLock<Log>, pass: Pass<Log>) -> Pass<Log>
     requires { (pass.table_id ≡ lock_id lock.now) × HasNoTurn pass × (0 < (view pass).units) }
     ensures { (result.table_id ≡ lock_id lock.now) × HasNoTurn result × ((view result).units ≡ (view pass).units) }

@@ -2,10 +2,10 @@
 #![tactic(auto)]
 
 #[cfg(test)]
-mod ahead_tests;
-#[cfg(test)]
 mod crowd_tests;
 #[cfg(test)]
-mod door_tests;
+mod gate_tests;
+#[cfg(test)]
+mod long_tests;
 #[cfg(test)]
 mod turn_tests;

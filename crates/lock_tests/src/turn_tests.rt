@@ -15,7 +15,7 @@ use std::thread::{self, Threads, join};
 use std::time::{Clock, CpuClock, Duration, Instant};
 use turn_lock::{LAST, Names, Pass, Stands, Turn, TurnLock};
 
-// So many that a lock stands still which misses a ring between its look at the ticket and the peek at its door.
+// So many that a lock stands still in which a thread falls asleep at a gate that was opened behind its last look.
 const TURNS: u64 = 100_000;
 
 /// What a turn adds to a log: how many entries were in it.
@@ -95,7 +95,7 @@ fn be_busy<R: Abort + Clock>(rt: &R, time: Duration) {
 
 impl<'a> Caller<'a, Log> {
     // One turn.
-    fn count<R: Wait + Abort>(&mut self, rt: &R)
+    pub(crate) fn count<R: Wait + Abort>(&mut self, rt: &R)
         ensures same { (self.new.lock.now ≡ self.old.lock.now) × ((view self.new.pass).units ≡ (view self.old.pass).units) }
         ensures seen { IsPrefix (view self.old.pass).seen (view self.new.pass).seen }
     {

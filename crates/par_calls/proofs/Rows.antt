@@ -1,5 +1,5 @@
 -- Two clients whose calls of the tree store are told along one order: the one hands its transaction to the other.
-use Rattle.par_calls.{proofs.Words.{◌≡◌, refl, ℕ, true, false, List, [], ◌∷◌, ◌++◌, Option, Some, None, Geometry, Serial, Op, Reply, look_access, store_access, Own, Get, Got, Put, WasPut, OnKey, the_tree, nothing_told, no_notes, notes_after, Event, Made, entries_in, events_of}, specs.Trace.Done}
+use Rattle.par_calls.{proofs.Words.{◌≡◌, refl, ℕ, true, false, List, [], ◌∷◌, ◌++◌, Option, Some, None, Geometry, Serial, Op, Reply, look_access, store_access, Own, Get, Got, Put, WasPut, OnKey, the_tree, nothing_told, no_notes, notes_after, Event, Made, entries_in, events_of, EachCommit, MemberEnd}, specs.Trace.Done}
 use Rattle.script_model.specs.declared.script.Op.TheVariants as op
 use Rattle.script_model.specs.declared.script.Reply.TheVariants as reply
 use Rattle.iso_shared.specs.declared.entry.Entry.TheVariants as entry
@@ -71,3 +71,7 @@ not_kept = refl
 -- each client's events, and the entries
 its_entries : entries_in (events_of 2 handed) ≡ entry.Look label None ∷ entry.Look label (Some put_in) ∷ []
 its_entries = refl
+
+-- a group with a member more than its looks found is none of them
+not_more_members : (m : MemberEnd) → EachCommit {T = ℕ} (λ k found. Unit {0}) (m ∷ []) [] → ⊥
+not_more_members m each = each

@@ -11,6 +11,7 @@ use iso_shared::Origin;
 use par_script::MAX_LOOKS;
 use script_model::{Reply, Stop};
 use std::sync::Wait;
+use std::thread;
 
 /// Looks for the label until it is held, or so often as an await does, and takes the transaction over.
 pub(crate) fn await_label<'a, D: Disk + Drop, O: Origin, R: Wait>(
@@ -30,7 +31,8 @@ pub(crate) fn await_label<'a, D: Disk + Drop, O: Origin, R: Wait>(
         let _ = round;
         match session.look_tx(rt, label) {
             Ok(Some(at)) => return Ok(Reply::Began(at)),
-            Ok(None) => {}
+            // It holds nothing between two looks, so that others go on first hurts nobody.
+            Ok(None) => thread::yield_now(),
             Err(_) => return Ok(Reply::InTx),
         }
     }

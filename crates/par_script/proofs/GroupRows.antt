@@ -174,3 +174,12 @@ not_lost does = cc (does.1)
 names_its_line : commit_by 3 9 (reply.Grouped (Some (member.Committed 1) ∷ None ∷ Some member.ReadOnly ∷ Some (member.Committed 2) ∷ []))
     ≡ record { number = 1; client = 3; line = 9 } ∷ record { number = 2; client = 3; line = 9 } ∷ []
 names_its_line = refl
+
+-- a refusal of the group of others, and another reply where nothing was found
+not_of_other_members : Does small true None (op.Group (a ∷ [])) (finds_a ∷ entry.Refused (call.EndGroup []) cause.Memory ∷ entry.Abort 1 ∷ []) (Err stop.Memory) None → ⊥
+not_of_other_members ((la, inl e), own) = cc (e.1)
+not_of_other_members ((la, inr w), own) = cc (w.0)
+
+not_unanswered : Does small true None (op.Group (a ∷ [])) (entry.Look a None ∷ []) (Ok (reply.Grouped [])) None → ⊥
+not_unanswered ((la, inl e), own) = cc (e.1)
+not_unanswered ((la, inr w), own) = cc (w.1)

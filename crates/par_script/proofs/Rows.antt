@@ -1,5 +1,10 @@
 -- Two clients who hand a transaction to each other under labels: one list that they may leave, with what each is told.
 use Rattle.par_script.proofs.Words.{◌≡◌, ℕ, ◌<◌, zero, suc, true, List, [], ◌∷◌, ◌++◌, Some, None, ap, inl, inr, length, replicate, refl, sym, arith, Ok, Err, slice_index, Access, Committed, ReadOnly, Geometry, Serial, Snapshot, Line, Op, Reply, put, clash, runs, AreBytes, IsAccess, get_access, put_access, begin_step, commit_step, end_step, get_step, put_step, read_step, step, empty_history, fresh, get_is_access, put_is_access, no_bytes, Entry, Start, IsLegal, MAX_LOOKS, Own, Does, Did, Walk, last_abort, Told, clients_in, entries_of, lines_of}
+use Rattle.std.specs.{Prelude.{Bool, false, Option, ◌==◌, map}, List.{AllByRecursion, list_any}}
+use Rattle.iso_shared.specs.declared.entry.Numbers.{Numbers}
+use Rattle.script_model.specs.declared.stop.Stop.{Stop}
+use Rattle.par_text.specs.declared.part.Part.{Part}
+use Rattle.par_script.specs.{Lines.{ClientLines, StopsAtLast}, Told.FoundSome}
 use Rattle.script_model.specs.declared.script.Op.TheVariants as op
 use Rattle.script_model.specs.declared.script.Reply.TheVariants as reply
 use Rattle.iso_shared.specs.declared.entry.Call.TheVariants as call
@@ -446,3 +451,99 @@ aborts_the_last = refl
 no_entry_before_a_turn : Did small true (Some at_a) op.Abort (entry.Abort 2 ∷ []) (Err stop.Memory) (Some at_a) → ⊥
 no_entry_before_a_turn (inl does) = cc (does.0)
 no_entry_before_a_turn (inr wants) = cc (wants.0)
+
+-- a call that is refused is the line's own, is answered so, and leaves what it leaves
+not_another_fetch_refused : Does small true (Some at_a) (op.Read 0) (entry.Refused (call.Fetch 1 1) (cause.Disk 0 1) ∷ []) (Err stop.Disk) (Some at_a) → ⊥
+unfolding step read_step
+not_another_fetch_refused does = cc (does.0)
+
+not_anothers_recent_refused : Does small true (Some at_a) op.End (entry.Refused (call.Recent 2) cause.Memory ∷ []) (Err stop.Memory) (Some at_a) → ⊥
+not_anothers_recent_refused does = cc (does.0)
+
+not_lost_by_a_refused_recent : Does small true (Some at_a) op.End (entry.Refused (call.Recent 1) cause.Memory ∷ []) (Err stop.Memory) None → ⊥
+not_lost_by_a_refused_recent does = cc (does.2)
+
+not_anothers_post_refused : Does small true (Some at_a) (op.Release a) (entry.Refused (call.Post 2 a (put_aa ∷ [])) cause.LabelTaken ∷ []) (Ok reply.LabelTaken) (Some at_a) → ⊥
+not_anothers_post_refused does = cc (does.0)
+
+not_lost_by_a_refused_post : Does small true (Some at_a) (op.Release a) (entry.Refused (call.Post 1 a (put_aa ∷ [])) cause.LabelTaken ∷ []) (Ok reply.LabelTaken) None → ⊥
+not_lost_by_a_refused_post does = cc (does.2)
+
+not_another_compact_refused : Does small true None op.Compact (entry.Refused call.Upgrade cause.Memory ∷ []) (Err stop.Memory) None → ⊥
+not_another_compact_refused does = cc (does.0)
+
+not_done_by_a_refused_compact : Does small true None op.Compact (entry.Refused call.Compact cause.Worn ∷ []) (Ok (reply.Compacted 0)) None → ⊥
+not_done_by_a_refused_compact does = cc (does.1)
+
+not_another_upgrade_refused : Does small true None op.Upgrade (entry.Refused call.Compact cause.Memory ∷ []) (Err stop.Memory) None → ⊥
+not_another_upgrade_refused does = cc (does.0)
+
+not_done_by_a_refused_upgrade : Does small true None op.Upgrade (entry.Refused call.Upgrade cause.Worn ∷ []) (Ok (reply.Upgraded 0)) None → ⊥
+not_done_by_a_refused_upgrade does = cc (does.1)
+
+not_another_trim_refused : Does small true None op.Trim (entry.Refused call.Compact cause.Down ∷ []) (Err stop.Down) None → ⊥
+not_another_trim_refused does = cc (does.0)
+
+not_done_by_a_refused_trim : Does small true None op.Trim (entry.Refused call.Trim cause.Down ∷ []) (Ok (reply.Trimmed 0)) None → ⊥
+not_done_by_a_refused_trim does = cc (does.1)
+
+-- a begin leaves the client with its transaction, and one that is refused without
+not_lost_by_a_begin : Does small true None (op.Begin None) (entry.Begin 1 0 Serial ∷ []) (Ok (reply.Began 0)) None → ⊥
+not_lost_by_a_begin does = cc (does.2)
+
+not_begun_by_a_refused_begin : Does small true None (op.Begin None) (entry.Refused (call.Begin None) cause.TooManyTx ∷ []) (Ok reply.TooManyTx) (Some at_a) → ⊥
+not_begun_by_a_refused_begin does = cc (does.2)
+
+-- a read that was shown is an access more
+abbrev accesses_had : Option Own → List Access
+accesses_had None = []
+accesses_had (Some t) = t.accesses
+
+not_read_unnoted : Does small true (Some (record at_b { accesses = [] })) (op.Get 0 0 2) (entry.Fetch 2 0 block ∷ []) (Ok (reply.Shown (170 ∷ 187 ∷ []))) (Some (record at_b { accesses = [] })) → ⊥
+unfolding step get_step
+not_read_unnoted does = not_equal 0 1 (omega arith) (ap (λ (o : Option Own). length (accesses_had o)) (does.3))
+
+-- an end that wants memory behind its look at later commits stops the client, which keeps its transaction
+not_ended_unasked : Does small true (Some at_a) op.End (entry.Recent 1 0 ∷ []) (Ok reply.ReadOnly) (Some at_a) → ⊥
+not_ended_unasked does = cc (does.1.0)
+
+not_lost_unasked : Does small true (Some at_a) op.End (entry.Recent 1 0 ∷ []) (Err stop.Memory) None → ⊥
+not_lost_unasked does = cc (does.1.1)
+
+-- an await looks for its own label, and takes what it finds there
+not_awaited_elsewhere : Does small true None (op.Await b) (entry.Look a None ∷ entry.Look b (Some at_b) ∷ []) (Ok (reply.Began 1)) (Some at_b) → ⊥
+not_awaited_elsewhere does = not_equal (slice_index a 0) (slice_index b 0) (omega arith) (ap (λ l. slice_index l 0) (does.1))
+
+not_found_elsewhere : Does small true None (op.Await b) (entry.Look a (Some at_b) ∷ []) (Ok (reply.Began 1)) (Some at_b) → ⊥
+not_found_elsewhere does = not_equal (slice_index a 0) (slice_index b 0) (omega arith) (ap (λ l. slice_index l 0) (does.1))
+
+not_found_at_another_begin : Does small true None (op.Await b) (entry.Look b (Some at_b) ∷ []) (Ok (reply.Began 0)) (Some at_b) → ⊥
+not_found_at_another_begin does = cc (does.2)
+
+not_lost_by_an_await : Does small true None (op.Await b) (entry.Look b (Some at_b) ∷ []) (Ok (reply.Began 1)) None → ⊥
+not_lost_by_an_await does = cc (does.3)
+
+-- a stat tells the numbers of its entry
+abbrev some_numbers : Numbers
+some_numbers = record { last = 2; base = 1; trim = 1; live = 0; used = 29; versions = 1; down = false }
+
+not_other_numbers : Does small true None op.Stat (entry.Stat some_numbers ∷ []) (Ok (reply.Numbers 3 1 1 0 29 1)) None → ⊥
+not_other_numbers does = cc (does.0)
+
+-- a sweep that found none is no sweep that found
+not_found_none : FoundSome (entry.Sweep None) → ⊥
+not_found_none found = found
+
+-- What the list of a run is, in plain words: each entry before the sweeps is that of one of the clients, which are those of the lines;
+-- and a client's entries are those of its lines, up to the one at which it stopped, with the abort at their end.
+list_is_dealt : (A : Start) (l : List (ℕ × Line)) (parts : List Part) (E : List Entry) (t : Told A l parts E)
+    → (E ≡ t.made ++ t.swept ++ entry.Sweep None ∷ []) × (length t.owners ≡ length t.made) × (map (λ p. p.client) parts ≡ clients_in l)
+    × AllByRecursion (λ owner. list_any (λ p. p.client == owner) parts ≡ true) t.owners
+list_is_dealt A l parts E t = (t.are, t.each, t.clients, t.owned)
+
+entries_are_the_lines : (g : Geometry) (tells : Bool) (l : List (ℕ × Line)) (had : List (ℕ × Reply)) (why : Option Stop) (F : List Entry) (c : ClientLines g tells l had why F) → F ≡ c.made ++ last_abort c.own
+entries_are_the_lines g tells l had why F c = c.all
+
+stops_at_its_last : (g : Geometry) (tells : Bool) (l : List (ℕ × Line)) (had : List (ℕ × Reply)) (why : Stop) (F : List Entry) (own : Option Own) (s : StopsAtLast g tells l had why F own)
+    → (l ≡ s.first ++ s.last ∷ []) × (F ≡ s.walked ++ s.entries)
+stops_at_its_last g tells l had why F own s = (s.are, s.all)

@@ -162,3 +162,7 @@ twice calls = let wrong : 2 ≡ 1 = fetched_once _ calls in absurd (omega (arith
 -- a read that no fetch made
 never : CallsStore stores true before (op.HashGet key) [] (Ok reply.Missing) (Some after) → ⊥
 never calls = let wrong : 0 ≡ 1 = fetched_once _ calls in absurd (omega (arith, wrong))
+
+-- a fault of the disk stops a client at a fetch that was refused so, and nowhere else
+no_fault_unfetched : StopsBy None (Err stop.Disk) → ⊥
+no_fault_unfetched by = by

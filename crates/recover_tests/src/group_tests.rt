@@ -154,7 +154,13 @@ fn a_stop_in_a_group_leaves_all_of_it_or_nothing(rt: HostRuntime) -> Result<(), 
             let found = found_in(alloc, MemDisk::new(alloc, disk.crash(alloc, pick)?));
             let whole = found == (Some(2), true, true);
             let none = found == (Some(0), false, false);
-            assert!(rt; whole || (!done && none), "{calls} {pick}");
+            // Nothing shows the group before the third call, which writes its gate.
+            let may = if calls < 2 {
+                none
+            } else {
+                whole || (!done && none)
+            };
+            assert!(rt; may, "{calls} {pick}");
         }
     }
     Ok(())

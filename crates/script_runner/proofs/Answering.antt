@@ -75,7 +75,7 @@ module _ (stands_new : World → Type 0) (e : DiskState) (l : SinkState) {stands
             let rest = script_from cut (number + 1) (pieces 10 more) in
             step_lines halt _ r.done next by (first_of _ r.done next rest.lines
             (ap (λ (s : Script). s.lines) (script_is cut more ∙ ap (behind r.done) (before-parsed number (Says said) (parse_whole (held ++ line)) rest given))) (omega arith));
-        answered = halted_more W r.done next (end_of halt) r.ran halted;
+        answered = halted_more W r.done next (end_of halt) r.ran (λ none. absurd (cc none)) halted;
       }
 
   all_ran : Ran stands_new mid e mid_sink l r.ran.reached [] → Ran stands_new d e k l W r.done

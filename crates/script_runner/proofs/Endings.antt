@@ -262,7 +262,7 @@ module _ {stands : World → Type 0} {d e : DiskState} {k l : SinkState} (W : Wo
         met_runs i j (end_of halt) r.done next gave met few (halt_uninput halt) (halt_count halt i.faults j.faults gave.faults)
         (step_lines halt _ r.done next by (first_of _ r.done next []
         (ap (λ (s : Script). s.lines) (last_script some ∙ ap (behind r.done) (before-parsed number (Says said) (parse held) no_lines given))) (omega arith)))
-        (halted_more W r.done next (end_of halt) r.ran halted)
+        (halted_more W r.done next (end_of halt) r.ran (λ none. absurd (cc none)) halted)
 
     all_ran : Ran stands_new e f l m r.ran.reached [] → Ran stands_new d f k m W r.done
     all_ran ran = subst (λ (xs : List (ℕ × Line)). Ran stands_new d f k m W xs) (append-nil r.done) (ran_more W r.done [] r.ran ran)

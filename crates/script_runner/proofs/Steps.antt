@@ -116,6 +116,7 @@ module _ {stands : World → Type 0} {d e : DiskState} {k l : SinkState} (W : Wo
         reached_is = behind_none d W is;
         final_is = behind;
         final_on = behind.leads;
+        whole_is = λ none. absurd (cc none);
         on_any_disk = put;
         exit = at_end laws shown;
         moments = shown;
@@ -189,9 +190,9 @@ module _ {stands : World → Type 0} {d mid e : DiskState} {k mid_sink l : SinkS
       }
 
   -- more lines, behind which one halts
-  pub halted_more : (end : RunEnd) → (first : Ran before_stands d mid k mid_sink W xs) → Answered stands mid e mid_sink l first.reached end [] ys
+  pub halted_more : (end : RunEnd) → (first : Ran before_stands d mid k mid_sink W xs) → (ys ≡ [] → ⊥) → Answered stands mid e mid_sink l first.reached end [] ys
       → Answered stands d e k l W end xs ys
-  halted_more end first second =
+  halted_more end first some second =
       let U = first.reached in
       record {
         good = all_append (λ line. IsOp line.1.op) xs ys first.good second.good;
@@ -205,6 +206,7 @@ module _ {stands : World → Type 0} {d mid e : DiskState} {k mid_sink l : SinkS
         reached_is = first.reached_is;
         final_is = behind_on d mid W U second.final xs ys first.told first.reached_is second.final_is;
         final_on = second.final_is.leads;
+        whole_is = λ none. absurd (some none);
         on_any_disk = put_halted end k mid_sink l W U second.reached second.final xs ys first.on_any_disk second.on_any_disk;
         exit = λ c here. between_since U second.reached second.final second.reached_is.leads c (second.exit c here);
         moments = runs_joined W U second.final first.reached_is.leads second.final_is.leads first.moments second.moments;
@@ -229,6 +231,7 @@ ended_here {stands = stands} {d = d} {e = e} {k = k} {l = l} W xs end quiet ran 
       reached_is = ran.reached_is;
       final_is = subst (λ (ys : List (ℕ × Line)). IsBehind d W ys ran.reached) all ran.reached_is;
       final_on = after_leads ran.reached [] ran.reached_is.leads.world tt;
+      whole_is = λ none. refl;
       on_any_disk = put_quiet end k l W ran.reached xs quiet ran.on_any_disk;
       exit = ran.exit;
       moments = ran.moments;

@@ -66,12 +66,13 @@ pub record Answered (stands : World → Type 0) (disk_old disk_new : DiskState) 
   pub order : LeadsTo W (after W done)
   pub order_next : LeadsTo (after W done) (after W (done ++ next))
   pub acknowledged : (n : ℕ) → Acknowledges W done n → n ≤ last (after W done).history
-  -- the worlds that the lines answered, and all lines, led to
+  -- the worlds that the lines answered, and all lines, led to, which is one where no line may have run behind those
   pub reached : World
   pub final : World
   pub reached_is : IsBehind disk_old W done reached
   pub final_is : IsBehind disk_old W (done ++ next) final
   pub final_on : LeadsTo reached final
+  pub whole_is : next ≡ [] → final ≡ reached
   -- the reply theorem on any disk, as a real file, which tells nothing: the sink took the replies of the model but for the bytes shown
   pub on_any_disk : PutRepliesBy end output_old output_new W done next reached final
   -- the crash theorem: each image that a crash leaves now shows the history at a commit from the last one of the lines answered

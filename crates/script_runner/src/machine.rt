@@ -1,7 +1,7 @@
 // What answers the lines of a script.
 ghost use Rattle.std.specs.Prelude.{◌≡◌, ◌≤◌, ℕ, List, IfErr, IfOk, IsErrOf, IsSome, OnOk};
 ghost use Rattle.iso_disk.specs.Disk.{DiskState, IsLawful, LeavesOnly};
-ghost use Rattle.iso_model.specs.{History.last, Image.Shows, World.World, Worlds.IsWorld, Between.ShowsEither};
+ghost use Rattle.iso_model.specs.{History.last, Image.Shows, World.World, Worlds.IsWorld, Between.{ShowsEither, ShowsLast}};
 ghost use Rattle.script_model.specs.{Step.step, Operations.IsOp};
 ghost use Rattle.script_runner.specs.{Counts.BlamesDisk, Stopped.{GoesOn, StandsStill}, Told.{IfTold, IsPlain, SameButShown, StandsSo}};
 
@@ -34,6 +34,9 @@ pub trait ScriptMachine {
         ensures stopped { (W : World) → stands self.old W → IfErr result (λ why. GoesOn op.now why → StandsStill (stands self.new) (IsPlain op.now) W) }
         ensures moments { (W : World) → stands self.old W
             → LeavesOnly (disk self.old) (disk self.new) (ShowsEither W (step W client op.now).1) }
+
+        // Where memory was wanting nothing was made: at each moment an image shows the last commit before the call.
+        ensures unmade { (W : World) → stands self.old W → IsErrOf result Stop.Memory → LeavesOnly (disk self.old) (disk self.new) (ShowsLast W) }
         ensures up { ¬ IsErrOf result Stop.Down }
         ensures cause { BlamesDisk (disk self.old).faults (disk self.new).faults result };
 

@@ -1,5 +1,5 @@
 -- The store theorem of the lines of a script, as one word.
-use Rattle.store_scripts.proofs.{Words.{Live, BeginsWell, IsByBoth, IsTrue, Some, ToldByMap, array_of, attached, has_write, image_hash, second_store, told_after, ◌≡◌, sym, subst, ℕ, ◌-◌, List, [], ◌∷◌, ◌++◌, Line, array_at, last, after, step, World, AreLines, ToldInOrder, CommitsKeep, Notes, no_notes, noted, notes_after, AnswersWith, SecondStore, FilesAnswer, the_tree, the_files, StoresAnswer}, Commits.{commits_told, groups_told}, Lines.{noted_after, noted_begins}, Order.{live_told, read_only_told}, Acting.SecondGoes, Blocks.{files_second, tree_second}, FileGoes.file_goes, Noted.IsNoted, Seconds.IsSecond, TreeGoes.tree_goes}
+use Rattle.store_scripts.proofs.{Words.{arith, both_well_formed, BothWellFormed, ◌≤◌, Live, BeginsWell, IsByBoth, IsTrue, Some, ToldByMap, array_of, attached, has_write, image_hash, second_store, told_after, ◌≡◌, sym, subst, ℕ, ◌-◌, List, [], ◌∷◌, ◌++◌, Line, array_at, last, after, step, World, AreLines, ToldInOrder, CommitsKeep, Notes, no_notes, noted, notes_after, AnswersWith, SecondStore, FilesAnswer, the_tree, the_files, StoresAnswer}, Commits.{commits_told, groups_told}, Lines.{noted_after, noted_begins}, Order.{live_told, read_only_told}, Acting.SecondGoes, Blocks.{files_second, hash_blocks, tree_second}, FileGoes.file_goes, Noted.IsNoted, Seconds.IsSecond, TreeGoes.tree_goes}
 use Rattle.std.specs.Prelude.{IsFalse}
 
 module _ (S : SecondStore) (lawful : IsSecond S) (second : SecondGoes S) where
@@ -20,6 +20,14 @@ module _ (S : SecondStore) (lawful : IsSecond S) (second : SecondGoes S) where
       IsByBoth (image_hash V.geometry) (second_store S V.geometry) V.geometry V.history (last W.history)
   calls_of W lines begins good keeps = (noted_told W lines begins good keeps).by tt
 
+  well_of : (W : World) (lines : List (ℕ × Line)) → BeginsWell S W → AreLines lines → CommitsKeep S W (no_notes S) lines → let V = after W lines in
+      BothWellFormed (image_hash V.geometry) (second_store S V.geometry) (array_at V.history (last V.history))
+  well_of W lines begins good keeps =
+      let V = after W lines in
+      let is = noted_told W lines begins good keeps in
+      let valid = is.world.valid in
+      both_well_formed (image_hash V.geometry) (second_store S V.geometry) (hash_blocks V.geometry valid) (lawful.blocks V.geometry valid) V.geometry V.history (last W.history) (last V.history) (is.by tt) is.low (omega arith)
+
   pub live_of : (W : World) (lines : List (ℕ × Line)) (client : ℕ) (t : Live) → BeginsWell S W → AreLines lines → CommitsKeep S W (no_notes S) lines → let V = after W lines in
       attached V client ≡ Some t → IsTrue (told_after S W lines t.number).kept → ToldInOrder S V.geometry (told_after S W lines t.number) (array_at V.history t.begin) (array_of V t)
   live_of W lines client t begins good keeps found kept =
@@ -32,6 +40,7 @@ module _ (S : SecondStore) (lawful : IsSecond S) (second : SecondGoes S) where
 
   answers_with : (W : World) (lines : List (ℕ × Line)) → AreLines lines → AnswersWith S W lines
   answers_with W lines good begins keeps = record {
+    well = well_of W lines begins good keeps;
     by_calls = calls_of W lines begins good keeps;
     commits = λ before later line k t are is_end found done.
         subst (λ (all : List (ℕ × Line)). ToldInOrder S (after W before).geometry (notes_after S W (no_notes S) before t.number) (array_at (after W all).history (k - 1)) (array_at (after W all).history k)) (sym are)

@@ -2,7 +2,7 @@
 use Rattle.std.specs.Prelude.{◌≡◌, ℕ, ◌-◌, IsFalse, IsTrue, List, ◌∷◌, ◌++◌, Some}
 use Rattle.script_model.specs.{declared.script.Line.Line, declared.script.Op.TheVariants.End, declared.script.Reply.TheVariants.Committed, Script.after, Step.{array_of, step}}
 use Rattle.iso_model.specs.{Effect.has_write, History.{array_at, last}, World.{Live, World, attached}}
-use Rattle.store_laws.specs.Both.{IsByBoth}
+use Rattle.store_laws.specs.Both.{BothWellFormed, IsByBoth}
 use Rattle.store_scripts.specs.{Kept.{BeginsWell, ToldByMap, ToldInOrder}, Stores.{SecondStore, image_hash, second_store, the_files, the_tree}, Told.{CommitsKeep, IsEndedAs, no_notes, told_after}}
 
 -- From the world W on, the store calls of each commit of these lines, as their replies tell them, answer as one thread's calls on
@@ -10,6 +10,8 @@ use Rattle.store_scripts.specs.{Kept.{BeginsWell, ToldByMap, ToldInOrder}, Store
 -- that is live behind a front of them, and keeps to the stores, answer so from the maps at its begin to those that it is shown; and
 -- those of one that wrote nothing answer by the maps at its begin.
 pub record AreCallsInOrder (S : SecondStore) (W : World) (lines : List (ℕ × Line)) : Type 0 where
+  -- the stores are well formed at the last commit, so that a later run begins well
+  pub well : let V = after W lines in BothWellFormed (image_hash V.geometry) (second_store S V.geometry) (array_at V.history (last V.history))
   pub by_calls : let V = after W lines in IsByBoth (image_hash V.geometry) (second_store S V.geometry) V.geometry V.history (last W.history)
   pub commits : (before later : List (ℕ × Line)) (line : ℕ × Line) (k : ℕ) (t : Live) → lines ≡ before ++ line ∷ later
       → let V = after W before in let H = (after W lines).history in line.1.op ≡ End → attached V line.1.client ≡ Some t → (step V line.1.client End).0 ≡ Committed k

@@ -19,7 +19,7 @@ module _ {X E : Type 0} (stands : X → List E → Type 0) (hands : E → Option
   stands_still s r i id v at = let same : set s.views id v ≡ s.views = set_again s.views id v at in record {
     list = r.list;
     tickets = r.tickets;
-    doors = r.doors;
+    others = r.others;
     words_are = set-get_or s.words i 0 ∙ r.words_are;
     few = r.few;
     dealt = subst (Dealt hands takes_back r.list r.tickets) (sym same) r.dealt;
@@ -44,7 +44,7 @@ module _ {X E : Type 0} (stands : X → List E → Type 0) (hands : E → Option
         record {
           list = r.list;
           tickets = n + 1;
-          doors = r.doors;
+          others = r.others;
           words_are = ap (λ ws. set ws 0 (n + 1)) r.words_are;
           few = omega arith;
           dealt = subst (λ z. Dealt hands takes_back r.list (z + 1) (set s.views id (waits z m.0))) (sym is) (deals_draw hands takes_back r.list r.tickets s.views r.dealt id m.0 at idle some_units);
@@ -54,26 +54,29 @@ module _ {X E : Type 0} (stands : X → List E → Type 0) (hands : E → Option
       ))
       (λ missed. (m.0, keeps, tt, stands_still s r 0 id m.0 at, (λ e. absurd (missed e), λ ne. refl)))
 
-  -- a store behind the first two words
-  rung : (a b i n : ℕ) (doors : List ℕ) → 2 ≤ i → set (a ∷ b ∷ doors) i n ≡ a ∷ b ∷ set doors (i - 2) n
-  rung a b i n doors le = search rules
+  -- a step on a word behind the first two
+  behind : (a b i n : ℕ) (others : List ℕ) → 2 ≤ i → set (a ∷ b ∷ others) i n ≡ a ∷ b ∷ set others (i - 2) n
+  behind a b i n others le = search rules
 
-  pub rings : (slots id i n : ℕ) (m : Sat X E) → 2 ≤ i → Allows Rule slots id m i (λ _. n) (λ _. stayed (step slots i n 0 none) m n)
-  rings slots id i n m le s r deep at fits = let same : set s.views id m.0 ≡ s.views = set_again s.views id m.0 at in (
+  pub changes_word : (slots id i : ℕ) (f : ℕ → ℕ) (m : Sat X E) → 2 ≤ i → Allows Rule slots id m i f (λ _ m'. m' ≡ m)
+  changes_word slots id i f m le s r deep at fits = let n : ℕ = f (get_or s.words i 0) in let same : set s.views id m.0 ≡ s.views = set_again s.views id m.0 at in (
     m.0,
     keeps,
     tt,
     record {
       list = r.list;
       tickets = r.tickets;
-      doors = set r.doors (i - 2) n;
-      words_are = ap (λ ws. set ws i n) r.words_are ∙ rung r.tickets (length r.list) i n r.doors le;
+      others = set r.others (i - 2) n;
+      words_are = ap (λ ws. set ws i n) r.words_are ∙ behind r.tickets (length r.list) i n r.others le;
       few = r.few;
       dealt = subst (Dealt hands takes_back r.list r.tickets) (sym same) r.dealt;
       slot = subst (λ (vs : List (View E)). Rests stands s.homes r.list (turning vs)) (sym same) r.slot;
     },
     refl,
   )
+
+  pub stores_word : (slots id i n : ℕ) (m : Sat X E) → 2 ≤ i → Allows Rule slots id m i (λ _. n) (λ _. stayed (step slots i n 0 none) m n)
+  stores_word slots id i n m le = changes_word slots id i (λ _. n) m le
 
   turn_comes : (slots id t : ℕ) (m : Sat X E) (s : Table) (r : Rule s) → m.0.stage ≡ Waits t → m.1 ≡ [] → get_elem? s.views id ≡ some m.0 → get_or s.words 1 0 ≡ t
       → (w : View E) × (a : Act (Option X)) × Valid s.homes m.1 a × Rule (stepped s 1 (get_or s.words 1 0) id m.1 w a) × Turned stands hands takes_back t m.0 (w, carried_after m.1 a)
@@ -91,7 +94,7 @@ module _ {X E : Type 0} (stands : X → List E → Type 0) (hands : E → Option
         record {
           list = r.list;
           tickets = r.tickets;
-          doors = r.doors;
+          others = r.others;
           words_are = set-get_or s.words 1 0 ∙ r.words_are;
           few = r.few;
           dealt = deals_turn hands takes_back r.list r.tickets s.views r.dealt id t m.0 at stage place;
@@ -164,8 +167,8 @@ module _ {X E : Type 0} (stands : X → List E → Type 0) (hands : E → Option
         record {
           list = more;
           tickets = r.tickets;
-          doors = r.doors;
-          words_are = ap (λ ws. set ws 1 next) r.words_are ∙ ap (λ q. r.tickets ∷ q ∷ r.doors) next_is;
+          others = r.others;
+          words_are = ap (λ ws. set ws 1 next) r.words_are ∙ ap (λ q. r.tickets ∷ q ∷ r.others) next_is;
           few = r.few;
           dealt = deals_entry hands takes_back r.list r.tickets s.views r.dealt id t m.0 e at stage free held;
           slot = inl (x, homes_back s.homes m.1 x has out.0, subst (λ (l : List E). stands x (l ++ e ∷ [])) whole.0 value, omega arith);
@@ -182,7 +185,7 @@ module _ {X E : Type 0} (stands : X → List E → Type 0) (hands : E → Option
   splits id v number units some_left held enough s r at = record {
     list = r.list;
     tickets = r.tickets;
-    doors = r.doors;
+    others = r.others;
     words_are = r.words_are;
     few = r.few;
     dealt = deals_split hands takes_back r.list r.tickets s.views r.dealt id v number units at some_left held enough;
@@ -193,18 +196,18 @@ module _ {X E : Type 0} (stands : X → List E → Type 0) (hands : E → Option
   joins id other v w idle some_units s r at apart is = record {
     list = r.list;
     tickets = r.tickets;
-    doors = r.doors;
+    others = r.others;
     words_are = r.words_are;
     few = r.few;
     dealt = deals_join hands takes_back r.list r.tickets s.views r.dealt id other v w at apart is idle some_units;
     slot = subst (Rests stands s.homes r.list) (sym (turning_join hands takes_back r.list r.tickets s.views r.dealt id other v w at is idle)) r.slot;
   }
 
-  pub starts : (doors : List ℕ) (x : X) → stands x [] → Rule (opening (0 ∷ 0 ∷ doors) (Some x ∷ []) fresh)
-  starts doors x value = record {
+  pub starts : (others : List ℕ) (x : X) → stands x [] → Rule (opening (0 ∷ 0 ∷ others) (Some x ∷ []) fresh)
+  starts others x value = record {
     list = [];
     tickets = 0;
-    doors = doors;
+    others = others;
     words_are = refl;
     few = omega arith;
     dealt = deals_first hands takes_back;

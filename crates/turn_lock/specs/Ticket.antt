@@ -87,9 +87,9 @@ module _ {X E : Type 0} (stands : X → List E → Type 0) where
   pub record Fair (hands : E → Option ℕ) (takes : E → List ℕ) (s : State (Option X) (View E)) : Type 0 where
     pub list : List E
     pub tickets : ℕ
-    -- what stands at the doors says nothing
-    pub doors : List ℕ
-    pub words_are : s.words ≡ tickets ∷ length list ∷ doors
+    -- what stands behind the first two says nothing
+    pub others : List ℕ
+    pub words_are : s.words ≡ tickets ∷ length list ∷ others
     pub few : tickets ≤ LAST
     pub dealt : Dealt hands takes list tickets s.views
     pub slot : Rests s.homes list (turning s.views)

@@ -3,47 +3,46 @@ ghost use Rattle.std.specs.Prelude.{◌≡◌, ℕ, ◌+◌, ◌%◌, ◌^◌, �
 ghost use mathlib.Core.List.{IsPrefix};
 ghost use Rattle.turn_lock.specs.{Lists.{times, AreDistinct, places}, Numbers.{IsOut, AreOut, AreFree, AreHeld, held_after}, Views.{fresh, waits, kept_part, given_part, both}, Steps.IsPlaced};
 
-use crate::plays::{Advance, Cut, Draw, Glue, Look, Portion, Ring, Settle};
+use crate::plays::{Advance, AtGate, Cut, Draw, Glue, Look, Portion, Settle};
 use crate::turn::Turn;
 use crate::view::{LAST, Names, Stands, View};
 use atomic_table::{Refused, Seat, Table, TableRule};
 use iso_model::Memory;
 use std::alloc::Global;
+use std::hint::spin_loop;
 use std::marker::Brand;
 use std::snapshot::Snapshot;
 use std::sync::Wait;
-use std::thread;
 
-// The words of the table, and its slot. Behind the first two stand the doors at which those wait who have a ticket, and then for
-// how many waits more processors count as spare.
+// The words of the table, and its slot. Behind the first two stand the gate before the tickets, how many wait at it, and how many
+// turns in a row went past them.
 const TICKETS: usize = 0;
 
 const SERVED: usize = 1;
 
-const FIRST_DOOR: usize = 2;
+const GATE: usize = 2;
 
-const DOORS: u64 = 64;
+const WAITING: usize = 3;
 
-const SPARE: usize = 66;
+const PAST: usize = 4;
 
 const VALUE: usize = 0;
 
-// Where processors are spare, the holder of a ticket is woken so many turns ahead, since to wake takes longer than a short turn.
-// On four processors one has the turn then, and three are with who comes next.
-const AHEAD: u64 = 3;
+// The gate is open, or shut, or shut while some may sleep at it. It is kept for one of those who wait where its last two bits are
+// these: the ticket that is served then stands before them, so that no keeping is taken for another one.
+const OPEN: u64 = 0;
 
-// So often one looks whether its turn has come, once it is woken ahead, before it sleeps again.
+const SHUT: u64 = 1;
+
+const SLEPT_AT: u64 = 2;
+
+const KEPT: u64 = 3;
+
+// So often one looks whether the gate opens, before it waits.
 const LOOKS: u64 = 100;
 
-// A turn that comes after so many looks shows spare processors. Where threads share one, each look leaves it to who is before. A
-// turn that does not come while one looks shows that turns are long, and then nothing is gained.
-const MANY: u64 = 8;
-
-// So many waits that show none are to follow, until none counts as spare.
-const WAITS: u64 = 16;
-
-// Of so many tickets one is woken ahead in any case, so that spare processors show.
-const TRIED: u64 = 16;
+// So many turns in a row may go past those who wait. The gate is then kept for one of them.
+const MOST_PAST: u64 = 4;
 
 /// The rule of the table.
 pub struct Ticketed;
@@ -59,11 +58,12 @@ impl<V: Stands> TableRule<Option<V>, View<V::Entry>, ()> for Ticketed {
 /// A caller's place at a lock: what it has seen of the list, and what it alone may do. It has no bytes.
 pub type Pass<V> = Seat<Option<V>, View<<V as Stands>::Entry>>;
 
-/// A lock that serves its callers in the order of their tickets.
+/// A lock that serves its callers in the order of their tickets. Before these stands a gate, at which who runs comes before those who
+/// sleep, but for a few turns in a row.
 #[derive(Drop)]
 pub struct TurnLock<V: Stands + Drop> {
     table: Table<Option<V>, View<V::Entry>, (), Ticketed, Global>,
-    ghost sized: { (table.shared.table_id.words ≡ 67) × (table.shared.table_id.slots ≡ 1) },
+    ghost sized: { (table.shared.table_id.words ≡ 5) × (table.shared.table_id.slots ≡ 1) },
 }
 
 impl<V: Stands + Drop> TurnLock<V> {
@@ -80,7 +80,7 @@ impl<V: Stands + Drop> TurnLock<V> {
             slots.destroy_empty();
             return Err((Memory, failed.value.unwrap()));
         }
-        match Table::new(alloc, &[0; 67], slots, &()) {
+        match Table::new(alloc, &[0; 5], slots, &()) {
             Ok((table, pass)) => Ok((TurnLock { table }, pass)),
             Err(Refused { mut slots }) => {
                 let value = slots.pop().unwrap();
@@ -107,12 +107,9 @@ impl<V: Stands + Drop> TurnLock<V> {
         ensures out { (n : ℕ) → 0 < times n (view pass.new).holds → IsOut V.hands V.takes n (view pass.new).seen }
         ensures all { (view pass.new).units ≡ LAST → (view pass.new).mine ≡ places (length (view pass.new).seen) }
     {
+        self.enter(rt, pass);
         let number = self.draw(rt, pass);
-        let door = door_of(number);
         for _ in rt.forever() {
-            // A ring after this look is not missed: it changes the door.
-            let rung = self.table.shared.peek(door);
-            self.look_out(pass, number);
             let served = self.table.shared.load::<Look>(pass, SERVED);
             if served == number {
                 let value = self.table.shared.exchange(pass, VALUE, None).unwrap();
@@ -123,46 +120,85 @@ impl<V: Stands + Drop> TurnLock<V> {
                     pass,
                 };
             }
-            self.table.shared.park(rt, door, low_half(rung));
+            self.table.shared.park(rt, SERVED, low_half(served));
         }
         unreachable!()
     }
 
-    // Looks for a while whether the turn of this ticket comes, and notes whether processors are spare.
-    fn look_out(&self, pass: &mut Pass<V>, number: u64)
+    // Passes the gate. Who runs comes before those who sleep, but for so many turns in a row.
+    fn enter<R: Wait>(&self, rt: &R, pass: &mut Pass<V>)
         requires { pass.old.table_id ≡ lock_id self.now }
         ensures lock { IsSamePass pass.old pass.new }
         ensures same { pass.new.me ≡ pass.old.me }
     {
-        let looks = self.looks(number);
-        if looks == 0 {
+        let Some(found) = self.slip_in(pass) else {
+            if self.table.shared.peek(WAITING) > 0 {
+                let past = self.table.shared.peek(PAST);
+                self.table
+                    .shared
+                    .store::<AtGate>(pass, PAST, past.saturating_add(1));
+            }
             return;
-        }
-        let spare = self.table.shared.peek(SPARE);
-        let next = if looks >= MANY && looks < LOOKS {
-            WAITS
-        } else {
-            spare.saturating_sub(1)
         };
-        if next != spare {
-            self.table.shared.store::<Ring>(pass, SPARE, next);
+        self.table.shared.fetch_add::<AtGate>(pass, WAITING, 1);
+
+        // It is kept for those who were counted before this one, unless this one is woken for it.
+        if is_kept(found) {
+            self.table.shared.park(rt, GATE, low_half(found));
         }
+        self.wait(rt, pass);
+        self.table.shared.fetch_sub::<AtGate>(pass, WAITING, 1);
+        self.table.shared.store::<AtGate>(pass, PAST, 0);
     }
 
-    // Looks whether the turn of this ticket comes while it is near, and leaves the processor to others after each look. It
-    // answers how many looks were in vain: none where the turn is not near, and all of them where it did not come.
-    fn looks(&self, number: u64) -> u64 {
-        for looks in 0..LOOKS {
-            let before = number.saturating_sub(self.table.shared.peek(SERVED));
-            if before == 0 {
-                return looks;
+    // Passes the gate if it opens while one looks, and answers else how it was found last. It waits for nobody.
+    fn slip_in(&self, pass: &mut Pass<V>) -> Option<u64>
+        requires { pass.old.table_id ≡ lock_id self.now }
+        ensures lock { IsSamePass pass.old pass.new }
+        ensures same { pass.new.me ≡ pass.old.me }
+    {
+        for _ in 0..LOOKS {
+            let found = self.table.shared.peek(GATE);
+            if is_kept(found) {
+                return Some(found);
             }
-            if before > AHEAD {
-                return 0;
+            if found == OPEN && self.changes_gate(pass, OPEN, SHUT) {
+                return None;
             }
-            thread::yield_now();
+            spin_loop();
         }
-        LOOKS
+        Some(SHUT)
+    }
+
+    // Sleeps until the gate is open or kept, and passes it.
+    fn wait<R: Wait>(&self, rt: &R, pass: &mut Pass<V>)
+        requires { pass.old.table_id ≡ lock_id self.now }
+        ensures lock { IsSamePass pass.old pass.new }
+        ensures same { pass.new.me ≡ pass.old.me }
+    {
+        for _ in rt.forever() {
+            let found = self.table.shared.peek(GATE);
+            if found == OPEN || is_kept(found) {
+                if self.changes_gate(pass, found, SLEPT_AT) {
+                    return;
+                }
+            } else if found == SLEPT_AT || self.changes_gate(pass, SHUT, SLEPT_AT) {
+                self.table.shared.park(rt, GATE, low_half(SLEPT_AT));
+            }
+        }
+        unreachable!()
+    }
+
+    // Whether the gate stood so, and was changed.
+    fn changes_gate(&self, pass: &mut Pass<V>, from: u64, to: u64) -> bool
+        requires { pass.old.table_id ≡ lock_id self.now }
+        ensures lock { IsSamePass pass.old pass.new }
+        ensures same { pass.new.me ≡ pass.old.me }
+    {
+        self.table
+            .shared
+            .compare_exchange::<AtGate>(pass, GATE, from, to)
+            == from
     }
 
     // Where all tickets are drawn, it waits for ever.
@@ -219,33 +255,26 @@ impl<V: Stands + Drop> TurnLock<V> {
         let _ = self.table.shared.exchange(pass, VALUE, Some(value));
         let served = number.wrapping_add(1);
         self.table.shared.store::<Advance<N>>(pass, SERVED, served);
-        self.ring(pass, served);
+        self.leave(pass, served);
     }
 
-    // Rings at the door of the ticket that is served, unless nobody waits. It wakes as many as may wait at that door, so that
-    // the holder of the ticket is among those woken. Whom it wakes ahead is no matter to those who wait: they look, and sleep.
-    fn ring(&self, pass: &mut Pass<V>, served: u64)
+    // Wakes who has a later ticket, and then opens the gate. It is kept for one of those who wait where too many turns went past them.
+    fn leave(&self, pass: &mut Pass<V>, served: u64)
         requires { pass.old.table_id ≡ lock_id self.now }
         ensures lock { IsSamePass pass.old pass.new }
         ensures same { pass.new.me ≡ pass.old.me }
     {
-        let waiting = self.table.shared.peek(TICKETS).saturating_sub(served);
-        if waiting == 0 {
-            return;
+        let later = self.table.shared.peek(TICKETS).saturating_sub(served);
+        for _ in 0..later {
+            self.table.shared.wake_one(SERVED);
         }
-        let door = door_of(served);
-        self.table.shared.store::<Ring>(pass, door, served);
-        for _ in 0..waiting.div_ceil(DOORS) {
-            self.table.shared.wake_one(door);
+        if self.table.shared.peek(PAST) >= MOST_PAST && self.table.shared.peek(WAITING) > 0 {
+            let kept = served.wrapping_mul(4).wrapping_add(KEPT);
+            self.table.shared.store::<AtGate>(pass, GATE, kept);
+            self.table.shared.wake_one(GATE);
+        } else if self.table.shared.swap::<AtGate>(pass, GATE, OPEN) == SLEPT_AT {
+            self.table.shared.wake_one(GATE);
         }
-        if waiting > AHEAD && self.wakes_ahead(served) {
-            self.table.shared.wake_one(door_of(served + AHEAD));
-        }
-    }
-
-    // Whether the holder of a later ticket is to be woken as this one is served.
-    fn wakes_ahead(&self, served: u64) -> bool {
-        served % TRIED == 0 || self.table.shared.peek(SPARE) > 0
     }
 
     /// A new pass, which has seen the same and gets the number and the units. It waits for nobody.
@@ -316,11 +345,9 @@ impl<V: Stands + Drop> TurnLock<V> {
     }
 }
 
-// Where the holder of a ticket waits.
-fn door_of(ticket: u64) -> usize
-    ensures { (2 ≤ result) × (result < 66) }
-{
-    FIRST_DOOR + (ticket % DOORS) as usize
+// Whether the gate is kept for one of those who waited before.
+fn is_kept(gate: u64) -> bool {
+    gate % 4 == KEPT
 }
 
 // A thread parks on the low half of a word.

@@ -29,10 +29,10 @@ impl<V: Stands, N: Names<V::Entry>> Play<Option<V>, View<V::Entry>> for Advance<
     ghost then = { advanced V.hands V.takes N.entry };
 }
 
-/// Tells those who wait at a door that it is rung.
-pub(crate) struct Ring;
+/// Changes the gate, or one of its counts. The rule says nothing of these.
+pub(crate) struct AtGate;
 
-impl<V: Stands> Play<Option<V>, View<V::Entry>> for Ring {
+impl<V: Stands> Play<Option<V>, View<V::Entry>> for AtGate {
     ghost then = { stayed };
 }
 

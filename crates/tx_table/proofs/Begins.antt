@@ -1,31 +1,15 @@
 -- Numbers that rise and begins that do not fall: the entry of a transaction, the least begin, one entry more or fewer.
-use Rattle.tx_table.proofs.{Words.{◌≡◌, ◌≢◌, ◌∙◌, refl, sym, ap, ℕ, zero, suc, ◌+◌, ◌<◌, ◌≤◌, true, false, List, [], ◌∷◌, ◌++◌, length, get_or, drop, map, take, arith, min-eq_left, None, nat_eq, lookup, common_steps, floor_of, least_begin, Begun, AreBefore, BeginFrom, IsPlace, RisesFrom, at_work}, Blocks.at_least}
+use Rattle.tx_table.proofs.{Words.{◌≡◌, ◌≢◌, ◌∙◌, refl, sym, ap, ℕ, zero, suc, ◌+◌, ◌-◌, ◌<◌, ◌≤◌, true, false, cond, List, [], ◌∷◌, ◌++◌, length, slice_get, map, arith, min-eq_left, Some, None, nat_eq, lookup, remove_entry, common_steps, floor_of, least_begin, Begun, AreBefore, BeginFrom, RisesFrom, at_work}}
 
-same_number : (tx : ℕ) (e : ℕ × Begun) → e.0 ≡ tx → nat_eq tx e.0 ≡ true
-same_number tx e same = grind (arith, common_steps)
-
-other_number : (tx : ℕ) (e : ℕ × Begun) → e.0 ≢ tx → nat_eq tx e.0 ≡ false
+pub other_number : (tx : ℕ) (e : ℕ × Begun) → e.0 ≢ tx → nat_eq tx e.0 ≡ false
 other_number tx e other = grind (arith, common_steps)
 
-pub place_here : (tx i f : ℕ) (live : List (ℕ × Begun)) (d : ℕ × Begun) → RisesFrom f live → i < length live → (get_or live i d).0 ≡ tx → IsPlace tx live i
-place_here tx i f [] d rises lt same = absurd (omega arith)
-place_here tx zero f (x ∷ live) d rises lt same =
-    let here = same_number tx x same in
-    record { below = lt; found = rw here refl; rest = rw here refl }
-place_here tx (suc i) f (x ∷ live) d rises lt same =
-    let above = at_least (x.0 + 1) i live d rises.1 (omega arith) in
-    let other = other_number tx x (λ e. omega (arith, e, above, same)) in
-    let later = place_here tx i (x.0 + 1) live d rises.1 (omega arith) same in
-    let e : suc i + 1 ≡ suc (i + 1) = omega arith in
-    record { below = lt; found = rw other later.found; rest = rw (e, other) (ap (λ (l : List (ℕ × Begun)). x ∷ l) later.rest) }
+-- a number above all others is not there
+pub none_before : (tx at : ℕ) (live : List (ℕ × Begun)) → AreBefore tx at live → lookup (nat_eq tx) live ≡ None
+none_before tx at [] before = refl
+none_before tx at (x ∷ live) before = rw (other_number tx x (λ e. omega (arith, e, before.0.0))) (none_before tx at live before.1)
 
-pub none_here : (tx : ℕ) (live : List (ℕ × Begun)) → ((k : ℕ) → k < length live → (d : ℕ × Begun) → (get_or live k d).0 ≢ tx) → lookup (nat_eq tx) live ≡ None
-none_here tx [] none = refl
-none_here tx (x ∷ live) none =
-    let other = other_number tx x (none 0 (omega arith) x) in
-    rw other (none_here tx live (λ k lt d. none (suc k) (omega arith) d))
-
-begin_earlier : (m n : ℕ) (live : List (ℕ × Begun)) → m ≤ n → BeginFrom n live → BeginFrom m live
+pub begin_earlier : (m n : ℕ) (live : List (ℕ × Begun)) → m ≤ n → BeginFrom n live → BeginFrom m live
 begin_earlier m n [] le begin = tt
 begin_earlier m n (x ∷ live) le begin = (omega (arith, le, begin.0), begin.1)
 
@@ -34,8 +18,9 @@ least_first n [] begin = refl
 least_first n (x ∷ live) begin =
     ap (λ (k : ℕ). least_begin k (map at_work live)) (min-eq_left begin.0) ∙ least_first n live (begin_earlier n x.1.at live begin.0 begin.1)
 
-pub floor_first : (n : ℕ) (x : ℕ × Begun) (live : List (ℕ × Begun)) → BeginFrom 0 (x ∷ live) → x.1.at ≡ floor_of n (map at_work (x ∷ live))
-floor_first n x live begin = sym (least_first x.1.at live begin.1)
+pub floor_first : (n : ℕ) (x : ℕ × Begun) (live : List (ℕ × Begun)) → Some x ≡ slice_get live 0 → BeginFrom 0 live → x.1.at ≡ floor_of n (map at_work live)
+floor_first n x [] is begin = grind arith
+floor_first n x (y ∷ live) is begin = let least = least_first y.1.at live begin.1 in grind arith
 
 -- one entry more
 pub rises_push : (f tx : ℕ) (begun : Begun) (live : List (ℕ × Begun)) → f ≤ tx → RisesFrom f live → AreBefore tx begun.at live → RisesFrom f (live ++ (tx, begun) ∷ [])
@@ -47,31 +32,35 @@ begin_push f tx begun [] le begin before = (le, tt)
 begin_push f tx begun (x ∷ live) le begin before = (begin.0, begin_push x.1.at tx begun live before.0.1 begin.1 before.1)
 
 -- one entry fewer
-pub rises_without : (f i : ℕ) (live : List (ℕ × Begun)) → i < length live → RisesFrom f live → RisesFrom f (take i live ++ drop (suc i) live)
-rises_without f i [] lt rises = absurd (omega arith)
-rises_without f zero (x ∷ live) lt rises = rises_earlier f (x.0 + 1) live (omega (arith, rises.0)) rises.1
-  where
-    rises_earlier : (m n : ℕ) (live : List (ℕ × Begun)) → m ≤ n → RisesFrom n live → RisesFrom m live
-    rises_earlier m n [] le rises = tt
-    rises_earlier m n (y ∷ live) le rises = (omega (arith, le, rises.0), rises.1)
-rises_without f (suc i) (x ∷ live) lt rises = (rises.0, rises_without (x.0 + 1) i live (omega arith) rises.1)
+pub rises_earlier : (m n : ℕ) (live : List (ℕ × Begun)) → m ≤ n → RisesFrom n live → RisesFrom m live
+rises_earlier m n [] le rises = tt
+rises_earlier m n (y ∷ live) le rises = (omega (arith, le, rises.0), rises.1)
 
-pub begin_without : (f i : ℕ) (live : List (ℕ × Begun)) → i < length live → BeginFrom f live → BeginFrom f (take i live ++ drop (suc i) live)
-begin_without f i [] lt begin = absurd (omega arith)
-begin_without f zero (x ∷ live) lt begin = begin_earlier f x.1.at live begin.0 begin.1
-begin_without f (suc i) (x ∷ live) lt begin = (begin.0, begin_without x.1.at i live (omega arith) begin.1)
+pub rises_left : (f tx : ℕ) (live : List (ℕ × Begun)) → RisesFrom f live → RisesFrom f (remove_entry (nat_eq tx) live)
+rises_left f tx [] rises = tt
+rises_left f tx (x ∷ live) rises = elim (nat_eq tx x.0) as (λ t. RisesFrom f (cond t live (x ∷ remove_entry (nat_eq tx) live))) [
+  | true ↦ rises_earlier f (x.0 + 1) live (omega (arith, rises.0)) rises.1
+  | false ↦ (rises.0, rises_left (x.0 + 1) tx live rises.1)
+]
+
+pub begin_left : (f tx : ℕ) (live : List (ℕ × Begun)) → BeginFrom f live → BeginFrom f (remove_entry (nat_eq tx) live)
+begin_left f tx [] begin = tt
+begin_left f tx (x ∷ live) begin = elim (nat_eq tx x.0) as (λ t. BeginFrom f (cond t live (x ∷ remove_entry (nat_eq tx) live))) [
+  | true ↦ begin_earlier f x.1.at live begin.0 begin.1
+  | false ↦ (begin.0, begin_left x.1.at tx live begin.1)
+]
 
 -- all entries are before what is after the last one
-pub before_last : (tx at f : ℕ) (x : ℕ × Begun) (live : List (ℕ × Begun)) → RisesFrom f (live ++ x ∷ []) → BeginFrom 0 (live ++ x ∷ []) → x.0 < tx → x.1.at ≤ at → AreBefore tx at (live ++ x ∷ [])
-before_last tx at f x [] rises begin lt le = ((lt, le), tt)
-before_last tx at f x (y ∷ live) rises begin lt le =
-    let later = before_last tx at (y.0 + 1) x live rises.1 (begin_earlier 0 y.1.at (live ++ x ∷ []) (omega arith) begin.1) lt le in
-    ((omega (arith, above (y.0 + 1) x live rises.1, lt), omega (arith, since y.1.at x live begin.1, le)), later)
-  where
-    above : (f : ℕ) (x : ℕ × Begun) (live : List (ℕ × Begun)) → RisesFrom f (live ++ x ∷ []) → f ≤ x.0
-    above f x [] rises = rises.0
-    above f x (y ∷ live) rises = let later = above (y.0 + 1) x live rises.1 in omega (arith, later, rises.0)
+before_from : (tx at f g k : ℕ) (x : ℕ × Begun) (live : List (ℕ × Begun)) → k + 1 ≡ length live → slice_get live k ≡ Some x → RisesFrom f live → BeginFrom g live → x.0 < tx → x.1.at ≤ at
+    → AreBefore tx at live
+before_from tx at f g k x [] end is rises begin lt le = tt
+before_from tx at f g zero x (y ∷ []) end is rises begin lt le = grind arith
+before_from tx at f g (suc k) x (y ∷ []) end is rises begin lt le = absurd (omega arith)
+before_from tx at f g zero x (y ∷ z ∷ live) end is rises begin lt le = absurd (omega arith)
+before_from tx at f g (suc k) x (y ∷ z ∷ live) end is rises begin lt le =
+    let later = before_from tx at (y.0 + 1) y.1.at k x (z ∷ live) (omega arith) is rises.1 begin.1 lt le in
+    ((omega (arith, later.0.0, rises.1.0), omega (arith, later.0.1, begin.1.0)), later)
 
-    since : (f : ℕ) (x : ℕ × Begun) (live : List (ℕ × Begun)) → BeginFrom f (live ++ x ∷ []) → f ≤ x.1.at
-    since f x [] begin = begin.0
-    since f x (y ∷ live) begin = let later = since y.1.at x live begin.1 in omega (arith, later, begin.0)
+pub before_last : (tx at : ℕ) (x : ℕ × Begun) (live : List (ℕ × Begun)) → Some x ≡ slice_get live (length live - 1) → RisesFrom 0 live → BeginFrom 0 live → x.0 < tx → x.1.at ≤ at → AreBefore tx at live
+before_last tx at x [] is rises begin lt le = tt
+before_last tx at x (y ∷ live) is rises begin lt le = before_from tx at 0 0 (length (y ∷ live) - 1) x (y ∷ live) (omega arith) (sym is) rises begin lt le

@@ -1,6 +1,7 @@
 pub mod Words
 pub mod Applied
 pub mod Begins
+pub mod Behind
 pub mod Blocks
 pub mod Covered
 pub mod Held

@@ -1,8 +1,8 @@
 -- What contracts see of `Live`: the numbers of the live transactions in the order of their begins, each with what it began with.
-use Rattle.std.specs.{Prelude.{◌≡◌, ℕ, ◌+◌, ◌<◌, ◌≤◌, nat_eq, List, [], ◌∷◌, ◌++◌, Option, drop, length, option_map, slice_get, take}, List.AllByRecursion, Map.{lookup, remove_entry}}
+use Rattle.std.specs.{Prelude.{ℕ, ◌<◌, ◌≤◌, nat_eq, List, [], ◌∷◌, length, Option, option_map}, List.AllByRecursion, Map.lookup}
 use Rattle.iso_model.specs.declared.access.Mode.{Mode}
 use Rattle.iso_model.specs.World as model
-use Rattle.tx_table.specs.declared.live.Begun.{Begun}
+use Rattle.tx_table.specs.{declared.live.Begun.Begun, Patches.RisesFrom}
 
 -- the begin of a transaction, if it is live
 abbrev pub begin_of : ℕ → List (ℕ × Begun) → Option ℕ
@@ -25,8 +25,8 @@ abbrev pub BeginFrom : (from : ℕ) → List (ℕ × Begun) → Type 0
 BeginFrom from [] = Unit {0}
 BeginFrom from (e ∷ live) = (from ≤ e.1.at) × BeginFrom e.1.at live
 
--- the first entry of the transaction stands at that place
-pub record IsPlace (tx : ℕ) (live : List (ℕ × Begun)) (place : ℕ) : Type 0 where
-  pub below : place < length live
-  pub found : option_map (λ entry. entry.1) (slice_get live place) ≡ lookup (nat_eq tx) live
-  pub rest : take place live ++ drop (place + 1) live ≡ remove_entry (nat_eq tx) live
+-- Entries of which the first ones have left: none, or fewer than all. The numbers of all rise, and their begins do not fall.
+pub record AreInOrder (past : ℕ) (entries : List (ℕ × Begun)) : Type 0 where
+  pub some : 0 < past → past < length entries
+  pub rise : RisesFrom 0 entries
+  pub begin : BeginFrom 0 entries

@@ -1,8 +1,9 @@
 // The transactions that are live.
-ghost use Rattle.std.specs.{Prelude.{◌≡◌, ℕ, ◌+◌, ◌<◌, ◌≤◌, [], ◌∷◌, ◌++◌, Some, None, Err, IfNone, IfSome, IsSome, OnOk, OnErr, length, nat_eq, map, slice_index_or}, Bool.OnTrue, Map.{lookup, remove_entry}};
+ghost use Rattle.std.specs.{Prelude.{◌≡◌, ℕ, ◌+◌, ◌<◌, ◌≤◌, [], ◌∷◌, ◌++◌, Err, IsSome, OnOk, OnErr, drop, length, nat_eq, map, option_map}, Bool.OnTrue, Map.{lookup, remove_entry}};
 ghost use Rattle.iso_model.specs.{declared.limits.TheConstants.MAX_LIVE, World.floor_of};
-ghost use Rattle.tx_table.specs.{Live.{AreBefore, IsPlace, at_work, begin_of, mode_of}, Patches.RisesFrom};
+ghost use Rattle.tx_table.specs.{Live.{AreBefore, AreInOrder, at_work, begin_of, mode_of}};
 
+use indexmap::IndexMap;
 use iso_model::{MAX_LIVE, Mode};
 use std::alloc::Global;
 use std::marker::Model;
@@ -24,19 +25,25 @@ pub struct Begun {
 /// The live transactions in the order of their begins, which is that of their numbers. Contracts see the list of their numbers, each with what it began with.
 #[derive(Drop)]
 pub struct Live {
-    begins: Vec<(u64, Begun)>,
+    begins: IndexMap<u64, Begun>,
+
+    // So many of the first ones have left. They are taken out together, since all that stands behind has to move then.
+    past: usize,
 }
 
+// As long as fewer have left, none of them is taken out.
+const MANY_PAST: usize = 64;
+
 impl Model for Live {
-    ghost use Rattle.std.specs.Prelude.{List, ℕ, ◌≤◌, length};
+    ghost use Rattle.std.specs.Prelude.{List, ℕ, ◌≤◌, drop, length};
     ghost use Rattle.iso_model.specs.declared.limits.TheConstants.{MAX_LIVE};
-    ghost use Rattle.tx_table.specs.{declared.live.Begun.Begun, Live.BeginFrom, Patches.RisesFrom};
+    ghost use Rattle.tx_table.specs.{declared.live.Begun.Begun, Live.AreInOrder};
 
     ghost Value = { List (ℕ × Begun) };
 
-    ghost view = { λ a. a.begins.items };
+    ghost view = { λ a. drop a.past a.begins.entries };
 
-    ghost invariant = { λ a. (length a.begins.items ≤ MAX_LIVE) × RisesFrom 0 a.begins.items × BeginFrom 0 a.begins.items };
+    ghost invariant = { λ a. (length (drop a.past a.begins.entries) ≤ MAX_LIVE) × AreInOrder a.past a.begins.entries };
 }
 
 impl Live {
@@ -45,7 +52,8 @@ impl Live {
         ensures { result ≡ [] }
     {
         Live {
-            begins: Vec::new(alloc),
+            begins: IndexMap::new(alloc),
+            past: 0,
         }
     }
 
@@ -53,10 +61,10 @@ impl Live {
     pub fn is_next(&self, tx: u64, at: u64) -> bool
         ensures { OnTrue result (AreBefore tx at self.now) }
     {
-        let Some((last, _)) = self.begins.split_last() else {
+        let Some((last, begun)) = self.begins.last() else {
             return true;
         };
-        if tx <= last.0 || at < last.1.at {
+        if tx <= *last || at < begun.at {
             return false;
         }
         true
@@ -70,10 +78,10 @@ impl Live {
         ensures full { length self.old ≡ MAX_LIVE → result ≡ Err EnterError.TooManyTx }
         ensures too_many { result ≡ Err EnterError.TooManyTx → length self.old ≡ MAX_LIVE }
     {
-        if self.begins.len() >= MAX_LIVE {
+        if self.begins.len() - self.past >= MAX_LIVE {
             return Err(EnterError::TooManyTx);
         }
-        let Ok(_) = self.begins.push((tx, Begun { at, mode })) else {
+        let Ok(_) = self.begins.insert(tx, Begun { at, mode }) else {
             return Err(EnterError::Memory);
         };
         Ok(())
@@ -84,9 +92,7 @@ impl Live {
         requires { IsSome (begin_of tx self.old) }
         ensures { self.new ≡ remove_entry (nat_eq tx) self.old }
     {
-        if let Some(place) = place_of(&self.begins, tx) {
-            self.begins.remove(place);
-        }
+        take_out(&mut self.begins, &mut self.past, tx);
     }
 
     /// Takes all out. The memory stays for those that come.
@@ -94,22 +100,35 @@ impl Live {
         ensures { self.new ≡ [] }
     {
         self.begins.clear();
+        self.past = 0;
     }
 
     /// The begin of a transaction, and none exactly where it is not live. It takes no memory.
     pub fn at(&self, tx: u64) -> Option<u64>
         ensures { result ≡ begin_of tx self.now }
     {
-        let place = place_of(&self.begins, tx)?;
-        Some(self.begins[place].1.at)
+        let begun = self.begun(tx)?;
+        Some(begun.at)
     }
 
     /// The mode of a transaction, and none exactly where it is not live.
     pub fn mode(&self, tx: u64) -> Option<Mode>
         ensures { result ≡ mode_of tx self.now }
     {
-        let place = place_of(&self.begins, tx)?;
-        Some(self.begins[place].1.mode)
+        let begun = self.begun(tx)?;
+        Some(begun.mode)
+    }
+
+    // What a transaction began with, and none where it is not live. Those that have left have numbers below all others.
+    fn begun(&self, tx: u64) -> Option<&Begun>
+        ensures { option_map (λ begun. begun.now) result ≡ lookup (nat_eq tx) self.now }
+    {
+        let begun = self.begins.get(&tx)?;
+        let (first, _) = self.begins.get_index(self.past)?;
+        if tx < *first {
+            return None;
+        }
+        Some(begun)
     }
 
     /// The least begin, or `last` where no transaction is live.
@@ -117,57 +136,73 @@ impl Live {
         ensures { result ≡ floor_of last (map at_work self.now) }
     {
         // No later one began before the first.
-        let Some((first, _)) = self.begins.split_first() else {
+        let Some((_, begun)) = self.begins.get_index(self.past) else {
             return last;
         };
-        first.1.at
+        begun.at
     }
 
     /// How many are live.
     pub fn len(&self) -> u32
         ensures { result ≡ length self.now }
     {
-        self.begins.len() as u32
+        (self.begins.len() - self.past) as u32
     }
 }
 
-// Whether no entry has a number below this one.
-fn is_first(entries: &[(u64, Begun)], tx: u64) -> bool
-    requires { RisesFrom 0 entries.now }
-    ensures { OnTrue result ((k : ℕ) → k < length entries.now → (d : ℕ × Begun) → tx ≤ (slice_index_or entries.now k d).0) }
+// Takes the first ones out.
+fn take_front(begins: &mut IndexMap<u64, Begun>, many: usize)
+    requires { many ≤ length begins.old.entries }
+    ensures { begins.new.entries ≡ drop many begins.old.entries }
 {
-    let Some((first, _)) = entries.split_first() else {
-        return true;
+    drop(begins.drain(..many));
+}
+
+// The first live one leaves, and others stay.
+fn pass_first(begins: &mut IndexMap<u64, Begun>, past: &mut usize)
+    requires order { AreInOrder past.old begins.old.entries }
+    requires more { past.old + 1 < length begins.old.entries }
+    ensures live { drop past.new begins.new.entries ≡ drop (past.old + 1) begins.old.entries }
+    ensures order { AreInOrder past.new begins.new.entries }
+{
+    let all = begins.len();
+    let gone = *past + 1;
+    if gone < MANY_PAST || gone < all - gone {
+        *past = gone;
+        return;
+    }
+    take_front(begins, gone);
+    *past = 0;
+}
+
+// The only live one leaves, or one behind the first.
+fn take_later(begins: &mut IndexMap<u64, Begun>, past: &mut usize, tx: u64)
+    requires order { AreInOrder past.old begins.old.entries }
+    requires live { IsSome (begin_of tx (drop past.old begins.old.entries)) }
+    ensures live { drop past.new begins.new.entries ≡ remove_entry (nat_eq tx) (drop past.old begins.old.entries) }
+    ensures order { AreInOrder past.new begins.new.entries }
+{
+    if *past > 0 && begins.len() - *past <= 1 {
+        begins.clear();
+        *past = 0;
+        return;
+    }
+    let _ = begins.shift_remove(&tx);
+}
+
+// Takes a live transaction out.
+fn take_out(begins: &mut IndexMap<u64, Begun>, past: &mut usize, tx: u64)
+    requires order { AreInOrder past.old begins.old.entries }
+    requires live { IsSome (begin_of tx (drop past.old begins.old.entries)) }
+    ensures live { drop past.new begins.new.entries ≡ remove_entry (nat_eq tx) (drop past.old begins.old.entries) }
+    ensures order { AreInOrder past.new begins.new.entries }
+{
+    let more = begins.len() - *past > 1;
+    let Some((first, _)) = begins.get_index(*past) else {
+        return;
     };
-    if first.0 < tx {
-        return false;
+    if more && *first == tx {
+        return pass_first(begins, past);
     }
-    true
-}
-
-// The place of the first entry whose number is not below this one.
-fn place_from(entries: &[(u64, Begun)], tx: u64) -> usize
-    requires { RisesFrom 0 entries.now }
-    ensures within { result ≤ length entries.now }
-    ensures before { (k : ℕ) → k < result → (d : ℕ × Begun) → (slice_index_or entries.now k d).0 < tx }
-    ensures after { (k : ℕ) → result ≤ k → k < length entries.now → (d : ℕ × Begun) → tx ≤ (slice_index_or entries.now k d).0 }
-{
-    // The one that began first is the one that most often leaves.
-    if is_first(entries, tx) {
-        return 0;
-    }
-    entries.partition_point(|entry| entry.0 < tx)
-}
-
-// Where the entry of a transaction stands, and none exactly where it has none.
-fn place_of(entries: &[(u64, Begun)], tx: u64) -> Option<usize>
-    requires { RisesFrom 0 entries.now }
-    ensures some { IfSome result (λ place. IsPlace tx entries.now place) }
-    ensures none { IfNone result (lookup (nat_eq tx) entries.now ≡ None) }
-{
-    let place = place_from(entries, tx);
-    if place < entries.len() && entries[place].0 == tx {
-        return Some(place);
-    }
-    None
+    take_later(begins, past, tx);
 }

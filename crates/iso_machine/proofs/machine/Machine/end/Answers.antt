@@ -1,4 +1,4 @@
-use Rattle.iso_machine.proofs.{Words.{◌∙◌, sym, refl, ap, subst, ◌≡◌, List, Some, None, IsSome, remove, as_reply, end_step, disk_of, Attached, AreOf, live_of}, Accesses.prepared, Endings.{end_is, end_keeps, has_gone, unwritten}, Lists.remove_set, Machines.{at_place, left, worked_on}, Quiet.{answered, answers_as, answers_by, stays_with}, Refusals.{blames, refused}}
+use Rattle.iso_machine.proofs.{Words.{◌∙◌, sym, refl, ap, subst, ◌≡◌, List, Some, None, IsSome, remove, as_reply, end_step, disk_of, Attached, AreOf, live_of, shows}, Accesses.prepared, Endings.{end_is, end_keeps, has_gone, unwritten, unwritten_for_memory}, Lists.remove_set, Machines.{at_place, left, worked_on}, Quiet.{answered, answers_as, answers_by, shows_still, stays_with}, Refusals.{blames, refused}}
 
 pub returns-in_default : Rattle.iso_machine.proofs.machine.Machine.end.Goals.returns-in_default
 returns-in_default g c W of = stays_with (g.met.D.Disk.lawful (disk_of c.args.self.now.core)) of refl (end_is W c.args.client None (c.in_default.ensures.here W of)) of
@@ -26,6 +26,7 @@ returns-in-Err g c W of =
           (c.in-Err.ensures.same W of.core_of other) of.core_of.kept_of.world;
       told = λ some told. subst (λ (disk : g.row.D.Denot). IsSome (g.D.Disk.state disk).contents) (sym (unwritten (disk_of m.core) (disk_of new) e some c.in-Err.ensures.unwritten)) told;
       moments = c.in-Err.ensures.moments W (live_of d) of.core_of h.tx active.is_work;
+      unmade = λ wants. shows_still g.D.Disk.state W (g.met.D.Disk.lawful (disk_of m.core)) (shows g.D.Disk.state m.core W of.core_of) (unwritten_for_memory e wants c.in-Err.ensures.unwritten);
       cause = blames e c.in-Err.ensures.cause;
     })))
 

@@ -1,4 +1,4 @@
-use Rattle.iso_machine.proofs.{Words.{◌≡◌, ◌∙◌, take, Geometry, IsTrue, is_block_size, refl, sym, ap, subst, List, [], Option, arith, map, with_items_is, GroupReply, found_ones, looks, group_step, grouped, reply_in, disk_of, up, HasTaken, filled}, Begins.valid_block, Ended.{behind, few, group_fails, moments_of, nobody, nobody_stands, ready, replies_are, stands, step_is}, Machines.known, Quiet.{answered, answers_as, answers_by, stays_with, wants_memory}, Taking.from_none, machine.Machine.group.Goals.In_default-take_members}
+use Rattle.iso_machine.proofs.{Words.{◌≡◌, ◌∙◌, take, Geometry, IsTrue, is_block_size, refl, sym, ap, subst, List, [], Option, arith, map, with_items_is, GroupReply, found_ones, looks, group_step, grouped, reply_in, disk_of, shows, up, HasTaken, filled}, Begins.valid_block, Ended.{behind, few, group_fails, moments_of, nobody, nobody_stands, ready, replies_are, stands, step_is}, Machines.known, Quiet.{answered, answers_as, answers_by, shows_still, stays_with, wants_memory}, Taking.from_none, machine.Machine.group.Goals.In_default-take_members}
 use Rattle.script_model.specs.declared.script.Reply.TheVariants as reply
 use Rattle.iso_machine.proofs.machine.Machine.group.Goals as goal
 
@@ -51,7 +51,7 @@ returns-in-Err-end_group g c W of =
     let here = stands of has in
     let moments = moments_of of has (c.in-Err-end_group.ensures.moments (looks W labels).1 (found_ones (looks W labels).0) here (ready of has)) in
     answers_by c.refused.ensures (answers_as (sym (step_is W c.args.client labels))
-    (group_fails c.in-Err-end_group.error (c.in-Err-end_group.ensures.only (looks W labels).1 here) moments c.in-Err-end_group.ensures.cause))
+    (group_fails c.in-Err-end_group.error (c.in-Err-end_group.ensures.only (looks W labels).1 here) moments (λ wants. shows_still g.D.Disk.state W (g.met.D.Disk.lawful (disk_of c.args.self.now.core)) (shows g.D.Disk.state c.args.self.now.core W of.core_of) (c.in-Err-end_group.ensures.untouched (λ disk. cc (wants, disk)))) c.in-Err-end_group.ensures.cause))
 
 pub returns : goal.returns
 returns g c W of =

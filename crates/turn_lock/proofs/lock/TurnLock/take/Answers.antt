@@ -4,7 +4,7 @@ pub load-served-requires : Rattle.turn_lock.proofs.lock.TurnLock.take.Goals.load
 load-served-requires g c = (
   search rules,
   search rules,
-  looks_from g.V.Stands.stands g.V.Stands.hands g.V.Stands.takes _ _ _ _ c.args.pass.now.me.0 (c.look_out.ensures.same ∙ (c.loop.invariant.1 ∙ c.draw-number.ensures.ticket)),
+  looks_from g.V.Stands.stands g.V.Stands.hands g.V.Stands.takes _ _ _ _ c.enter.new.pass.me.0 (c.loop.invariant.1 ∙ c.draw-number.ensures.ticket),
 )
 
 pub exchange-requires : Rattle.turn_lock.proofs.lock.TurnLock.take.Goals.exchange-requires

@@ -1,7 +1,7 @@
-use Rattle.tx_table.proofs.{Words.{◌∙◌, sym, subst, AreBefore, BeginFrom, RisesFrom}, Begins.before_last}
+use Rattle.tx_table.proofs.{Words.{subst, AreBefore}, Begins.before_last, Behind.before_behind}
 
 pub returns : Rattle.tx_table.proofs.live.Live.is_next.Goals.returns
 returns c =
-    let is = sym c.deref.ensures.value ∙ c.in-Some.ensures.cases.0 in
-    subst (AreBefore c.args.tx c.args.at) (sym is ∙ c.self.view_is)
-    (before_last c.args.tx c.args.at 0 c.in-Some.last.now c.in-Some.field-0-1.now (subst (RisesFrom 0) is c.self.invariant.1) (subst (BeginFrom 0) is c.self.invariant.2) c.if-tx-last.false c.if-at-last.false)
+    subst (AreBefore c.args.tx c.args.at) c.self.view_is
+    (before_behind c.args.tx c.args.at c.self.inside.past c.self.inside.begins.entries
+    (before_last c.args.tx c.args.at (c.in-Some.last.now, c.in-Some.begun.now) c.self.inside.begins.entries c.in-Some.ensures.entry c.self.invariant.1.rise c.self.invariant.1.begin c.if-tx-last.false c.if-at-begun.false))

@@ -1,5 +1,5 @@
-//! More callers than doors. Two or three of them sleep at one door at a time, so a ring has to wake all that may sleep there: a lock that
-//! counts them too low stands still here.
+//! Many callers. All but one sleep at the gate, and each that passes it has to wake another one: a lock that forgets those who still
+//! sleep stands still here. Short turns of many threads and of few bring all ways past the gate.
 ghost use Rattle.std.specs.Prelude.{◌≡◌, ◌<◌};
 ghost use denote.Param.Send.{IsSync};
 ghost use Rattle.turn_lock.specs.{Lock.lock_id, Pass.{view, HasNoTurn, IsSamePass}};
@@ -16,6 +16,8 @@ use turn_lock::{Pass, TurnLock};
 const CALLERS: usize = 150;
 
 const TURNS: u64 = 40;
+
+const SHORT_TURNS: usize = 600;
 
 // So many callers who have one unit of the pass each.
 pub(crate) fn callers<'a, R: Abort>(
@@ -46,6 +48,13 @@ impl<'a> Caller<'a, Log> {
             self.hold(rt, Duration::from_micros(5));
         }
     }
+
+    // Short turns alone.
+    fn rush<R: Wait + Abort>(&mut self, rt: &R) {
+        for _ in 0..SHORT_TURNS {
+            self.count(rt);
+        }
+    }
 }
 
 // Each caller in a thread of its own.
@@ -53,6 +62,14 @@ fn visit_all<R: Threads + Wait + Abort + Sync + Clock>(rt: &R, crowd: &mut [Call
     let each = |number: usize, caller: &mut Caller<'_, Log>|
         requires { IsSync R.row }
     { caller.visit(rt, number) };
+    thread::for_each_mut(rt, crowd, CALLERS, &each);
+}
+
+// The same, with short turns.
+fn rush_all<R: Threads + Wait + Abort + Sync>(rt: &R, crowd: &mut [Caller<'_, Log>]) {
+    let each = |_: usize, caller: &mut Caller<'_, Log>|
+        requires { IsSync R.row }
+    { caller.rush(rt) };
     thread::for_each_mut(rt, crowd, CALLERS, &each);
 }
 
@@ -73,10 +90,28 @@ pub(crate) fn were_taken<R: Wait + Abort>(
 }
 
 #[test]
-fn all_who_share_a_door_are_woken(rt: HostRuntime) -> Result<(), Fail> {
+fn all_who_sleep_at_the_gate_are_woken(rt: HostRuntime) -> Result<(), Fail> {
     let (lock, mut pass) = made(&rt, rt.alloc());
     let mut crowd = callers(&rt, rt.alloc(), &lock, &mut pass, CALLERS);
     visit_all(&rt, crowd.as_mut_slice());
     assert!(rt; were_taken(&rt, &lock, &mut pass, CALLERS * TURNS as usize + 1));
+    Ok(())
+}
+
+#[test]
+fn sixty_four_threads_take_short_turns(rt: HostRuntime) -> Result<(), Fail> {
+    let (lock, mut pass) = made(&rt, rt.alloc());
+    let mut crowd = callers(&rt, rt.alloc(), &lock, &mut pass, 64);
+    rush_all(&rt, crowd.as_mut_slice());
+    assert!(rt; were_taken(&rt, &lock, &mut pass, 64 * SHORT_TURNS));
+    Ok(())
+}
+
+#[test]
+fn four_threads_take_short_turns(rt: HostRuntime) -> Result<(), Fail> {
+    let (lock, mut pass) = made(&rt, rt.alloc());
+    let mut crowd = callers(&rt, rt.alloc(), &lock, &mut pass, 4);
+    rush_all(&rt, crowd.as_mut_slice());
+    assert!(rt; were_taken(&rt, &lock, &mut pass, 4 * SHORT_TURNS));
     Ok(())
 }

@@ -1,8 +1,8 @@
-//! Turns that last longer than one looks for its turn: who was woken ahead sleeps again, until a ring comes. A lock that wakes it
-//! once alone stands still here, and one that looks on and on takes too much of a processor.
+//! Turns that last longer than one looks at the gate: who waits sleeps, and who was woken and came too late sleeps again. A lock that
+//! wakes it once alone stands still here, and one that looks on and on takes too much of a processor.
 ghost use denote.Param.Send.{IsSync};
 
-use crate::door_tests::{callers, were_taken};
+use crate::gate_tests::{callers, were_taken};
 use crate::turn_tests::{Caller, Log, made};
 use std::process::Abort;
 use std::sync::Wait;
@@ -38,7 +38,7 @@ fn rest_all<R: Threads + Wait + Abort + Sync + Clock + CpuClock>(
 }
 
 #[test]
-fn who_is_woken_ahead_sleeps_again_in_a_long_turn(rt: HostRuntime) -> Result<(), Fail> {
+fn who_comes_too_late_sleeps_again_in_a_long_turn(rt: HostRuntime) -> Result<(), Fail> {
     let (lock, mut pass) = made(&rt, rt.alloc());
     let mut crowd = callers(&rt, rt.alloc(), &lock, &mut pass, CALLERS);
     rest_all(&rt, crowd.as_mut_slice());

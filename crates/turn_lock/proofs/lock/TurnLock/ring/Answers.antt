@@ -1,4 +1,0 @@
-use Rattle.turn_lock.proofs.{Words.rules, Keeps.rings}
-
-pub store-requires : Rattle.turn_lock.proofs.lock.TurnLock.ring.Goals.store-requires
-store-requires g c = (search rules, search rules, rings g.V.Stands.stands g.V.Stands.hands g.V.Stands.takes _ _ _ _ _ c.door_of-door.ensures.0)
