@@ -1,5 +1,5 @@
 -- What an end makes of a session that begins again after a conflict.
-use Rattle.std.specs.Prelude.{ℕ, Option, Result, Ok, Err}
+use Rattle.std.specs.Prelude.{◌≢◌, ℕ, Option, Result, Ok, Err}
 use Rattle.iso_model.specs.{declared.access.Clash.Clash, declared.access.EndReply.TheVariants.Conflict, declared.access.Mode.Mode}
 use Rattle.iso_shared.specs.States.{Start}
 use Rattle.handle_pass.specs.{declared.errors.BeginError.BeginError, declared.session.Session.Session, Calls.{HasBegun, HasEnded}}
@@ -17,7 +17,7 @@ module _ {D O : Type 0} (A : Start) where
     pub begun : HasBegun A between mode r t
 
   abbrev pub HasRetried : Session D O → Option Mode → Result Retry RetryError → Session D O → Type 0
-  HasRetried s mode (Ok (retry.Ended reply)) t = (taken : ℕ) × HasEnded A s 0 (Ok reply) t taken
+  HasRetried s mode (Ok (retry.Ended reply)) t = ((clash : Clash) → reply ≢ Conflict clash) × (taken : ℕ) × HasEnded A s 0 (Ok reply) t taken
   HasRetried s mode (Ok (retry.Begun at)) t = Conflicted s mode (Ok at) t
   HasRetried s mode (Err (error.End e)) t = (taken : ℕ) × HasEnded A s 0 (Err e) t taken
   HasRetried s mode (Err (error.Begin e)) t = Conflicted s mode (Err e) t

@@ -1,5 +1,5 @@
 -- What is known of two sides that were adopted.
-use Rattle.mirror_disk.proofs.{Words.{◌≡◌, ◌≢◌, ◌⊎◌, inl, inr, ⊎_elim, ℕ, ◌+◌, ◌<◌, ◌≤◌, List, [], take, Option, Some, None, refl, sym, ◌∙◌, ap, subst, arith, IfSome, same_Some, DiskState, IsLawful, IsSettled, LeavesOnly, WritesNothing, at_end, Rose, Mark, Slot, Both, OnlyFirst, OnlySecond, AdoptFails, AdoptsFrom, AreAlike, OfChosen, OfOther, TellsOn, IsHeader, body, chosen, epoch, last_epoch, rising_first, ChosenOf, chosen_told, HasEpoch, KeepsBody, other, ArePair, AreBoth, FirstLeads, SecondLeads, Stands}, Choosing.{adopts_first, adopts_second}, Ended.keeps_on, Epochs.{chosen_first, chosen_second}, Stands.some_told}
+use Rattle.mirror_disk.proofs.{Words.{◌≡◌, ◌≢◌, ◌⊎◌, inl, inr, ⊎_elim, ℕ, ◌+◌, ◌<◌, ◌≤◌, List, [], take, Option, Some, None, refl, sym, ◌∙◌, ap, subst, arith, IfSome, same_Some, DiskState, IsLawful, IsSettled, LeavesOnly, WritesNothing, at_end, joined_unwritten, Rose, Mark, Slot, Both, OnlyFirst, OnlySecond, AdoptFails, AdoptsFrom, AreAlike, LeavesAlike, OfChosen, OfOther, TellsOn, IsHeader, body, chosen, epoch, last_epoch, rising_first, ChosenOf, chosen_told, HasEpoch, KeepsBody, other, ArePair, AreBoth, FirstLeads, SecondLeads, Stands}, Choosing.{adopts_first, adopts_second}, Done.rose_behind, Ended.keeps_on, Epochs.{chosen_first, chosen_second}, Stands.some_told}
 
 pub body_tells : {old new : DiskState} → KeepsBody old new → TellsOn old new
 body_tells keeps = record { told = keeps_on keeps; untold = keeps.untold }
@@ -87,8 +87,9 @@ module _ (a b new_a new_b : DiskState) (e low : ℕ) (one two : Slot) (law_a : I
         is = adopts_first e c.0 x y p.most (p.same c.0 c.1) (inl most) ∙ sym (chosen_first c.0 d.0 (omega (arith, le, (marks_a c.0 here).epoch_is, (marks_b d.0 there).epoch_is)));
       }
 
-  pub first_leads : low ≤ e → LeavesOnly a new_a (OfChosen e a) → LeavesOnly b new_b (OfOther low e a b) → FirstLeads new_a new_b [] e
-  first_leads le run_a run_b = record {
+  pub first_leads : low ≤ e → LeavesOnly a new_a (OfChosen e a) → LeavesOnly b new_b (OfOther low e a b) → ((x : List ℕ) → new_a.now x → HasEpoch (other one) (e + 1) x) → FirstLeads new_a new_b [] e
+  first_leads le run_a run_b raised = record {
+    raised = λ x now. omega (arith, (raised x now).epoch_is);
     first = λ x from. (at_end law_a' run_a x (law_a'.only_now x from)).most;
     second = λ y from.
         let q = at_end law_b' run_b y (law_b'.only_now y from) in
@@ -156,3 +157,22 @@ choice_fails a b mid_a mid_b new_a new_b one two law_a law_b still_a still_b mar
 pub mark_of : (d : DiskState) (o : Option Mark) (m : Mark) → o ≡ Some m → IfSome o (λ k. (k.epoch ≤ last_epoch) × ((x : List ℕ) → d.now x → HasEpoch k.slot k.epoch x)) → (x : List ℕ) → d.now x → HasEpoch m.slot m.epoch x
 mark_of d (Some k) m is read = subst (λ (n : Mark). (x : List ℕ) → d.now x → HasEpoch n.slot n.epoch x) (same_Some k m is) read.1
 mark_of d None m is read = absurd (cc is)
+
+-- Two sides with different epochs are not alike.
+pub not_alike : {a b new_a new_b : DiskState} (one two : Mark) → IsLawful a → IsLawful b → ((x : List ℕ) → a.now x → HasEpoch one.slot one.epoch x) → ((y : List ℕ) → b.now y → HasEpoch two.slot two.epoch y) → one.epoch < two.epoch → LeavesAlike a b new_a new_b
+not_alike one two law_a law_b marks_a marks_b less x y told told' same alike =
+    let p = (marks_a x (law_a.reads_as_image x told)).epoch_is in
+    let q = (marks_b y (law_b.reads_as_image y told')).epoch_is in
+    absurd (omega (arith, p, q, same, less))
+
+-- those that told the same epoch have the same marks
+pub same_marks : {a b : DiskState} (one two : Mark) → IsLawful a → IsLawful b → ((x : List ℕ) → a.now x → HasEpoch one.slot one.epoch x) → ((y : List ℕ) → b.now y → HasEpoch two.slot two.epoch y) → (x y : List ℕ) → a.contents ≡ Some x → b.contents ≡ Some y → epoch x ≡ epoch y → two.epoch ≡ one.epoch
+same_marks one two law_a law_b marks_a marks_b x y told told' same =
+    sym (marks_b y (law_b.reads_as_image y told')).epoch_is ∙ sym same ∙ (marks_a x (law_a.reads_as_image x told)).epoch_is
+
+-- sides that were only read before
+pub alike_behind : {a b mid_a mid_b new_a new_b : DiskState} → IsLawful mid_a → IsLawful mid_b → WritesNothing a mid_a → WritesNothing b mid_b → b.faults ≤ mid_b.faults → LeavesAlike mid_a mid_b new_a new_b → LeavesAlike a b new_a new_b
+alike_behind law_a law_b still_a still_b later leaves x y told told' same alike = elim (leaves x y (still_a.same_contents ∙ told) (still_b.same_contents ∙ told') same alike) [
+  | inl rose ↦ inl (rose_behind _ _ _ later rose)
+  | inr nothing ↦ inr (joined_unwritten law_a still_a nothing.0, joined_unwritten law_b still_b nothing.1)
+]

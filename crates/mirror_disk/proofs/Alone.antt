@@ -14,6 +14,7 @@ module _ {a b new_a : DiskState} (past : List (ℕ × ℕ)) (e : ℕ) (one two :
       pair = λ _. pair_on pair run idle_b (λ x t. pair.first_told t.old (now_from_a past law_a law_b pair.rising t.old t.was)) (λ y now. pair.second_told y (now_from_b past law_a law_b pair.rising y now)) on (λ told. told) (weakened run (λ x t. header_torn at n (λ x now. pair.first_header x (now_from_a past law_a law_b pair.rising x now)) t)) (started law_b (λ y now. pair.second_header y (now_from_b past law_a law_b pair.rising y now)));
       both = λ is. absurd (cc is);
       first = λ _. record {
+        raised = λ x now. let t = at_end law_a' run x now in let more = leads.raised t.old t.was in omega (arith, more, epoch_of_torn at n t);
         first = λ x from. ⊎_elim (leads.first x) (λ (t : TornFrom (64 + at) n a.now x). let le = leads.first t.old (now_from_a past law_a law_b pair.rising t.old t.was) in omega (arith, le, epoch_of_torn at n t)) (from_a a b new_a b past pair.rising run x from);
         second = λ y from. ⊎_elim (leads.second y) (λ (now : b.now y). leads.second y (now_from_b past law_a law_b pair.rising y now)) (from_b a b new_a b past pair.rising idle_b y from);
       };

@@ -1,5 +1,5 @@
 -- What a mirror tells after a call on its sides in use, and why the call failed.
-use Rattle.mirror_disk.proofs.{Words.{◌≡◌, ◌≢◌, ◌⊎◌, inl, inr, ⊎_elim, ℕ, ◌+◌, ◌-◌, ◌≤◌, Bool, true, false, List, ◌∷◌, length, take, drop, Option, Some, Result, Ok, Err, OnOk, OnErr, is_ok, refl, sym, ◌∙◌, ap, arith, slice_range, option_map, drop-drop, DiskState, IsLawful, IsSettled, Torn, Splices, spliced, length-contents, HasCause, Rose, Slot, Becomes, MirrorBecomes, Used, Plain, Both, OnlyFirst, OnlySecond, Broken, Unbound, BothAsked, HasEnded, AllFailed, CannotLeave, HasFailed, HasLeft, body, chosen, both_tell, chosen_told, mirrored, KeepsBody, ArePair, AreBoth, FirstLeads, SecondLeads}, Alone.{settled_both, settled_first, settled_second}, Epochs.{chosen_first, chosen_second}, Stands.{now_from_a, now_from_b}, Telling.{becomes_raised, becomes_spliced, becomes_torn, told_alike, told_first, told_second, splices_of}}
+use Rattle.mirror_disk.proofs.{Words.{◌≡◌, ◌≢◌, ◌⊎◌, inl, inr, ⊎_elim, ℕ, ◌+◌, ◌-◌, ◌≤◌, Bool, true, false, List, ◌∷◌, length, take, drop, Option, Some, Result, Ok, Err, OnOk, OnErr, is_ok, refl, sym, ◌∙◌, ap, arith, slice_range, option_map, drop-drop, DiskState, IsLawful, IsSettled, Torn, Splices, spliced, length-contents, HasCause, Rose, Slot, Becomes, MirrorBecomes, Used, Plain, Both, OnlyFirst, OnlySecond, Broken, Unbound, BothAsked, HasEnded, AllFailed, CannotLeave, HasFailed, HasLeft, LeavesFailed, body, chosen, both_tell, chosen_told, mirrored, KeepsBody, ArePair, AreBoth, FirstLeads, SecondLeads}, Alone.{settled_both, settled_first, settled_second}, Epochs.{chosen_first, chosen_second}, Stands.{now_from_a, now_from_b}, Telling.{becomes_raised, becomes_spliced, becomes_torn, told_alike, told_first, told_second, splices_of}}
 
 -- a call that was done, or was not
 pub by_done : {T E P : Type 0} (r : Result T E) → is_ok r ≡ true → OnOk r P → P
@@ -28,6 +28,14 @@ rose_in_all old mid new r is cause later failed = ⊎_elim (λ not. rose_before 
 pub breaks : {T E : Type 0} (a b mid_a mid_b new_a new_b : DiskState) {used : Used} {e : ℕ} (r s : Result T E) {p q : Bool} → p ≡ is_ok r → q ≡ is_ok s → HasCause a.faults mid_a.faults r → HasCause b.faults mid_b.faults s
     → HasLeft mid_a mid_b new_a new_b used e p q → used ≡ Broken → AllFailed Both a.faults new_a.faults b.faults new_b.faults ⊎ CannotLeave Both e a.faults new_a.faults b.faults new_b.faults
 breaks a b mid_a mid_b new_a new_b r s is_r is_s cause_a cause_b left is = grind (arith, rose_before, rose_of, rose_in_all)
+
+-- a side that was left out has failed
+pub leaves : {T E : Type 0} (a b mid_a mid_b new_a new_b : DiskState) {used : Used} {e : ℕ} (r s : Result T E) {p q : Bool} → p ≡ is_ok r → q ≡ is_ok s → HasCause a.faults mid_a.faults r → HasCause b.faults mid_b.faults s
+    → HasLeft mid_a mid_b new_a new_b used e p q → LeavesFailed Both used a.faults new_a.faults b.faults new_b.faults
+leaves a b mid_a mid_b new_a new_b r s is_r is_s cause_a cause_b left = record {
+  first = λ _ is. rose_before _ _ _ (rose_of r (sym is_r ∙ left.first_failed is) cause_a) left.later_a;
+  second = λ _ is. rose_before _ _ _ (rose_of s (sym is_s ∙ left.second_failed is) cause_b) left.later_b;
+}
 
 becomes_kept : {old new : DiskState} → KeepsBody old new → Becomes (λ c d. d ≡ c) old.contents new.contents
 becomes_kept keeps = record { told = keeps.told; untold = keeps.untold }

@@ -25,8 +25,9 @@ module _ {a b new_a new_b last : DiskState} (past : List (ℕ × ℕ)) (e : ℕ)
       (λ y t. asked.pair.second_told t.old (from_now_b past e one two at n law_a law_b law_a' law_b' asked t.old t.was))
       (λ told. keeps_on keeps (tells_on asked.told_a told)) (tells_on asked.told_b) (weakened over (λ x o. o.header)) (heads_b past e one two at n law_a law_b law_a' law_b' asked)
 
-  leads : FirstLeads last new_b ((a.clock, b.clock) ∷ past) e
-  leads = record {
+  leads : ((x : List ℕ) → last.now x → HasEpoch (other one) (e + 1) x) → FirstLeads last new_b ((a.clock, b.clock) ∷ past) e
+  leads raised = record {
+    raised = λ x now. let is = (raised x now).epoch_is in omega (arith, is);
     first = λ x from. ⊎_elim (λ (old : FromA a b past x). let is = asked.both.first x old in omega (arith, is)) (λ (o : Over law_a law_b asked.pair at n e a.now x). o.most) (from_a a b last new_b past asked.pair.rising over x from);
     second = λ y from. ⊎_elim (λ (old : FromB a b past y). let is = asked.both.second y old in omega (arith, is)) (λ (t : TornFrom (64 + at) n b.now y). let is = asked.both.second t.old (from_now_b past e one two at n law_a law_b law_a' law_b' asked t.old t.was) in omega (arith, is, epoch_of_torn at n t)) (from_b a b last new_b past asked.pair.rising asked.run_b y from);
   }
@@ -35,10 +36,10 @@ module _ {a b new_a new_b last : DiskState} (past : List (ℕ × ℕ)) (e : ℕ)
   elapses_left f g m = elapses_pair past f g m law_a law_b law_last law_b' asked.pair.rising over asked.run_b (meets_left law_a law_b asked.pair at n e one two asked.both)
 
   -- the second side was left out
-  pub ended_first : HasEnded a b last new_b OnlyFirst past e one two at n
-  ended_first = record {
+  pub ended_first : ((x : List ℕ) → last.now x → HasEpoch (other one) (e + 1) x) → HasEnded a b last new_b OnlyFirst past e one two at n
+  ended_first raised = record {
     is_pair = ((λ is. cc is), (λ is. cc is));
-    stands = record { pair = λ _. pair_left; both = λ is. absurd (cc is); first = λ _. leads; second = λ is. absurd (cc is) };
+    stands = record { pair = λ _. pair_left; both = λ is. absurd (cc is); first = λ _. leads raised; second = λ is. absurd (cc is) };
     elapses = elapses_left;
   }
 

@@ -11,6 +11,7 @@ pub mod Ended
 pub mod Epochs
 pub mod Fronts
 pub mod Headers
+pub mod Handed
 pub mod Left
 pub mod Meets
 pub mod Mirrored

@@ -13,6 +13,13 @@ module _ {a b : DiskState} (past : List (ℕ × ℕ)) (one : IsLawful a) (two : 
   pub now_from_b : (y : List ℕ) → b.now y → FromB a b past y
   now_from_b y now = two.counts_now _ y (at_most past (a.clock, b.clock) rising 0).1 now
 
+-- a side that was left out is behind, at each image of now
+pub second_behind : {a b : DiskState} {past : List (ℕ × ℕ)} {e : ℕ} → IsLawful a → IsLawful b → ArePair a b past → FirstLeads a b past e → (x y : List ℕ) → a.now x → b.now y → epoch y < epoch x
+second_behind {past = past} one two pair leads x y here there = let more = leads.raised x here in let less = leads.second y (now_from_b past one two pair.rising y there) in omega (arith, more, less)
+
+pub first_behind : {a b : DiskState} {past : List (ℕ × ℕ)} {e : ℕ} → IsLawful a → IsLawful b → ArePair a b past → SecondLeads a b past e → (x y : List ℕ) → a.now x → b.now y → epoch x < epoch y
+first_behind {past = past} one two pair leads x y here there = let more = leads.second y there in let less = leads.first x (now_from_a past one two pair.rising x here) in omega (arith, more, less)
+
 -- an image since the first moment is one from before a call or of the call
 pub from_a : (a b new_a new_b : DiskState) (past : List (ℕ × ℕ)) {P : List ℕ → Type 0} → IsRising past (a.clock, b.clock) → LeavesOnly a new_a P → (x : List ℕ) → FromA new_a new_b ((a.clock, b.clock) ∷ past) x → FromA a b past x ⊎ P x
 from_a a b new_a new_b past rising run x from =

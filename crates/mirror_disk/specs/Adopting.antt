@@ -36,6 +36,11 @@ pub record AdoptsFrom (a b mid_a mid_b new_a new_b : DiskState) : Type 0 where
   pub second_before : WritesNothing b mid_b
   pub kept : (x y : List ℕ) → new_a.left mid_a.clock x → new_b.left mid_b.clock y → ChosenOf mid_a.now mid_b.now (chosen x y)
 
+-- Sides that told the same bytes at one epoch: nothing is written to them, but where the second one fails.
+abbrev pub LeavesAlike : (a b new_a new_b : DiskState) → Type 0
+LeavesAlike a b new_a new_b = (x y : List ℕ) → a.contents ≡ Some x → b.contents ≡ Some y → epoch x ≡ epoch y → body x ≡ body y
+    → Rose b.faults new_b.faults ⊎ (WritesNothing a new_a × WritesNothing b new_b)
+
 -- A side failed: before the choice, or the chosen one did, or the other one while there is no larger epoch. The choice is by what
 -- the sides told.
 abbrev pub AdoptFails : (a b mid_a mid_b new_a new_b : DiskState) → Type 0

@@ -17,6 +17,12 @@ AllFailed Unbound first first' second second' = Unit {0}
 abbrev pub CannotLeave : Used → (epoch first first' second second' : ℕ) → Type 0
 CannotLeave used epoch first first' second second' = (used ≡ Both) × (last_epoch ≤ epoch) × (Rose first first' ⊎ Rose second second')
 
+-- of two sides in use before a call, one that is left out behind it has failed in it; these are the counts of the first side before and
+-- after the call, and those of the second one
+pub record LeavesFailed (before after : Used) (a a' b b' : ℕ) : Type 0 where
+  pub first : before ≡ Both → after ≡ OnlySecond → Rose a a'
+  pub second : before ≡ Both → after ≡ OnlyFirst → Rose b b'
+
 -- a side that did not do what it was asked, or failed since then
 abbrev pub HasFailed : (done : Bool) → DiskState → DiskState → Type 0
 HasFailed done old new = (done ≡ false) ⊎ Rose old.faults new.faults
@@ -30,6 +36,9 @@ pub record HasLeft (a b new_a new_b : DiskState) (used : Used) (e : ℕ) (first_
   pub both : used ≡ Both → (first_done ≡ true) × (second_done ≡ true)
   pub first : used ≡ OnlyFirst → first_done ≡ true
   pub second : used ≡ OnlySecond → second_done ≡ true
+  -- none is left out that did what it was asked
+  pub first_failed : used ≡ OnlySecond → first_done ≡ false
+  pub second_failed : used ≡ OnlyFirst → second_done ≡ false
   pub settled_a : (used ≡ Both) ⊎ (used ≡ OnlyFirst) → IsSettled a → IsSettled new_a
   pub settled_b : (used ≡ Both) ⊎ (used ≡ OnlySecond) → IsSettled b → IsSettled new_b
   -- none is left where both failed, or where one did and the other failed in its raise or has no larger epoch

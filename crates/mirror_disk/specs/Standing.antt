@@ -56,6 +56,7 @@ pub record AreBoth (a b : DiskState) (past : List (ℕ × ℕ)) (e : ℕ) (one t
 -- the second side was left out at this epoch
 pub record FirstLeads (a b : DiskState) (past : List (ℕ × ℕ)) (e : ℕ) : Type 0 where
   pub first : (x : List ℕ) → FromA a b past x → e ≤ epoch x
+  pub raised : (x : List ℕ) → a.now x → e < epoch x
   pub second : (y : List ℕ) → FromB a b past y → epoch y ≤ e
 
 -- the first side was left out at this epoch

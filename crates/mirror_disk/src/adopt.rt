@@ -2,7 +2,7 @@
 ghost use Rattle.std.specs.{Prelude.{◌≡◌, ◌≢◌, ◌↔◌, ◌⊎◌, ◌+◌, ◌<◌, ◌≤◌, [], ℕ, List, None, Err, Some, IfErr, IfOk, IfSome, OnOk, OnErr}, Option.ForSome};
 ghost use Rattle.iso_disk.specs.Disk.{IsSettled, WritesNothing};
 ghost use Rattle.fault_count.specs.Count.{Rose};
-ghost use Rattle.mirror_disk.specs.{Adopting.{AdoptFails, AdoptRefuses, AdoptsFrom}, declared.adopt.MirrorError.TheVariants.{Disk, NotMirror, SizesDiffer}, Header.{IsHeader, body, chosen, last_epoch}, Pairs.{ChosenOf, chosen_told, mirrored}, declared.used.Used.TheVariants.Both, Raised.HasEpoch, Standing.{IsPair, StandsBy}};
+ghost use Rattle.mirror_disk.specs.{Adopting.{AdoptFails, AdoptRefuses, AdoptsFrom, LeavesAlike}, declared.adopt.MirrorError.TheVariants.{Disk, NotMirror, SizesDiffer}, Header.{IsHeader, body, chosen, last_epoch}, Pairs.{ChosenOf, chosen_told, mirrored}, declared.used.Used.TheVariants.{Both, OnlyFirst, OnlySecond}, Raised.HasEpoch, Standing.{IsPair, StandsBy}};
 
 use crate::header::read_header;
 use crate::marks::Marks;
@@ -29,15 +29,21 @@ impl<A: Image, B: Image> Mirror<A, B> {
     ghost use Rattle.mirror_disk.specs.State.{state_of};
 
     /// A mirror of two sides that are bound. It makes both stable and chooses the one with the larger epoch, the first where
-    /// both have the same; it copies that side's bytes to the other one and raises the lower epoch. An other side that fails
-    /// in this alone is left out. An error hands the sides back.
+    /// both have the same, also where that one is damaged: it writes to the other one what differs there, and raises the
+    /// lower epoch. So it writes nothing to two sides that are alike. An other side that fails in this alone is left out. An
+    /// error hands the sides back.
     pub fn adopt(first: A, second: B) -> Result<Mirror<A, B>, (MirrorError, A, B)>
         ensures kept { IfOk result (λ m. (x : A) × (y : B) × AdoptsFrom (A.state first) (B.state second) (A.state x) (B.state y) (A.state m.first) (B.state m.second)) }
         ensures refused { IfErr result (λ e. (x : A) × (y : B) × AdoptsFrom (A.state first) (B.state second) (A.state x) (B.state y) (A.state e.1) (B.state e.2)) }
         ensures contents { IfOk result (λ m. (state_of m).contents ≡ chosen_told (A.state first).contents (B.state second).contents) }
         ensures settled { IfOk result (λ m. IsSettled (state_of m)) }
         ensures in_use { IfOk result (λ m. IsPair m.marks.used) }
+        ensures left_first { IfOk result (λ m. m.marks.used ≡ OnlySecond → Rose (A.state first).faults (A.state m.first).faults) }
+        ensures left_second { IfOk result (λ m. m.marks.used ≡ OnlyFirst → Rose (B.state second).faults (B.state m.second).faults) }
         ensures alike { IfOk result (λ m. m.marks.used ≡ Both → (x y : List ℕ) → (A.state m.first).contents ≡ Some x → (B.state m.second).contents ≡ Some y → body x ≡ body y) }
+        ensures headers { OnOk result (ForSome (A.state first).contents (λ c. IsHeader c) × ForSome (B.state second).contents (λ c. IsHeader c)) }
+        ensures still { IfOk result (λ m. LeavesAlike (A.state first) (B.state second) (A.state m.first) (B.state m.second)) }
+        ensures still_refused { IfErr result (λ e. LeavesAlike (A.state first) (B.state second) (A.state e.1) (B.state e.2)) }
         ensures sizes { IfErr result (λ e. ((A.state first).size ≢ (B.state second).size) ↔ (e.0 ≡ SizesDiffer (A.state first).size (B.state second).size)) }
         ensures same_size { OnOk result ((A.state first).size ≡ (B.state second).size) }
         ensures not_first { IfErr result (λ e. e.0 ≡ NotMirror 0 → ForSome (A.state first).contents (λ c. IsHeader c → ⊥)) }
@@ -67,6 +73,8 @@ pub(crate) fn adopt_sides<A: Disk, B: Disk>(
     second: &mut B,
 ) -> Result<Marks, MirrorError>
     ensures pair { IfOk result (λ m. IsPair m.used) }
+    ensures left_first { IfOk result (λ m. m.used ≡ OnlySecond → Rose (A.state first.old).faults (A.state first.new).faults) }
+    ensures left_second { IfOk result (λ m. m.used ≡ OnlyFirst → Rose (B.state second.old).faults (B.state second.new).faults) }
     ensures stands { IfOk result (λ m. StandsBy (A.state first.new) (B.state second.new) m []) }
     ensures settled { OnOk result (IsSettled (mirrored (A.state first.new) (B.state second.new) [] 0 0)) }
     ensures contents { chosen_told (A.state first.new).contents (B.state second.new).contents ≡ chosen_told (A.state first.old).contents (B.state second.old).contents }
@@ -76,6 +84,8 @@ pub(crate) fn adopt_sides<A: Disk, B: Disk>(
     ensures differ { (m n : ℕ) → result ≡ Err (SizesDiffer m n) → (m ≡ (A.state first.old).size) × (n ≡ (B.state second.old).size) }
     ensures not_first { result ≡ Err (NotMirror 0) → ForSome (A.state first.old).contents (λ c. IsHeader c → ⊥) }
     ensures not_second { result ≡ Err (NotMirror 1) → ForSome (B.state second.old).contents (λ c. IsHeader c → ⊥) × ForSome (A.state first.old).contents (λ c. IsHeader c) }
+    ensures headers { OnOk result (ForSome (A.state first.old).contents (λ c. IsHeader c) × ForSome (B.state second.old).contents (λ c. IsHeader c)) }
+    ensures still { LeavesAlike (A.state first.old) (B.state second.old) (A.state first.new) (B.state second.new) }
     ensures cause { OnErr result ((Rose (A.state first.old).faults (A.state first.new).faults ⊎ Rose (B.state second.old).faults (B.state second.new).faults) ⊎ AdoptRefuses (A.state first.old) (B.state second.old)) }
     ensures choice { result ≡ Err Disk → (x : A) × (y : B) × AdoptFails (A.state first.old) (B.state second.old) (A.state x) (B.state y) (A.state first.new) (B.state second.new) }
     ensures disk { result ≡ Err Disk → Rose (A.state first.old).faults (A.state first.new).faults ⊎ Rose (B.state second.old).faults (B.state second.new).faults }
@@ -141,6 +151,8 @@ fn settle_on<A: Disk, B: Disk>(
     requires first { (one.epoch ≤ last_epoch) × ((x : List ℕ) → (A.state first.old).now x → HasEpoch one.slot one.epoch x) }
     requires second { (two.epoch ≤ last_epoch) × ((y : List ℕ) → (B.state second.old).now y → HasEpoch two.slot two.epoch y) }
     ensures pair { IfOk result (λ m. IsPair m.used) }
+    ensures left_first { IfOk result (λ m. m.used ≡ OnlySecond → Rose (A.state first.old).faults (A.state first.new).faults) }
+    ensures left_second { IfOk result (λ m. m.used ≡ OnlyFirst → Rose (B.state second.old).faults (B.state second.new).faults) }
     ensures stands { IfOk result (λ m. StandsBy (A.state first.new) (B.state second.new) m []) }
     ensures settled { OnOk result (IsSettled (mirrored (A.state first.new) (B.state second.new) [] 0 0)) }
     ensures kept { (x y : List ℕ) → (A.state first.new).left (A.state first.old).clock x → (B.state second.new).left (B.state second.old).clock y → ChosenOf (A.state first.old).now (B.state second.old).now (chosen x y) }
@@ -148,6 +160,7 @@ fn settle_on<A: Disk, B: Disk>(
     ensures sizes { ((A.state first.new).size ≡ 64 + count) × ((B.state second.new).size ≡ 64 + count) }
     ensures bound { (A.state first.new).bound ≡ (A.state first.old).bound }
     ensures later { ((A.state first.old).faults ≤ (A.state first.new).faults) × ((B.state second.old).faults ≤ (B.state second.new).faults) }
+    ensures still { LeavesAlike (A.state first.old) (B.state second.old) (A.state first.new) (B.state second.new) }
     ensures first_cause { OnErr result (two.epoch ≤ one.epoch → Rose (A.state first.old).faults (A.state first.new).faults ⊎ ((last_epoch ≤ one.epoch) × Rose (B.state second.old).faults (B.state second.new).faults)) }
     ensures second_cause { OnErr result (one.epoch < two.epoch → Rose (B.state second.old).faults (B.state second.new).faults ⊎ ((last_epoch ≤ two.epoch) × Rose (A.state first.old).faults (A.state first.new).faults)) }
 {

@@ -1,6 +1,6 @@
 // Copying the mirrored bytes of one side to the other.
-ghost use Rattle.std.specs.Prelude.{◌≡◌, ◌+◌, ◌≤◌, ℕ, List, Some, length, take, drop, true, false, IfOk};
-ghost use Rattle.iso_disk.specs.Disk.{IsSettled, LeavesOnly, TellsTorn, TornFrom, WritesNothing, spliced};
+ghost use Rattle.std.specs.Prelude.{◌≡◌, ◌≢◌, ◌+◌, ◌≤◌, ℕ, List, Some, length, take, drop, true, false, IfOk};
+ghost use Rattle.iso_disk.specs.Disk.{IsSettled, LeavesOnly, TellsTorn, TornFrom, WritesNothing};
 ghost use Rattle.fault_count.specs.Count.{HasCause, Rose};
 ghost use Rattle.mirror_disk.specs.Header.{body};
 
@@ -10,8 +10,8 @@ use iso_disk::{Disk, DiskFault};
 /// How many bytes are copied at a time.
 const PIECE: usize = 4_096;
 
-/// Copies the mirrored bytes, and makes them stable. An error is a fault of the side that is read; where the other one
-/// fails it answers false.
+/// Makes the mirrored bytes of the other side those of this one, and stable: it reads both and writes the pieces in which they
+/// differ. An error is a fault of the side that they are taken from; where the other one fails it answers false.
 pub(crate) fn copy_body<C: Disk, O: Disk>(
     from: &mut C,
     to: &mut O,
@@ -24,15 +24,23 @@ pub(crate) fn copy_body<C: Disk, O: Disk>(
     ensures torn { TellsTorn 64 count (O.state to.old) (O.state to.new) }
     ensures settled { IfOk result (λ done. done ≡ true → IsSettled (O.state to.new)) }
     ensures alike { IfOk result (λ done. done ≡ true → (x y : List ℕ) → (C.state from.old).contents ≡ Some x → (O.state to.new).contents ≡ Some y → body y ≡ body x) }
+    ensures still { (x y : List ℕ) → (C.state from.old).contents ≡ Some x → (O.state to.old).contents ≡ Some y → body x ≡ body y → WritesNothing (O.state to.old) (O.state to.new) }
     ensures cause { HasCause (C.state from.old).faults (C.state from.new).faults result }
     ensures later { (O.state to.old).faults ≤ (O.state to.new).faults }
     ensures failed { IfOk result (λ done. done ≡ false → Rose (O.state to.old).faults (O.state to.new).faults) }
 {
     let mut piece = [0; PIECE];
+    let mut there = [0; PIECE];
     let mut done = 0;
     while done < count {
         let len = (count - done).min(PIECE as u64);
-        if !copy_piece(from, to, done, &mut piece[..len as usize])? {
+        if !copy_piece(
+            from,
+            to,
+            done,
+            &mut piece[..len as usize],
+            &mut there[..len as usize],
+        )? {
             return Ok(false);
         }
         done += len;
@@ -40,24 +48,56 @@ pub(crate) fn copy_body<C: Disk, O: Disk>(
     Ok(to.sync().is_ok())
 }
 
-/// Copies as many bytes as the piece has, from a place of the mirrored bytes on.
+/// Copies as many bytes as the piece has, from a place of the mirrored bytes on, if they differ.
 fn copy_piece<C: Disk, O: Disk>(
     from: &mut C,
     to: &mut O,
     at: u64,
     piece: &mut [u8],
+    there: &mut [u8],
 ) -> Result<bool, DiskFault>
     requires from { 64 + at + length piece.old ≤ (C.state from.old).size }
     requires to { 64 + at + length piece.old ≤ (O.state to.old).size }
+    requires there { length there.old ≡ length piece.old }
     ensures unwritten { WritesNothing (C.state from.old) (C.state from.new) }
     ensures moments { LeavesOnly (O.state to.old) (O.state to.new) (TornFrom (64 + at) (length piece.old) (O.state to.old).now) }
     ensures torn { TellsTorn (64 + at) (length piece.old) (O.state to.old) (O.state to.new) }
     ensures copied { IfOk result (λ done. done ≡ true → (x y : List ℕ) → (C.state from.old).contents ≡ Some x → (O.state to.new).contents ≡ Some y
-        → (z : List ℕ) × ((O.state to.old).contents ≡ Some z) × (body y ≡ spliced (body z) at (take (length piece.old) (drop at (body x))))) }
+        → (z : List ℕ) × ((O.state to.old).contents ≡ Some z) × (take at (body y) ≡ take at (body z)) × (take (length piece.old) (drop at (body y)) ≡ take (length piece.old) (drop at (body x)))) }
+    ensures still { (x y : List ℕ) → (C.state from.old).contents ≡ Some x → (O.state to.old).contents ≡ Some y → body x ≡ body y → WritesNothing (O.state to.old) (O.state to.new) }
     ensures cause { HasCause (C.state from.old).faults (C.state from.new).faults result }
     ensures later { (O.state to.old).faults ≤ (O.state to.new).faults }
     ensures failed { IfOk result (λ done. done ≡ false → Rose (O.state to.old).faults (O.state to.new).faults) }
 {
     from.read(HEADER + at, piece)?;
-    Ok(to.write(HEADER + at, piece).is_ok())
+    Ok(lay_piece(to, at, piece, there))
+}
+
+/// Writes a piece from a place of the mirrored bytes on, if others stand there. False where the side fails.
+fn lay_piece<O: Disk>(to: &mut O, at: u64, piece: &[u8], there: &mut [u8]) -> bool
+    requires fits { 64 + at + length piece.now ≤ (O.state to.old).size }
+    requires there { length there.old ≡ length piece.now }
+    ensures moments { LeavesOnly (O.state to.old) (O.state to.new) (TornFrom (64 + at) (length piece.now) (O.state to.old).now) }
+    ensures torn { TellsTorn (64 + at) (length piece.now) (O.state to.old) (O.state to.new) }
+    ensures laid { result ≡ true → (y : List ℕ) → (O.state to.new).contents ≡ Some y
+        → (z : List ℕ) × ((O.state to.old).contents ≡ Some z) × (take at (body y) ≡ take at (body z)) × (take (length piece.now) (drop at (body y)) ≡ piece.now) }
+    ensures still { (y : List ℕ) → (O.state to.old).contents ≡ Some y → take (length piece.now) (drop at (body y)) ≡ piece.now → WritesNothing (O.state to.old) (O.state to.new) }
+    ensures later { (O.state to.old).faults ≤ (O.state to.new).faults }
+    ensures failed { result ≡ false → Rose (O.state to.old).faults (O.state to.new).faults }
+{
+    let Ok(()) = to.read(HEADER + at, there) else {
+        return false;
+    };
+    if are_same(piece, there) {
+        return true;
+    }
+    to.write(HEADER + at, piece).is_ok()
+}
+
+/// Whether two pieces have the same bytes.
+fn are_same(one: &[u8], two: &[u8]) -> bool
+    ensures same { result ≡ true → one.now ≡ two.now }
+    ensures differ { result ≡ false → one.now ≢ two.now }
+{
+    one == two
 }

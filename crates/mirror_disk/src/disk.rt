@@ -1,8 +1,8 @@
 // A mirror as a disk.
-ghost use Rattle.std.specs.{Prelude.{◌≡◌, ◌⊎◌, ◌+◌, ◌≤◌, length, OnOk, OnErr}, List.slice_range, Option.ForSome};
+ghost use Rattle.std.specs.{Prelude.{◌≡◌, ◌≢◌, ◌⊎◌, ◌+◌, ◌≤◌, false, length, OnOk, OnErr}, List.slice_range, Option.ForSome};
 ghost use Rattle.iso_disk.specs.Disk.{Elapses, IsSettled, Splices, TellsTorn, TornFrom};
-ghost use Rattle.fault_count.specs.Count.{HasCause};
-ghost use Rattle.mirror_disk.specs.Failing.{AllFailed, CannotLeave};
+ghost use Rattle.fault_count.specs.Count.{HasCause, Rose};
+ghost use Rattle.mirror_disk.specs.{declared.used.Used.TheVariants.{Both, Unbound}, Failing.{AllFailed, CannotLeave, LeavesFailed}, Standing.sides_in};
 
 use crate::mirror::Mirror;
 use crate::parts::{read_parts, sync_parts, write_parts};
@@ -36,7 +36,11 @@ impl<A: Image, B: Image> Disk for Mirror<A, B> {
         ensures bytes { OnOk result (ForSome (state_of self.old).contents (λ c. into.new ≡ slice_range c at (at + length into.old))) }
         ensures contents { (state_of self.new).contents ≡ (state_of self.old).contents }
         ensures crash { Elapses (state_of self.old) (state_of self.new) (state_of self.old).now }
+        ensures unbound { OnOk result (self.old.marks.used ≢ Unbound) }
         ensures cause { HasCause (state_of self.old).faults (state_of self.new).faults result }
+        ensures first_idle { (sides_in self.old.marks.used).0 ≡ false → self.new.first ≡ self.old.first }
+        ensures second_idle { (sides_in self.old.marks.used).1 ≡ false → self.new.second ≡ self.old.second }
+        ensures second_last { self.old.marks.used ≡ Both → Rose (A.state self.old.first).faults (A.state self.new.first).faults ⊎ (self.new.second ≡ self.old.second) }
         ensures counted { OnErr result (AllFailed self.old.marks.used (A.state self.old.first).faults (A.state self.new.first).faults (B.state self.old.second).faults (B.state self.new.second).faults) }
     {
         read_parts(
@@ -57,7 +61,11 @@ impl<A: Image, B: Image> Disk for Mirror<A, B> {
         ensures written { OnOk result (Splices at bytes.now (state_of self.old) (state_of self.new)) }
         ensures failed { OnErr result (TellsTorn at (length bytes.now) (state_of self.old) (state_of self.new)) }
         ensures crash { Elapses (state_of self.old) (state_of self.new) (TornFrom at (length bytes.now) (state_of self.old).now) }
+        ensures unbound { OnOk result (self.old.marks.used ≢ Unbound) }
         ensures cause { HasCause (state_of self.old).faults (state_of self.new).faults result }
+        ensures left { LeavesFailed self.old.marks.used self.new.marks.used (A.state self.old.first).faults (A.state self.new.first).faults (B.state self.old.second).faults (B.state self.new.second).faults }
+        ensures first_idle { (sides_in self.old.marks.used).0 ≡ false → self.new.first ≡ self.old.first }
+        ensures second_idle { (sides_in self.old.marks.used).1 ≡ false → self.new.second ≡ self.old.second }
         ensures counted { OnErr result (AllFailed self.old.marks.used (A.state self.old.first).faults (A.state self.new.first).faults (B.state self.old.second).faults (B.state self.new.second).faults ⊎ CannotLeave self.old.marks.used self.old.marks.epoch (A.state self.old.first).faults (A.state self.new.first).faults (B.state self.old.second).faults (B.state self.new.second).faults) }
     {
         write_parts(
@@ -76,7 +84,11 @@ impl<A: Image, B: Image> Disk for Mirror<A, B> {
         ensures settled { OnOk result (IsSettled (state_of self.new)) }
         ensures contents { (state_of self.new).contents ≡ (state_of self.old).contents }
         ensures crash { Elapses (state_of self.old) (state_of self.new) (state_of self.old).now }
+        ensures unbound { OnOk result (self.old.marks.used ≢ Unbound) }
         ensures cause { HasCause (state_of self.old).faults (state_of self.new).faults result }
+        ensures left { LeavesFailed self.old.marks.used self.new.marks.used (A.state self.old.first).faults (A.state self.new.first).faults (B.state self.old.second).faults (B.state self.new.second).faults }
+        ensures first_idle { (sides_in self.old.marks.used).0 ≡ false → self.new.first ≡ self.old.first }
+        ensures second_idle { (sides_in self.old.marks.used).1 ≡ false → self.new.second ≡ self.old.second }
         ensures counted { OnErr result (AllFailed self.old.marks.used (A.state self.old.first).faults (A.state self.new.first).faults (B.state self.old.second).faults (B.state self.new.second).faults ⊎ CannotLeave self.old.marks.used self.old.marks.epoch (A.state self.old.first).faults (A.state self.new.first).faults (B.state self.old.second).faults (B.state self.new.second).faults) }
     {
         sync_parts(

@@ -1,8 +1,8 @@
 // The calls of a mirror, over its parts: which sides are asked, and what is known of them afterwards.
-ghost use Rattle.std.specs.{Prelude.{◌≡◌, ◌⊎◌, ◌+◌, ◌≤◌, ℕ, length, true, false, OnOk, OnErr}, List.slice_range, Option.ForSome};
+ghost use Rattle.std.specs.{Prelude.{◌≡◌, ◌≢◌, ◌⊎◌, ◌+◌, ◌≤◌, ℕ, length, true, false, OnOk, OnErr}, List.slice_range, Option.ForSome};
 ghost use Rattle.iso_disk.specs.Disk.{Elapses, IsSettled, Splices, TellsTorn, TornFrom};
-ghost use Rattle.fault_count.specs.Count.{HasCause};
-ghost use Rattle.mirror_disk.specs.{Failing.{AllFailed, CannotLeave}, Standing.{StandsBy, state_by}};
+ghost use Rattle.fault_count.specs.Count.{HasCause, Rose};
+ghost use Rattle.mirror_disk.specs.{declared.used.Used.TheVariants.{Both, Unbound}, Failing.{AllFailed, CannotLeave, LeavesFailed}, Standing.{StandsBy, sides_in, state_by}};
 
 use crate::marks::Marks;
 use crate::past::Past;
@@ -40,7 +40,11 @@ pub(crate) fn write_parts<A: Disk, B: Disk>(
     ensures written { (binds : ℕ) → OnOk result (Splices at bytes.now (state_by marks.old (A.state first.old) (B.state second.old) past.old faults.old binds) (state_by marks.new (A.state first.new) (B.state second.new) past.new faults.new binds)) }
     ensures failed { (binds : ℕ) → OnErr result (TellsTorn at (length bytes.now) (state_by marks.old (A.state first.old) (B.state second.old) past.old faults.old binds) (state_by marks.new (A.state first.new) (B.state second.new) past.new faults.new binds)) }
     ensures crash { (binds : ℕ) → Elapses (state_by marks.old (A.state first.old) (B.state second.old) past.old faults.old binds) (state_by marks.new (A.state first.new) (B.state second.new) past.new faults.new binds) (TornFrom at (length bytes.now) (state_by marks.old (A.state first.old) (B.state second.old) past.old faults.old binds).now) }
+    ensures bound { OnOk result (marks.old.used ≢ Unbound) }
     ensures cause { HasCause faults.old faults.new result }
+    ensures left { LeavesFailed marks.old.used marks.new.used (A.state first.old).faults (A.state first.new).faults (B.state second.old).faults (B.state second.new).faults }
+    ensures first_idle { (sides_in marks.old.used).0 ≡ false → first.new ≡ first.old }
+    ensures second_idle { (sides_in marks.old.used).1 ≡ false → second.new ≡ second.old }
     ensures counted { OnErr result (AllFailed marks.old.used (A.state first.old).faults (A.state first.new).faults (B.state second.old).faults (B.state second.new).faults ⊎ CannotLeave marks.old.used marks.old.epoch (A.state first.old).faults (A.state first.new).faults (B.state second.old).faults (B.state second.new).faults) }
 {
     match marks.used {
@@ -81,7 +85,11 @@ pub(crate) fn sync_parts<A: Disk, B: Disk>(
     ensures settled { (binds : ℕ) → OnOk result (IsSettled (state_by marks.new (A.state first.new) (B.state second.new) past.new faults.new binds)) }
     ensures contents { (binds : ℕ) → (state_by marks.new (A.state first.new) (B.state second.new) past.new faults.new binds).contents ≡ (state_by marks.old (A.state first.old) (B.state second.old) past.old faults.old binds).contents }
     ensures crash { (binds : ℕ) → Elapses (state_by marks.old (A.state first.old) (B.state second.old) past.old faults.old binds) (state_by marks.new (A.state first.new) (B.state second.new) past.new faults.new binds) (state_by marks.old (A.state first.old) (B.state second.old) past.old faults.old binds).now }
+    ensures bound { OnOk result (marks.old.used ≢ Unbound) }
     ensures cause { HasCause faults.old faults.new result }
+    ensures left { LeavesFailed marks.old.used marks.new.used (A.state first.old).faults (A.state first.new).faults (B.state second.old).faults (B.state second.new).faults }
+    ensures first_idle { (sides_in marks.old.used).0 ≡ false → first.new ≡ first.old }
+    ensures second_idle { (sides_in marks.old.used).1 ≡ false → second.new ≡ second.old }
     ensures counted { OnErr result (AllFailed marks.old.used (A.state first.old).faults (A.state first.new).faults (B.state second.old).faults (B.state second.new).faults ⊎ CannotLeave marks.old.used marks.old.epoch (A.state first.old).faults (A.state first.new).faults (B.state second.old).faults (B.state second.new).faults) }
 {
     match marks.used {
@@ -123,7 +131,11 @@ pub(crate) fn read_parts<A: Disk, B: Disk>(
     ensures bytes { (binds : ℕ) → OnOk result (ForSome (state_by marks (A.state first.old) (B.state second.old) past.old faults.old binds).contents (λ c. into.new ≡ slice_range c at (at + length into.old))) }
     ensures contents { (binds : ℕ) → (state_by marks (A.state first.new) (B.state second.new) past.new faults.new binds).contents ≡ (state_by marks (A.state first.old) (B.state second.old) past.old faults.old binds).contents }
     ensures crash { (binds : ℕ) → Elapses (state_by marks (A.state first.old) (B.state second.old) past.old faults.old binds) (state_by marks (A.state first.new) (B.state second.new) past.new faults.new binds) (state_by marks (A.state first.old) (B.state second.old) past.old faults.old binds).now }
+    ensures bound { OnOk result (marks.used ≢ Unbound) }
     ensures cause { HasCause faults.old faults.new result }
+    ensures first_idle { (sides_in marks.used).0 ≡ false → first.new ≡ first.old }
+    ensures second_idle { (sides_in marks.used).1 ≡ false → second.new ≡ second.old }
+    ensures second_last { marks.used ≡ Both → Rose (A.state first.old).faults (A.state first.new).faults ⊎ (second.new ≡ second.old) }
     ensures counted { OnErr result (AllFailed marks.used (A.state first.old).faults (A.state first.new).faults (B.state second.old).faults (B.state second.new).faults) }
 {
     match marks.used {

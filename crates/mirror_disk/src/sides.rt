@@ -2,7 +2,7 @@
 ghost use Rattle.std.specs.{Prelude.{◌≡◌, ◌≢◌, ◌⊎◌, ◌∷◌, ◌+◌, ◌≤◌, ℕ, List, length, true, false}, List.slice_range, Option.{ForSome, option_map}};
 ghost use Rattle.iso_disk.specs.Disk.{IsSettled, LeavesOnly, Torn, spliced};
 ghost use Rattle.fault_count.specs.Count.{Rose};
-ghost use Rattle.mirror_disk.specs.{Ended.{BothAsked, HasEnded}, Raised.{HasEpoch, IsMarked, KeepsBody, Raising}, declared.slot.Slot.Slot, declared.used.Used.TheVariants.{Both, Broken}, Header.last_epoch, Becoming.MirrorBecomes, Failing.{AllFailed, CannotLeave, HasLeft}, Pairs.{chosen_told, mirrored}, Slots.other, Standing.{ArePair, AreBoth, IsPair, Stands}};
+ghost use Rattle.mirror_disk.specs.{Ended.{BothAsked, HasEnded}, Raised.{HasEpoch, IsMarked, KeepsBody, Raising}, declared.slot.Slot.Slot, declared.used.Used.TheVariants.{Both, Broken}, Header.last_epoch, Becoming.MirrorBecomes, Failing.{AllFailed, CannotLeave, HasLeft, LeavesFailed}, Pairs.{chosen_told, mirrored}, Slots.other, Standing.{ArePair, AreBoth, IsPair, Stands, sides_in}};
 
 use crate::raise::raise_epoch;
 use crate::slot::Slot;
@@ -34,6 +34,7 @@ pub(crate) fn write_both<A: Disk, B: Disk>(
         → chosen_told (A.state first.new).contents (B.state second.new).contents ≡ option_map (λ c. spliced c at bytes.now) (chosen_told (A.state first.old).contents (B.state second.old).contents) }
     ensures failed { result ≡ Broken → (past : List (ℕ × ℕ)) → ArePair (A.state first.old) (B.state second.old) past → AreBoth (A.state first.old) (B.state second.old) past epoch one two
         → MirrorBecomes (Torn at (length bytes.now)) (chosen_told (A.state first.old).contents (B.state second.old).contents) (chosen_told (A.state first.new).contents (B.state second.new).contents) }
+    ensures left { LeavesFailed Both result (A.state first.old).faults (A.state first.new).faults (B.state second.old).faults (B.state second.new).faults }
     ensures cause { result ≡ Broken → AllFailed Both (A.state first.old).faults (A.state first.new).faults (B.state second.old).faults (B.state second.new).faults
         ⊎ CannotLeave Both epoch (A.state first.old).faults (A.state first.new).faults (B.state second.old).faults (B.state second.new).faults }
 {
@@ -118,6 +119,9 @@ pub(crate) fn write_sides<A: Disk, B: Disk>(
         → chosen_told (A.state first.new).contents (B.state second.new).contents ≡ option_map (λ c. spliced c at bytes.now) (chosen_told (A.state first.old).contents (B.state second.old).contents) }
     ensures failed { result.1 ≡ false → (past : List (ℕ × ℕ)) → Stands (A.state first.old) (B.state second.old) used past epoch one two
         → MirrorBecomes (Torn at (length bytes.now)) (chosen_told (A.state first.old).contents (B.state second.old).contents) (chosen_told (A.state first.new).contents (B.state second.new).contents) }
+    ensures left { LeavesFailed used result.0 (A.state first.old).faults (A.state first.new).faults (B.state second.old).faults (B.state second.new).faults }
+    ensures first_idle { (sides_in used).0 ≡ false → first.new ≡ first.old }
+    ensures second_idle { (sides_in used).1 ≡ false → second.new ≡ second.old }
     ensures cause { result.1 ≡ false → AllFailed used (A.state first.old).faults (A.state first.new).faults (B.state second.old).faults (B.state second.new).faults
         ⊎ CannotLeave used epoch (A.state first.old).faults (A.state first.new).faults (B.state second.old).faults (B.state second.new).faults }
 {
@@ -153,6 +157,7 @@ pub(crate) fn sync_both<A: Disk, B: Disk>(
         → chosen_told (A.state first.new).contents (B.state second.new).contents ≡ chosen_told (A.state first.old).contents (B.state second.old).contents }
     ensures settled { result ≢ Broken → (past : List (ℕ × ℕ)) → ArePair (A.state first.old) (B.state second.old) past → AreBoth (A.state first.old) (B.state second.old) past epoch one two
         → IsSettled (mirrored (A.state first.new) (B.state second.new) (((A.state first.old).clock, (B.state second.old).clock) ∷ past) 0 0) }
+    ensures left { LeavesFailed Both result (A.state first.old).faults (A.state first.new).faults (B.state second.old).faults (B.state second.new).faults }
     ensures cause { result ≡ Broken → AllFailed Both (A.state first.old).faults (A.state first.new).faults (B.state second.old).faults (B.state second.new).faults
         ⊎ CannotLeave Both epoch (A.state first.old).faults (A.state first.new).faults (B.state second.old).faults (B.state second.new).faults }
 {
@@ -178,6 +183,9 @@ pub(crate) fn sync_sides<A: Disk, B: Disk>(
         → chosen_told (A.state first.new).contents (B.state second.new).contents ≡ chosen_told (A.state first.old).contents (B.state second.old).contents }
     ensures settled { result.1 ≡ true → (past : List (ℕ × ℕ)) → Stands (A.state first.old) (B.state second.old) used past epoch one two
         → IsSettled (mirrored (A.state first.new) (B.state second.new) (((A.state first.old).clock, (B.state second.old).clock) ∷ past) 0 0) }
+    ensures left { LeavesFailed used result.0 (A.state first.old).faults (A.state first.new).faults (B.state second.old).faults (B.state second.new).faults }
+    ensures first_idle { (sides_in used).0 ≡ false → first.new ≡ first.old }
+    ensures second_idle { (sides_in used).1 ≡ false → second.new ≡ second.old }
     ensures cause { result.1 ≡ false → AllFailed used (A.state first.old).faults (A.state first.new).faults (B.state second.old).faults (B.state second.new).faults
         ⊎ CannotLeave used epoch (A.state first.old).faults (A.state first.new).faults (B.state second.old).faults (B.state second.new).faults }
 {
@@ -214,6 +222,9 @@ pub(crate) fn read_sides<A: Disk, B: Disk>(
     ensures contents { chosen_told (A.state first.new).contents (B.state second.new).contents ≡ chosen_told (A.state first.old).contents (B.state second.old).contents }
     ensures bytes { result ≡ true → (past : List (ℕ × ℕ)) (epoch : ℕ) (one two : Slot) → Stands (A.state first.old) (B.state second.old) used past epoch one two
         → ForSome (chosen_told (A.state first.old).contents (B.state second.old).contents) (λ c. into.new ≡ slice_range c at (at + length into.old)) }
+    ensures first_idle { (sides_in used).0 ≡ false → first.new ≡ first.old }
+    ensures second_idle { (sides_in used).1 ≡ false → second.new ≡ second.old }
+    ensures second_last { used ≡ Both → Rose (A.state first.old).faults (A.state first.new).faults ⊎ (second.new ≡ second.old) }
     ensures cause { result ≡ false → AllFailed used (A.state first.old).faults (A.state first.new).faults (B.state second.old).faults (B.state second.new).faults }
 {
     match used {

@@ -1,8 +1,8 @@
 // Making the other side as the one that was chosen.
-ghost use Rattle.std.specs.Prelude.{◌≡◌, ◌⊎◌, ◌+◌, ◌≤◌, ℕ, List, None, IfOk, IfSome, OnOk, OnErr};
+ghost use Rattle.std.specs.Prelude.{◌≡◌, ◌⊎◌, ◌+◌, ◌≤◌, ℕ, List, None, Some, IfOk, IfSome, OnOk, OnErr};
 ghost use Rattle.iso_disk.specs.Disk.{IsSettled, LeavesOnly, WritesNothing};
 ghost use Rattle.fault_count.specs.Count.{HasCause, Rose};
-ghost use Rattle.mirror_disk.specs.{Adopting.{AreAlike, OfChosen, OfOther, TellsOn}, Header.last_epoch, Raised.{HasEpoch, KeepsBody}, Slots.other};
+ghost use Rattle.mirror_disk.specs.{Adopting.{AreAlike, OfChosen, OfOther, TellsOn}, Header.{body, last_epoch}, Raised.{HasEpoch, KeepsBody}, Slots.other};
 
 use crate::copy::copy_body;
 use crate::raise::raise_epoch;
@@ -10,7 +10,7 @@ use crate::sides::raise_by_one;
 use crate::slot::{Mark, Slot};
 use iso_disk::{Disk, DiskFault};
 
-/// Copies the mirrored bytes of the chosen side to the other one, raises its epoch to that of the chosen one, and answers
+/// Makes the mirrored bytes of the other side those of the chosen one, raises its epoch to that of the chosen one, and answers
 /// the slot that holds it then. None where the other side failed alone and was left out.
 pub(crate) fn take_over<C: Disk, O: Disk>(
     from: &mut C,
@@ -32,6 +32,9 @@ pub(crate) fn take_over<C: Disk, O: Disk>(
     ensures settled { OnOk result (IsSettled (C.state from.new)) }
     ensures alike { IfOk result (λ slot. IfSome slot (λ s. AreAlike (C.state from.new) (O.state to.new) chosen.epoch chosen.slot s)) }
     ensures alone { IfOk result (λ slot. slot ≡ None → (x : List ℕ) → (C.state from.new).now x → HasEpoch (other chosen.slot) (chosen.epoch + 1) x) }
+    ensures left { IfOk result (λ slot. slot ≡ None → Rose (O.state to.old).faults (O.state to.new).faults) }
+    ensures still { behind.epoch ≡ chosen.epoch → (x y : List ℕ) → (C.state from.old).contents ≡ Some x → (O.state to.old).contents ≡ Some y → body x ≡ body y
+        → Rose (O.state to.old).faults (O.state to.new).faults ⊎ (WritesNothing (C.state from.old) (C.state from.new) × WritesNothing (O.state to.old) (O.state to.new)) }
     ensures cause { OnErr result (Rose (C.state from.old).faults (C.state from.new).faults ⊎ ((last_epoch ≤ chosen.epoch) × Rose (O.state to.old).faults (O.state to.new).faults)) }
     ensures later { ((C.state from.old).faults ≤ (C.state from.new).faults) × ((O.state to.old).faults ≤ (O.state to.new).faults) }
 {
@@ -62,6 +65,7 @@ fn make_alike<C: Disk, O: Disk>(
     ensures moments { LeavesOnly (O.state to.old) (O.state to.new) (OfOther behind.epoch chosen.epoch (C.state from.old) (O.state to.old)) }
     ensures tells { TellsOn (O.state to.old) (O.state to.new) }
     ensures alike { IfOk result (λ slot. IfSome slot (λ s. AreAlike (C.state from.new) (O.state to.new) chosen.epoch chosen.slot s)) }
+    ensures still { behind.epoch ≡ chosen.epoch → (x y : List ℕ) → (C.state from.old).contents ≡ Some x → (O.state to.old).contents ≡ Some y → body x ≡ body y → WritesNothing (O.state to.old) (O.state to.new) }
     ensures cause { HasCause (C.state from.old).faults (C.state from.new).faults result }
     ensures later { (O.state to.old).faults ≤ (O.state to.new).faults }
     ensures failed { IfOk result (λ slot. slot ≡ None → Rose (O.state to.old).faults (O.state to.new).faults) }

@@ -1,4 +1,4 @@
-use Rattle.mirror_disk.proofs.{Words.{inl, inr, starts_unwritten}, Adopted.{choice_fails, ended_early, mark_of, told_header}}
+use Rattle.mirror_disk.proofs.{Words.{inl, inr, starts_unwritten}, Adopted.{alike_behind, choice_fails, ended_early, mark_of, told_header}}
 use Rattle.mirror_disk.proofs.adopt.adopt_sides.Goals as goal
 
 pub returns-then-size-other-clause-kept : goal.returns-then-size-other-clause-kept
@@ -41,4 +41,33 @@ returns-in-Err-clause-choice g c is =
       choice_fails (g.A.Disk.state c.args.first.now) (g.B.Disk.state c.args.second.now) (g.A.Disk.state call.new.first) (g.B.Disk.state call.new.second) (g.A.Disk.state c.settle_on.new.first) (g.B.Disk.state c.settle_on.new.second) c.in-Some.one c.in-Some-two.two
           (g.met.A.Disk.lawful call.new.first) (g.met.B.Disk.lawful call.new.second) call.ensures.first_unwritten call.ensures.second_unwritten
           (mark_of (g.A.Disk.state call.new.first) c.in-Ok.one c.in-Some.one c.in-Some.is c.in-Ok.ensures.first_mark) (mark_of (g.B.Disk.state call.new.second) c.in-Ok.two c.in-Some-two.two c.in-Some-two.is c.in-Ok.ensures.second_mark) c.in-Err.ensures.first_cause c.in-Err.ensures.second_cause,
+    )
+
+pub returns-then-size-other-clause-still : goal.returns-then-size-other-clause-still
+returns-then-size-other-clause-still g c x y told told' same alike = inr (starts_unwritten (g.met.A.Disk.lawful c.args.first.now), starts_unwritten (g.met.B.Disk.lawful c.args.second.now))
+
+pub returns-in_default-clause-still : goal.returns-in_default-clause-still
+returns-in_default-clause-still g c x y told told' same alike = inr (c.read_headers.ensures.first_unwritten, c.read_headers.ensures.second_unwritten)
+
+pub returns-in_default-one-clause-still : goal.returns-in_default-one-clause-still
+returns-in_default-one-clause-still g c x y told told' same alike = inr (c.read_headers.ensures.first_unwritten, c.read_headers.ensures.second_unwritten)
+
+pub returns-in_default-two-clause-still : goal.returns-in_default-two-clause-still
+returns-in_default-two-clause-still g c x y told told' same alike = inr (c.read_headers.ensures.first_unwritten, c.read_headers.ensures.second_unwritten)
+
+pub returns-in-Ok-settle_on-clause-still : goal.returns-in-Ok-settle_on-clause-still
+returns-in-Ok-settle_on-clause-still g c =
+    let call = c.read_headers in
+    alike_behind (g.met.A.Disk.lawful call.new.first) (g.met.B.Disk.lawful call.new.second) call.ensures.first_unwritten call.ensures.second_unwritten call.ensures.later.1 c.settle_on.ensures.still
+
+pub returns-in-Err-clause-still : goal.returns-in-Err-clause-still
+returns-in-Err-clause-still g c =
+    let call = c.read_headers in
+    alike_behind (g.met.A.Disk.lawful call.new.first) (g.met.B.Disk.lawful call.new.second) call.ensures.first_unwritten call.ensures.second_unwritten call.ensures.later.1 c.settle_on.ensures.still
+
+pub returns-in-Ok-settle_on-clause-headers : goal.returns-in-Ok-settle_on-clause-headers
+returns-in-Ok-settle_on-clause-headers g c =
+    let call = c.read_headers in (
+      told_header (g.met.A.Disk.lawful call.new.first) call.ensures.first_unwritten c.in-Ok.one c.in-Some.one c.in-Some.is c.in-Ok.ensures.first_mark,
+      told_header (g.met.B.Disk.lawful call.new.second) call.ensures.second_unwritten c.in-Ok.two c.in-Some-two.two c.in-Some-two.is c.in-Ok.ensures.second_mark,
     )

@@ -1,4 +1,4 @@
-use Rattle.mirror_disk.proofs.{Words.{[], sym, ◌∙◌, arith}, Adopted.{alike_turned, body_tells, both_alike, first_kept, first_leads, pair_of, second_kept, second_leads, alike_of, stands_both, stands_first, stands_second, told_kept}, Alone.{settled_both, settled_first, settled_second}}
+use Rattle.mirror_disk.proofs.{Words.{[], sym, ◌∙◌, arith}, Adopted.{alike_turned, body_tells, both_alike, first_kept, first_leads, not_alike, pair_of, same_marks, second_kept, second_leads, alike_of, stands_both, stands_first, stands_second, told_kept}, Alone.{settled_both, settled_first, settled_second}}
 use Rattle.mirror_disk.proofs.adopt.settle_on.Goals as goal
 
 pub returns-in_err-slot-clause-kept : goal.returns-in_err-slot-clause-kept
@@ -53,10 +53,31 @@ pub returns-in-Some-2-clause-stands : goal.returns-in-Some-2-clause-stands
 returns-in-Some-2-clause-stands g c = stands_both (pair_of (g.met.A.Disk.lawful c.take_over-2.new.from) (g.met.B.Disk.lawful c.take_over-2.new.to) (c.requires.second_size ∙ sym c.requires.first_size) (omega (arith, c.requires.first_size)) c.take_over-2.ensures.from_moments c.take_over-2.ensures.to_moments (λ x p. (p.header, p.told)) (λ y q. (q.header, q.told)) (body_tells c.take_over-2.ensures.body) c.take_over-2.ensures.tells) (both_alike (g.A.Disk.state c.take_over-2.new.from) (g.B.Disk.state c.take_over-2.new.to) c.args.one.epoch c.args.one.slot c.in-Some-2.slot (g.met.A.Disk.lawful c.take_over-2.new.from) (g.met.B.Disk.lawful c.take_over-2.new.to) c.in_ok-slot-2.ensures.settled (alike_of c.in_ok-slot-2.field-0 c.in-Some-2.slot c.in-Some-2.is c.in_ok-slot-2.ensures.alike))
 
 pub returns-in-None-2-clause-stands : goal.returns-in-None-2-clause-stands
-returns-in-None-2-clause-stands g c = stands_first c.args.one.slot c.args.two.slot (pair_of (g.met.A.Disk.lawful c.take_over-2.new.from) (g.met.B.Disk.lawful c.take_over-2.new.to) (c.requires.second_size ∙ sym c.requires.first_size) (omega (arith, c.requires.first_size)) c.take_over-2.ensures.from_moments c.take_over-2.ensures.to_moments (λ x p. (p.header, p.told)) (λ y q. (q.header, q.told)) (body_tells c.take_over-2.ensures.body) c.take_over-2.ensures.tells) (first_leads (g.A.Disk.state c.args.first.now) (g.B.Disk.state c.args.second.now) (g.A.Disk.state c.take_over-2.new.from) (g.B.Disk.state c.take_over-2.new.to) c.args.one.epoch c.args.two.epoch c.args.one.slot c.args.two.slot (g.met.A.Disk.lawful c.args.first.now) (g.met.B.Disk.lawful c.args.second.now) (g.met.A.Disk.lawful c.take_over-2.new.from) (g.met.B.Disk.lawful c.take_over-2.new.to) c.if-one-two.false c.take_over-2.ensures.from_moments c.take_over-2.ensures.to_moments)
+returns-in-None-2-clause-stands g c = stands_first c.args.one.slot c.args.two.slot (pair_of (g.met.A.Disk.lawful c.take_over-2.new.from) (g.met.B.Disk.lawful c.take_over-2.new.to) (c.requires.second_size ∙ sym c.requires.first_size) (omega (arith, c.requires.first_size)) c.take_over-2.ensures.from_moments c.take_over-2.ensures.to_moments (λ x p. (p.header, p.told)) (λ y q. (q.header, q.told)) (body_tells c.take_over-2.ensures.body) c.take_over-2.ensures.tells) (first_leads (g.A.Disk.state c.args.first.now) (g.B.Disk.state c.args.second.now) (g.A.Disk.state c.take_over-2.new.from) (g.B.Disk.state c.take_over-2.new.to) c.args.one.epoch c.args.two.epoch c.args.one.slot c.args.two.slot (g.met.A.Disk.lawful c.args.first.now) (g.met.B.Disk.lawful c.args.second.now) (g.met.A.Disk.lawful c.take_over-2.new.from) (g.met.B.Disk.lawful c.take_over-2.new.to) c.if-one-two.false c.take_over-2.ensures.from_moments c.take_over-2.ensures.to_moments (c.in_ok-slot-2.ensures.alone c.in-None-2.is))
 
 pub returns-in-None-2-clause-settled : goal.returns-in-None-2-clause-settled
-returns-in-None-2-clause-settled g c = settled_first (g.A.Disk.state c.take_over-2.new.from) (g.B.Disk.state c.take_over-2.new.to) [] 0 0 c.args.one.epoch (g.met.A.Disk.lawful c.take_over-2.new.from) (g.met.B.Disk.lawful c.take_over-2.new.to) (pair_of (g.met.A.Disk.lawful c.take_over-2.new.from) (g.met.B.Disk.lawful c.take_over-2.new.to) (c.requires.second_size ∙ sym c.requires.first_size) (omega (arith, c.requires.first_size)) c.take_over-2.ensures.from_moments c.take_over-2.ensures.to_moments (λ x p. (p.header, p.told)) (λ y q. (q.header, q.told)) (body_tells c.take_over-2.ensures.body) c.take_over-2.ensures.tells) (first_leads (g.A.Disk.state c.args.first.now) (g.B.Disk.state c.args.second.now) (g.A.Disk.state c.take_over-2.new.from) (g.B.Disk.state c.take_over-2.new.to) c.args.one.epoch c.args.two.epoch c.args.one.slot c.args.two.slot (g.met.A.Disk.lawful c.args.first.now) (g.met.B.Disk.lawful c.args.second.now) (g.met.A.Disk.lawful c.take_over-2.new.from) (g.met.B.Disk.lawful c.take_over-2.new.to) c.if-one-two.false c.take_over-2.ensures.from_moments c.take_over-2.ensures.to_moments) c.in_ok-slot-2.ensures.settled
+returns-in-None-2-clause-settled g c = settled_first (g.A.Disk.state c.take_over-2.new.from) (g.B.Disk.state c.take_over-2.new.to) [] 0 0 c.args.one.epoch (g.met.A.Disk.lawful c.take_over-2.new.from) (g.met.B.Disk.lawful c.take_over-2.new.to) (pair_of (g.met.A.Disk.lawful c.take_over-2.new.from) (g.met.B.Disk.lawful c.take_over-2.new.to) (c.requires.second_size ∙ sym c.requires.first_size) (omega (arith, c.requires.first_size)) c.take_over-2.ensures.from_moments c.take_over-2.ensures.to_moments (λ x p. (p.header, p.told)) (λ y q. (q.header, q.told)) (body_tells c.take_over-2.ensures.body) c.take_over-2.ensures.tells) (first_leads (g.A.Disk.state c.args.first.now) (g.B.Disk.state c.args.second.now) (g.A.Disk.state c.take_over-2.new.from) (g.B.Disk.state c.take_over-2.new.to) c.args.one.epoch c.args.two.epoch c.args.one.slot c.args.two.slot (g.met.A.Disk.lawful c.args.first.now) (g.met.B.Disk.lawful c.args.second.now) (g.met.A.Disk.lawful c.take_over-2.new.from) (g.met.B.Disk.lawful c.take_over-2.new.to) c.if-one-two.false c.take_over-2.ensures.from_moments c.take_over-2.ensures.to_moments (c.in_ok-slot-2.ensures.alone c.in-None-2.is)) c.in_ok-slot-2.ensures.settled
 
 pub returns-in-Some-2-clause-settled : goal.returns-in-Some-2-clause-settled
 returns-in-Some-2-clause-settled g c = settled_both (g.A.Disk.state c.take_over-2.new.from) (g.B.Disk.state c.take_over-2.new.to) [] 0 0 c.in_ok-slot-2.ensures.settled (alike_of c.in_ok-slot-2.field-0 c.in-Some-2.slot c.in-Some-2.is c.in_ok-slot-2.ensures.alike).settled
+
+pub returns-in_err-slot-clause-still : goal.returns-in_err-slot-clause-still
+returns-in_err-slot-clause-still g c = not_alike c.args.one c.args.two (g.met.A.Disk.lawful c.args.first.now) (g.met.B.Disk.lawful c.args.second.now) c.requires.first.1 c.requires.second.1 c.if-one-two.true
+
+pub returns-in-Some-clause-still : goal.returns-in-Some-clause-still
+returns-in-Some-clause-still g c = not_alike c.args.one c.args.two (g.met.A.Disk.lawful c.args.first.now) (g.met.B.Disk.lawful c.args.second.now) c.requires.first.1 c.requires.second.1 c.if-one-two.true
+
+pub returns-in-None-clause-still : goal.returns-in-None-clause-still
+returns-in-None-clause-still g c = not_alike c.args.one c.args.two (g.met.A.Disk.lawful c.args.first.now) (g.met.B.Disk.lawful c.args.second.now) c.requires.first.1 c.requires.second.1 c.if-one-two.true
+
+pub returns-in_err-slot-2-clause-still : goal.returns-in_err-slot-2-clause-still
+returns-in_err-slot-2-clause-still g c x y told told' same =
+    c.take_over-2.ensures.still (same_marks c.args.one c.args.two (g.met.A.Disk.lawful c.args.first.now) (g.met.B.Disk.lawful c.args.second.now) c.requires.first.1 c.requires.second.1 x y told told' same) x y told told'
+
+pub returns-in-Some-2-clause-still : goal.returns-in-Some-2-clause-still
+returns-in-Some-2-clause-still g c x y told told' same =
+    c.take_over-2.ensures.still (same_marks c.args.one c.args.two (g.met.A.Disk.lawful c.args.first.now) (g.met.B.Disk.lawful c.args.second.now) c.requires.first.1 c.requires.second.1 x y told told' same) x y told told'
+
+pub returns-in-None-2-clause-still : goal.returns-in-None-2-clause-still
+returns-in-None-2-clause-still g c x y told told' same =
+    c.take_over-2.ensures.still (same_marks c.args.one c.args.two (g.met.A.Disk.lawful c.args.first.now) (g.met.B.Disk.lawful c.args.second.now) c.requires.first.1 c.requires.second.1 x y told told' same) x y told told'

@@ -1,18 +1,24 @@
-use Rattle.mirror_disk.proofs.{Words.{◌≡◌, ◌+◌, ℕ, List, length, sym, ◌∙◌, ap, subst, arith, TellsTorn, spliced, body}, Asked.{laid, told_of}, Copying.piece_of}
+use Rattle.mirror_disk.proofs.{Words.{◌+◌, ℕ, List, length, take, drop, sym, ◌∙◌, ap, starts_unwritten, subst, LeavesOnly, TellsTorn, TornFrom, body}, Copying.piece_of}
+use Rattle.mirror_disk.proofs.copy.copy_piece.Goals as goal
 
-pub returns-clause-torn : Rattle.mirror_disk.proofs.copy.copy_piece.Goals.returns-clause-torn
+pub returns-clause-moments : goal.returns-clause-moments
+returns-clause-moments g c =
+    let old = g.O.Disk.state c.args.to.now in
+    subst (λ (n : ℕ). LeavesOnly old (g.O.Disk.state c.lay_piece.new.to) (TornFrom (64 + c.args.at) n old.now)) c.read.auto.into c.lay_piece.ensures.moments
+
+pub returns-clause-torn : goal.returns-clause-torn
 returns-clause-torn g c =
-    let old = g.O.Disk.state c.args.to.now in
-    let new = g.O.Disk.state c.write.new.self in
-    let piece = c.read.new.into in
-    let same : length piece ≡ length c.args.piece.now = c.read.auto.into in
-    subst (λ (n : ℕ). TellsTorn (64 + c.args.at) n old new) same (told_of old new (64 + c.args.at) piece (g.met.O.Disk.lawful c.args.to.now) (omega (arith, same, c.requires.to)) c.write.result c.write.ensures.written c.write.ensures.failed)
+    subst (λ (n : ℕ). TellsTorn (64 + c.args.at) n (g.O.Disk.state c.args.to.now) (g.O.Disk.state c.lay_piece.new.to)) c.read.auto.into c.lay_piece.ensures.torn
 
-pub returns-clause-copied : Rattle.mirror_disk.proofs.copy.copy_piece.Goals.returns-clause-copied
+pub returns-clause-copied : goal.returns-clause-copied
 returns-clause-copied g c done x y told told' =
-    let old = g.O.Disk.state c.args.to.now in
-    let new = g.O.Disk.state c.write.new.self in
-    let piece = c.read.new.into in
-    let same : length piece ≡ length c.args.piece.now = c.read.auto.into in
-    let is = laid old new c.args.at piece (g.met.O.Disk.lawful c.args.to.now) (omega (arith, same, c.requires.to)) c.write.result c.write.ensures.written (sym c.is_ok.ensures.value ∙ done) y told' in
-    (is.0, is.1, is.2 ∙ ap (λ (l : List ℕ). spliced (body is.0) c.args.at l) (c.in_ok-read.ensures.bytes x told ∙ piece_of x c.args.at (length c.args.piece.now)))
+    let is = c.lay_piece.ensures.laid done y told' in
+    (is.0, is.1, is.2, ap (λ (n : ℕ). take n (drop c.args.at (body y))) (sym c.read.auto.into) ∙ is.3 ∙ c.in_ok-read.ensures.bytes x told ∙ piece_of x c.args.at (length c.args.piece.now))
+
+pub returns-clause-still : goal.returns-clause-still
+returns-clause-still g c x y told told' same =
+    let n = length c.args.piece.now in
+    c.lay_piece.ensures.still y told' (ap (λ (m : ℕ). take m (drop c.args.at (body y))) c.read.auto.into ∙ ap (λ (l : List ℕ). take n (drop c.args.at l)) (sym same) ∙ sym (c.in_ok-read.ensures.bytes x told ∙ piece_of x c.args.at n))
+
+pub returns-in_err-read-clause-still : goal.returns-in_err-read-clause-still
+returns-in_err-read-clause-still g c x y told told' same = starts_unwritten (g.met.O.Disk.lawful c.args.to.now)

@@ -13,7 +13,7 @@ raise_by_one-requires-clause-marked g c =
 pub returns-then-raise_by_one-clause-ended : goal.returns-then-raise_by_one-clause-ended
 returns-then-raise_by_one-clause-ended g c x y past at n asked =
     ended_first past c.args.epoch c.args.one c.args.two at n (g.met.A.Disk.lawful x) (g.met.B.Disk.lawful y) (g.met.A.Disk.lawful c.args.first.now) (g.met.B.Disk.lawful c.args.second.now) asked
-    (g.met.A.Disk.lawful c.raise_by_one.new.disk) c.raise_by_one.ensures.moments c.raise_by_one.ensures.body
+    (g.met.A.Disk.lawful c.raise_by_one.new.disk) c.raise_by_one.ensures.moments c.raise_by_one.ensures.body (c.raise_by_one.ensures.raised c.if-raise_by_one.true)
 
 pub returns-then-first_done-clause-ended : goal.returns-then-first_done-clause-ended
 returns-then-first_done-clause-ended g c x y past at n asked =

@@ -1,4 +1,4 @@
-use Rattle.mirror_disk.proofs.{Words.{sym, ◌∙◌}, Asked.asked_synced, Done.{both_torn, breaks, by_done, contents_of, left_settled}}
+use Rattle.mirror_disk.proofs.{Words.{sym, ◌∙◌}, Asked.asked_synced, Done.{both_torn, breaks, by_done, contents_of, leaves, left_settled}}
 use Rattle.mirror_disk.proofs.sides.sync_both.Goals as goal
 
 pub leave_out-requires : goal.leave_out-requires
@@ -28,3 +28,6 @@ returns-clause-settled g c not past pair both =
 
 pub returns-clause-cause : goal.returns-clause-cause
 returns-clause-cause g c = breaks (g.A.Disk.state c.args.first.now) (g.B.Disk.state c.args.second.now) _ _ _ _ c.sync.result c.sync-2.result c.is_ok-first_done.ensures.value c.is_ok-second_done.ensures.value c.sync.ensures.cause c.sync-2.ensures.cause c.leave_out.ensures.left
+
+pub returns-clause-left : goal.returns-clause-left
+returns-clause-left g c = leaves (g.A.Disk.state c.args.first.now) (g.B.Disk.state c.args.second.now) _ _ _ _ c.sync.result c.sync-2.result c.is_ok-first_done.ensures.value c.is_ok-second_done.ensures.value c.sync.ensures.cause c.sync-2.ensures.cause c.leave_out.ensures.left

@@ -1,4 +1,4 @@
-use Rattle.mirror_disk.proofs.{Words.{length, sym, ◌∙◌}, Asked.asked_written, Done.{both_torn, both_written, breaks, written_of}}
+use Rattle.mirror_disk.proofs.{Words.{length, sym, ◌∙◌}, Asked.asked_written, Done.{both_torn, both_written, breaks, leaves, written_of}}
 use Rattle.mirror_disk.proofs.sides.write_both.Goals as goal
 
 pub leave_out-requires : goal.leave_out-requires
@@ -33,3 +33,6 @@ returns-clause-failed g c broken past pair both =
 
 pub returns-clause-cause : goal.returns-clause-cause
 returns-clause-cause g c = breaks (g.A.Disk.state c.args.first.now) (g.B.Disk.state c.args.second.now) _ _ _ _ c.write.result c.write-2.result c.is_ok-first_done.ensures.value c.is_ok-second_done.ensures.value c.write.ensures.cause c.write-2.ensures.cause c.leave_out.ensures.left
+
+pub returns-clause-left : goal.returns-clause-left
+returns-clause-left g c = leaves (g.A.Disk.state c.args.first.now) (g.B.Disk.state c.args.second.now) _ _ _ _ c.write.result c.write-2.result c.is_ok-first_done.ensures.value c.is_ok-second_done.ensures.value c.write.ensures.cause c.write-2.ensures.cause c.leave_out.ensures.left

@@ -32,3 +32,12 @@ pub returns-in-Ok-clause-alike : goal.returns-in-Ok-clause-alike
 returns-in-Ok-clause-alike g c =
     alike_raised (g.C.Disk.state c.args.from.now) (g.C.Disk.state c.copy_body.new.from) (g.O.Disk.state c.copy_body.new.to) (g.O.Disk.state c.raise_epoch.new.disk) c.args.chosen.slot c.other.result c.args.chosen.epoch (g.met.C.Disk.lawful c.copy_body.new.from)
     c.copy_body.ensures.unwritten c.requires.chosen (λ y now. subst (λ (s : Slot). HasEpoch s c.args.chosen.epoch y) (sym c.other.ensures) (c.in-Ok.ensures.raised y now)) c.in-Ok.ensures.settled c.raise_epoch.ensures.body (c.in_ok-copy_body.ensures.alike c.if-not-branch.false)
+
+pub returns-in_err-copy_body-clause-still : goal.returns-in_err-copy_body-clause-still
+returns-in_err-copy_body-clause-still g c same = c.copy_body.ensures.still
+
+pub returns-then-not-branch-clause-still : goal.returns-then-not-branch-clause-still
+returns-then-not-branch-clause-still g c same = c.copy_body.ensures.still
+
+pub returns-then-behind-chosen-clause-still : goal.returns-then-behind-chosen-clause-still
+returns-then-behind-chosen-clause-still g c same = c.copy_body.ensures.still

@@ -12,3 +12,9 @@ returns-in-Err-clause-not_second g c is = c.in-Err.ensures.not_second (ap Err is
 
 pub returns-in-Err-clause-choice : Rattle.mirror_disk.proofs.mirror.Mirror.adopt.Goals.returns-in-Err-clause-choice
 returns-in-Err-clause-choice g c is = c.in-Err.ensures.choice (ap Err is)
+
+pub returns-in-Ok-clause-still : Rattle.mirror_disk.proofs.mirror.Mirror.adopt.Goals.returns-in-Ok-clause-still
+returns-in-Ok-clause-still g c = c.adopt_sides.ensures.still
+
+pub returns-in-Err-clause-still_refused : Rattle.mirror_disk.proofs.mirror.Mirror.adopt.Goals.returns-in-Err-clause-still_refused
+returns-in-Err-clause-still_refused g c = c.adopt_sides.ensures.still
