@@ -1,5 +1,5 @@
 -- Rows without versions.
-use Rattle.mv_index.proofs.Words.{◌≡◌, ◌+◌, ◌∙◌, ℕ, zero, suc, refl, ap, arith, subst, sym, List, [], ◌∷◌, ◌++◌, length, length_push, BlockVersions, Version, count_of, versions_in}
+use Rattle.mv_index.proofs.Words.{◌≡◌, ◌+◌, ℕ, zero, suc, refl, ap, arith, subst, sym, List, [], ◌∷◌, ◌++◌, length, length_push, BlockVersions, Version, count_of, versions_in}
 use Rattle.std.proofs.lemmas.List.Sums.{sum_by_push}
 
 -- so many rows, and none has a version

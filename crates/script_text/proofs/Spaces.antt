@@ -1,5 +1,5 @@
 -- Words with one space between them are the words of their line.
-use Rattle.script_text.proofs.{Words.{◌≡◌, ◌∙◌, ◌≢◌, ap, sym, refl, append-nil, append_assoc, flat_map, Result, Ok, Err, OnOk, ℕ, ◌≤◌, ◌<◌, Bool, true, false, ◌&&◌, not, nat_le, List, [], ◌∷◌, ◌++◌, length, arith, list_all, filter, and_parts, cond-false, ne_eqb, leb-true, le-leb, nat_tests, list_all-append, is_printable, is_skipped, before_piece, is_empty, pieces, words_of, is_digit, spaced, is_word_byte, word_before}, Numerals.IsWord}
+use Rattle.script_text.proofs.{Words.{◌≡◌, ◌∙◌, ◌≢◌, ap, sym, refl, append-nil, flat_map, ℕ, ◌≤◌, ◌<◌, Bool, true, false, ◌&&◌, not, nat_le, List, [], ◌∷◌, ◌++◌, length, arith, list_all, filter, and_parts, cond-false, ne_eqb, leb-true, le-leb, nat_tests, list_all-append, is_printable, is_skipped, before_piece, is_empty, pieces, words_of, is_digit, spaced, is_word_byte, word_before}, Numerals.IsWord}
 
 abbrev pub AreWords : List (List ℕ) → Type 0
 AreWords [] = Unit {0}
