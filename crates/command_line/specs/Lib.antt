@@ -1,3 +1,4 @@
 pub mod Grammar
+pub mod Local
 pub mod Values
 pub mod Requests

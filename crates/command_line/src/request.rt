@@ -9,7 +9,7 @@ use iso_model::Memory;
 use std::alloc::Global;
 
 /// A task, and the name of the image that it is for.
-#[derive(Clone, Copy, Debug)]
+#[derive(Clone, Copy)]
 pub struct Request<'a> {
     pub image: &'a str,
     pub task: Task,

@@ -4,7 +4,7 @@ use iso_model::Geometry;
 
 /// What the new half is to be: the geometry has its form, `generation` and `base` are its numbers. `old_base` is the base
 /// number of the half that it is filled from, and `used` says how many bytes that half's records take.
-#[derive(Clone, Copy, Debug, PartialEq, Eq)]
+#[derive(Clone, Copy)]
 pub struct FillPlan {
     pub geometry: Geometry,
     pub generation: u64,

@@ -21,7 +21,7 @@ pub struct Recent {
 
 /// The numbers of an image: the last commit's, the base and the trim number; how many transactions are live, how many bytes
 /// of the log records take, how many versions are kept; and whether an earlier fault set the core down.
-#[derive(Clone, Copy, Debug, PartialEq, Eq)]
+#[derive(Clone, Copy)]
 pub struct Stat {
     pub last: u64,
     pub base: u64,

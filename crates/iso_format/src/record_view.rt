@@ -10,7 +10,7 @@ use iso_model::Geometry;
 use std::marker::Model;
 
 /// A part of a record. Its bytes are those of the input.
-#[derive(Clone, Copy, Debug)]
+#[derive(Clone, Copy)]
 pub struct Part<'a> {
     pub block: u32,
     pub off: u16,

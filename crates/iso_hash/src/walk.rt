@@ -13,7 +13,7 @@ use tx_blocks::{TxBlocks, look, mark};
 
 /// Where a walk ends: at the key's cell, with the block before it in the chain (0 where there is none); or past the last block of
 /// the chain, with its first unused cell, the last block and its position.
-#[derive(Clone, Copy, Debug)]
+#[derive(Clone, Copy)]
 pub enum Walked {
     AtCell {
         spot: Spot,

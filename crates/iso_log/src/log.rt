@@ -10,7 +10,7 @@ use iso_model::{Geometry, LAST};
 use std::marker::Model;
 
 /// A log: where it stands, how many bytes it has, how many of them its records take, and the number of its last record.
-#[derive(Debug, Drop)]
+#[derive(Drop)]
 pub struct Log {
     place: u64,
     room: u32,

@@ -7,6 +7,7 @@ pub mod Fronts
 pub mod Shapes
 pub mod Scans
 pub mod Steps
+pub mod Handed
 pub mod Values
 pub mod Opens
 pub mod Reopens

@@ -7,7 +7,7 @@ same_error : {T : Type 0} → OpenError → Result T OpenError → OpenError
 same_error other (Ok x) = other
 same_error other (Err e) = e
 
-is_error : {T : Type 0} (e x : OpenError) → IsErrOf {T = T} {E = OpenError} (Err e) x → e ≡ x
+pub is_error : {T : Type 0} (e x : OpenError) → IsErrOf {T = T} {E = OpenError} (Err e) x → e ≡ x
 unfolding same_error
 is_error e x is = ap (same_error e) is
 

@@ -13,7 +13,7 @@ use iso_refusal::OpenError;
 
 /// What the front of an image says: its geometry, with the form of its current half; which half that is, 0 or 1; the
 /// generation of this half, the number of its base, and where its log begins.
-#[derive(Clone, Copy, Debug)]
+#[derive(Clone, Copy)]
 pub struct Front {
     pub geometry: Geometry,
     pub half: u8,

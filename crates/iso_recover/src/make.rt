@@ -16,7 +16,7 @@ use mv_index::MvIndex;
 use std::alloc::Global;
 
 /// Why no image was made.
-#[derive(Clone, Copy, Debug, PartialEq, Eq)]
+#[derive(Clone, Copy)]
 pub enum MakeError {
     /// A call of the disk failed.
     Disk,

@@ -113,7 +113,7 @@ fn enter<T: TxBlocks>(
 }
 
 /// The leaf of a key: its block in the region, the cell that has the key, and how many cells it has.
-#[derive(Clone, Copy, Debug)]
+#[derive(Clone, Copy)]
 pub struct Leaf {
     pub block: u32,
     pub cell: Option<u32>,

@@ -14,7 +14,7 @@ use store_model::{Area, StoreError};
 use tx_blocks::{TxBlocks, look, mark};
 
 /// The cells of a node that a scan visits: the first, and how many.
-#[derive(Clone, Copy, Debug)]
+#[derive(Clone, Copy)]
 pub struct Visit {
     pub first: usize,
     pub many: usize,

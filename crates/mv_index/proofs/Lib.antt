@@ -1,4 +1,5 @@
 pub mod Words
+pub mod Empties
 pub mod Again
 pub mod Bounds
 pub mod Counts

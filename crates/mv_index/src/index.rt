@@ -10,7 +10,7 @@ use std::alloc::Global;
 use std::marker::Model;
 
 /// For each block its versions, rising. Contracts see a list with an entry for each block.
-#[derive(Debug, Drop)]
+#[derive(Drop)]
 pub struct MvIndex {
     rows: Vec<Row>,
     count: u64,

@@ -14,7 +14,7 @@ use std::marker::Model;
 
 /// The versions of one block, rising, and the pieces of them that show at the last number, in the order of their bytes.
 /// Contracts see the versions, and for how many more there is room: each takes room for two pieces at most.
-#[derive(Debug, Drop)]
+#[derive(Drop)]
 pub struct Row {
     versions: Vec<Version>,
     pieces: Vec<Version>,

@@ -12,7 +12,7 @@ use std::alloc::Global;
 const LINE: usize = 80;
 
 /// A commit, the client that made it, and the number of its line.
-#[derive(Clone, Copy, Debug, PartialEq, Eq)]
+#[derive(Clone, Copy)]
 pub struct CommitLine {
     pub number: u64,
     pub client: u8,

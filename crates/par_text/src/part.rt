@@ -4,7 +4,7 @@ use iso_model::Items;
 use script_model::{Reply, Stop};
 
 /// A client, the replies to its lines with their numbers, and why it stopped at the line behind them, if it did.
-#[derive(Debug, Drop)]
+#[derive(Drop)]
 pub struct Part {
     pub client: u8,
     pub told: Items<(u64, Reply)>,

@@ -7,7 +7,7 @@ use store_model::PairList;
 pub const MAX_LABELS: usize = 16;
 
 /// What a client asks for.
-#[derive(Debug, Drop)]
+#[derive(Drop)]
 pub enum Op {
     /// In the mode that is named, or else in the image's.
     Begin { mode: Option<Mode> },
@@ -68,14 +68,14 @@ pub enum Op {
 }
 
 /// A line of a script: an operation of a client, 1 to 64.
-#[derive(Debug, Drop)]
+#[derive(Drop)]
 pub struct Line {
     pub client: u8,
     pub op: Op,
 }
 
 /// What a line of a script says: nothing, or an operation of a client.
-#[derive(Debug, Drop)]
+#[derive(Drop)]
 pub enum Parsed {
     Skip,
     Line(Line),
@@ -96,7 +96,7 @@ pub enum LineError {
 }
 
 /// What an operation is answered.
-#[derive(Debug, Drop)]
+#[derive(Drop)]
 pub enum Reply {
     Done,
     Began(u64),

@@ -1,5 +1,5 @@
 -- Words with one space between them are the words of their line.
-use Rattle.script_text.proofs.{Words.{◌≡◌, ◌∙◌, ◌≢◌, ap, sym, refl, append-nil, append_assoc, flat_map, Result, Ok, Err, OnOk, ℕ, ◌≤◌, ◌<◌, Bool, true, false, ◌&&◌, not, nat_le, List, [], ◌∷◌, ◌++◌, length, arith, list_all, filter, and_parts, cond-false, ne_eqb, leb-true, le-leb, nat_tests, list_all-append, is_printable, is_skipped, before_piece, is_empty, pieces, words_of, is_digit, spaced, is_word_byte, word_before}, Numerals.IsWord}
+use Rattle.script_text.proofs.{Words.{◌≡◌, ◌∙◌, ◌≢◌, ap, sym, refl, append-nil, flat_map, ℕ, ◌≤◌, ◌<◌, Bool, true, false, ◌&&◌, not, nat_le, List, [], ◌∷◌, ◌++◌, length, arith, list_all, filter, and_parts, cond-false, ne_eqb, leb-true, le-leb, nat_tests, list_all-append, is_printable, is_skipped, before_piece, is_empty, pieces, words_of, is_digit, spaced, is_word_byte, word_before}, Numerals.IsWord}
 
 abbrev pub AreWords : List (List ℕ) → Type 0
 AreWords [] = Unit {0}
@@ -98,12 +98,6 @@ spaced_says (b ∷ word) [] some digits = not_skipped b word (and_parts (is_digi
 spaced_says (b ∷ word) (next ∷ words) some digits = not_skipped b (word ++ 32 ∷ spaced (next ∷ words)) (and_parts (is_digit b) (list_all is_digit word) digits).0
 
 -- words behind a first one, each behind a space
-spaced_each : (word : List ℕ) (words : List (List ℕ)) → spaced (word ∷ words) ≡ word ++ flat_map (λ w. 32 ∷ w) words
+pub spaced_each : (word : List ℕ) (words : List (List ℕ)) → spaced (word ∷ words) ≡ word ++ flat_map (λ w. 32 ∷ w) words
 spaced_each word [] = sym (append-nil word)
 spaced_each word (next ∷ words) = ap (λ (rest : List ℕ). word ++ 32 ∷ rest) (spaced_each next words)
-
-pub on_spaced : {T E : Type 0} (r : Result T E) (old mid new word : List ℕ) (words : List (List ℕ)) → mid ≡ old ++ word → OnOk r (new ≡ mid ++ flat_map (λ w. 32 ∷ w) words)
-    → OnOk r (new ≡ old ++ spaced (word ∷ words))
-on_spaced (Ok x) old mid new word words first second =
-    second ∙ ap (λ (text : List ℕ). text ++ flat_map (λ w. 32 ∷ w) words) first ∙ append_assoc old word (flat_map (λ w. 32 ∷ w) words) ∙ ap (λ (text : List ℕ). old ++ text) (sym (spaced_each word words))
-on_spaced (Err e) old mid new word words first second = tt

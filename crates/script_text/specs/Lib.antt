@@ -1,5 +1,6 @@
 pub mod Words
 pub mod Ending
+pub mod Said
 pub mod Spelling
 pub mod Parsing
 pub mod Printing

@@ -16,6 +16,7 @@ mod push;
 mod reply;
 mod reply_line;
 mod round;
+mod said;
 mod word;
 
 pub use generator::Generator;

@@ -13,7 +13,7 @@ use std::alloc::Global;
 use std::marker::Model;
 
 /// The line of the last reply. Contracts see it.
-#[derive(Debug, Drop)]
+#[derive(Drop)]
 pub struct ReplyLine {
     short: Ending,
     long: Vec<u8>,

@@ -16,14 +16,14 @@ pub enum FsError {
 }
 
 /// The blocks that a file store has: the tree region, whose keys are the names, and the region of the files' blocks behind it.
-#[derive(Clone, Copy, Debug, PartialEq, Eq)]
+#[derive(Clone, Copy)]
 pub struct FsRegion {
     pub tree: Region,
     pub files: Region,
 }
 
 /// Where a file store is: the same with the size of a block.
-#[derive(Clone, Copy, Debug, PartialEq, Eq)]
+#[derive(Clone, Copy)]
 pub struct FileAreas {
     pub tree: Area,
     pub files: Area,

@@ -43,14 +43,14 @@ pub enum StoreError {
 }
 
 /// The blocks that a store has: the first one, and how many.
-#[derive(Clone, Copy, Debug, PartialEq, Eq)]
+#[derive(Clone, Copy)]
 pub struct Region {
     pub start: u32,
     pub size: u32,
 }
 
 /// Where a store is: how many bytes a block has, the region's first block, and how many blocks the region has.
-#[derive(Clone, Copy, Debug, PartialEq, Eq)]
+#[derive(Clone, Copy)]
 pub struct Area {
     pub size: u32,
     pub start: u32,
@@ -58,7 +58,7 @@ pub struct Area {
 }
 
 /// A cell of a block; the block is counted from the start of its region.
-#[derive(Clone, Copy, Debug, PartialEq, Eq)]
+#[derive(Clone, Copy)]
 pub struct Spot {
     pub block: u32,
     pub cell: u32,

@@ -1,4 +1,4 @@
-use Rattle.iso_recover.proofs.{Words.{ℕ, sym, ◌∙◌, subst, stays_settled, IsFront, IsShaped}, Opens.{base_of, opens_to, settled_ok, told_history}}
+use Rattle.iso_recover.proofs.{Words.{ℕ, inr, refl, sym, ◌∙◌, subst, joined_unwritten, stays_settled, IsFront, IsShaped}, Handed.settled_err, Opens.{base_of, opens_to, settled_ok, told_history}, Steps.{blames_call, blames_memory, blames_none}}
 
 pub returns-in-Ok-read_log-clause-opened : Rattle.iso_recover.proofs.image.read_image.Goals.returns-in-Ok-read_log-clause-opened
 returns-in-Ok-read_log-clause-opened g c =
@@ -24,3 +24,39 @@ returns-in-Ok-read_log-clause-opened g c =
 
 pub returns-in-Err-read_log-clause-shape : Rattle.iso_recover.proofs.image.read_image.Goals.returns-in-Err-read_log-clause-shape
 returns-in-Err-read_log-clause-shape g c = subst (λ (n : ℕ). IsShaped n c.in-Err-read_log.error) c.read_front.ensures.unwritten.moments.same_size c.in-Err-read_log.ensures.shape
+
+pub returns-in-Err-clause-cause : Rattle.iso_recover.proofs.image.read_image.Goals.returns-in-Err-clause-cause
+returns-in-Err-clause-cause g c = blames_call _ _ _ c.in-Err.error refl c.in-Err.ensures.cause
+
+pub returns-in-Err-clause-unwritten : Rattle.iso_recover.proofs.image.read_image.Goals.returns-in-Err-clause-unwritten
+returns-in-Err-clause-unwritten g c = c.read_front.ensures.unwritten
+
+pub returns-in-Err-clause-settled : Rattle.iso_recover.proofs.image.read_image.Goals.returns-in-Err-clause-settled
+returns-in-Err-clause-settled g c = settled_err c.in-Err.error c.in-Err.ensures.settled
+
+pub returns-in_default-clause-cause : Rattle.iso_recover.proofs.image.read_image.Goals.returns-in_default-clause-cause
+returns-in_default-clause-cause g c = blames_memory _ _ c.in-Ok.ensures.cause.passed
+
+pub returns-in_default-clause-unwritten : Rattle.iso_recover.proofs.image.read_image.Goals.returns-in_default-clause-unwritten
+returns-in_default-clause-unwritten g c = c.read_front.ensures.unwritten
+
+pub returns-in_default-clause-settled : Rattle.iso_recover.proofs.image.read_image.Goals.returns-in_default-clause-settled
+returns-in_default-clause-settled g c = inr (settled_ok c.in-Ok.front c.in-Ok.ensures.settled)
+
+pub returns-in-Ok-read_log-clause-cause : Rattle.iso_recover.proofs.image.read_image.Goals.returns-in-Ok-read_log-clause-cause
+returns-in-Ok-read_log-clause-cause g c = blames_none _ _ _ _ _ c.in-Ok.ensures.cause.passed c.in-Ok-read_log.ensures.cause
+
+pub returns-in-Ok-read_log-clause-unwritten : Rattle.iso_recover.proofs.image.read_image.Goals.returns-in-Ok-read_log-clause-unwritten
+returns-in-Ok-read_log-clause-unwritten g c = joined_unwritten (g.met.D.Disk.lawful c.read_front.new.disk) c.read_front.ensures.unwritten c.read_log.ensures.unwritten
+
+pub returns-in-Ok-read_log-clause-settled : Rattle.iso_recover.proofs.image.read_image.Goals.returns-in-Ok-read_log-clause-settled
+returns-in-Ok-read_log-clause-settled g c = inr (stays_settled (g.met.D.Disk.lawful c.read_log.new.disk) c.read_log.ensures.unwritten (settled_ok c.in-Ok.front c.in-Ok.ensures.settled))
+
+pub returns-in-Err-read_log-clause-unwritten : Rattle.iso_recover.proofs.image.read_image.Goals.returns-in-Err-read_log-clause-unwritten
+returns-in-Err-read_log-clause-unwritten g c = joined_unwritten (g.met.D.Disk.lawful c.read_front.new.disk) c.read_front.ensures.unwritten c.read_log.ensures.unwritten
+
+pub returns-in-Err-read_log-clause-settled : Rattle.iso_recover.proofs.image.read_image.Goals.returns-in-Err-read_log-clause-settled
+returns-in-Err-read_log-clause-settled g c = inr (stays_settled (g.met.D.Disk.lawful c.read_log.new.disk) c.read_log.ensures.unwritten (settled_ok c.in-Ok.front c.in-Ok.ensures.settled))
+
+pub returns-in-Err-read_log-clause-cause : Rattle.iso_recover.proofs.image.read_image.Goals.returns-in-Err-read_log-clause-cause
+returns-in-Err-read_log-clause-cause g c = blames_call _ _ _ c.in-Err-read_log.error c.in-Ok.ensures.cause.passed c.in-Err-read_log.ensures.cause
