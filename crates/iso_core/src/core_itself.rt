@@ -61,6 +61,13 @@ impl<D: Disk> Core<D> {
         self.disk
     }
 
+    /// The disk, to be looked at.
+    pub fn disk(&self) -> &D
+        ensures { result.now ≡ disk_of self.now }
+    {
+        &self.disk
+    }
+
     /// The numbers of the image.
     pub fn geometry(&self) -> Geometry
         ensures { (W : World) (standing : Standing) → StandsFor D.state self.now W standing → result ≡ W.geometry }
