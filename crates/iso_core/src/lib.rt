@@ -8,6 +8,7 @@ mod commit;
 mod core_itself;
 mod decide;
 mod ending;
+mod errand;
 mod fetch;
 mod go_over;
 mod group;
@@ -28,5 +29,6 @@ mod trim;
 
 pub use answers::{Begun, Recent, Stat};
 pub use core_itself::Core;
+pub use errand::Errand;
 pub use group_end::{GroupEnd, MAX_GROUP};
 pub use opening::Opened;

@@ -4,3 +4,4 @@ pub mod Laws
 pub mod MemDisk
 pub mod Record
 pub mod Replay
+pub mod Replayed

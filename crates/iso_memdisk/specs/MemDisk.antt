@@ -1,6 +1,6 @@
 -- A memory disk as the trait sees it: its first bytes and the record of its calls are replayed for every question.
-use Rattle.std.specs.{Prelude.{◌≡◌, ◌⊎◌, ◌≤◌, ℕ, List, [], ◌∷◌, ◌++◌, length, take, Option, Some, Result, IsErr, OnOk}, Option.option_map}
-use Rattle.iso_memdisk.specs.{declared.disk.MemDisk.MemDisk, declared.record.Call.Call, declared.failures.CallKind.CallKind, declared.failures.Failures.Failures, Failures.{IsNamed, counted}, Record.{written, synced, images_after}}
+use Rattle.std.specs.{Prelude.{◌≡◌, ◌⊎◌, ℕ, List, [], ◌∷◌, ◌++◌, length, Option, Some, Result, IsErr, OnOk}, Option.option_map}
+use Rattle.iso_memdisk.specs.{declared.disk.MemDisk.MemDisk, declared.record.Call.Call, declared.failures.CallKind.CallKind, declared.failures.Failures.Failures, Failures.{IsNamed, counted}, Record.{written, synced}, Replayed.{images, replayed}}
 use Rattle.fault_count.specs.Count.{one_more, faults_after}
 use Rattle.iso_disk.specs.Disk.{DiskState}
 
@@ -20,22 +20,14 @@ contents_of d = Some (bytes_of d)
 
 -- the images that a crash now may leave
 abbrev pub now_of : MemDisk → List ℕ → Type 0
-now_of d = images_after d.history.items d.first.items (λ c. c ≡ d.first.items)
-
--- a moment is a number of calls in the record
-abbrev pub clock_of : MemDisk → ℕ
-clock_of d = length d.history.items
-
--- the images of each moment since t
-abbrev pub left_of : MemDisk → ℕ → List ℕ → Type 0
-left_of d t c = (k : ℕ) × (t ≤ k) × (k ≤ length d.history.items) × images_after (take k d.history.items) d.first.items (λ c. c ≡ d.first.items) c
+now_of d = images d.first.items d.history.items
 
 -- the record of calls begins anew where it is bound, so that moment is 0
 abbrev pub bound_of : MemDisk → Option (ℕ × List ℕ)
 bound_of d = option_map (λ name. (0, name.items)) d.name
 
 abbrev pub state_of : MemDisk → DiskState
-state_of d = record { size = size_of d; contents = contents_of d; now = now_of d; clock = clock_of d; left = left_of d; faults = d.failures.faults; bound = bound_of d; binds = d.failures.binds; named = λ _. contents_of d }
+state_of d = replayed d.first.items d.history.items d.failures.faults d.failures.binds (bound_of d) (λ _. contents_of d)
 
 -- which calls are to fail, and the counts
 abbrev pub failures_of : MemDisk → Failures

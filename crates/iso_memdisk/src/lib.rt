@@ -8,6 +8,7 @@ mod record;
 
 pub use disk::MemDisk;
 pub use failures::CallKind;
+pub use record::{Call, lay};
 
 #[cfg(test)]
 mod tests;

@@ -1,0 +1,4 @@
+pub mod Past
+pub mod Queued
+pub mod Tape
+pub mod Laws
