@@ -8,8 +8,3 @@ mod record;
 
 pub use disk::MemDisk;
 pub use failures::CallKind;
-
-#[cfg(test)]
-mod tests;
-#[cfg(test)]
-mod tests_draws;

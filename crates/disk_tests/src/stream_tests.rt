@@ -1,15 +1,12 @@
 // Each form once: calls that fail, pieces, refusals, and the real streams' forms over fakes.
-use super::*;
-use std::fmt::Debug;
+use crate::count_tests::same;
+use iso_io::{
+    MemSink, MemSource, PutError, Sink, SinkFault, Source, SourceFault, StdSink, StdSource,
+    TakeError, put_all, take_all,
+};
 use std::io;
 use std::io::{BufWriter, Read, Write};
-use std::process::Abort;
 use std::test::Fail;
-
-// Two values that are to be the same. Each test that compared them itself would prove what is printed where they differ.
-fn same<T: PartialEq + Debug + Drop>(rt: &impl Abort, found: T, wanted: T) {
-    assert_eq!(rt; found, wanted);
-}
 
 // A stream whose every call fails.
 #[derive(Drop)]

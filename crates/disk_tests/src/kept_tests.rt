@@ -1,16 +1,10 @@
 // What no clause says: that memory for the pages is found, and how many calls reach the disk below.
-use super::*;
+use crate::count_tests::same;
 use iso_disk::{Disk, DiskFault, Image};
 use iso_memdisk::{CallKind, MemDisk};
+use kept_disk::Kept;
 use std::alloc::Global;
-use std::fmt::Debug;
-use std::process::Abort;
 use std::test::Fail;
-
-// Two values that are to be the same. Each test that compared them itself would prove what is printed where they differ.
-fn same<T: PartialEq + Debug + Drop>(rt: &impl Abort, found: T, wanted: T) {
-    assert_eq!(rt; found, wanted);
-}
 
 /// A disk of this size whose pages are kept, and whose write of this number fails alone, from 1.
 fn kept_over(alloc: Global, size: u64, failing: u64) -> Result<Kept<MemDisk>, DiskFault> {

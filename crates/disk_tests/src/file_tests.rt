@@ -1,18 +1,12 @@
 // The file disk over a real file: its bytes, its length, and its faults after each answer.
-use super::*;
+use crate::count_tests::same;
+use file_disk::FileDisk;
 use iso_disk::{Disk, DiskFault, Image};
 use std::alloc::Allocator;
-use std::fmt::Debug;
 use std::fs::{self, File, Metadata, OpenOptions};
 use std::io;
-use std::process::Abort;
 use std::rt::Files;
 use std::test::Fail;
-
-// Two values that are to be the same. Each test that compared them itself would prove what is printed where they differ.
-fn same<T: PartialEq + Debug + Drop>(rt: &impl Abort, found: T, wanted: T) {
-    assert_eq!(rt; found, wanted);
-}
 
 /// The files of the system, but for the folder here, which cannot be opened.
 #[derive(Drop)]

@@ -1,22 +1,8 @@
 // What no clause says: that calls succeed with ample memory, the drawn bytes, and the numbers of the calls that fail.
-use super::*;
-use crate::draws::Draws;
+use crate::count_tests::same;
 use iso_disk::{Disk, DiskFault, Image};
-use std::fmt::Debug;
-use std::process::Abort;
+use iso_memdisk::{CallKind, MemDisk};
 use std::test::Fail;
-
-// Two values that are to be the same. Each test that compared them itself would prove what is printed where they differ.
-pub(crate) fn same<T: PartialEq + Debug + Drop>(rt: &impl Abort, found: T, wanted: T) {
-    assert_eq!(rt; found, wanted);
-}
-
-#[test]
-fn first_draw_of_seed_zero(rt: HostRuntime) {
-    let mut draws = Draws::new(0);
-    // 335903614 modulo 256
-    same(&rt, draws.next(), 126);
-}
 
 #[test]
 fn a_torn_write(rt: HostRuntime) -> Result<(), Fail> {

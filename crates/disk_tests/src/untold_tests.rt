@@ -3,8 +3,8 @@ ghost use Rattle.std.specs.{Prelude.{◌≡◌, ◌^◌, ◌<◌}, Option.option
 ghost use Rattle.fault_count.specs.Count.{HasCause};
 ghost use Rattle.iso_disk.specs.Untold.{untold, untold_is_lawful};
 
-use super::*;
 use fault_count::raise;
+use iso_disk::{Disk, DiskFault, Image};
 use std::alloc::Global;
 use std::test::Fail;
 

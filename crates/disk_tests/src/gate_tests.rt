@@ -3,17 +3,11 @@ ghost use Rattle.std.{specs.Prelude.None, proofs.Common.lit<};
 ghost use Rattle.fault_count.specs.Count.{HasCause};
 ghost use Rattle.iso_disk.specs.Untold.{untold, untold_is_lawful};
 
-use super::*;
+use crate::count_tests::same;
+use commit_gate::{open_gate, put_body, shut_gate, stands_closed};
 use fault_count::raise;
 use iso_disk::{Disk, DiskFault};
-use std::fmt::Debug;
-use std::process::Abort;
 use std::test::Fail;
-
-// Two values that are to be the same. Each test that compared them itself would prove what is printed where they differ.
-fn same<T: PartialEq + Debug + Drop>(rt: &impl Abort, found: T, wanted: T) {
-    assert_eq!(rt; found, wanted);
-}
 
 // The letters of the calls made so far: read, write, sync. The call with the number `failing` fails, from 1.
 #[derive(Drop)]

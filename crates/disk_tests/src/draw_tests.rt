@@ -1,8 +1,8 @@
 // The bytes that picks from 2 on draw. The numbers were made by another program, from the rule of the draws: the next number is the
 // last one times 6364136223846793005 plus 1442695040888963407, modulo 2^64, and its byte is the lowest of its upper 32 bits.
-use crate::MemDisk;
-use crate::tests::same;
+use crate::count_tests::same;
 use iso_disk::Disk;
+use iso_memdisk::MemDisk;
 use std::alloc::Global;
 use std::test::Fail;
 
