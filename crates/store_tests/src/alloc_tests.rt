@@ -1,12 +1,8 @@
-use super::*;
-use std::fmt::Debug;
-use std::process::Abort;
+// The map of free blocks, and a block as cells.
+use crate::file_tests::same;
+use iso_alloc::{Cells, free_blocks, give_back, lay, take_lowest};
 use std::test::Fail;
-
-// Two values that are to be the same. Each test that compared them itself would prove what is printed where they differ.
-fn same<T: PartialEq + Debug + Drop>(rt: &impl Abort, found: T, wanted: T) {
-    assert_eq!(rt; found, wanted);
-}
+use store_model::Region;
 
 #[test]
 fn blocks_are_taken_lowest_first(rt: HostRuntime) -> Result<(), Fail> {

@@ -1,18 +1,13 @@
+// A transaction over an array in memory: what it shows, and what it refuses.
 ghost use Rattle.std.specs.Prelude.{◌≡◌, IfOk};
 ghost use Rattle.plain_tx.specs.Plain.{state_of};
 
-use super::*;
+use crate::file_tests::same;
+use plain_tx::PlainTx;
 use std::alloc::Global;
-use std::fmt::Debug;
-use std::process::Abort;
 use std::test::Fail;
 use store_model::TxError;
 use tx_blocks::TxBlocks;
-
-// Two values that are to be the same. Each test that compared them itself would prove what is printed where they differ.
-fn same<T: PartialEq + Debug + Drop>(rt: &impl Abort, found: T, wanted: T) {
-    assert_eq!(rt; found, wanted);
-}
 
 // Two blocks of 64 bytes.
 fn small(alloc: Global) -> Result<PlainTx, Fail>
