@@ -1,6 +1,6 @@
 //! Runs of small clients: what no clause says.
 
-use crate::{Client, Flow, Gate, Job, run_all};
+use par_runner::{Client, Flow, Gate, Job, run_all};
 use script_model::{Line, Op};
 use std::alloc::Global;
 use std::fmt::Debug;

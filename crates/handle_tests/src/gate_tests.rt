@@ -1,6 +1,6 @@
 //! When a gate is called, and what it is told.
-use crate::tests::{Digits, both, job, same};
-use crate::{Client, Flow, Gate, run_all};
+use crate::runner_tests::{Digits, both, job, same};
+use par_runner::{Client, Flow, Gate, run_all};
 use script_model::Line;
 use std::sync::Wait;
 use std::sync::atomic::{AtomicU64, Ordering};
