@@ -5,6 +5,3 @@
 mod gate;
 
 pub use gate::{open_gate, put_body, shut_gate, stands_closed};
-
-#[cfg(test)]
-mod tests;

@@ -4,6 +4,3 @@
 mod count;
 
 pub use count::{count_call, raise};
-
-#[cfg(test)]
-mod tests;

@@ -5,6 +5,3 @@ mod file_disk;
 mod files;
 
 pub use file_disk::FileDisk;
-
-#[cfg(test)]
-mod tests;

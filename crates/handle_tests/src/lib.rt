@@ -1,4 +1,4 @@
-//! The tests of `handle_pass`, `device_calls`, `group_commit` and `par_lines`, over new images in memory.
+//! The tests of `handle_pass`, `device_calls`, `group_commit` and `par_lines`, over new images in memory, and of `par_runner`.
 #![tactic(auto)]
 
 #[cfg(test)]
@@ -6,7 +6,11 @@ mod call_tests;
 #[cfg(test)]
 mod client_tests;
 #[cfg(test)]
+mod gate_tests;
+#[cfg(test)]
 mod group_tests;
+#[cfg(test)]
+mod runner_tests;
 #[cfg(test)]
 mod session_tests;
 #[cfg(test)]

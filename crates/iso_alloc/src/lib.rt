@@ -6,8 +6,6 @@ mod cells;
 mod free_map;
 mod parts;
 mod search;
-#[cfg(test)]
-mod tests;
 
 pub use buffers::{buffer, is_key, is_value, spelled};
 pub use cells::Cells;

@@ -4,6 +4,3 @@
 mod disk;
 
 pub use disk::{Disk, DiskFault, Image};
-
-#[cfg(test)]
-mod tests;

@@ -14,6 +14,3 @@ pub use sink::{PutError, Sink, SinkFault, put_all};
 pub use source::{Source, SourceFault, TakeError, take_all};
 pub use std_sink::StdSink;
 pub use std_source::StdSource;
-
-#[cfg(test)]
-mod tests;

@@ -9,8 +9,3 @@ mod record;
 pub use disk::MemDisk;
 pub use failures::CallKind;
 pub use record::{Call, lay};
-
-#[cfg(test)]
-mod tests;
-#[cfg(test)]
-mod tests_draws;

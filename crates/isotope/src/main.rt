@@ -4,11 +4,6 @@
 
 ghost use Rattle.std.specs.{Prelude.{◌≡◌, ◌≢◌, false, true}, Process.exit_status};
 
-#[cfg(test)]
-mod tests;
-#[cfg(test)]
-mod tests_lock;
-
 use file_disk::FileDisk;
 use iso_io::{Sink, StdSink, StdSource, put_all};
 use iso_top::isotope;

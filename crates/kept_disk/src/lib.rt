@@ -6,6 +6,3 @@ mod pages;
 mod parts;
 
 pub use kept::Kept;
-
-#[cfg(test)]
-mod tests;

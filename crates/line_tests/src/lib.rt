@@ -1,15 +1,7 @@
-//! The tests of `script_text`, `script_runner`, `whole_script`, `par_text`, `bench_script` and `command_line`.
+//! Tests of lines and of the script of a bench, below the top call: what no script shows.
 #![tactic(auto)]
 
 #[cfg(test)]
 mod bench_tests;
 #[cfg(test)]
-mod commit_tests;
-#[cfg(test)]
-mod run_tests;
-#[cfg(test)]
 mod text_tests;
-#[cfg(test)]
-mod whole_tests;
-#[cfg(test)]
-mod word_tests;

@@ -6,8 +6,3 @@ mod run;
 
 pub use job::{Client, Flow, Gate, Job};
 pub use run::run_all;
-
-#[cfg(test)]
-mod tests;
-#[cfg(test)]
-mod tests_gate;

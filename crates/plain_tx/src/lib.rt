@@ -2,7 +2,5 @@
 #![tactic(auto)]
 
 mod plain_tx;
-#[cfg(test)]
-mod tests;
 
 pub use plain_tx::PlainTx;

@@ -6,6 +6,3 @@ mod queued;
 
 pub use iso_memdisk::Call;
 pub use queued::QueuedDisk;
-
-#[cfg(test)]
-mod tests;

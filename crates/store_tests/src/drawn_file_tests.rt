@@ -258,7 +258,7 @@ fn transactions(
 
 #[test]
 fn drawn_calls_on_files_agree_with_a_plain_map(rt: HostRuntime) -> Result<(), Fail> {
-    let mut last = blank(rt.alloc(), 0, 0)?;
+    let mut last = blank(rt.alloc())?;
     let none = Plain {
         there: false,
         size: 0,

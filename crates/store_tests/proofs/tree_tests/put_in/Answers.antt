@@ -4,4 +4,4 @@ use Rattle.store_model.specs.TreeCalls.{put_program}
 use Rattle.store_tests.proofs.Kept.{stays_ready}
 
 pub returns : Rattle.store_tests.proofs.tree_tests.put_in.Goals.returns
-returns c = stays_ready 40 (put_program (area_of (state_of c.args.tx.now) (record { start = 1; size = c.args.size })) c.args.key.now c.args.value.now) (state_of c.args.tx.now) (state_of c.put.new.tx) c.put.result c.put.ensures.ended c.requires.ready
+returns c = stays_ready 40 (put_program (area_of (state_of c.args.tx.now) c.region.result) c.args.key.now c.args.value.now) (state_of c.args.tx.now) (state_of c.put.new.tx) c.put.result c.put.ensures.ended c.requires

@@ -1,0 +1,100 @@
+// A disk that tells nothing, as a real file: the trait asks of it only sizes, counts and causes.
+ghost use Rattle.std.specs.{Prelude.{◌≡◌, ◌^◌, ◌<◌}, Option.option_map};
+ghost use Rattle.fault_count.specs.Count.{HasCause};
+ghost use Rattle.iso_disk.specs.Untold.{untold, untold_is_lawful};
+
+use fault_count::raise;
+use iso_disk::{Disk, DiskFault, Image};
+use std::alloc::Global;
+use std::test::Fail;
+
+// Each call fails and is counted, but for the first `working`.
+#[derive(Drop)]
+struct Silent {
+    alloc: Global,
+    name: Option<Vec<u8>>,
+    size: u64,
+    working: u64,
+    faults: u64,
+    binds: u64,
+    ghost fits: { size < 2 ^ 64 },
+}
+
+impl Silent {
+    fn answer(&mut self) -> Result<(), DiskFault>
+        ensures cause { HasCause self.old.faults self.new.faults result }
+        ensures rest { self.new ≡ record self.old { working = self.new.working; faults = self.new.faults } }
+    {
+        if self.working > 0 {
+            self.working -= 1;
+            return Ok(());
+        }
+        raise(&mut self.faults);
+        Err(DiskFault)
+    }
+}
+
+impl Disk for Silent {
+    ghost state = { λ d. untold d.size d.faults d.binds (option_map (λ name. name.items) d.name) };
+
+    ghost size_fits = { λ d. d.fits };
+
+    ghost lawful = { λ d. untold_is_lawful d.size d.faults d.binds (option_map (λ name. name.items) d.name) };
+
+    fn size(&self) -> u64 {
+        self.size
+    }
+
+    fn read(&mut self, _at: u64, _into: &mut [u8]) -> Result<(), DiskFault> {
+        self.answer()
+    }
+
+    fn write(&mut self, _at: u64, _bytes: &[u8]) -> Result<(), DiskFault> {
+        self.answer()
+    }
+
+    fn sync(&mut self) -> Result<(), DiskFault> {
+        self.answer()
+    }
+}
+
+impl Image for Silent {
+    fn bind(&mut self, name: &str, want: Option<u64>) -> Result<(), DiskFault> {
+        raise(&mut self.binds);
+        self.name = None;
+        self.answer()?;
+        match name.as_bytes().to_vec(self.alloc) {
+            Ok(bytes) => self.name = Some(bytes),
+            Err(_) => {
+                raise(&mut self.faults);
+                return Err(DiskFault);
+            }
+        }
+        if let Some(size) = want {
+            self.size = size;
+        }
+        Ok(())
+    }
+}
+
+#[test]
+fn a_disk_that_tells_nothing_counts_its_faults(rt: HostRuntime) -> Result<(), Fail> {
+    let mut disk = Silent {
+        alloc: rt.alloc(),
+        name: None,
+        size: 0,
+        working: 4,
+        faults: 0,
+        binds: 0,
+    };
+    disk.bind("t.img", Some(8))?;
+    let len = disk.size();
+    assert_eq!(rt; len, 8);
+    disk.write(7, &[1])?;
+    disk.sync()?;
+    disk.read(0, &mut [0; 8])?;
+    assert_eq!(rt; disk.sync(), Err(DiskFault));
+    assert_eq!(rt; disk.faults, 1);
+    assert_eq!(rt; disk.binds, 1);
+    Ok(())
+}
