@@ -254,14 +254,6 @@ impl Again<'_> {
         Ok(false)
     }
 
-    /// The images that a crash leaves, of which fewer are tried where each is given to a second call.
-    fn images_at(self, outcome: &Outcome) -> Result<Vec<Left>, Trouble> {
-        match self.call.then {
-            Some(_) => left_of(self.alloc, outcome, false, 3),
-            None => left_of(self.alloc, outcome, self.call.is_mirror(), 6),
-        }
-    }
-
     /// Whether each image that a crash leaves shows the steps that were reached.
     fn are_shown<R: Threads + Wait + Sync>(
         self,
@@ -271,7 +263,7 @@ impl Again<'_> {
         outcome: &Outcome,
         steps: Reached,
     ) -> Result<bool, Trouble> {
-        for left in self.images_at(outcome)? {
+        for left in left_of(self.alloc, outcome, self.call.is_mirror(), 6)? {
             let bounds = steps.of(left.pick);
             let shown = self.shown(rt, &left.sides, bounds)?;
             let stays = match (shown, &self.call.then) {
