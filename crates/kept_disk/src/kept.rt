@@ -43,6 +43,13 @@ impl<D: Disk> Kept<D> {
     {
         &self.disk
     }
+
+    /// The disk below, without its pages.
+    pub fn into_disk(self) -> D
+        ensures { result ≡ self.disk }
+    {
+        self.disk
+    }
 }
 
 impl<D: Disk> Disk for Kept<D> {

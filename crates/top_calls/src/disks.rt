@@ -32,11 +32,6 @@ impl Failing {
     }
 }
 
-/// A disk without bytes.
-pub fn no_disk(alloc: Global) -> MemDisk {
-    MemDisk::new(alloc, Vec::new(alloc))
-}
-
 /// A disk of these bytes that fails so.
 pub fn faulty(alloc: Global, bytes: &[u8], fault: Fault) -> Result<MemDisk, AllocError> {
     let mut disk = MemDisk::new(alloc, bytes.to_vec(alloc)?);

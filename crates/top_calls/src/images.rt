@@ -32,16 +32,3 @@ pub fn small_image(alloc: Global) -> Result<Vec<u8>, AllocError> {
     change(&mut image, 79, &[1]);
     Ok(image)
 }
-
-/// The record of commit 1, which puts ab cd at byte 5 of block 2, and the closed gate behind it.
-pub const RECORD: [u8; 31] = [
-    1, 1, 0, 0, 0, 0, 0, 1, 0, 0, 0, 10, 0, 0, 0, 0, 0, 0, 0, 1, 0, 0, 0, 2, 0, 5, 0, 2, 0xab,
-    0xcd, 0,
-];
-
-/// A small image with this commit.
-pub fn one_put_image(alloc: Global) -> Result<Vec<u8>, AllocError> {
-    let mut image = small_image(alloc)?;
-    change(&mut image, 352, &RECORD);
-    Ok(image)
-}

@@ -20,14 +20,4 @@ impl Outcome {
     pub fn image(&self, alloc: Global, pick: u64) -> Result<Vec<u8>, AllocError> {
         self.disk.crash(alloc, pick).or(Err(AllocError))
     }
-
-    /// Whether a crash leaves this image, for each of the picks up to this one.
-    pub fn leaves(&self, alloc: Global, last: u64, image: &[u8]) -> Result<bool, AllocError> {
-        for pick in 0..last.saturating_add(1) {
-            if self.image(alloc, pick)?.as_slice() != image {
-                return Ok(false);
-            }
-        }
-        Ok(true)
-    }
 }

@@ -1,4 +1,5 @@
-//! Tests of the top call: rows of replies, groups, commands, runs one behind the other, limits, scripts on stores and on files, drawn ones, and one long script.
+//! Tests of the top call that no case of a file can say: drawn calls against a second program, gates and sources of a test's own, stops of
+//! clients whose replies come in many orders, a mirror below the top call, and real files.
 #![tactic(auto)]
 
 #[cfg(test)]
@@ -8,28 +9,24 @@ mod drawn_lines;
 #[cfg(test)]
 mod plain_files;
 #[cfg(test)]
-mod talk;
-#[cfg(test)]
-mod tests_commands;
+mod tests_cut;
 #[cfg(test)]
 mod tests_drawn;
 #[cfg(test)]
+mod tests_drawn_clients;
+#[cfg(test)]
 mod tests_drawn_files;
 #[cfg(test)]
-mod tests_files;
+mod tests_gate;
 #[cfg(test)]
-mod tests_groups;
+mod tests_hand_on;
 #[cfg(test)]
-mod tests_limits;
+mod tests_kept;
 #[cfg(test)]
-mod tests_long;
+mod tests_mirror;
 #[cfg(test)]
-mod tests_rows;
+mod tests_mirror_files;
 #[cfg(test)]
-mod tests_runs;
+mod tests_real_file;
 #[cfg(test)]
-mod tests_stores;
-#[cfg(test)]
-mod tests_told;
-#[cfg(test)]
-mod tests_trees;
+mod tests_stops;

@@ -1,7 +1,7 @@
 // Drawn calls of a hash store in transactions that commit or are aborted, against a plain map.
 use std::alloc::{AllocError, Global};
 use std::test::Fail;
-use top_calls::answers_on;
+use top_calls::call;
 
 // One bucket of three cells and two overflow blocks, so that the keys fill a chain of three blocks.
 const CHAIN: &str = "isotope new t.img --block-size 256 --blocks 8 --log 65536 --hash 4";
@@ -98,10 +98,8 @@ fn drawn_calls_of_a_hash_store_agree_with_a_plain_map(rt: HostRuntime) -> Result
     for seed in 0..4u32 {
         let (script, replies) = drawn(alloc, seed)?;
         for words in [CHAIN, BUCKETS] {
-            assert!(rt;
-                answers_on(alloc, words, &script, &replies)?,
-                "{seed} {words}"
-            );
+            let outcome = call(&rt, alloc, words, &script)?;
+            assert!(rt; outcome.gave(0, &replies), "{seed} {words}");
         }
     }
     Ok(())

@@ -3,7 +3,9 @@ use crate::drawn_lines::{Act, CLIENTS, Call, Line, closing, drawn, spelled};
 use crate::plain_files::Files;
 use std::alloc::{AllocError, Global};
 use std::fmt::Write;
+use std::sync::Wait;
 use std::test::Fail;
+use std::thread::Threads;
 use top_calls::{Outcome, call, run_image};
 
 // The files have twenty blocks: one of their map, and for each of three files at most one of its own and three of its bytes.
@@ -231,11 +233,16 @@ fn replies_of(alloc: Global, output: &[u8], lines: &[Line]) -> Result<Vec<String
 
 /// How transactions have ended with those of one more drawn script, and the first line of it, or of a run behind it that closes it,
 /// that is not answered as by a plain map.
-fn ended(alloc: Global, seed: u32, before: Ends) -> Result<(Ends, Option<usize>), AllocError> {
+fn ended<R: Threads + Wait + Sync>(
+    rt: &R,
+    alloc: Global,
+    seed: u32,
+    before: Ends,
+) -> Result<(Ends, Option<usize>), AllocError> {
     let lines = drawn(alloc, seed, 300)?;
     let mut known = Known::new();
     known.ends = before;
-    let outcome = call(alloc, FILES, spelled(alloc, &lines)?.as_bytes())?;
+    let outcome = call(rt, alloc, FILES, spelled(alloc, &lines)?.as_bytes())?;
     let other = known.other(alloc, &outcome, &lines)?;
     if other.is_some() {
         return Ok((known.ends, other));
@@ -243,7 +250,7 @@ fn ended(alloc: Global, seed: u32, before: Ends) -> Result<(Ends, Option<usize>)
     // The files stand in the next run.
     let lines = closing();
     let script = spelled(alloc, &lines)?;
-    let outcome = run_image(alloc, outcome.image(alloc, 0)?, script.as_bytes())?;
+    let outcome = run_image(rt, alloc, outcome.image(alloc, 0)?, script.as_bytes())?;
     let other = known.other(alloc, &outcome, &lines)?;
     Ok((known.ends, other))
 }
@@ -252,7 +259,7 @@ fn ended(alloc: Global, seed: u32, before: Ends) -> Result<(Ends, Option<usize>)
 fn drawn_transactions_on_files_agree_with_a_plain_map(rt: HostRuntime) -> Result<(), Fail> {
     let mut ends = NO_ENDS;
     for seed in 0..6u32 {
-        let (later, other) = ended(rt.alloc(), seed, ends)?;
+        let (later, other) = ended(&rt, rt.alloc(), seed, ends)?;
         assert_eq!(rt; other, None, "{seed}");
         ends = later;
     }
