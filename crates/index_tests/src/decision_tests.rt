@@ -1,30 +1,14 @@
 ghost use Rattle.std.specs.Prelude.{◌≡◌, ◌<◌};
 
-use crate::marks_tests::same;
-use byte_marks::{Marks, Touched};
+use crate::marks_tests::{same, touched};
+use byte_marks::Touched;
 use conflict_rule::{Checked, Notes, decide};
-use iso_model::{Clash, Mode, Span};
+use iso_model::{Clash, Mode};
 use std::alloc::Global;
 use std::marker::Brand;
 use std::sync::ledger::Blank;
 use std::test::Fail;
 use step_count::{Ledger, Steps};
-
-// These bytes of blocks: the block, the first byte, how many.
-fn touched(alloc: Global, parts: &[(u32, u16, u16)]) -> Result<Touched, Fail> {
-    let mut all = Touched::empty(alloc);
-    for (block, off, len) in parts {
-        let mut marks = Marks::empty(alloc);
-        if *len > 0 && *len <= 4096 && *off <= 4096 - *len {
-            marks.add(Span {
-                off: *off,
-                len: *len,
-            })?;
-        }
-        all.add(*block, &marks)?;
-    }
-    Ok(all)
-}
 
 // Commit 3 writes the first bytes of block 5, commit 4 some of the blocks 2 and 5, and commit 5 all of block 9.
 fn three_commits(alloc: Global) -> Result<Notes, Fail> {

@@ -1,7 +1,5 @@
-ghost use Rattle.std.specs.Prelude.{◌≡◌, ◌≤◌};
-
 use byte_marks::{Marks, Touched};
-use iso_model::Span;
+use iso_model::{Memory, Span};
 use std::alloc::Global;
 use std::fmt::Debug;
 use std::process::Abort;
@@ -12,15 +10,8 @@ pub(crate) fn same<T: PartialEq + Debug + Drop>(rt: &impl Abort, found: T, wante
     assert_eq!(rt; found, wanted);
 }
 
-fn span(off: u16, len: u16) -> Span
-    ensures { result ≡ record { off = off; len = len } }
-{
-    Span { off, len }
-}
-
-// A set of the bytes of these spans, each of which lies in a block.
-fn set_of(alloc: Global, spans: &[(u16, u16)]) -> Result<Marks, Fail> {
-    let mut marks = Marks::empty(alloc);
+// Adds the bytes of these spans, each of which lies in a block. It owns no set, since all that is owned is dropped at each `?`.
+fn add_spans(marks: &mut Marks, spans: &[(u16, u16)]) -> Result<(), Memory> {
     for (off, len) in spans {
         if *len > 0 && *len <= 4096 && *off <= 4096 - *len {
             marks.add(Span {
@@ -29,7 +20,35 @@ fn set_of(alloc: Global, spans: &[(u16, u16)]) -> Result<Marks, Fail> {
             })?;
         }
     }
+    Ok(())
+}
+
+// A set of the bytes of these spans.
+fn set_of(alloc: Global, spans: &[(u16, u16)]) -> Result<Marks, Fail> {
+    let mut marks = Marks::empty(alloc);
+    add_spans(&mut marks, spans)?;
     Ok(marks)
+}
+
+// Adds these bytes of blocks: the block, the first byte, how many.
+fn add_bytes(alloc: Global, all: &mut Touched, parts: &[(u32, u16, u16)]) -> Result<(), Memory> {
+    for (block, off, len) in parts {
+        if *len > 0 && *len <= 4096 && *off <= 4096 - *len {
+            let span = Span {
+                off: *off,
+                len: *len,
+            };
+            all.put(*block, Marks::of(alloc, span))?;
+        }
+    }
+    Ok(())
+}
+
+// These bytes of blocks.
+pub(crate) fn touched(alloc: Global, parts: &[(u32, u16, u16)]) -> Result<Touched, Fail> {
+    let mut all = Touched::empty(alloc);
+    add_bytes(alloc, &mut all, parts)?;
+    Ok(all)
 }
 
 // Adding the spans gives these runs, and the bytes that a plain table of the block marks.
@@ -93,25 +112,38 @@ fn ninth_run_goes_to_the_heap(rt: HostRuntime) -> Result<(), Fail> {
     expect_runs(&rt, alloc, nine.as_slice(), nine.as_slice())
 }
 
-// Ten runs of 100 bytes, the first at `from`, each 400 bytes after the one before.
-fn ten_runs(alloc: Global, from: u16) -> Result<Marks, Fail>
-    requires { from ≤ 300 }
-{
-    let mut marks = Marks::empty(alloc);
-    for k in 0..10u16 {
-        marks.add(Span {
-            off: 400 * k + from,
-            len: 100,
-        })?;
-    }
-    Ok(marks)
-}
+// Ten runs of 100 bytes, each 400 bytes after the one before, and ten that lie between them.
+const TEN_RUNS: [(u16, u16); 10] = [
+    (0, 100),
+    (400, 100),
+    (800, 100),
+    (1200, 100),
+    (1600, 100),
+    (2000, 100),
+    (2400, 100),
+    (2800, 100),
+    (3200, 100),
+    (3600, 100),
+];
+
+const TEN_BETWEEN: [(u16, u16); 10] = [
+    (200, 100),
+    (600, 100),
+    (1000, 100),
+    (1400, 100),
+    (1800, 100),
+    (2200, 100),
+    (2600, 100),
+    (3000, 100),
+    (3400, 100),
+    (3800, 100),
+];
 
 #[test]
 fn union_of_more_than_eight_runs(rt: HostRuntime) -> Result<(), Fail> {
     let alloc = rt.alloc();
-    let mut marks = ten_runs(alloc, 0)?;
-    marks.union(&ten_runs(alloc, 200)?)?;
+    let mut marks = set_of(alloc, TEN_RUNS.as_slice())?;
+    marks.union(&set_of(alloc, TEN_BETWEEN.as_slice())?)?;
     let mut at = 0u16;
     for run in marks.spans() {
         assert!(&rt; run.off == at && run.len == 100);
@@ -127,7 +159,7 @@ fn block_with_no_byte_is_empty(rt: HostRuntime) -> Result<(), Fail> {
     let mut touched = Touched::empty(alloc);
     touched.add(7, &Marks::empty(alloc))?;
     assert!(rt; touched.is_empty());
-    touched.add(7, &ten_runs(alloc, 0)?)?;
+    touched.add(7, &set_of(alloc, TEN_RUNS.as_slice())?)?;
     assert!(rt; !touched.is_empty());
     Ok(())
 }
@@ -135,16 +167,15 @@ fn block_with_no_byte_is_empty(rt: HostRuntime) -> Result<(), Fail> {
 #[test]
 fn set_of_one_span_is_handed_over(rt: HostRuntime) -> Result<(), Fail> {
     let alloc = rt.alloc();
-    let mut marks = Marks::of(alloc, span(8, 4));
-    marks.add(span(12, 4))?;
+    let mut marks = Marks::of(alloc, Span { off: 8, len: 4 });
+    marks.add(Span { off: 12, len: 4 })?;
     let mut touched = Touched::empty(alloc);
     touched.put(3, marks)?;
-    touched.put(9, Marks::of(alloc, span(5, 1)))?;
-    touched.put(3, Marks::of(alloc, span(0, 1)))?;
+    add_bytes(alloc, &mut touched, &[(9, 5, 1), (3, 0, 1)])?;
     let mut other = Touched::empty(alloc);
-    other.put(9, Marks::of(alloc, span(5, 1)))?;
+    add_bytes(alloc, &mut other, &[(9, 5, 1)])?;
     same(&rt, touched.first_meet(&other), Some((9, 5)));
-    other.put(3, Marks::of(alloc, span(15, 9)))?;
+    add_bytes(alloc, &mut other, &[(3, 15, 9)])?;
     same(&rt, touched.first_meet(&other), Some((3, 15)));
     touched.clear();
     assert!(rt; touched.is_empty());
@@ -162,30 +193,37 @@ fn least_common_byte_of_two_sets(rt: HostRuntime) -> Result<(), Fail> {
     assert!(rt; !left.meets(&apart));
     apart.union(&right)?;
     same(&rt, left.first_meet(&apart), Some(73));
-    assert!(rt; apart.covers(span(10, 54)));
-    assert!(rt; apart.covers(span(73, 127)));
-    assert!(rt; !apart.covers(span(72, 2)));
-    assert!(rt; !apart.covers(span(4095, 2)));
+    assert!(rt; apart.covers(Span { off: 10, len: 54 }));
+    assert!(rt; apart.covers(Span { off: 73, len: 127 }));
+    assert!(rt; !apart.covers(Span { off: 72, len: 2 }));
+    assert!(rt; !apart.covers(Span { off: 4095, len: 2 }));
     Ok(())
+}
+
+// The least common bytes of two sets, before and behind 60 bytes of block 4 that are added to the first; then those of a copy that was
+// made in between, with the second set and with an empty one.
+fn meets(
+    alloc: Global,
+    reads: &mut Touched,
+    writes: &Touched,
+) -> Result<[Option<(u32, u16)>; 4], Memory> {
+    let before = reads.first_meet(writes);
+    let copy = reads.copy()?;
+    add_bytes(alloc, reads, &[(4, 4, 60)])?;
+    Ok([
+        before,
+        reads.first_meet(writes),
+        copy.first_meet(writes),
+        copy.first_meet(&Touched::empty(alloc)),
+    ])
 }
 
 #[test]
 fn least_common_byte_of_the_least_common_block(rt: HostRuntime) -> Result<(), Fail> {
     let alloc = rt.alloc();
-    let low = set_of(alloc, &[(0, 8)])?;
-    let high = set_of(alloc, &[(4, 60)])?;
-    let mut reads = Touched::empty(alloc);
-    reads.add(9, &low)?;
-    reads.add(3, &low)?;
-    reads.add(5, &high)?;
-    let mut writes = Touched::empty(alloc);
-    writes.add(9, &high)?;
-    writes.add(4, &low)?;
-    same(&rt, reads.first_meet(&writes), Some((9, 4)));
-    let copy = reads.copy()?;
-    reads.add(4, &high)?;
-    same(&rt, reads.first_meet(&writes), Some((4, 4)));
-    same(&rt, copy.first_meet(&writes), Some((9, 4)));
-    same(&rt, copy.first_meet(&Touched::empty(alloc)), None);
+    let mut reads = touched(alloc, &[(9, 0, 8), (3, 0, 8), (5, 4, 60)])?;
+    let writes = touched(alloc, &[(9, 4, 60), (4, 0, 8)])?;
+    let found = meets(alloc, &mut reads, &writes)?;
+    same(&rt, found, [Some((9, 4)), Some((4, 4)), Some((9, 4)), None]);
     Ok(())
 }

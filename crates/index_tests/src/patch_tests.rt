@@ -1,4 +1,4 @@
-ghost use Rattle.std.specs.Prelude.{◌≡◌, ◌+◌, ◌≤◌, IsTrue, length};
+ghost use Rattle.std.specs.Prelude.{◌≡◌, ◌+◌, ◌≤◌, IfOk, IsTrue, length};
 ghost use Rattle.iso_model.specs.Geometry.{is_block_size};
 
 use iso_model::{Span, SpanList};
@@ -21,16 +21,38 @@ fn fill(bytes: &mut [u8], seed: u64)
     }
 }
 
-// The bytes of a span, by a loop.
+// The bytes of a span, one by one.
 fn lay_plainly(span: Span, from: &[u8], into: &mut [u8])
-    requires inside { span.off + span.len ≤ length into.old }
-    requires same { length from.now ≡ length into.old }
     ensures { length into.new ≡ length into.old }
 {
     let start = span.off as usize;
-    for at in start..start + span.len as usize {
-        into[at] = from[at];
+    let end = start + span.len as usize;
+    let mut at = 0usize;
+    for byte in into.iter_mut() {
+        if at >= start && at < end {
+            *byte = from.get(at).copied().unwrap_or(0);
+        }
+        at = at.wrapping_add(1);
     }
+}
+
+// Drawn bytes of a block of this size, the same for a seed.
+fn drawn(alloc: Global, size: u32, seed: u64) -> Result<Vec<u8>, Fail>
+    ensures { IfOk result (λ v. length v.items ≡ size) }
+{
+    let mut bytes = vec![in alloc; 0u8; size as usize]?;
+    fill(&mut bytes, seed);
+    Ok(bytes)
+}
+
+// The runs of a patch, each with as many bytes as it is long.
+fn runs_of(rt: &impl Abort, alloc: Global, patch: &Patch) -> Result<Vec<Span>, Fail> {
+    let mut runs = Vec::new(alloc);
+    for (span, bytes) in patch.spans() {
+        assert!(rt; bytes.len() == span.len as usize);
+        runs.push(span)?;
+    }
+    Ok(runs)
 }
 
 // A write of two spans and a later one of one, laid over a block, against a loop over the bytes. Gives the runs.
@@ -47,35 +69,24 @@ fn laid_runs(
     requires second { second.off + second.len ≤ size }
     requires later { later.off + later.len ≤ size }
 {
-    let mut block = vec![in alloc; 0u8; size as usize]?;
-    let mut wanted = vec![in alloc; 0u8; size as usize]?;
-    let mut one = vec![in alloc; 0u8; size as usize]?;
-    let mut two = vec![in alloc; 0u8; size as usize]?;
-    fill(&mut block, 3);
-    fill(&mut wanted, 3);
-    fill(&mut one, 7);
-    fill(&mut two, 11);
+    let mut block = drawn(alloc, size, 3)?;
+    let mut wanted = drawn(alloc, size, 3)?;
+    let one = drawn(alloc, size, 7)?;
+    let two = drawn(alloc, size, 11)?;
     let mut spans = SpanList::empty(alloc);
     spans.push(first)?;
     spans.push(second)?;
     let mut patch = Patch::blank(alloc, size)?;
     patch.set(&one, &spans);
-    let mut later_spans = SpanList::empty(alloc);
-    later_spans.push(later)?;
     let mut next = Patch::blank(alloc, size)?;
-    next.set(&two, &later_spans);
+    next.set_spans(&two, [later].as_slice());
     patch.then(&next);
     patch.over(&mut block);
     lay_plainly(first, &one, &mut wanted);
     lay_plainly(second, &one, &mut wanted);
     lay_plainly(later, &two, &mut wanted);
     assert!(rt; block.as_slice() == wanted.as_slice());
-    let mut runs = Vec::new(alloc);
-    for (span, bytes) in patch.spans() {
-        assert!(rt; bytes.len() == span.len as usize);
-        runs.push(span)?;
-    }
-    Ok(runs)
+    runs_of(rt, alloc, &patch)
 }
 
 fn span(off: u16, len: u16) -> Span
