@@ -1,4 +1,6 @@
 // Replies that are held back come out before more of the script is waited for: a sink of the test's own counts how often it is to hand on.
+ghost use Rattle.std.specs.Prelude.{◌<◌};
+
 use iso_io::{MemSink, MemSource, Sink, SinkFault};
 use iso_memdisk::MemDisk;
 use iso_top::isotope;
