@@ -10,6 +10,7 @@ ghost use Rattle.iso_shared.specs.{Standing.{Came, Holds}, States.opened};
 
 mod bank;
 mod sums;
+mod told;
 
 use accounts::{Account, Plan, run_accounts};
 use bank::Bank;
@@ -29,6 +30,7 @@ use std::marker::Brand;
 use std::sync::Wait;
 use std::thread::Threads;
 use sums::{Sum, sum_of};
+use told::Told;
 
 /// The name of the image.
 const NAME: &str = "accounts.img";
@@ -49,14 +51,14 @@ fn numbers() -> Geometry
     }
 }
 
-/// Moves amounts on a device over a core, and hands the disk back. Without memory nothing is moved.
+/// Moves amounts on a device over a core, and hands the disk back with what was told. Without memory nothing is moved or told.
 fn moved<D: Disk + Drop + Send, O: Origin + Send + Sync, R: Threads + Wait + Sync>(
     rt: &R,
     alloc: Global,
     core: Core<D>,
     beginning: Beginning,
     plan: &Plan,
-) -> D
+) -> (Option<Told>, D)
     requires start { Holds D.state core (opened O.start) × (O.start.world.live ≡ []) }
     requires came { Came O.start O.disk (D.state (disk_of core)) [] }
     requires store { O.start.world.geometry.hash ≢ 0 }
@@ -64,8 +66,11 @@ fn moved<D: Disk + Drop + Send, O: Origin + Send + Sync, R: Threads + Wait + Syn
 {
     let _ = beginning;
     match run_accounts::<D, O, R>(rt, alloc, core, plan) {
-        Ok((_report, core)) => core.into_disk(),
-        Err((_memory, core)) => core.into_disk(),
+        Ok((report, core)) => {
+            let told = Told::of(&report, core.stat().last);
+            (Some(told), core.into_disk())
+        }
+        Err((_memory, core)) => (None, core.into_disk()),
     }
 }
 
@@ -75,13 +80,13 @@ fn move_over<D: Disk + Drop + Send, R: Threads + Wait + Sync>(
     alloc: Global,
     core: Core<D>,
     plan: &Plan,
-) -> D
+) -> (Option<Told>, D)
     requires start { (W : World) × BeginsAt D.state core W }
     requires few { length plan.now.handed.now ≤ MAX_GROUP }
 {
     let beginning = beginning_of(&core);
     if core.geometry().hash == 0 {
-        return core.into_disk();
+        return (None, core.into_disk());
     }
     moved::<D, Brand, R>(rt, alloc, core, beginning, plan)
 }
@@ -93,16 +98,16 @@ fn moved_again<I: Image + Drop + Send, R: Threads + Wait + Sync>(
     image: I,
     name: &str,
     plan: &Plan,
-) -> I
+) -> (Option<Told>, I)
     requires few { length plan.now.handed.now ≤ MAX_GROUP }
 {
     let mut image = image;
     if let Err(_) = image.bind(name, None) {
-        return image;
+        return (None, image);
     }
     match open_image(alloc, image) {
         Ok(core) => move_over(rt, alloc, core, plan),
-        Err((_error, image)) => image,
+        Err((_error, image)) => (None, image),
     }
 }
 
@@ -113,7 +118,7 @@ fn moved_on<I: Image + Drop + Send, R: Threads + Wait + Sync>(
     image: I,
     name: &str,
     plan: &Plan,
-) -> I
+) -> (Option<Told>, I)
     requires few { length plan.now.handed.now ≤ MAX_GROUP }
 {
     let mut image = image;
@@ -123,7 +128,7 @@ fn moved_on<I: Image + Drop + Send, R: Threads + Wait + Sync>(
     }
     match format_image(alloc, image, &geometry) {
         Ok(core) => move_over(rt, alloc, core, plan),
-        Err((_error, image)) => image,
+        Err((_error, image)) => (None, image),
     }
 }
 
@@ -169,7 +174,7 @@ fn stops_well<R: Threads + Wait + Sync>(rt: &R, alloc: Global, plan: &Plan, sum:
     for calls in 6..40 {
         let mut disk = blank(alloc);
         disk.fuse(calls);
-        let disk = moved_on(rt, alloc, disk, NAME, plan);
+        let (_, disk) = moved_on(rt, alloc, disk, NAME, plan);
         if !opens_to(rt, alloc, &disk, plan.accounts, sum) {
             return false;
         }
@@ -205,7 +210,19 @@ fn main(rt: HostRuntime) -> io::Result<()> {
     let alloc = rt.alloc();
     let bank = Bank::new();
     let plan = bank.plan();
-    let disk = moved_on(&rt, alloc, blank(alloc), NAME, &plan);
+    let (told, disk) = moved_on(&rt, alloc, blank(alloc), NAME, &plan);
+    let Some(told) = told else {
+        return println!(rt; "no memory");
+    };
+    let Told {
+        first,
+        second,
+        members,
+        whole,
+    } = told;
+    println!(rt;
+        "transfers of the threads: {first} and {second}; members of the group: {members}; each commit was told of: {whole}"
+    )?;
     let stays = opens_to(&rt, alloc, &disk, plan.accounts, 800);
     let (accounts, sum) = shown(sum_on_image(&rt, alloc, disk, NAME, plan.accounts));
     println!(rt; "in memory: accounts {accounts} sum {sum}, in each image of a crash: {stays}")?;
