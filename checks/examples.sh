@@ -36,4 +36,6 @@ done
 for name in $(sed -n 's/^case //p' "$cases"); do
   [ -e "examples/$name.script" ] || { echo "examples/$name.script is missing"; status=1; }
 done
+# each file of cases is one that the program is given
+diff <(LC_ALL=C sort crates/case_tests/args) <(cd crates/case_tests/data && LC_ALL=C ls) || status=1
 exit $status

@@ -11,7 +11,7 @@ cd "$(dirname "$0")/.." || exit 1
 program=$(realpath -m "${1:-crates/isotope/out/isotope}")
 [ -x "$program" ] || { echo "file_calls: there is no $program, so it is not tried"; exit 0; }
 strace -qq -o /dev/null true 2> /dev/null || { echo "file_calls: strace cannot be run here, so the calls are not looked at"; exit 0; }
-work=$(mktemp -d) || exit 1
+work=$(cd "$(mktemp -d)" && pwd -P) || exit 1
 trap 'rm -rf "$work"' EXIT
 cd "$work" || exit 1
 status=0
@@ -27,7 +27,7 @@ traced() {
   shift
   while [ "$1" != -- ]; do words+=("$1"); shift; done
   shift
-  strace -qq -y -s 0 -o log -e signal=none -e trace=openat,flock,fsync,fdatasync,pread64,pwrite64 "${words[@]}" "$program" "$@" < "$input" > said 2>&1
+  timeout 60 strace -qq -y -s 0 -o log -e signal=none -e trace=openat,flock,fsync,fdatasync,pread64,pwrite64 "${words[@]}" "$program" "$@" < "$input" > said 2>&1
   ended=$?
   calls > called
 }
@@ -165,14 +165,15 @@ left_out() {
   traced next.script -e inject="$call:error=EIO:when=$number" -- run m.img+
   ended_as "run of a mirror, where $call $number fails" 0
   failed=$(grep INJECTED log | sed 's/^[^<]*<\([^>]*\)>.*/\1/')
+  [ -n "$failed" ] || tell "run of a mirror: $call $number is not called"
   at=$(grep -n INJECTED log | cut -d: -f1)
   ! tail -n +$((at + 1)) log | grep -qF "<$failed>" || tell "run of a mirror, where $call $number fails: $(basename "$failed") is called again"
-  "$program" run m.img+ < empty.script > said || tell "the run behind it fails: $(cat said)"
+  timeout 60 "$program" run m.img+ < empty.script > said || tell "the run behind it fails: $(cat said)"
   cmp -s m.img+0 m.img+1 || tell "the run behind it leaves the sides apart"
-  [ "$("$program" recover m.img+ < empty.script | head -1)" = "$recovered" ] || tell "run of a mirror, where $call $number fails, lost its commit"
+  [ "$(timeout 60 "$program" recover m.img+ < empty.script | head -1)" = "$recovered" ] || tell "run of a mirror, where $call $number fails, lost its commit"
 }
 traced next.script -- run m.img+
-recovered=$("$program" recover m.img+ < empty.script | head -1)
+recovered=$(timeout 60 "$program" recover m.img+ < empty.script | head -1)
 first=$(grep -n '^pwrite64 ' called | head -1 | cut -d: -f1)
 before=$(head -n "$first" called | grep -c '^fdatasync ')
 for number in 1 2 3 4; do
