@@ -137,7 +137,7 @@ impl Book {
         let (side, line) = side_of(line.as_str());
         let (word, rest) = line.split_once(' ').unwrap_or((line, ""));
         if self.goes_on(word, rest)? || self.lays(word, rest)? || self.fails(side, word, rest)? {
-            return Ok(());
+            return self.stands_by_a_call();
         }
         self.settle(rt)?;
         if self.begins(number, line, word, rest)? || self.is_of_image(side, word, rest)? {
@@ -146,7 +146,16 @@ impl Book {
         Err(Trouble::Said("no line of a case begins so"))
     }
 
+    /// A row, or a line that says more of a call, has a call above it: else nothing would ask for it.
+    fn stands_by_a_call(&self) -> Result<(), Trouble> {
+        if self.is_due {
+            return Ok(());
+        }
+        Err(Trouble::Said("no call stands above this line"))
+    }
+
     fn add_row(&mut self, line: usize, row: &str) -> Result<(), Trouble> {
+        self.stands_by_a_call()?;
         if sides_of(row).1.is_some() {
             self.telling.sums.count_reply();
         }
@@ -271,6 +280,9 @@ impl Book {
             "add" => image.extend_from_slice(&bytes_of(self.alloc, rest)?)?,
             "on" => image = self.image_of(rest)?,
             "keep" => {
+                if self.image_of(rest).is_ok() {
+                    return Err(Trouble::Said("an image is kept under this name already"));
+                }
                 let name = String::from_str(self.alloc, rest)?;
                 self.images.push(Kept { name, image })?;
                 return Ok(true);

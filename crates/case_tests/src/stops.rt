@@ -329,9 +329,14 @@ impl Again<'_> {
         if !self.are_shown(rt, telling, moment, &outcome, steps)? {
             return Ok(None);
         }
-        let is_behind = outcome.first.calls() != moment.number;
-        if outcome.status == 5 && moment.is_alone && !call.is_mirror() && is_behind {
-            let text = "a call of the disk was made behind the one that failed";
+        let calls = outcome.first.calls();
+        let is_wrong = match outcome.status {
+            0 => calls >= moment.number,
+            5 => moment.is_alone && calls != moment.number,
+            _ => false,
+        };
+        if is_wrong && !call.is_mirror() {
+            let text = "the call that failed was not told, or was not the last one";
             telling.tell(call.line, text)?;
             return Ok(None);
         }
@@ -360,6 +365,10 @@ impl Again<'_> {
             let moment = Moment::of(Side::First, way, number, name);
             match self.status_at(rt, telling, moment)? {
                 None => return Ok(()),
+                Some(0) if number == self.call.from => {
+                    let text = "the first call that is to fail is behind the last one";
+                    return telling.tell(self.call.line, text);
+                }
                 Some(0) if number >= calls => return Ok(()),
                 Some(_) => {}
             }
