@@ -140,7 +140,9 @@ impl Book {
             return self.stands_by_a_call();
         }
         self.settle(rt)?;
-        if self.begins(number, line, word, rest)? || self.is_of_image(side, word, rest)? {
+        if self.begins(number, line, word, rest)?
+            || self.is_of_image(number, side, word, rest)?
+        {
             return Ok(());
         }
         Err(Trouble::Said("no line of a case begins so"))
@@ -271,7 +273,13 @@ impl Book {
     }
 
     /// Whether a line makes an image, changes the one that stands, or asks for its bytes.
-    fn is_of_image(&mut self, side: Side, word: &str, rest: &str) -> Result<bool, Trouble> {
+    fn is_of_image(
+        &mut self,
+        number: usize,
+        side: Side,
+        word: &str,
+        rest: &str,
+    ) -> Result<bool, Trouble> {
         let mut image = self.sides.of(side).to_vec(self.alloc)?;
         match word {
             "zeros" => image = vec![in self.alloc; 0; size_of(rest)?]?,
@@ -288,7 +296,7 @@ impl Book {
                 return Ok(true);
             }
             "left" => {
-                self.is_left(side, rest)?;
+                self.is_left(number, side, rest)?;
                 return Ok(true);
             }
             _ => return Ok(false),
@@ -315,7 +323,7 @@ impl Book {
     }
 
     /// Asks for the size of the image that is left, for bytes of it, or for all of it.
-    fn is_left(&mut self, side: Side, rest: &str) -> Result<(), Trouble> {
+    fn is_left(&mut self, number: usize, side: Side, rest: &str) -> Result<(), Trouble> {
         let (word, more) = two(rest)?;
         let image = self.sides.of(side);
         let is_right = match word {
@@ -329,8 +337,7 @@ impl Book {
         if is_right {
             return Ok(());
         }
-        self.telling
-            .tell_of_case("the image that is left is not so")
+        self.telling.tell(number, "the image that is left is not so")
     }
 
     /// Lays the rows that were read into the script to which they belong.
