@@ -118,6 +118,15 @@ fn is_front(script: &Script, output: &[u8], len: usize) -> bool {
     front.is_some() && is_right
 }
 
+/// Whether a disk failed, or both sides of a mirror did, that a call with status 0 told nothing of.
+fn is_untold(moment: Moment, outcome: &Outcome, is_mirror: bool) -> bool {
+    let is_first = outcome.first.calls() >= moment.number;
+    match moment.other {
+        Some(other) => is_first && outcome.second.calls() >= other,
+        None => is_first && !is_mirror,
+    }
+}
+
 impl Again<'_> {
     /// What is wanted of the output at a moment, where the rows say behind how many calls each is told.
     fn is_told_exactly(
@@ -329,13 +338,12 @@ impl Again<'_> {
         if !self.are_shown(rt, telling, moment, &outcome, steps)? {
             return Ok(None);
         }
-        let calls = outcome.first.calls();
         let is_wrong = match outcome.status {
-            0 => calls >= moment.number,
-            5 => moment.is_alone && calls != moment.number,
+            0 => is_untold(moment, &outcome, call.is_mirror()),
+            5 => moment.is_alone && !call.is_mirror() && outcome.first.calls() != moment.number,
             _ => false,
         };
-        if is_wrong && !call.is_mirror() {
+        if is_wrong {
             let text = "the call that failed was not told, or was not the last one";
             telling.tell(call.line, text)?;
             return Ok(None);
