@@ -35,7 +35,7 @@ BUDGETS = {
 }
 
 # pages that have been rewritten: budget and banned phrases are failures there, and elsewhere only counted
-REWRITTEN = ["docs/toolchain-notes.md", "docs/DECISIONS.md"]
+REWRITTEN = ["docs/promises.md", "docs/toolchain-notes.md", "docs/DECISIONS.md"]
 
 # outside of code and of double quotes
 BANNED = ["so many", "beside each other", "behind", "stands", "tells", "the same of", "does so"]
