@@ -1,5 +1,8 @@
-// Accounts on an image in memory, on disks that stop after so many calls, and on a file: threads move amounts between them, and the
-// sum of all accounts is shown as each image opens that a crash might have left.
+//! Accounts on an image in memory, on disks that stop after some number of calls, and on a file. Threads move amounts between them by
+//! `run_accounts`, which has the promise.
+//!
+//! What is printed is only tested: how many transfers were made, and the sum of all accounts, also as each image opens that a crash
+//! might have left.
 #![tactic(auto)]
 
 ghost use Rattle.std.specs.Prelude.{◌≡◌, ◌≢◌, ◌≤◌, [], IsTrue, length};

@@ -1,4 +1,8 @@
-//! The script of a bench, the digest of its replies, and how many of them tell of a commit or of a conflict.
+//! The script of a bench, the digest of its replies, and how many report a commit or a conflict.
+//!
+//! `DrawnScript` is a source that never fails, `ReplyDigest` a sink that takes all; `finish` gives SHA-256 (`digest`) and counts
+//! (`commits`, `conflicts`). No line of up to 100,000 rounds is bad (`good`) or calls a store (`plain`). By the laws each first
+//! client commits, and the second conflicts exactly where both draw one place (`laws`). Speed is in no clause.
 #![tactic(auto)]
 
 mod drawn_script;

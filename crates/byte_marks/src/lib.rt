@@ -1,4 +1,8 @@
-//! Sets of bytes: those of one block that an access marks, and those of all blocks that a transaction's reads or writes touch.
+//! Sets of bytes: `Marks` of one block, `Touched` of all blocks that a transaction's reads or writes touch.
+//!
+//! Union, the least common byte and the maximal runs are exact (`set`, `found`, `least`, `none`, `runs`). Adding up to eight spans
+//! takes no memory, since each makes at most one run more (`full`, `count`); nor does a copy of a set of at most eight runs (`full`).
+//! Beyond that memory may be wanting.
 #![tactic(auto)]
 
 mod extent;

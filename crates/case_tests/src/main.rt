@@ -1,5 +1,5 @@
-// Runs cases of scripts that stand in files: each call through the top call, over a disk, a source and a sink in memory. It prints a
-// line a file; what fails is told on standard error, with the file and the line, what was wanted and what was found.
+//! Tests of the top call by cases in files: each call is made over a disk, a source and a sink in memory, and what fails is reported
+//! on standard error with its file and line, what was wanted and what was found.
 #![tactic(auto)]
 
 mod book;

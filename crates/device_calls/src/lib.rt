@@ -1,5 +1,9 @@
-//! Calls on a session that take less of their caller: an end that makes its own steps, one that begins again after a
-//! conflict, the regions of an image's stores, and a call of a store in one step.
+//! Calls on a session that take less of their caller. `end_now` makes its own steps; `end_or_again` begins again after each conflict,
+//! so `Ended` has none (`did`).
+//!
+//! `on_blocks` makes a call on a session's transaction as stores see it: the entries of its fetches, and what the call says of the
+//! transaction (`HasCalled`); `hash_get` and `tree_scan` are such calls. `hash_region` and `tree_region` are their regions, none
+//! exactly where the image has no such store (`area`, `fits`, `none`). Calls may wait.
 #![tactic(auto)]
 
 mod beginning;

@@ -1,4 +1,8 @@
 //! Sessions: a port with at most one transaction, which can be handed to another session, in another thread too.
+//!
+//! Each call says how it ended, which entries it made, and which transaction the session has then (`did`); what the session's own
+//! state refuses is exact (`cause`). A handle carries a transaction with number, begin, mode, accesses and marks; `into_tx` gives it
+//! to a group. `SessionBlocks` meets the trait of `tx_blocks` with one fetch a read (`Visited`). Calls may wait.
 #![tactic(auto)]
 
 mod access;

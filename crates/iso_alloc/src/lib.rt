@@ -1,4 +1,5 @@
-//! What the stores share: blocks of cells, the free map of a region, and the buffers and arguments of a call.
+//! What the stores share: blocks of cells, the free map of a region, and the buffers and arguments of a call. Each call is a function
+//! of the definitions on the bytes that it is given. No access is made here.
 #![tactic(auto)]
 
 mod buffers;

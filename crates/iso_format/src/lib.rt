@@ -1,4 +1,9 @@
-//! The bytes of an image: its superblock, the headers of its halves and the records of its log.
+//! The bytes of an image: its superblock, the headers of its halves and its log records, written and read.
+//!
+//! Written are exactly the model's bytes (`superblock`, `half_header`, `spell`); a `RecordBuffer` has records one after the other,
+//! then a closed gate (`with_closed_gate`). `read_super`, `read_half` and `read_record` read these and nothing else, and name the
+//! first failing test and its place; `view_record` does it again for a tested record. A record is read from the bytes that its head
+//! asks for (`record_window`).
 #![tactic(auto)]
 
 mod faults;

@@ -1,4 +1,9 @@
-//! The file store over the blocks of a transaction.
+//! Files over the tree store, in the blocks of a transaction.
+//!
+//! `create`, `write`, `read`, `rename` and `remove` make just the accesses of their program (`ended`); a call that is Ok is local on
+//! the map from names to bytes (`local`). `BadName`, `BadRange` and `Exists` come exactly where they should (`bad_name`, `bad_range`,
+//! `exists`), each refusal with its cause (`cause`). It has written nothing, but where an access is refused, or the second part of a
+//! `rename` fails (`unwritten`, `reads`).
 #![tactic(auto)]
 
 mod buffers;

@@ -1,4 +1,9 @@
-//! The data of an image and its transactions, and the definitions that every contract of the project cites.
+//! The data of an image and its transactions, and the definitions that every contract of the project cites (`specs`). It knows no
+//! operation of a script and no store.
+//!
+//! Laws (`laws`, `step_laws`, `group_laws`) say in the subject's words what the definitions say of marks, the floor, versions,
+//! histories, conflicts, isolation, log records, images and groups. `Items` and `PartList` are lists; a push within the room of a
+//! `Reserved` takes no memory (`succeeds`); `Label::new` accepts exactly the labels.
 #![tactic(auto)]
 
 mod access;

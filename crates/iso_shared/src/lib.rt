@@ -1,4 +1,9 @@
-//! A core and its labels, shared by threads behind a turn lock: one legal list for all of them.
+//! A core and its labels, shared by threads.
+//!
+//! Each call that waits makes exactly one entry of one legal list, with its transaction, arguments and answer (`made`, `ok`, `err`):
+//! what one thread's rules give at its place. What a port or transaction has seen only grows (`told`). `close` gives the core of the
+//! whole list, whose history is isolated (`core`, `legal`, `isolated`). Each image of a crash shows it at some commit (`came`). That
+//! a call returns is no clause.
 #![tactic(auto)]
 
 mod ahead;

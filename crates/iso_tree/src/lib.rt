@@ -1,4 +1,8 @@
 //! The tree store over the blocks of a transaction.
+//!
+//! `get`, `put`, `del` and `scan` make just the accesses of their program and give its answer (`ended`); a call that is Ok is local
+//! for its operation on the map, in a scan the first pairs of a range (`local`). A refusal has its cause (`bad_key`, `bad_value`,
+//! `cause`) and has written nothing, but for want of memory (`unwritten`, `reads`); a `del` needs no block (`takes_none`).
 #![tactic(auto)]
 
 mod build;

@@ -1,5 +1,8 @@
-// The program: a mirror of two file disks, of which pages are kept, standard input and standard output, handed to the top
-// call. Replies are held back until more input is waited for, and come out at the end.
+//! The program: it makes the top call over a `Kept` over a `Mirror` of two `FileDisk`s, of which a name without `+` uses the first
+//! alone, with standard input and standard output, and ends with its status.
+//!
+//! Replies are held back until more input is waited for, and come out at the end. The promise is that of the call, on a real file as
+//! an opaque disk: of its bytes it rests on what `docs/promises.md` calls trusted.
 #![tactic(auto)]
 
 ghost use Rattle.std.specs.{Prelude.{◌≡◌, ◌≢◌, false, true}, Process.exit_status};

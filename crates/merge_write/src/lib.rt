@@ -1,4 +1,8 @@
-//! Patches: bytes that are laid over a block, and the walk over a row of masks.
+//! Patches: the values that writes set in a block. `set`, `set_spans`, `then` (self, followed by later writes), `over` (lays them
+//! over a block by words of 64 bytes, equal to the plain definition), `clear`, `spans` (the maximal runs with their bytes).
+//!
+//! By the laws (`laws`) a patch laid over a block is the covered write, its spans are the log record's runs, and an access that does
+//! not write the block changes nothing.
 #![tactic(auto)]
 
 mod copy;

@@ -1,5 +1,8 @@
-//! A disk that keeps its bytes twice, on two sides, over any two disks. It goes on where one side fails, and an adopt makes two
-//! sides alike again.
+//! A disk that keeps its bytes on two sides, each with an epoch, over any two disks.
+//!
+//! Bound to a name that ends in `+`, its images are those of the larger epoch (`sides`). `counted` and `fails` say when its count may
+//! rise. A side is left out only where it failed in that call (`left`), and has the lower epoch then (`first_leads`, `second_leads`).
+//! `adopt` makes both alike (`alike`, `kept`). That an Ok never breaks it is no clause.
 #![tactic(auto)]
 
 mod adopt;

@@ -1,4 +1,5 @@
-// A value is put under a key, in one transaction on an image file.
+//! A value is put under a key, in one transaction on an image file. It is the program of `docs/library.md`; its contracts are of
+//! sessions and units, and not of what was put.
 #![tactic(auto)]
 
 ghost use Rattle.std.specs.Prelude.{◌≡◌, ◌<◌, [], IsTrue, None};

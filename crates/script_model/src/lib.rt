@@ -1,4 +1,8 @@
-//! The operations of a script, what each is answered, and the laws of whole scripts.
+//! The operations of a script, lines and replies as text, and what each operation is answered (`step`): definitions in `specs`.
+//!
+//! Laws: each operation of one thread keeps a world sound, so every commit is isolated by its own mode (`worlds_stay_sound`); upkeep
+//! changes nothing that is shown (`upkeep_changes_nothing_that_is_shown`); an input that is cut has a bad line
+//! (`cut_inputs_are_bad`). Rows of each subject compute in `proofs`. Of clients in threads it says nothing.
 #![tactic(auto)]
 
 mod buffers;

@@ -1,4 +1,8 @@
-//! The text of a script: what a line says, how a line is printed, the line of a reply, and the script of a bench.
+//! The text of a script. `parse_line` and `parse_whole_line` give what a line says, or the first test that it fails, for every
+//! operation. `print_reply` and `push_reply` give the exact text of a reply (`reply_line`).
+//!
+//! `print_line` spells a line (`text`), which is read as that line and no other (`printed_lines_are_read`). `Generator` and `Round`
+//! draw the numbers and the rounds of the definitions. What a line does is not known here.
 #![tactic(auto)]
 
 mod argument;

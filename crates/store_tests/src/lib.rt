@@ -1,5 +1,5 @@
-//! Calls of `iso_hash`, `iso_tree` and `iso_fs` that no script shows: drawn ones against a plain map, and the laws of `store_laws`, over a
-//! transaction on an array in memory. And the tests of `iso_alloc` and `plain_tx`.
+//! The tests of `iso_alloc`, `plain_tx` and `store_laws`, and calls of `iso_hash`, `iso_tree` and `iso_fs` that no script shows,
+//! drawn ones against a plain map, over an array in memory.
 #![tactic(auto)]
 
 #[cfg(test)]

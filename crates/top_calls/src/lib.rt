@@ -1,5 +1,5 @@
-//! What the tests of the top call share: calls over a disk, a source and a sink in memory, disks that fail, what a call gave, and a small
-//! image.
+//! What the tests of the top call share: calls of it over a disk, a source and a sink in memory, disks that fail, what a call gave,
+//! and a small image. Its functions promise nothing.
 #![tactic(auto)]
 
 mod calls;

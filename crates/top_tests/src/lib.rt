@@ -1,5 +1,5 @@
-//! Tests of the top call that no case of a file can say: drawn calls against a second program, gates and sources of a test's own, stops of
-//! clients whose replies come in many orders, a mirror below the top call, and real files.
+//! Tests of the top call that no case of a file can say: drawn calls against a second program, gates and sources of a test's own,
+//! stops of clients whose replies come in many orders, a mirror below the top call, and real files.
 #![tactic(auto)]
 
 #[cfg(test)]

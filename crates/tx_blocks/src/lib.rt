@@ -1,4 +1,8 @@
-//! Reads, writes and byte marks of blocks in a transaction, and what follows for calls that are made of them.
+//! Reads, writes and byte marks of blocks in a transaction, as a store sees them: the trait `TxBlocks`, a list of accesses over a
+//! shown array, each call as the model says.
+//!
+//! Its steps keep what a program has done (`look`, `store`, `reserve`, `mark`). A refusal has its cause. Want of memory has no
+//! premise but that the disk did not fail in the call.
 #![tactic(auto)]
 
 mod steps;

@@ -1,4 +1,9 @@
 //! Blocks of an image, read by their versions, and the index of the versions of a log.
+//!
+//! `read_block` gives a block's base bytes with its versions over them, `read_pieces` a range of it, where the disk is not opaque
+//! (`bytes`); neither writes. With an index that follows its log (`indexes_follow_their_log`) that is the block of the history at a
+//! number (`blocks_are_those_of_the_history`). After `reserve_parts`, `add_parts` takes a record in without memory (`room`,
+//! `succeeds`); `take_parts` does both.
 #![tactic(auto)]
 
 mod block;
