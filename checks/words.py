@@ -36,7 +36,7 @@ BUDGETS = {
 
 # pages that have been rewritten: budget and banned phrases are failures there, and elsewhere only counted
 REWRITTEN = ["README.md", "docs/guide.md", "docs/script.md", "docs/library.md", "docs/developing.md", "docs/toolchain-notes.md",
-    "docs/DECISIONS.md"]
+    "docs/DECISIONS.md", "docs/image.md", "docs/stores.md", "docs/threads.md"]
 
 # outside of code and of double quotes
 BANNED = ["so many", "beside each other", "behind", "stands", "tells", "the same of", "does so"]
