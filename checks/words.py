@@ -22,8 +22,8 @@ TOP = os.path.dirname(os.path.dirname(os.path.abspath(__file__)))
 # the most words of a page, whether it is there yet or not
 BUDGETS = {
     "README.md": 1300,
-    "docs/guide.md": 3000,
-    "docs/script.md": 3300,
+    "docs/guide.md": 1500,
+    "docs/script.md": 3900,
     "docs/image.md": 2400,
     "docs/stores.md": 2600,
     "docs/threads.md": 2000,
@@ -35,7 +35,8 @@ BUDGETS = {
 }
 
 # pages that have been rewritten: budget and banned phrases are failures there, and elsewhere only counted
-REWRITTEN = ["docs/promises.md", "docs/toolchain-notes.md", "docs/DECISIONS.md"]
+REWRITTEN = ["README.md", "docs/guide.md", "docs/script.md", "docs/library.md", "docs/developing.md", "docs/toolchain-notes.md",
+    "docs/DECISIONS.md", "docs/image.md", "docs/stores.md", "docs/threads.md", "docs/promises.md"]
 
 # outside of code and of double quotes
 BANNED = ["so many", "beside each other", "behind", "stands", "tells", "the same of", "does so"]
