@@ -35,7 +35,7 @@ pub record IsOpening (accounts : Accounts) (calls : List KeyCall) (answers : Lis
 abbrev pub IsOfAccounts : Accounts → List KeyCall → List StoreAnswer → Type 0
 IsOfAccounts accounts calls answers = ((from : List ℕ) × (to : List ℕ) × (n : ℕ) × IsTransfer from to n calls answers) ⊎ IsOpening accounts calls answers
 
--- a commit that does so, and writes no block of a store otherwise
+-- a commit whose calls open the accounts or move an amount, and which writes no block of a store otherwise
 pub record CommitsAccounts (accounts : Accounts) (g : Geometry) (H : History) (c : Commit) : Type 0 where
   pub of : IsOfBoth (image_hash g) (image_tree g) H c
   pub does : IsOfAccounts accounts (calls_in (firsts of.parts)) (answers_in (firsts of.parts))

@@ -64,7 +64,7 @@ module _ {D O : Type 0} where
     pub covers : Covers accounts A (seen s) (count s)
     pub filled : OwnFilled Is A (seen s) (own s)
 
-  -- the same of a session without a transaction
+  -- a session all of whose entries are of accounts, without a transaction
   pub record IsKept (accounts : Accounts) (A : Start) (s : Session D O) : Type 0 where
     pub session : IsSession A s
     pub covers : Covers accounts A (seen s) (count s)

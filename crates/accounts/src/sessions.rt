@@ -101,7 +101,7 @@ fn attempt<'a, D: Disk + Drop, O: Origin, R: Wait>(
     end(rt, session, accounts)
 }
 
-/// Does the work in a transaction of its own, which is tried again after a conflict, so many times at most.
+/// Does the work in a transaction of its own, in `most` attempts at most: after a conflict it is tried again.
 pub(crate) fn commit<'a, D: Disk + Drop, O: Origin, R: Wait>(
     rt: &R,
     alloc: Global,

@@ -169,7 +169,7 @@ fn blank(alloc: Global) -> MemDisk {
     MemDisk::new(alloc, Vec::new(alloc))
 }
 
-/// Whether it is so of disks that stop after so many calls each.
+/// Whether `opens_to` holds of each disk that stops after 6 to 39 calls.
 fn stops_well<R: Threads + Wait + Sync>(rt: &R, alloc: Global, plan: &Plan, sum: u64) -> bool
     requires few { length plan.now.handed.now ≤ MAX_GROUP }
 {

@@ -166,7 +166,7 @@ round_lines n p q i j v w more =
 abbrev pub drawn_lines : (n x : ℕ) → List (ℕ × Line) → List (ℕ × Line)
 drawn_lines n x more = round_lines n (nth_drawn x 1 64) (nth_drawn x 2 64) (nth_drawn x 3 16) (nth_drawn x 4 16) (nth_drawn x 5 256) (nth_drawn x 6 256) more
 
--- those of so many rounds
+-- those of `count` rounds
 abbrev pub bench_lines : (count n x : ℕ) → List (ℕ × Line)
 bench_lines zero n x = []
 bench_lines (suc count) n x = drawn_lines n x (bench_lines count (n + 1 + 1 + 1 + 1 + 1 + 1 + 1 + 1) (after_draws 6 x))

@@ -15,7 +15,7 @@ answered {W} {V} {n} {c} {op} {lines} {reply} {more} is rest =
 abbrev pub taken : List Commit → ℕ
 taken commits = sum_by (λ c. record_length (runs bench_geometry c.accesses)) commits
 
--- so many rounds have been, at the most
+-- at most `rounds` rounds have been
 pub record AreBehind (commits : List Commit) (next rounds : ℕ) : Type 0 where
   pub number : next ≤ 2 * rounds + 1
   pub few : length commits ≤ 2 * rounds

@@ -17,7 +17,7 @@ second_end x last =
 abbrev pub last_after : (x last : ℕ) → ℕ
 last_after x last = if is_one_place x then last + 1 else last + 1 + 1
 
--- the replies to so many rounds, drawn from this state, after this last commit: only the bytes that are shown are left open
+-- the replies to `count` rounds, drawn from this state, after this last commit: only the bytes that are shown are left open
 abbrev pub AreRoundReplies : (count x last : ℕ) → List Reply → Type 0
 AreRoundReplies zero x last replies = replies ≡ []
 AreRoundReplies (suc count) x last replies =

@@ -37,7 +37,7 @@ impl Model for DrawnScript {
 }
 
 impl DrawnScript {
-    /// The script of so many rounds, drawn from a seed.
+    /// The script of `count` rounds, drawn from a seed.
     pub fn new(seed: u64, count: u32) -> Self
         ensures { result ≡ record { left = bench_text count seed; is_ended = false } }
     {

@@ -17,6 +17,6 @@ abbrev pub RisesFrom : ℕ → List (ℕ × List Extent) → Type 0
 RisesFrom from [] = Unit {0}
 RisesFrom from (entry ∷ entries) = (from ≤ entry.0) × RisesFrom (entry.0 + 1) entries
 
--- the bytes that accesses of this kind cover, in an array of so many blocks of this size
+-- the bytes that accesses of this kind cover, in an array of `blocks` blocks of this size
 pub record AreTouched (size blocks : ℕ) (kind : Kind) (accesses : List Access) (entries : List (ℕ × List Extent)) : Type 0 where
   pub is : (b p : ℕ) → touches entries b p ≡ (nat_lt b blocks && nat_lt p size && model.touches kind accesses b p)

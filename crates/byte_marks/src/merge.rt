@@ -10,7 +10,7 @@ use std::alloc::Global;
 /// Extents of which eight stand in the value itself.
 pub type Extents = SmallVec<Extent, 8>;
 
-/// The first byte from which on one more run may stand behind them.
+/// The first byte from which on one more run may lie after them.
 pub fn next_free(extents: &[Extent]) -> u16
     requires { AreApartFrom 0 extents.now }
     ensures { result ≡ next_free 0 extents.now }
@@ -21,7 +21,7 @@ pub fn next_free(extents: &[Extent]) -> u16
     }
 }
 
-/// Joins an extent to the last one, where it begins in that one or right behind it, and says whether it did.
+/// Joins an extent to the last one, where it begins in that one or right after it, and says whether it did.
 pub fn join_last(extents: &mut Extents, added: Extent) -> bool
     requires apart { AreApartFrom 0 extents.old.items }
     requires some { added.from < added.to }

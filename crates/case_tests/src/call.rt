@@ -13,7 +13,7 @@ use top_calls::{RECOVER, RUN, change};
 pub(crate) struct Then {
     pub(crate) words: String,
     pub(crate) script: Script,
-    /// Of its stops one in so many is tried behind each stop of the first one.
+    /// One in `every` of its stops is tried after each stop of the first one.
     pub(crate) every: u64,
 }
 

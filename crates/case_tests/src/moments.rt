@@ -132,7 +132,7 @@ fn lasting_of(call: &Call, side: Side) -> u64 {
     }
 }
 
-/// Adds the moments of one side, which makes so many calls.
+/// Adds the moments of one side, which makes `calls` calls.
 fn add_of_side(
     moments: &mut Vec<Moment>,
     call: &Call,
@@ -162,7 +162,7 @@ fn add_of_pairs(moments: &mut Vec<Moment>, call: &Call, calls: (u64, u64)) -> Re
     Ok(())
 }
 
-/// The moments of a mirror whose sides make so many calls.
+/// The moments of a mirror whose sides make `calls.0` and `calls.1` calls.
 pub(crate) fn of_mirror(
     alloc: Global,
     call: &Call,

@@ -26,11 +26,11 @@ pub(crate) struct Told {
 /// Where a step ends.
 #[derive(Drop)]
 pub(crate) enum Step {
-    /// Behind so many bytes of the replies.
+    /// After this number of bytes of the replies.
     Behind(usize),
     /// Where this line is told.
     Line(Vec<u8>),
-    /// Its bytes are written behind so many calls of the disk, and stable behind so many.
+    /// Its bytes are written after `written` calls of the disk, and stable after `stable`.
     Calls { written: u64, stable: u64 },
 }
 
@@ -176,7 +176,7 @@ impl Script {
         is_right
     }
 
-    /// What is told where the disk stops behind so many calls.
+    /// What is told where the disk stops after `calls` calls.
     pub(crate) fn told_behind(&self, alloc: Global, calls: u64) -> Result<Told, Trouble> {
         let mut told = Told::new(alloc);
         let lines = self.told.text.split_inclusive(|b| *b == b'\n');

@@ -77,7 +77,7 @@ fn plus(count: usize, more: bool) -> usize {
     if more { count.saturating_add(1) } else { count }
 }
 
-/// How many steps were reached, where the disk fails behind so many calls and so many bytes of the replies were told.
+/// How many steps were reached, where the disk fails after `calls` calls and `len` bytes of the replies were told.
 fn steps_reached(script: &Script, output: &[u8], len: usize, calls: u64) -> Reached {
     let mut found = Reached {
         stable: 0,
@@ -108,7 +108,7 @@ fn front_of(output: &[u8]) -> Option<usize> {
     }
 }
 
-/// Whether an output is so many bytes of one of the ways in which a script is answered, and a fault.
+/// Whether the first `len` bytes of an output are those of one of the ways in which a script is answered. A fault follows them.
 fn is_front(script: &Script, output: &[u8], len: usize) -> bool {
     let front = output.get(..len);
     let mut is_right = front == script.told.text.get(..len);
@@ -452,7 +452,7 @@ fn unlike_images(alloc: Global, disk: &MemDisk) -> Result<Vec<Vec<u8>>, Trouble>
     Ok(images)
 }
 
-/// What a crash leaves of a disk for so many picks, or of two sides, each image of the one beside each of the other.
+/// What a crash leaves of a disk for `picks` picks, or of two sides, each image of the one with each of the other.
 fn left_of(
     alloc: Global,
     outcome: &Outcome,

@@ -106,7 +106,7 @@ fn push_plain(out: &mut Vec<u8>, text: &str) -> Result<(), Trouble> {
     Ok(())
 }
 
-/// Adds a text so many times.
+/// Adds a text `count` times.
 fn push_repeated(out: &mut Vec<u8>, text: &str, count: u64) -> Result<(), Trouble> {
     for _ in 0..count.min(100_000) {
         push_plain(out, text)?;
@@ -132,7 +132,7 @@ fn named<'a>(shorts: &'a [Short], name: &str) -> Option<&'a str> {
     None
 }
 
-/// Adds what braces stand for: the number of a round, a text so many times, or the text of a name.
+/// Adds what braces mean: the number of a round, a text a given number of times, or the text of a name.
 fn push_braced(
     alloc: Global,
     out: &mut Vec<u8>,

@@ -5,7 +5,7 @@ ghost use Rattle.command_line.specs.{declared.task.Task.TheVariants.{Bench, New,
 ghost use Rattle.iso_model.specs.{Geometry.is_valid, declared.access.Mode.Mode};
 ghost use Rattle.script_model.specs.Text.{mode_of, number_of};
 
-/// Every word that does not begin with a hyphen names an image, and behind `--` every word does.
+/// Every word that does not begin with a hyphen names an image, and after `--` every word does.
 pub fn every_image_is_opened()
     ensures run { (program image : Text) → IsFalse (begins_with_hyphen image)
         → request_of (program ∷ codes "run" ∷ image ∷ []) ≡ Some (image, Run) }

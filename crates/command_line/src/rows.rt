@@ -16,7 +16,7 @@ pub fn commands_have_their_tasks()
     ensures bench_of_nothing { Asks (codes "isotope bench a 0 0") (codes "a") (Bench 0 0) }
 {}
 
-/// Options stand before or behind the image, in any order, with `=` or as two words, until `--`.
+/// Options come before or after the image, in any order, with `=` or as two words, until `--`.
 pub fn options_stand_anywhere_behind_the_command()
     ensures before { Asks (codes "isotope new --log=64 a --mode serial") (codes "a") (New (geometry_with 4096 1024 64 Serial 0 0)) }
     ensures behind { Asks (codes "isotope new a --blocks=1 --block-size=128") (codes "a") (New (geometry_with 128 1 4194304 Serial 0 0)) }
@@ -25,7 +25,7 @@ pub fn options_stand_anywhere_behind_the_command()
     ensures an_option_behind_the_end { Asks (codes "isotope new -- --log=64") (codes "--log=64") (New (geometry_with 4096 1024 4194304 Serial 0 0)) }
 {}
 
-/// The name of an image is any word, but behind `--` alone one that begins with a hyphen and is longer.
+/// The name of an image is any word, but after `--` alone one that begins with a hyphen and is longer.
 pub fn an_image_may_have_these_names()
     ensures help { Asks (codes "isotope run help") (codes "help") Run }
     ensures command { Asks (codes "isotope run run") (codes "run") Run }

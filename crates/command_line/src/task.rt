@@ -17,11 +17,11 @@ pub enum Task {
     New { geometry: Geometry },
     /// Open it, and answer the script on the input.
     Run,
-    /// Open it, and run the clients of the script on the input beside each other.
+    /// Open it, and run the clients of the script on the input concurrently.
     Par,
     /// Open it, and tell what it holds.
     Recover,
-    /// Make it, and answer a script of so many rounds that is drawn from a seed.
+    /// Make it, and answer a script of `count` rounds that is drawn from a seed.
     Bench { seed: u64, count: u32 },
 }
 

@@ -10,7 +10,7 @@ const OPEN: u8 = 1;
 
 const CLOSED: u8 = 0;
 
-/// Puts a body behind a closed gate: writes it from `gate + 1` on, and syncs.
+/// Puts a body after a closed gate: writes it from `gate + 1` on, and syncs.
 pub fn put_body<D: Disk>(disk: &mut D, gate: u64, body: &[u8]) -> Result<(), DiskFault>
     requires fits { gate + 1 + length body.now ≤ (D.state disk.old).size }
     requires closed { (c : List ℕ) → (D.state disk.old).now c → IsClosed gate c }

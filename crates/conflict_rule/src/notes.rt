@@ -39,7 +39,7 @@ fn place_after(notes: &[(u64, Touched)], number: u64) -> usize
     notes.partition_point(|note| note.0 <= number)
 }
 
-// So many sets are kept when their commits are dropped: as many as end in one group.
+// How many sets are kept at most when their commits are dropped: as many as end in one group.
 const MOST_SPARE: usize = 16;
 
 // Takes all notes out. What they had is spare then.
@@ -84,7 +84,7 @@ impl Notes {
         let _ = self.notes.push((number, writes));
     }
 
-    /// Makes room for so many more commits.
+    /// Makes room for `count` more commits.
     pub fn reserve_more(&mut self, count: usize) -> Result<(), Memory>
         ensures same { self.new.notes ≡ self.old.notes }
         ensures room { OnOk result (length self.new.notes + count ≤ self.new.room) }

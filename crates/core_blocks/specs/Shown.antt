@@ -5,7 +5,7 @@ use Rattle.iso_model.specs.{Array.Array, Geometry.base_place}
 use Rattle.mv_index.specs.{declared.version.Version.Version, Shown.byte_in, Versions.{upto, versions_in}}
 use Rattle.iso_core.specs.{declared.core_itself.Core.Core, declared.kept.Kept.Kept}
 
--- so many bytes of the image from a place on, with the versions over them
+-- `size` bytes of the image from a place on, with the versions over them
 abbrev pub over_bytes : (image : List ℕ) → (base size : ℕ) → List Version → List ℕ
 over_bytes image base size versions = map (λ p. unwrap_or (byte_in image versions p) (slice_index image (base + p))) (range_with_len 0 size)
 

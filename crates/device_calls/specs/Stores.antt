@@ -6,7 +6,7 @@ use Rattle.store_model.specs.HashCalls as hash
 use Rattle.store_model.specs.TreeCalls as tree
 use Rattle.tx_blocks.specs.{Runs.{HasEnded, HasRead, IsLocalCall, IsStoreCause, IsUnwritten, Passed, WantsMemory}, Tx.{Device, IsLater, Tx}}
 
--- A call that makes at most so many writes. With an answer it is local for the operation on the map of its region. A refusal has its
+-- A call that makes at most `writes` writes. With an answer it is local for the operation on the map of its region. A refusal has its
 -- cause, and is the key's exactly where it is no key.
 pub record Answers {M X : Type 0} (IsWellFormed : Array → Type 0) (map_of : Array → M) (op : M → X × M) (are_keys : Bool) (writes : ℕ) (result : Result X StoreError) (t u : Tx) (before now : Device) : Type 0 where
   pub local : IfOk result (IsLocalCall IsWellFormed map_of op t u)

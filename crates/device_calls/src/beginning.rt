@@ -17,7 +17,7 @@ impl Model for Beginning {
     ghost also_owns = { λ _. ftrue };
 }
 
-/// A world that a core stands for which is up and has no live transaction, as one that was just made or opened. Which one it is, is
+/// A world that a core represents, which is up and has no live transaction, as one that was just made or opened. Which one it is, is
 /// known to contracts alone: a caller picks its `Origin` by it.
 pub fn beginning_of<D: Disk>(core: &Core<D>) -> Beginning
     requires { (W : World) × BeginsAt D.state core.now W }

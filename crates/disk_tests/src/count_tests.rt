@@ -30,7 +30,7 @@ fn the_named_calls_are_to_fail(rt: HostRuntime) {
     same(&rt, calls, 3);
 }
 
-/// Counts so many steps more.
+/// Counts `times` more steps.
 fn count_on<L: Ledger>(steps: &mut Steps<L>, times: u32)
     ensures { steps.new ≡ steps.old + times }
 {

@@ -23,7 +23,7 @@ fn writes(disk: &mut QueuedDisk, at: u64, bytes: &[u8]) -> bool {
     len <= size && at <= size - len && disk.write(at, bytes).is_ok()
 }
 
-// Whether there are so many bytes on the disk, and they are read.
+// Whether the disk has the bytes that fill `into`, and they are read.
 fn reads(disk: &mut QueuedDisk, into: &mut [u8]) -> bool {
     let size = disk.size();
     into.len() as u64 <= size && disk.read(0, into).is_ok()

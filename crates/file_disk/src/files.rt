@@ -11,7 +11,7 @@ const PIECE: usize = 65_536;
 /// A file that holds nothing and takes nothing.
 const NULL: &str = "/dev/null";
 
-/// Makes a new file of so many zeros, which is stable under its name. A name that exists is an error; after any other
+/// Makes a new file of `size` zeros, which is stable under its name. A name that exists is an error; after any other
 /// error there is no file of that name.
 pub(crate) fn new_file<R: Files<File = File>>(rt: &R, name: &str, size: u64) -> io::Result<File> {
     take_closed_streams(rt)?;
@@ -95,7 +95,7 @@ fn make_stable<R: Files<File = File>>(
     File::open(rt, folder_of(name))?.sync_all()
 }
 
-/// Writes so many zeros.
+/// Writes `size` zeros.
 fn fill(file: &File, size: u64) -> io::Result<()> {
     let zeros = [0; PIECE];
     let mut at = 0;

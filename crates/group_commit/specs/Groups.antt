@@ -77,7 +77,7 @@ module _ {D O : Type 0} where
   HasEnded A v txs (Ok replies) w = (length replies ≡ length txs) × HasMade A v txs (group_of txs replies) w
   HasEnded A v txs (Err e) w = (before : ℕ) × (now : ℕ) × HasMade A v txs (refused_by txs before now e) w
 
-  -- The same of those that there are, place by place. Where memory was wanting before the group's turn, they were aborted.
+  -- A group of those that there are was ended or refused, place by place. Where memory was wanting before the group's turn, they were aborted.
   abbrev pub HasGrouped : Start → View Entry → List (Option (Tx D O)) → Result (List (Option GroupReply)) CoreError → View Entry → Type 0
   HasGrouped A v members (Ok told) w = (replies : List GroupReply) × (told ≡ spread (marks_of members) replies) × HasEnded A v (found_in members) (Ok replies) w
   HasGrouped A v members (Err e) w =

@@ -7,14 +7,14 @@ use iso_model::{GroupReply, LabelReplies, Memory, Reserved};
 use iso_shared::{Origin, Tx};
 use std::alloc::Global;
 
-/// Room for so many members, for which places have one, and for what is told of them.
+/// Room for the members of a group, for which places have one, and for what is told of them.
 pub(crate) struct Room<D: Disk + Drop, O: Origin> {
     pub(crate) group: Vec<Tx<D, O>>,
     pub(crate) marks: Reserved<bool>,
     pub(crate) told: Reserved<Option<GroupReply>>,
 }
 
-/// A vector with room for so many members.
+/// A vector with room for `count` members.
 fn group_room<D: Disk + Drop, O: Origin>(alloc: Global, count: u32) -> Result<Vec<Tx<D, O>>, Memory>
     ensures { IfOk result (λ v. (v.items ≡ []) × (count ≤ vec_capacity v)) }
 {
@@ -28,7 +28,7 @@ fn group_room<D: Disk + Drop, O: Origin>(alloc: Global, count: u32) -> Result<Ve
     }
 }
 
-/// All memory that a group of so many places takes here.
+/// All memory that a group of `count` places takes here.
 pub(crate) fn make_room<D: Disk + Drop, O: Origin>(
     alloc: Global,
     count: u32,

@@ -17,8 +17,8 @@ use iso_model::Memory;
 use std::alloc::Global;
 
 /// Fills the half `to` from the half `from`: the base at the plan's number, the header without its gate, and the records
-/// above that number with a closed gate behind them. It takes its memory before its first call of the disk. After a fault
-/// the new half may have any bytes behind its gate, which is closed still.
+/// above that number with a closed gate after them. It takes its memory before its first call of the disk. After a fault
+/// the new half may have any bytes after its gate, which is closed still.
 pub fn fill_half<D: Disk>(
     alloc: Global,
     disk: &mut D,
@@ -63,7 +63,7 @@ pub fn fill_half<D: Disk>(
     }
 }
 
-// So many zero bytes.
+// `count` zero bytes.
 fn zeros(alloc: Global, count: usize) -> Result<Vec<u8>, Memory>
     requires { count ≤ 67108864 }
     ensures { IfOk result (λ v. length v.items ≡ count) }

@@ -11,7 +11,7 @@ use commit_gate::{open_gate, shut_gate, stands_closed};
 use iso_disk::{Disk, DiskFault};
 use iso_image::HalfPlace;
 
-/// Closes a half that is not the current one. Where its gate stands closed, nothing is written. After a fault the gate may
+/// Closes a half that is not the current one. Where its gate is closed, nothing is written. After a fault the gate may
 /// have any byte, on the disk and in an image, and each image holds what it held.
 pub fn close_half<D: Disk>(disk: &mut D, place: &HalfPlace) -> Result<(), DiskFault>
     requires fits { place.now.header < (D.state disk.old).size }

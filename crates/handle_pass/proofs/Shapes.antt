@@ -2,7 +2,7 @@
 use Rattle.handle_pass.proofs.Words.{◌≡◌, ℕ, ◌<◌, List, [], ◌∷◌, ◌++◌, length, map, get_or, replicate, sym, ap, ◌∙◌, arith, AllByRecursion, range_with_len, ext_get_or, length-replicate, get_or-map-range_with_len, length-map-range_with_len, get_or-append_seam, Access, Geometry, Array, block_at, length-block_own, shaped}
 use Rattle.iso_model.specs.Effect as effect
 
--- so many bytes of a block
+-- the first `size` bytes of a block
 cut : (size : ℕ) → List ℕ → List ℕ
 cut size bytes = map (λ p. get_or bytes p 0) (range_with_len 0 size)
 

@@ -80,7 +80,7 @@ impl<'a, D: Disk + Drop, O: Origin> Session<'a, D, O> {
         }
     }
 
-    /// Marks a range of the last access: the first mark stands for the whole block, and further ones add to it. It waits for
+    /// Marks a range of the last access: the first mark takes the place of the whole block, and further ones add to it. It waits for
     /// nobody, and takes no memory. Each refusal leaves all as it was.
     pub fn mark_accessed(&mut self, off: u16, len: u16) -> Result<(), TxError>
         requires session { IsSession O.start self.old }

@@ -31,7 +31,7 @@ impl<'a, D: Disk + Drop, O: Origin> Session<'a, D, O> {
         self.shared.compact(rt, &mut self.port)
     }
 
-    /// Does so with an image of form 2, in which transactions of either mode may begin.
+    /// Compacts into an image of form 2, in which transactions of either mode may begin, and answers the floor.
     pub fn upgrade<R: Wait>(&mut self, rt: &R) -> Result<u64, CoreError>
         requires session { IsSession O.start self.old }
         ensures session { IsSession O.start self.new }

@@ -151,7 +151,7 @@ fn put_again<D: Disk + Drop, O: Origin, R: Wait>(
     Some(again == Retry::Begun(1) && ended == Retry::Ended(EndReply::Committed(2)))
 }
 
-/// The same of two sessions on a device over a core.
+/// `put_again` with two sessions on a device over a core.
 fn again_on_device<D: Disk + Drop, O: Origin, R: Wait>(
     rt: &R,
     alloc: Global,

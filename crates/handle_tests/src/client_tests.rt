@@ -1,4 +1,4 @@
-// Clients beside each other over a device in memory: what no clause says. The image has four blocks of 64 bytes.
+// Clients that run concurrently over a device in memory: what no clause says. The image has four blocks of 64 bytes.
 ghost use Rattle.std.specs.Prelude.{IsTrue};
 ghost use Rattle.iso_memdisk.specs.MemDisk.{state_of};
 ghost use Rattle.iso_model.specs.Geometry.{is_valid};

@@ -163,7 +163,7 @@ fn run_across<O: Origin + Send + Sync, R: Threads + Wait + Sync>(
     }
 }
 
-/// The same over a new core, whose disk fails from so many calls on.
+/// `run_across` over a new core, whose disk fails after `calls` calls.
 fn across_threads<R: Threads + Wait + Sync>(
     rt: &R,
     alloc: Global,

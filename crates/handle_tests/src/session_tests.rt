@@ -59,7 +59,7 @@ fn committed<O: Origin, R: Wait>(
     Some((bytes[0], reply))
 }
 
-/// The same of a handle that lies in this place, which is empty then.
+/// `committed` with the handle that lies in this place, which is empty then.
 fn committed_from<O: Origin, R: Wait>(
     rt: &R,
     session: &mut Session<MemDisk, O>,
@@ -120,7 +120,7 @@ fn across<O: Origin + Send + Sync, R: Threads + Wait + Sync>(
     seen
 }
 
-/// The same of two sessions over a core.
+/// `across` with two sessions over a core.
 fn run_across<O: Origin + Send + Sync, R: Threads + Wait + Sync>(
     rt: &R,
     alloc: Global,

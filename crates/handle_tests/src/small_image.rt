@@ -12,7 +12,7 @@ use std::alloc::Global;
 use test_cores::core_on;
 use test_images::{blank, with_long_logs};
 
-/// A core over a new image, whose disk fails from so many calls on.
+/// A core over a new image, whose disk fails after `calls` calls.
 pub(crate) fn core_failing(alloc: Global, calls: u64) -> Result<Core<MemDisk>, Memory>
     ensures { IfOk result (λ core. StandsFor state_of core (fresh small 1 (empty_history small)) up) }
 {

@@ -28,7 +28,7 @@ impl OneBlock {
         })
     }
 
-    // Adds a version of so many bytes from one on, the first of which stands at this place.
+    // Adds a version of `len` bytes from byte `off` on, the first of which lies at this place.
     fn add(
         &mut self,
         rt: &impl Abort,

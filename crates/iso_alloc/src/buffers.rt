@@ -6,7 +6,7 @@ use crate::parts::text_of;
 use std::alloc::Global;
 use store_model::StoreError;
 
-/// A buffer of so many bytes.
+/// A buffer of `size` bytes.
 pub fn buffer(alloc: Global, size: usize) -> Result<Vec<u8>, StoreError>
     ensures size { IfOk result (λ v. length v.items ≡ size) }
     ensures memory { IfErr result (λ e. e ≡ StoreError.Memory) }

@@ -15,7 +15,7 @@ pub fn region_of(area: Area) -> Region
     }
 }
 
-/// The mark over head and map of a region of so many blocks.
+/// The mark over head and map of a region of `blocks` blocks.
 pub fn map_span(blocks: u32) -> Span
     requires { 64 + map_bytes blocks ≤ 4096 }
     ensures { result ≡ map_mark blocks }

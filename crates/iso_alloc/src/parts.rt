@@ -4,7 +4,7 @@ ghost use Rattle.store_model.specs.{Cells.{block_with, cell_count, is_part, is_z
 
 use byteorder::{BigEndian, ByteOrder};
 
-/// How many cells a block of so many bytes has.
+/// How many cells a block of `size` bytes has.
 pub fn cell_count(size: usize) -> usize
     requires { 64 ≤ size }
     ensures { result ≡ cell_count size }
@@ -32,7 +32,7 @@ pub fn word_at(bytes: &[u8], at: usize) -> u32
 // More zeros than any head or part has.
 const ZEROS: [u8; 64] = [0; 64];
 
-/// Whether all bytes are zero. So many as a head or a part has are compared as a whole.
+/// Whether all bytes are zero. As many as a head or a part has are compared as a whole.
 pub fn are_zero(bytes: &[u8]) -> bool
     ensures { result ≡ list_all is_zero bytes.now }
 {
@@ -43,7 +43,7 @@ pub fn are_zero(bytes: &[u8]) -> bool
     bytes == zeros
 }
 
-/// Whether a part is a length of at most `most`, so many bytes, and zeros.
+/// Whether a part is a length of at most `most`, as many bytes as it says, and zeros.
 pub fn is_part(part: &[u8], most: u8) -> bool
     requires { most < length part.now }
     ensures { result ≡ is_part most part.now }

@@ -6,7 +6,7 @@ all_dropped P zero xs all = all
 all_dropped P (suc n) [] all = all
 all_dropped P (suc n) (x ∷ xs) all = all_dropped P n xs all.1
 
--- notes of so many commits have such numbers
+-- the number of each note is below m plus the number of the commits
 pub numbers_from : (g : Geometry) (m : ℕ) (notes : List Note) (commits : List Commit) → AreNotes g m notes commits → (k : ℕ) (d : Note) → k < length notes → (slice_index_or notes k d).0 + 1 ≤ m + length commits
 numbers_from g m [] commits are k d below = absurd (omega arith)
 numbers_from g m (note ∷ notes) [] are k d below = absurd are

@@ -6,7 +6,7 @@ use Rattle.std.proofs.Common.{length-append}
 pub next_all : (kept : Kept) (W : World) (more : List Written) (all : List ℕ) → IsOf kept W → AreNextRecords W more all → (bytes : List ℕ) → bytes ≡ all ++ 0 ∷ [] → IsNext kept.log W.geometry more bytes
 next_all kept W more all of next bytes is = grind (arith, log_last)
 
--- with them the records take so many bytes
+-- with them the records take `length bytes` more bytes
 pub more_bytes : (W : World) (at : ℕ) (more : List Written) (bytes : List ℕ) → IsWorld W → AreNextRecords W more bytes
     → length (told_bytes W.geometry (with_records more (half_of_world W at))) ≡ used W + length bytes
 more_bytes W at more bytes is next =

@@ -41,7 +41,7 @@ all_low n (p ∷ ps) e =
       | inr le ↦ (let one : high n p ≡ 1 = rw (le-ltb p.block n le) refl in absurd (omega (arith, e, s, one)))
     ]
 
--- what lies in the array does so in any order
+-- what lies in the array lies there in any order
 pub sorted_below : (n : ℕ) (xs ys : List PartSpan) → IsPermutation xs ys → AllByRecursion (λ (part : PartSpan). part.block < n) xs → AllByRecursion (λ (part : PartSpan). part.block < n) ys
 sorted_below n xs ys same all = all_low n ys (sum_by-IsPermutation (high n) xs ys same ∙ none_high n xs all)
 

@@ -286,7 +286,7 @@ impl<D: Disk> Core<D> {
         switch_half(&mut self.kept, &mut self.disk, form)
     }
 
-    /// Does so with an image of form 2, in which transactions of either mode may begin.
+    /// Compacts into an image of form 2, in which transactions of either mode may begin, and answers the floor.
     pub fn upgrade(&mut self) -> Result<u64, CoreError>
         requires { (W : World) × (standing : Standing) × StandsFor D.state self.old W standing }
         ensures switched { (W : World) → StandsFor D.state self.old W up → IfOk result (λ n. (n ≡ floor W) × ((answer : CoreReply) → switch_step W 2 answer ≡ (answer, after_switch W 2))

@@ -32,7 +32,7 @@ fn is_bare(plan: &Plan) -> bool
 // How many bytes there is room for at first, which the records of most groups do not pass.
 const RECORDS: usize = 1024;
 
-// Makes room for what so many members make.
+// Makes room for what `members` members make.
 fn make_room(plan: &mut Plan, replies: &mut Vec<GroupReply>, members: usize) -> Result<(), Memory>
     ensures bytes { plan.new.bytes.items ≡ plan.old.bytes.items }
     ensures staged { plan.new.staged.items ≡ plan.old.staged.items }

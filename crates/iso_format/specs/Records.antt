@@ -23,12 +23,12 @@ pub record IsSmall (run : Run) : Type 0 where
 abbrev pub part_size : List ℕ → ℕ
 part_size body = 8 + number_at w16 6 body
 
--- so many runs, one part behind the other
+-- n runs, one part after the other
 abbrev pub runs_of : ℕ → List ℕ → List Run
 runs_of zero body = []
 runs_of (suc n) body = run_of body ∷ runs_of n (drop (part_size body) body)
 
--- the bytes hold so many parts
+-- the bytes hold n parts
 abbrev pub HasParts : ℕ → List ℕ → Type 0
 HasParts zero body = Unit {0}
 HasParts (suc n) body = (part_size body ≤ length body) × HasParts n (drop (part_size body) body)
@@ -54,7 +54,7 @@ part_fault g before at body =
 abbrev pub part_end : List ℕ → ℕ × ℕ
 part_end body = (number_at w32 0 body, number_at w16 4 body + number_at w16 6 body)
 
--- the first test that so many parts fail, which are to be all of the bytes
+-- the first test that n parts fail, which are to be all of the bytes
 unfoldable pub parts_fault : Geometry → (before : Option (ℕ × ℕ)) → (at n : ℕ) → List ℕ → Option FormatError
 parts_fault g before at zero [] = None
 parts_fault g before at zero (b ∷ body) = Some (Length at)

@@ -6,6 +6,6 @@ use Rattle.iso_model.specs.{declared.access.Geometry.Geometry, declared.access.R
 abbrev pub LieInAnImage : List Run → Type 0
 LieInAnImage parts = (g : Geometry) × IsTrue (is_valid g) × AreRuns g parts
 
--- the first 20 bytes of a record with so many parts, whose bytes have this length
+-- the first 20 bytes of a record with `count` parts, whose bytes have this length
 abbrev pub head : (gate kind n count len : ℕ) → List ℕ
 head gate kind n count len = gate ∷ kind ∷ 0 ∷ 0 ∷ [] ++ to_be_bytes w32 count ++ to_be_bytes w32 len ++ to_be_bytes w64 n

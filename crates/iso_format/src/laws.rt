@@ -3,7 +3,7 @@ ghost use Rattle.std.specs.Prelude.{◌≡◌, ℕ, ◌<◌, ◌≤◌, List, So
 ghost use Rattle.iso_model.specs.declared.access.Geometry.{Geometry};
 ghost use Rattle.iso_format.specs.{declared.format_error.FormatError.TheVariants.Short, Records.{fault_of, record_window, recorded}};
 
-/// A record is read from the bytes that its head asks for as from any that go on behind them.
+/// A record is read from the bytes that its head asks for as from any that go on after them.
 pub fn records_are_read_from_their_window()
     ensures head { (bytes : List ℕ) (n : ℕ) → 12 ≤ n → record_window (take n bytes) ≡ record_window bytes }
     ensures fault { (g : Geometry) (number : ℕ) (bytes : List ℕ) (n : ℕ) → record_window bytes ≤ n → n ≤ length bytes

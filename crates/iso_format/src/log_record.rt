@@ -29,7 +29,7 @@ pub fn record_length(parts: &PartList) -> u64
     body_length(parts.as_slice()).saturating_add(HEAD as u64)
 }
 
-/// The record of commit `number`, with an open gate. Its kind, 1 or 2, tells the commit's mode.
+/// The record of commit `number`, with an open gate. Its kind, 1 or 2, gives the commit's mode.
 pub fn write_record(
     alloc: Global,
     number: u64,

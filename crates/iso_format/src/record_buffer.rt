@@ -88,7 +88,7 @@ impl RecordBuffer {
         Ok(())
     }
 
-    /// The finished records, and a closed gate behind them.
+    /// The finished records, and a closed gate after them.
     pub fn with_closed_gate(&self) -> &[u8]
         ensures { result.now ≡ self.now.records ++ 0 ∷ [] }
     {

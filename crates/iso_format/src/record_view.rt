@@ -109,7 +109,7 @@ impl<'a> RecordView<'a> {
     }
 }
 
-/// How many bytes have to be there for the record to be read that begins with these: its own, and the gate behind it.
+/// How many bytes have to be there for the record to be read that begins with these: its own, and the gate after it.
 pub fn record_window(head: &[u8]) -> u64
     requires { 20 ≤ length head.now }
     ensures { result ≡ record_window head.now }

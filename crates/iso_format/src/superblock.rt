@@ -161,7 +161,7 @@ fn super_of(input: &[u8]) -> Result<Geometry, SuperError>
     }
 }
 
-/// The geometry that a superblock spells, or the first test that the bytes fail. No superblock tells the form,
+/// The geometry that a superblock spells, or the first test that the bytes fail. No superblock gives the form,
 /// which is 1 in the geometry.
 pub fn read_super(input: &[u8]) -> Result<Geometry, SuperError>
     requires { length input.now ≡ 64 }

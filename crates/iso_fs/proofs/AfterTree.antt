@@ -63,7 +63,7 @@ module _ {Y : Type 0} (a : FileAreas) (A : Array) (regions : AreFileRegions a A)
   pub own_at_file : own A (accesses_of (with_file a next value) A) ≡ own A (accesses_of (next number file) A)
   own_at_file = grind (arith, good_number, good_file) steps 100000
 
--- the same of reads, on whatever array
+-- the accesses of a call that reads a file are reads, where those of what follows are, on whatever array
 pub reads_behind_file : {Y : Type 0} (a : FileAreas) (A : Array) (none : Y) (next : ℕ → List ℕ → Call Y) → ((number : ℕ) (file : List ℕ) → AreReads (accesses_of (next number file) A))
     → (o : Option (List ℕ)) → AreReads (accesses_of (at_file a none next o) A)
 reads_behind_file a A none next each None = tt

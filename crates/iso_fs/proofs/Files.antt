@@ -13,7 +13,7 @@ file_parts a file is =
     let two = and_parts (are_entries a.blocks file (data_count a.size file)) (has_zeros file (data_count a.size file)) one.1 in
     record { few = leb-true _ _ (and_parts _ _ one.0).1; entries = two.0; zeros = two.1 }
 
--- a block that a region of so many hands out
+-- a block that a region of `blocks` blocks hands out
 pub record IsHanded (blocks number : ℕ) : Type 0 where
   pub some : 1 ≤ number
   pub below : number < blocks
@@ -70,7 +70,7 @@ file_not_small a file kind large = λ i. (kind i && large i) && (are_entries a.b
 pub count_fits : (size bytes : ℕ) → 256 ≤ size → bytes ≤ most_bytes size → 64 + 4 * ((bytes + (size - 1)) / size) ≤ size
 count_fits size bytes least few = grind (arith, more_blocks) steps 100000
 
--- so many blocks have room for the bytes
+-- the blocks that these bytes take have room for them
 pub count_covers : (size bytes : ℕ) → 0 < size → bytes ≤ (bytes + (size - 1)) / size * size
 count_covers size bytes some = grind arith steps 100000
 

@@ -1,7 +1,7 @@
--- The pieces of a range, of which so many at most are left.
+-- The pieces of a range, with the number of those that are left at most.
 use Rattle.iso_fs.proofs.{Words.{◌≡◌, refl, subst, ℕ, zero, suc, ◌-◌, ◌≤◌, Err, arith, FsError, Call, Tx, IsAt, at_join, HasRun}, Ended.run_from}
 
--- what is left of the call, where so many bytes are left and each piece has one at least
+-- what is left of the call, where `left` bytes are left and each piece has one at least
 pub record HasLeft {X : Type 0} (whole : Call X) (p : ℕ → Call X) (left : ℕ) (t u : Tx) : Type 0 where
   pub most : ℕ
   pub fits : left ≤ most

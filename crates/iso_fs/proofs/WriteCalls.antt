@@ -13,7 +13,7 @@ no_ok : (e : FsError) (r : Bool) → ◌≡◌ {A = Result Bool FsError} (Err e)
 no_ok e r is = cc
 
 -- NEW BLOCKS
--- so many blocks were taken, and then the rest of the call was done
+-- `need` blocks were taken, and then the rest of the call was done
 record TakesOn (a : FileAreas) (A : Array) (need : ℕ) (next : List ℕ → Call Bool) (r : Bool) : Type 0 where
   news : List ℕ
   X : Array

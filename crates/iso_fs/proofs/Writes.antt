@@ -16,7 +16,7 @@ pub record HasTaken (a : FileAreas) (A : Array) (news : List ℕ) (X : Array) : 
   pub bits : (j : ℕ) → j < 8 * map_bytes a.files.blocks → IsTrue (map_bit (block_at X a.files.start) j) ↔ (IsIn j news ⊎ IsTrue (map_bit (block_at A a.files.start) j))
   pub head : list_all is_zero (take 64 (block_at X a.files.start)) ≡ true
 
--- The file block is this one: well formed, of so many bytes, with these numbers.
+-- The file block is this one: well formed, of `size` bytes, with these numbers.
 pub record HasBlock (a : FileAreas) (X1 X2 : Array) (number size : ℕ) (E : List ℕ) : Type 0 where
   pub others : (b : ℕ) → b ≢ a.files.start + number → block_at X2 b ≡ block_at X1 b
   pub long : (b : ℕ) → length (block_at X2 b) ≡ length (block_at X1 b)

@@ -28,7 +28,7 @@ HasRun p t u (Err fs.BadRange) = Ran p t u (Err fs.BadRange)
 HasRun p t u (Err fs.Exists) = Ran p t u (Err fs.Exists)
 HasRun p t u (Err (fs.Store e)) = HasRefused p t u e
 
--- Why a file call is refused, of which a part makes at most so many writes once it has seen that they fit: the store under it
+-- Why a file call is refused, of which a part makes at most `writes` writes once it has seen that they fit: the store under it
 -- refuses for its own causes, and else the disk did not fail in the call.
 abbrev pub IsFsCause : Tx → (writes : ℕ) → (before now : Device) → FsError → Type 0
 IsFsCause u writes before now (fs.Store e) = IsStoreCause u writes before now e

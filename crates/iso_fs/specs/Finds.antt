@@ -29,7 +29,7 @@ on_found none next (Ok (Some x)) = next x.0 x.1
 abbrev pub IsFound : Area → (file : List ℕ) → Result (Option ℕ) FsError → Type 0
 IsFound a file result = IfOk result (λ o. IfSome o (λ number. (number < a.blocks) × IsTrue (is_file a file)))
 
--- an answer with the first bytes of the buffer, so many as were read
+-- an answer with the first bytes of the buffer, as many as were read
 abbrev pub got_as : (room : List ℕ) → Result (Option ℕ) FsError → Result (Option (List ℕ)) FsError
 got_as room (Ok o) = Ok (option_map (λ n. take n room) o)
 got_as room (Err e) = Err e
@@ -42,7 +42,7 @@ drop_name a old = in_tree (del_program a.tree old) (λ there. Done (Ok true))
 abbrev pub with_dropped : FileAreas → (name : List ℕ) → (number : ℕ) → (file first : List ℕ) → Call Bool
 with_dropped a name number file first = in_tree (del_program a.tree name) (remove_writes a.files number file first)
 
--- what a write does that needs so many new blocks, once the map is read
+-- what a write does that needs `need` new blocks, once the map is read
 abbrev pub with_taken : {Y : Type 0} → Area → (need : ℕ) → (List ℕ → Call Y) → (first : List ℕ) → Call Y
 with_taken a need next first =
     cond (nat_lt (free_count first 1 (a.blocks - 1)) need) (refuse (fs.Store (NoBlocks need (free_count first 1 (a.blocks - 1)))))

@@ -39,7 +39,7 @@ pub fn named_areas<T: TxBlocks>(tx: &T, at: FsRegion, name: &[u8]) -> Result<Fil
     Ok(areas_of(tx, at))
 }
 
-/// Two buffers of so many bytes, and a third one.
+/// Two buffers of `size` bytes, and a third one of `last`.
 pub fn buffers(
     alloc: Global,
     size: usize,
@@ -54,7 +54,7 @@ pub fn buffers(
     Ok((first, second, third))
 }
 
-/// Whether a call may read or write so many bytes.
+/// Whether a call may read or write `count` bytes.
 pub fn is_many(count: usize) -> bool
     ensures { result ≡ is_many count }
 {

@@ -21,7 +21,7 @@ pub fn entry_at(file: &[u8], i: usize) -> u32
     word_at(file, 64 + 4 * i)
 }
 
-// Whether a number is that of a block that a region of so many hands out.
+// Whether a number is that of a block that a region of `blocks` blocks hands out.
 fn is_handed(blocks: u32, number: u32) -> bool
     ensures { result ≡ is_handed blocks number }
 {
@@ -57,7 +57,7 @@ fn is_kind(file: &[u8]) -> bool
     file[0] == 3
 }
 
-// Whether a file may have so many bytes.
+// Whether a file may have as many bytes as its block says.
 fn is_small(area: Area, file: &[u8]) -> bool
     requires least { 256 ≤ area.size }
     requires most { area.size ≤ 4096 }

@@ -60,7 +60,7 @@ fn rename_in<T: TxBlocks>(
 /// Gives a file another name, and says whether there is one. `BadName` comes exactly where one of the names does not have 1 to 28
 /// bytes, `Exists` where the new one has a file, which may be the same; `NoBlocks` where the tree has too few free blocks, `Broken`
 /// where a call of the tree answers it. A refusal has written nothing, but where the transaction refuses an access, or the removal
-/// of the old name wants memory or finds a broken block behind the put of the new one.
+/// of the old name wants memory or finds a broken block after the put of the new one.
 pub fn rename<T: TxBlocks>(
     alloc: Global,
     tx: &mut T,

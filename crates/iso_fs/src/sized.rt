@@ -7,7 +7,7 @@ use crate::file::entry_at;
 use iso_alloc::lay;
 use store_model::Area;
 
-// A file block of so many bytes, with no data blocks yet.
+// The file block of a file with `bytes` bytes, with no data blocks yet.
 fn start_file(into: &mut [u8], bytes: u32)
     requires { 64 ≤ length into.old }
     ensures { into.new ≡ file_block (length into.old) bytes [] }
@@ -45,7 +45,7 @@ fn add_news(into: &mut [u8], count: usize, news: &[u32])
     }
 }
 
-/// The file block of a file with so many bytes, which has the data blocks of another one and new ones.
+/// The file block of a file with `bytes` bytes, which has the data blocks of another one and new ones.
 pub fn lay_sized(area: Area, file: &[u8], count: usize, news: &[u32], bytes: u32, into: &mut [u8])
     requires count { count ≡ data_count area.size file.now }
     requires file { 64 + 4 * count ≤ length file.now }

@@ -190,7 +190,7 @@ fn write_new<T: TxBlocks>(
     write_taken(tx, area, need, number, off, bytes, file, map, into)
 }
 
-// How many blocks so many bytes take.
+// How many blocks `bytes` bytes take.
 fn blocks_for(size: u32, bytes: u32) -> u32
     requires least { 256 ≤ size }
     requires most { size ≤ 4096 }
@@ -200,7 +200,7 @@ fn blocks_for(size: u32, bytes: u32) -> u32
     (bytes + (size - 1)) / size
 }
 
-// Whether a file may have so many bytes.
+// Whether a file may have `bytes` bytes.
 fn is_fit(size: u32, bytes: u32) -> bool
     requires least { 256 ≤ size }
     requires most { size ≤ 4096 }

@@ -77,7 +77,7 @@ fn grow<T: TxBlocks>(
     }
 }
 
-/// Puts a key into a new block behind the last one of its chain. `NoBlocks` comes exactly where none is free.
+/// Puts a key into a new block after the last one of its chain. `NoBlocks` comes exactly where none is free.
 pub fn put_block<T: TxBlocks>(
     tx: &mut T,
     area: Area,

@@ -5,8 +5,8 @@ ghost use Rattle.iso_disk.specs.Disk.{Torn, spliced};
 ghost use Rattle.commit_gate.specs.Gate.{IsClosed, IsOpen};
 ghost use Rattle.iso_image.specs.{Changes.{Appending, InHalf, MaySwitch}, Half.{AreOne, Half, IsFilled, IsHeld, MayFollow, empty_image, half_of, half_of_world, history_of, in_form, last_told, next_gate, told_bytes, with_records}};
 
-/// Where a half that is held stands: its gate is open and its log lies in the image, each record behind those before it,
-/// and behind the last one a closed gate.
+/// Where a half that is held lies: its gate is open and its log lies in the image, each record after those before it,
+/// and after the last one a closed gate.
 pub fn held_halves_stand_in_the_image()
     ensures at { (g : Geometry) (x : Half) (bytes : List ℕ) → IsHeld g x bytes → x.at ≤ 1 }
     ensures header { (g : Geometry) (x : Half) (bytes : List ℕ) → IsHeld g x bytes → IsOpen (header_place g x.at) bytes }
@@ -21,7 +21,7 @@ pub fn held_halves_stand_in_the_image()
         ≡ spell 1 (kind_of g w.mode) (x.base + 1 + length before) w.parts }
 {}
 
-/// Bytes behind the gate of the next record may change. As long as that gate is closed they tell nothing; once it is open
+/// Bytes after the gate of the next record may change. As long as that gate is closed they say nothing; once it is open
 /// over whole records, those are told. So records that are appended are all there or none.
 pub fn records_are_told_once_their_gate_opens()
     ensures behind { (g : Geometry) (x : Half) (from count : ℕ) (old new : List ℕ) → IsHeld g x old → next_gate g x < from
@@ -37,7 +37,7 @@ pub fn records_are_told_once_their_gate_opens()
         → Torn (next_gate g x) 1 old new → IsOpen (next_gate g x) new → IsHeld g (with_records more x) new }
 {}
 
-/// What is appended is written behind a closed gate, and then the gate: at each moment the gate is closed, or all stands.
+/// What is appended is written after a closed gate, and then the gate: at each moment the gate is closed, or all is there.
 pub fn appended_bytes_are_whole_or_closed()
     ensures body { (gate b : ℕ) (body old new : List ℕ) → IsClosed gate old → Torn (gate + 1) (length body) old new
         → Appending gate (b ∷ body) old new }

@@ -27,7 +27,7 @@ pub record MetEnd (old new : SourceState) (bytes : List ℕ) : Type 0 where
   pub whole : IfSome old.rest (λ left. left ≡ bytes)
   pub nothing_left : IsAtEnd new.rest
 
--- from old to new the source gave some bytes, and no more than so many
+-- from old to new the source gave some bytes, and no more than `limit`
 pub record TookAtMost (old new : SourceState) (limit : ℕ) : Type 0 where
   pub bytes : List ℕ
   pub few : length bytes ≤ limit

@@ -52,7 +52,7 @@ impl MemSink {
         MemSink::in_pieces(alloc, failing, usize::MAX)
     }
 
-    /// One that takes at most so many bytes at a call; with 0 it takes nothing.
+    /// One that takes at most `piece` bytes at a call; with 0 it takes nothing.
     pub fn in_pieces(alloc: Global, failing: Vec<u64>, piece: usize) -> Self
         ensures { result ≡ record {
           taken = [];

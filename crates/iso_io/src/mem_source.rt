@@ -52,7 +52,7 @@ impl MemSource {
         MemSource::in_pieces(bytes, failing, usize::MAX)
     }
 
-    /// One that gives at most so many bytes at a call.
+    /// One that gives at most `piece` bytes at a call.
     pub fn in_pieces(bytes: Vec<u8>, failing: Vec<u64>, piece: usize) -> Self
         requires { 0 < piece }
         ensures { result ≡ record {

@@ -62,7 +62,7 @@ pub fn take_all<S: Source>(alloc: Global, source: &mut S, limit: u64) -> Result<
     ensures limit { IfOk result (λ bytes. vec_len bytes ≤ limit) }
     ensures ended { IfOk result (λ bytes. vec_len bytes < limit → MetEnd (S.state source.old) (S.state source.new) bytes.items) }
 
-    // At an error, at most so many bytes are lost.
+    // At an error, at most `limit` bytes are lost.
     ensures err { OnErr result (TookAtMost (S.state source.old) (S.state source.new) limit) }
     ensures failed { IsErrOf result TakeError.Failed → Rose (S.state source.old).faults (S.state source.new).faults }
     ensures memory { IsErrOf result TakeError.Memory → (S.state source.new).faults ≡ (S.state source.old).faults }

@@ -13,7 +13,7 @@ spell_body gate kind n parts rest = refl
 pub window_is : (gate kind n : ℕ) (parts : List Run) (rest : List ℕ) → length (spell gate kind n parts) < 2 ^ 32 → record_window (spell gate kind n parts ++ rest) ≡ length (spell gate kind n parts) + 1
 window_is gate kind n parts rest small = grind (arith, length-spell, spell_body, from_be_bytes-to_be_bytes_4)
 
--- These bytes are the records that are left of those of a list, once so many were counted.
+-- These bytes are the records that are left of those of a list, once `count` were counted.
 pub record AreLeft (g : Geometry) (n : ℕ) (more : List Written) (count : ℕ) (rest : List ℕ) : Type 0 where
   pub left : List Written
   pub bytes_are : rest ≡ records g (n + count) left ++ 0 ∷ []

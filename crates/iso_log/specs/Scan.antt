@@ -13,7 +13,7 @@ pub record IsNextRecord (g : Geometry) (number : ℕ) (bytes : List ℕ) : Type 
   pub gate : ℕ
   pub bytes_are : bytes ≡ spell 1 (kind_of g (told_first g bytes).mode) number (told_first g bytes).parts ++ gate ∷ []
 
--- So many of these bytes are the record with this number and one gate behind it, and pass each test.
+-- The first `size` of these bytes are the record with this number and one gate after it, and pass each test.
 pub record IsFound (g : Geometry) (number : ℕ) (bytes : List ℕ) (size : ℕ) : Type 0 where
   pub within : size ≤ length bytes
   pub next : IsNextRecord g number (take size bytes)
@@ -23,7 +23,7 @@ pub record IsFound (g : Geometry) (number : ℕ) (bytes : List ℕ) (size : ℕ)
 abbrev pub StandAt : (place : ℕ) → (bytes image : List ℕ) → Type 0
 StandAt place bytes image = bytes ≡ take (length bytes) (drop place image)
 
--- The gate is open, and the bytes behind it, so many with it, begin with the record that has this number.
+-- The gate is open, and the `rest` bytes from it on begin with the record that has this number.
 pub record IsFirst (g : Geometry) (place rest number : ℕ) (image : List ℕ) : Type 0 where
   pub opens : IsOpen place image
   pub passes : fault_of g number (take rest (drop place image)) ≡ None

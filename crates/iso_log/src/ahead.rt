@@ -21,7 +21,7 @@ pub struct ReadAhead {
     // Where those begin that the scan has not passed, and where they end.
     from: usize,
     end: usize,
-    // How many bytes are read at once, where the log has so many.
+    // How many bytes are read at once, where the log has as many.
     piece: u32,
 }
 
@@ -42,7 +42,7 @@ impl ReadAhead {
     ghost use Rattle.iso_format.specs.Records.{fault_of, recorded};
     ghost use Rattle.iso_log.specs.{Cause.BlamesDisk, Scan.StandAt};
 
-    /// Nothing is read yet. Each read of the disk will ask for so many bytes, or for all of a longer record, and the first one
+    /// Nothing is read yet. Each read of the disk will ask for `piece` bytes, or for all of a longer record, and the first one
     /// for 69,632 at most.
     pub fn new(alloc: Global, piece: u32) -> Self
         ensures { result ≡ [] }
@@ -62,7 +62,7 @@ impl ReadAhead {
         &self.bytes.as_slice()[self.from..self.end]
     }
 
-    /// The record at the front of these bytes, which has so many with the gate behind it. It was tested, and is not again.
+    /// The record at the front of these bytes, which has `size` with the gate after it. It was tested, and is not again.
     pub fn view_front(&self, size: u32) -> RecordView<'_>
         requires within { size ≤ length self.now }
         requires passes { (g : Geometry) × (number : ℕ) × (fault_of g number (take size self.now) ≡ None) }
@@ -73,7 +73,7 @@ impl ReadAhead {
         view_record(record)
     }
 
-    /// Passes so many of them.
+    /// Passes `count` of these bytes.
     pub(crate) fn pass(&mut self, count: usize)
         requires { count ≤ length self.old }
         ensures { self.new ≡ drop count self.old }
@@ -81,7 +81,7 @@ impl ReadAhead {
         self.from += count;
     }
 
-    /// Reads on until there are so many bytes, where so many of the log are left from its next gate on.
+    /// Reads on until there are `need` bytes, where `rest` of the log are left from its next gate on.
     #[inline(always)]
     pub(crate) fn ask<D: Disk>(
         &mut self,
@@ -108,7 +108,7 @@ impl ReadAhead {
         self.read_on(disk, gate, need, rest)
     }
 
-    /// Does so where there are fewer. It is kept apart, as it is called once a piece, and `ask` twice a record.
+    /// Reads on where there are fewer. It is kept apart, as it is called once a piece, and `ask` twice a record.
     #[inline(never)]
     fn read_on<D: Disk>(
         &mut self,
@@ -140,7 +140,7 @@ impl ReadAhead {
     }
 }
 
-// How many bytes are to be read at once, where there is memory for so many.
+// How many bytes are to be read at once, where there is memory for `room` bytes.
 fn next_piece(piece: u32, room: usize) -> u32 {
     if room == 0 { piece.min(FIRST) } else { piece }
 }
@@ -155,7 +155,7 @@ fn move_up(bytes: &mut Vec<u8>, from: usize, end: usize)
     bytes.as_mut_slice().copy_within(from..end, 0);
 }
 
-// Makes so many bytes stand there at least. Those that do stay.
+// Makes the vector at least `want` bytes long. The bytes that it has stay.
 fn reach(bytes: &mut Vec<u8>, want: usize) -> Result<(), AllocError>
     ensures long { OnOk result (want ≤ length bytes.new.items) }
     ensures grown { (more : List ℕ) × (bytes.new.items ≡ bytes.old.items ++ more) }
@@ -166,7 +166,7 @@ fn reach(bytes: &mut Vec<u8>, want: usize) -> Result<(), AllocError>
     Ok(())
 }
 
-// Reads on behind the first of these bytes, up to so many in all. The first ones stay.
+// Reads on after the first `have` of these bytes, up to `want` in all. The first ones stay.
 fn read_more<D: Disk>(
     disk: &mut D,
     at: u64,

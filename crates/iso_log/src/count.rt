@@ -7,7 +7,7 @@ use iso_format::record_window;
 // How many bytes of a record come before its parts.
 const HEAD: usize = 20;
 
-/// How many records these are, with one byte behind them.
+/// How many records these are, with one byte after them.
 pub fn count_records(bytes: &[u8]) -> u64
     requires { length bytes.now < 2 ^ 32 }
     ensures { (g : Geometry) (n : ℕ) (more : List Written) → bytes.now ≡ records g n more ++ 0 ∷ [] → result ≡ length more }

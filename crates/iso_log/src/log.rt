@@ -49,7 +49,7 @@ impl Log {
         }
     }
 
-    /// Goes to another place, where the last records stand again and take so many bytes.
+    /// Goes to another place, where the last records lie again and take `used` bytes.
     pub fn go_to(&mut self, place: u64, used: u32)
         requires { used ≤ self.old.room }
         ensures { self.new ≡ record self.old { place = place; used = used } }
@@ -86,7 +86,7 @@ impl Log {
         self.last
     }
 
-    /// Adds records, as they are spelled one behind another with open gates and a closed gate behind the last. It answers
+    /// Adds records, as they are spelled one after another with open gates and a closed gate after the last. It answers
     /// the place of the first. It makes one write, one sync, a write of one byte and one sync, and takes no memory.
     pub fn append_group<D: Disk>(&mut self, disk: &mut D, bytes: &[u8]) -> Result<u64, LogError>
         requires fits { self.old.place + self.old.room ≤ (D.state disk.old).size }
@@ -171,9 +171,9 @@ impl Log {
         self.append_group(disk, bytes)
     }
 
-    /// Finds the next record, and answers how many bytes it has with the gate behind it: the first of those that are read ahead.
+    /// Finds the next record, and answers how many bytes it has with the gate after it: the first of those that are read ahead.
     /// It answers none where that record's gate is closed. Bytes are read a piece of the log at once, so a log costs one call
-    /// of the disk a piece; `ReadAhead::view_front` tells what the record says, and `pass` passes it.
+    /// of the disk a piece; `ReadAhead::view_front` returns what the record says, and `pass` passes it.
     pub fn find_ahead<D: Disk>(
         &self,
         disk: &mut D,
@@ -203,7 +203,7 @@ impl Log {
         find_record(disk, gate, rest, geometry, self.last + 1, ahead)
     }
 
-    /// Passes the record of so many bytes that `find_ahead` found.
+    /// Passes the record of `size` bytes that `find_ahead` found.
     pub fn pass(&mut self, ahead: &mut ReadAhead, size: u32)
         requires found { (g : Geometry) × IsFound g (self.old.last + 1) ahead.old size }
         requires within { self.old.used + length ahead.old ≤ self.old.room }

@@ -3,7 +3,7 @@
 /// Why a call of a log failed.
 #[derive(Clone, Copy, Debug, PartialEq, Eq)]
 pub enum LogError {
-    /// The records and the closed gate behind them need so many bytes, and so many are free.
+    /// The records and the closed gate after them need `need` bytes, and `free` are free.
     LogFull { need: u64, free: u64 },
     /// A call of the disk failed.
     Disk,

@@ -8,7 +8,7 @@ ghost use Rattle.iso_log.specs.Log.{AppendedTo, AppendingFrom};
 use commit_gate::{open_gate, put_body};
 use iso_disk::{Disk, DiskFault};
 
-/// Puts bytes behind their closed gate and opens it. The first of them is the open gate. It makes one write, one sync, a
+/// Puts bytes after their closed gate and opens it. The first of them is the open gate. It makes one write, one sync, a
 /// write of one byte and one sync.
 pub fn put_group<D: Disk>(disk: &mut D, gate: u64, bytes: &[u8]) -> Result<(), DiskFault>
     requires fits { gate + length bytes.now ≤ (D.state disk.old).size }

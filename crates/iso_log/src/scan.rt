@@ -26,7 +26,7 @@ fn damaged(gate: u64, fault: FormatError) -> LogError
     }
 }
 
-// Tests the record that these bytes begin with, which has so many of them.
+// Tests the record that these bytes begin with, which has `size` of them.
 fn test_front(
     ahead: &ReadAhead,
     size: u32,
@@ -51,7 +51,7 @@ fn test_front(
     }
 }
 
-/// Finds the record at a gate, where so many bytes of the log are left. It answers how many bytes it has, the gate behind it
+/// Finds the record at a gate, where `rest` bytes of the log are left. It answers how many bytes it has, the gate after it
 /// among them, and none where the gate is closed.
 pub fn find_record<D: Disk>(
     disk: &mut D,

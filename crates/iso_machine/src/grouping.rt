@@ -18,7 +18,7 @@ use std::mem;
 use tx_table::Work;
 
 /// What was found under the labels so far. An answer stands for each label, which the group's reply takes the place of where a
-/// transaction was found; so many were found, and they are the first members.
+/// transaction was found; `count` were found, and they are the first members.
 #[derive(Drop)]
 struct Taken {
     answers: Vec<Option<GroupReply>>,
@@ -36,7 +36,7 @@ fn nothing_taken(alloc: Global, labels: usize) -> Taken
     Taken { answers, count: 0 }
 }
 
-/// Makes places for so many members.
+/// Makes places for `count` members.
 fn make_places(
     alloc: Global,
     ends: &mut Vec<GroupEnd>,

@@ -56,7 +56,7 @@ module _ {first first' : List ℕ} {calls' : List Call} (calls : List Call) (cal
 pub synced_image : (calls : List Call) (first : List ℕ) → AllFit (length first) calls → (c : List ℕ) → images_after (Sync ∷ []) (written calls first) (images first calls) c → images first calls c
 synced_image calls first fit c is = subst (images first calls) (sym is) (written-image calls first (λ b. b ≡ first) fit refl)
 
--- the same of a memory disk
+-- a memory disk is bound as before where its name is the same
 same_bound : (old new : MemDisk) → new.name ≡ old.name → (state_of new).bound ≡ (state_of old).bound
 same_bound old new named = ap (option_map (λ (name : Vec ℕ Global). (0, name.items))) named
 

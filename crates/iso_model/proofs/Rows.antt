@@ -14,7 +14,7 @@ commit_put begin block off bytes = record { begin = begin; mode = Serial; access
 abbrev history : List Commit → History
 history commits = record { first = 1; base = zeros 64 4; commits = commits }
 
--- two answers beside each other
+-- two answers as a pair
 abbrev pair_of : Option Clash → List ℕ → Option Clash × List ℕ
 pair_of c bytes = (c, bytes)
 

@@ -6,7 +6,7 @@ use Rattle.iso_model.specs.{declared.access.Span.Span, declared.access.Access.Ac
 abbrev pub Array : Type 0
 Array = List (List ℕ)
 
--- blocks of so many bytes, all zero
+-- `blocks` blocks of `size` bytes, all zero
 abbrev pub zeros : (size blocks : ℕ) → Array
 zeros size blocks = replicate blocks (replicate size 0)
 

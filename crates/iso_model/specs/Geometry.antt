@@ -16,7 +16,7 @@ same_mode Snapshot Serial = false
 abbrev pub is_block_size : ℕ → Bool
 is_block_size size = list_any (λ n. size == n) (64 ∷ 128 ∷ 256 ∷ 512 ∷ 1024 ∷ 2048 ∷ 4096 ∷ [])
 
--- whether a store's region may have so many blocks, of which it needs at least so many where it is there
+-- whether a store's region may have `blocks` blocks, of which it needs at least `least` where it is there
 abbrev pub is_region : Geometry → (least blocks : ℕ) → Bool
 is_region g least blocks =
     (blocks == 0) || (nat_le least blocks && nat_le blocks (8 * (g.block - 64)) && nat_le 256 g.block && is_serial g.mode)

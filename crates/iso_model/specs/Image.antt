@@ -90,7 +90,7 @@ pub record IsRecord (g : Geometry) (w : Written) : Type 0 where
   pub runs : AreRuns g w.parts
   pub mode : g.form ≡ 1 → w.mode ≡ g.mode
 
--- n blocks of so many bytes, from the front of the bytes
+-- n blocks of `size` bytes, from the front of the bytes
 abbrev pub blocks_of : (size n : ℕ) → List ℕ → Array
 blocks_of size zero bytes = []
 blocks_of size (suc n) bytes = take size bytes ∷ blocks_of size n (drop size bytes)

@@ -2,7 +2,7 @@
 use Rattle.std.specs.Prelude.{ℕ, ◌+◌, Bool, ◌||◌, ◌==◌, if◌then◌else◌, List, [], ◌∷◌, ◌++◌, Option, Some, None, length, nat_le, nat_lt}
 use Rattle.iso_model.specs.{declared.access.Access.Access, declared.access.MarkError.MarkError, declared.access.MarkError.TheVariants.{BadRange, NoAccess, TooManyMarks}, declared.access.Span.Span, declared.limits.TheConstants.MAX_SPANS}
 
--- whether the bytes from off on, so many of them, are none or pass the end of a block of this size
+-- whether the `len` bytes from `off` on are none or pass the end of a block of this size
 abbrev pub is_outside : (size off len : ℕ) → Bool
 is_outside size off len = (len == 0) || nat_lt size (off + len)
 

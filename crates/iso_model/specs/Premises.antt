@@ -31,7 +31,7 @@ pub record HasShape (g : Geometry) (A : Array) : Type 0 where
   pub bytes : (b : ℕ) → b < g.blocks → length (block_at A b) ≡ g.block
   pub values : (b : ℕ) → AreBytes (block_at A b)
 
--- a write has so many bytes
+-- a write has `size` bytes
 abbrev pub HasBytes : ℕ → Access → Type 0
 HasBytes size a = IsTrue (is_write a) → length a.bytes ≡ size
 

@@ -19,7 +19,7 @@ pub fn commits_of_a_group_are_consecutive()
     ensures { (W : World) (members : List Live) → 0 < W.history.first → Follow (last W.history) (numbers_told (group W members).0) }
 {}
 
-/// A group of one is an end, behind which the transaction is not live.
+/// A group of one is an end, after which the transaction is not live.
 pub fn a_group_of_one_is_an_end()
     ensures { (W : World) (t : Live) → group W (t ∷ []) ≡ (member_reply (end_step W t).0 ∷ [], after_member t (end_step W t)) }
 {}

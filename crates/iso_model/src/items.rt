@@ -55,7 +55,7 @@ impl<T> Items<T> {
         Items { items }
     }
 
-    /// Makes room for so many more items, so that adding them takes no memory. The items stay. Contracts do not see the
+    /// Makes room for `more` more items, so that adding them takes no memory. The items stay. Contracts do not see the
     /// room of a list that is data of the model; with `with_room` they do.
     pub fn reserve(&mut self, more: u32) -> Result<(), Memory>
         ensures { self.new ≡ self.old }
@@ -64,7 +64,7 @@ impl<T> Items<T> {
         Ok(())
     }
 
-    /// The list with room for so many more items, within which a push takes no memory; `into_items` is the way back. Without
+    /// The list with room for `more` more items, within which a push takes no memory; `into_items` is the way back. Without
     /// memory the list is handed back.
     pub fn with_room(self, more: u32) -> Result<Reserved<T>, Items<T>>
         ensures ok { IfOk result (λ r. (r.items ≡ self) × (more ≤ r.room)) }

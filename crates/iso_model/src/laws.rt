@@ -42,7 +42,7 @@ pub fn writes_have_runs()
     ensures none { (g : Geometry) (accesses : List Access) → 0 < g.block → AreAccesses g accesses → IsFalse (has_write accesses) ↔ (length (runs g accesses) ≡ 0) }
 {}
 
-/// The writes that a record stands for have the effect of the accesses that it was made of, and so leave the same arrays.
+/// The writes that a record represents have the effect of the accesses that it was made of, and so leave the same arrays.
 pub fn records_keep_the_effect()
     ensures effect { (g : Geometry) (accesses : List Access) → SameEffect g (recorded g (runs g accesses)) accesses }
     ensures runs { (g : Geometry) (list : List Run) → AreRuns g list → runs g (recorded g list) ≡ list }
@@ -120,7 +120,7 @@ pub fn images_open_to_sound_worlds()
         → IsWorld (fresh g generation H) }
 {}
 
-/// An image tells one geometry, one generation and one history.
+/// An image holds one geometry, one generation and one history.
 pub fn images_hold_one_history()
     ensures geometry { (bytes : List ℕ) (g f : Geometry) (m n : ℕ) (H G : History) → IsImage bytes g m H → IsImage bytes f n G → g ≡ f }
     ensures generation { (bytes : List ℕ) (g f : Geometry) (m n : ℕ) (H G : History) → IsImage bytes g m H → IsImage bytes f n G → m ≡ n }

@@ -41,7 +41,7 @@ impl<T> Reserved<T> {
         Reserved { items }
     }
 
-    /// Makes room for so many more items. Where there is room for them already it takes no memory.
+    /// Makes room for `more` more items. Where there is room for them already it takes no memory.
     pub fn reserve(&mut self, more: u32) -> Result<(), Memory>
         ensures ok { OnOk result (more ≤ self.new.room) }
         ensures items { self.new.items ≡ self.old.items }
@@ -84,7 +84,7 @@ impl<T> Reserved<T> {
         self.items.pop()
     }
 
-    /// Keeps so many of the first items. The places of the others are room then.
+    /// Keeps the first `count` items. The places of the others are room then.
     pub fn truncate(&mut self, count: u32)
     where
         T: Drop,

@@ -2,7 +2,7 @@
 ghost use Rattle.std.specs.{Prelude.{◌≡◌, ◌↔◌, ℕ, ◌<◌, ◌≤◌, ◌||◌, List, [], ◌∷◌, ◌++◌, IsFalse, true, length, sum_by}, List.AllByRecursion};
 ghost use Rattle.iso_model.specs.{declared.access.Access.Access, declared.access.Commit.Commit, declared.access.Run.Run, declared.access.Span.Span, Array.{covered, in_span}, Effect.{effect_at, runs}, History.last, Marks.marked, Step.write_access, Versions.{is_kept, is_written, versions, IsWritten, StillShows}, World.{floor, logged_commits, BeganAt, World}};
 
-/// A mark changes the last access alone. The first mark of an access stands in the place of its whole block, so that a write
+/// A mark changes the last access alone. The first mark of an access takes the place of its whole block, so that a write
 /// writes nothing outside it; a further one adds its bytes.
 pub fn marks_change_the_last_access()
     ensures last { (span : Span) (accesses : List Access) (a : Access)

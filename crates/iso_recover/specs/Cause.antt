@@ -25,7 +25,7 @@ opening (log.Damaged at cause) = Damaged at cause
 opening log.Disk = Disk
 opening (log.LogFull need free) = Disk
 
--- the same of the error itself, which stands beside the disk
+-- what `BlamesDisk` says, of the error itself, which is answered together with the disk
 pub record IsBlamed (before now : ℕ) (e : OpenError) : Type 0 where
   pub later : before ≤ now
   pub failed : e ≡ Disk → Rose before now

@@ -4,7 +4,7 @@ use Rattle.iso_model.specs.{declared.access.Geometry.Geometry, Geometry.image_si
 use Rattle.iso_image.specs.Half.{IsHeld, half_of}
 use Rattle.iso_refusal.specs.{declared.open_error.OpenError.TheVariants.NotIsotope, Refusal.refusal}
 
--- so many bytes: 63 of a superblock, its gate, the header of the first half, and zeros
+-- `size` bytes: 63 of a superblock, its gate, the header of the first half, and zeros
 abbrev pub fronted : (gate : ℕ) → (front header : List ℕ) → (size : ℕ) → List ℕ
 fronted gate front header size = front ++ gate ∷ [] ++ header ++ replicate (size - 96) 0
 

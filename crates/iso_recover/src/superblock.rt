@@ -49,7 +49,7 @@ fn tested_geometry(block: &[u8], have: u64) -> Result<Geometry, OpenError>
     }
 }
 
-/// Reads the geometry of an image, which is of form 1 as a superblock tells no form.
+/// Reads the geometry of an image, which is of form 1 as a superblock gives no form.
 pub fn read_geometry<D: Disk>(disk: &mut D) -> Result<Geometry, OpenError>
     ensures refused { IfErr result (λ e. IsTest e → ForSome (D.state disk.old).contents (λ c. refusal c ≡ Some e)) }
     ensures shape { IfErr result (IsShaped (D.state disk.old).size) }

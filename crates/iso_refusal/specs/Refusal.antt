@@ -30,7 +30,7 @@ abbrev pub damaged : (place : ℕ) → FormatError → OpenError
 damaged place fault = Damaged (place + offset_of fault) (test_number fault)
 
 -- The first test that a record of the log fails, up to the first closed gate. The log stands at this place of the image,
--- n is the number of its first record, and at most so many are tested: with the log's length or more, all of them.
+-- n is the number of its first record, and at most `most` are tested: with the log's length or more, all of them.
 abbrev pub log_refusal : Geometry → (place n most : ℕ) → List ℕ → Option OpenError
 log_refusal g place n zero log = None
 log_refusal g place n (suc most) log =
@@ -82,7 +82,7 @@ mode_of_kind Snapshot kind = if kind == 1 then Snapshot else Serial
 abbrev pub told_first : Geometry → List ℕ → Written
 told_first g log = record { mode = mode_of_kind g.mode (recorded log).kind; parts = (recorded log).parts }
 
--- what the records of the log tell, up to the first closed gate, at most so many of them
+-- what the records of the log say, up to the first closed gate, at most `most` of them
 abbrev pub told_by : Geometry → (most : ℕ) → List ℕ → List Written
 told_by g zero log = []
 told_by g (suc most) log = if slice_index log 0 == 1 then told_first g log ∷ told_by g most (drop (record_bytes log) log) else []

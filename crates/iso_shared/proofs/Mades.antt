@@ -79,7 +79,7 @@ tx_on {A = A} t p begins same is = record {
   ahead = ahead_on A (tx_view t).seen (view p).seen t.work t.checked begins is.ahead;
 }
 
--- the same of a pass that was told before: u is the pass before the call, t as it was told
+-- what was made of t was made of a pass that was told before: u is the pass before the call, t as it was told
 pub made_on : (A : Start) (v u t w : View Entry) (e : Entry) → IsPrefix v.seen t.seen → IsPrefix u.seen t.seen → t.mine ≡ u.mine → Made A t t e w → Made A v u e w
 made_on A v u t w e told begins same m =
     made_by A v u (record t { seen = m.before }) w e (prefix_trans v.seen t.seen m.before told m.told) (prefix_trans u.seen t.seen m.before begins m.begins) same m.seen m.mine m.legal

@@ -11,7 +11,7 @@ IsReplyUpTo at (Committed k) = k ≤ at
 IsReplyUpTo at ReadOnly = Unit {0}
 IsReplyUpTo at (Conflict c) = Unit {0}
 
--- the same of a member of a group
+-- a commit of a member of a group that is told of has this number at most
 abbrev pub IsMemberUpTo : ℕ → GroupReply → Type 0
 IsMemberUpTo at (member.Committed k) = k ≤ at
 IsMemberUpTo at member.ReadOnly = Unit {0}

@@ -128,10 +128,10 @@ pub record MadeAll (A : Start) (v : View Entry) (us : List (View Entry)) (e : En
   pub mine : (p : ℕ) → times p w.mine ≡ times p v.mine + total (λ u. times p u.mine) us + hit (length before) p
   pub legal : IsLegal A w.seen
 
--- so many steps at most, where these entries stood before
+-- the most steps, where these entries came before
 abbrev pub most_steps : Start → List Entry → (upto : ℕ) → ℕ
 most_steps A before upto = last (state_at A before).world.history - upto
 
--- so many steps at most were taken in the turn that made the last entry that was seen
+-- at most `most_steps` steps were taken in the turn that made the last entry that was seen
 abbrev pub TookFew : Start → (seen : List Entry) → (upto old new : ℕ) → Type 0
 TookFew A seen upto old new = (list : List Entry) (e : Entry) → seen ≡ list ++ e ∷ [] → new ≤ old + most_steps A list upto

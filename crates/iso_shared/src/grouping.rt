@@ -35,7 +35,7 @@ fn wanting(down: bool) -> CoreError
     }
 }
 
-// Room for the works and the replies of so many members.
+// Room for the works and the replies of `count` members.
 fn room_for(alloc: Global, count: usize) -> Option<(Vec<GroupEnd>, Vec<GroupReply>)>
     ensures empty { IfSome result (λ r. (r.0.items ≡ []) × (r.1.items ≡ [])) }
     ensures none { IfSome result (λ r. (vec_len r.0 ≡ 0) × (vec_len r.1 ≡ 0)) }

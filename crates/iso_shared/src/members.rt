@@ -30,7 +30,7 @@ impl<D: Disk + Drop, O: Origin> Shared<D, O> {
         self.lock.join(&mut port.pass, pass);
     }
 
-    // The same of all members.
+    // Joins the passes of all members into the port.
     pub(crate) fn join_members(&self, port: &mut Port<D, O>, group: &mut [Tx<D, O>])
         requires port { IsPort self.now port.old }
         requires group { AllByRecursion (IsTx self.now O.start) group.old }
@@ -68,7 +68,7 @@ impl<D: Disk + Drop, O: Origin> Shared<D, O> {
         self.lock.join(&mut port.pass, note);
     }
 
-    // The same of all members.
+    // Splits all members off again.
     pub(crate) fn split_members(&self, port: &mut Port<D, O>, group: &mut [Tx<D, O>])
         requires port { IsPort self.now port.old }
         requires units { length group.old < (port_view port.old).units }

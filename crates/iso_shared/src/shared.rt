@@ -212,7 +212,7 @@ impl<D: Disk + Drop, O: Origin> Shared<D, O> {
         self.take_back(port, pass);
     }
 
-    /// Ends the device, and gives the core back, which stands for the whole list. The port has all units. It waits for nobody.
+    /// Ends the device, and gives the core back, which represents the whole list. The port has all units. It waits for nobody.
     /// The list's commits stand in one order, in which each is serial or snapshot, as its mode says. The disk is bound as it was.
     pub fn close(self, port: Port<D, O>) -> Core<D>
         requires port { IsPort self port × ((port_view port).units ≡ LAST) }

@@ -102,7 +102,7 @@ impl<D: Disk + Drop, O: Origin> Tx<D, O> {
         self.uncheck();
     }
 
-    /// Marks a range of the last access: the first mark stands for the whole block, and further ones add to it.
+    /// Marks a range of the last access: the first mark takes the place of the whole block, and further ones add to it.
     pub fn mark(&mut self, off: u16, len: u16) -> Result<(), MarkError>
         requires tx { IsTxOf O.start self.old }
         ensures tx { IsTxOf O.start self.new }

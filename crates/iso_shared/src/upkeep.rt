@@ -42,7 +42,7 @@ impl<D: Disk + Drop, O: Origin> Shared<D, O> {
         result
     }
 
-    /// Does so with an image of form 2, in which transactions of either mode may begin.
+    /// Compacts into an image of form 2, in which transactions of either mode may begin, and answers the floor.
     pub fn upgrade<R: Wait>(&self, rt: &R, port: &mut Port<D, O>) -> Result<u64, CoreError>
         requires port { IsPort self.now port.old }
         ensures port { IsPort self.now port.new }

@@ -1,4 +1,4 @@
--- What a run of clients beside each other on an image has done.
+-- What clients that ran concurrently on an image have done.
 use Rattle.std.specs.Prelude.{◌≡◌, ◌⊎◌, ℕ, List, [], ◌++◌, Option, Some, None}
 use Rattle.fault_count.specs.Count.{Rose}
 use Rattle.iso_core.specs.Standing.{ShowsWith}

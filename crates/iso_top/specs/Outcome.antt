@@ -93,7 +93,7 @@ PrintedBench seed count status end.Input tells old new = ⊥
 PrintedBench seed count status end.Output tells old new = (status ≡ 8) × Printed old new memory_text
 PrintedBench seed count status end.Memory tells old new = (status ≡ 8) × Printed old new memory_text
 
--- the line of a bench of so many rounds whose lines were given these replies, one each
+-- the line of a bench of `count` rounds whose lines were given these replies, one each
 abbrev pub summary_of : (count : ℕ) → List (ℕ × Line) → (given : List Reply) → List ℕ
 summary_of count lines given = bench_text_of count (length (filter is_committed given)) (length (filter is_conflict given)) (sha256 (text_of lines given))
 

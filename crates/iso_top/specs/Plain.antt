@@ -39,7 +39,7 @@ pub record PrintsDigestOf (image : List ℕ) (old new : SinkState) : Type 0 wher
   pub holds : IsImage image geometry generation history
   pub prints : Wrote old new (recover_output history)
 
--- What was put is the line of a bench: so many rounds, the conflicts, which are as many as the rounds that draw one place twice, and the
+-- What was put is the line of a bench: `count` rounds, the conflicts, which are as many as the rounds that draw one place twice, and the
 -- commits, which are twice the rounds less these.
 pub record PrintsCounts (seed count : ℕ) (old new : SinkState) : Type 0 where
   pub digest : List ℕ

@@ -19,7 +19,7 @@ use iso_machine::Machine;
 use script_runner::{RunEnd, run};
 use std::alloc::Global;
 
-/// Puts what a bench of so many rounds comes to, or why it has ended.
+/// Puts what a bench of `rounds` rounds comes to, or why it has ended.
 fn put_summary<K: Sink>(output: &mut K, rounds: u32, end: &RunEnd, replies: ReplyDigest) -> u8
     ensures done { end.now ≡ RunEnd.Done → (line : List ℕ)
         × ((lines : List (ℕ × Line)) (given : List Reply) → length given ≡ length lines → replies.text ≡ text_of lines given → line ≡ summary_of rounds lines given)
@@ -44,7 +44,7 @@ fn put_summary<K: Sink>(output: &mut K, rounds: u32, end: &RunEnd, replies: Repl
     }
 }
 
-/// Answers the script of so many rounds that is drawn from a seed, and puts what it comes to. The replies are digested as they come.
+/// Answers the script of `count` rounds that is drawn from a seed, and puts what it comes to. The replies are digested as they come.
 pub(crate) fn answer_drawn<I: Image, K: Sink>(
     alloc: Global,
     core: Core<I>,

@@ -1,4 +1,4 @@
-// Clients beside each other on an image.
+// Clients that run concurrently on an image.
 ghost use Rattle.std.specs.Prelude.{◌≡◌, ◌⊎◌, [], ◌++◌, IfErr, IfOk, IsTrue};
 ghost use Rattle.command_line.specs.declared.task.Task.TheVariants.{Par};
 ghost use Rattle.iso_core.specs.Core.{disk_of};

@@ -14,7 +14,7 @@ use bench_script::laws::{
 };
 use iso_disk::Image;
 
-/// Status 0 of `new` and `run`, on any disk, as a real file, which tells nothing of its bytes: no line of the script is bad, and where
+/// Status 0 of `new` and `run`, on any disk, also an opaque one, as a real file: no line of the script is bad, and where
 /// none calls a store, the model's replies to all its lines were put, but for the bytes that reads show.
 pub fn replies_were_printed_on_any_disk<I: Image>(_image: &I)
     ensures made { (g : Geometry) (name all : List ℕ) (old new : I) (input_old input_new : SourceState) (output_old output_new : SinkState)
@@ -25,7 +25,7 @@ pub fn replies_were_printed_on_any_disk<I: Image>(_image: &I)
         → PrintsButShownOf ((I.state old).named name) all output_old output_new }
 {}
 
-/// Status 0 of `new` and `run`, where the disk tells what the name names and the source its bytes: no line of the script is bad, and
+/// Status 0 of `new` and `run`, where what the name names is known, and the bytes of the source: no line of the script is bad, and
 /// exactly the model's replies to all its lines were put, from a new image or from the image as given.
 pub fn replies_were_printed<I: Image>(_image: &I)
     ensures made { (g : Geometry) (name all : List ℕ) (old new : I) (input_old input_new : SourceState) (output_old output_new : SinkState)
@@ -38,7 +38,7 @@ pub fn replies_were_printed<I: Image>(_image: &I)
 
 /// Each image that a crash might have left since the bind opens to a history that has at least the commits of the image as given; one
 /// that is being made may be refused as none of this project for a while. Each that a crash leaves when the call has ended opens to
-/// a history that has each commit that the model's replies tell of, where the disk tells what the name names, and on any disk each commit
+/// a history that has each commit that the model's replies tell of, where what the name names is known, and on any disk each commit
 /// that was told of in answer to a line that calls no store.
 pub fn images_of_a_crash_open<I: Image>(_image: &I)
     ensures since { (made : Option Geometry) (name : List ℕ) (e : RunEnd) (old new : I) (input_old input_new : SourceState) (output_old output_new : SinkState)
@@ -55,7 +55,7 @@ pub fn images_of_a_crash_open<I: Image>(_image: &I)
         → SinceBind (I.state new) (OpensFrom (last r.world.history)) }
 {}
 
-/// Status 0 of `recover`, where the disk tells what the name names: its line tells the numbers of the history that the image holds, and
+/// Status 0 of `recover`, where what the name names is known: its line has the numbers of the history that the image holds, and
 /// the digest of the array at its last commit.
 pub fn the_digest_was_printed<I: Image>(_image: &I)
     ensures { (name image : List ℕ) (old new : I) (input_old input_new : SourceState) (output_old output_new : SinkState)
@@ -63,8 +63,8 @@ pub fn the_digest_was_printed<I: Image>(_image: &I)
         → PrintsDigestOf image output_old output_new }
 {}
 
-/// Status 0 of `bench`, on any disk, as a real file, which tells nothing of its bytes: its line tells of a conflict for each round that
-/// draws one place twice, and of two commits a round less these.
+/// Status 0 of `bench`, on any disk, also an opaque one, as a real file: its line counts a conflict for each round that
+/// draws one place twice, and two commits a round less these.
 pub fn the_counts_were_printed<I: Image>(_image: &I)
     ensures { (seed count : ℕ) (name : List ℕ) (old new : I) (input_old input_new : SourceState) (output_old output_new : SinkState)
         → HasMet I.state (Bench seed count) name 0 old new input_old input_new output_old output_new → count ≤ 100000

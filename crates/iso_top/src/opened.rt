@@ -13,7 +13,7 @@ pub struct Opened<D: Disk> {
     pub given: Snapshot<D>,
 }
 
-/// A world that the core stands for. Which one is known to contracts alone.
+/// A world that the core represents. Which one is known to contracts alone.
 pub fn world_of<D: Disk>(opened: &Opened<D>) -> Beginning
     requires { (W : World) × BeginsWith D.state opened.now W }
     ensures { BeginsWith D.state opened.now result.world }

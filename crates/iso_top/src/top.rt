@@ -19,7 +19,7 @@ use std::alloc::Global;
 use std::sync::Wait;
 use std::thread::Threads;
 
-/// Does what is requested of an image, but for a run of clients beside each other.
+/// Does what is requested of an image, but for clients that run concurrently.
 fn meet<I: Image + Drop, S: Source, K: Sink>(
     alloc: Global,
     request: &Request<'_>,

@@ -103,7 +103,7 @@ need_equal n path is = ap (λ (t : Bool). full_row n path + cond t 1 0) (eq-eqb 
 need_other : (n : ℕ) (path : List (ℕ × ℕ)) → full_row n path ≢ length path → need_of n path ≡ full_row n path + 0
 need_other n path other = ap (λ (t : Bool). full_row n path + cond t 1 0) (ne_eqb (full_row n path) (length path) other)
 
--- so many new blocks are needed for them as for the whole path
+-- no more new blocks are needed for them than for the whole path
 pub need_taken : (n : ℕ) (path : List (ℕ × ℕ)) → need_of n (take (suc (full_row n path)) path) ≤ need_of n path
 need_taken n path =
     let rows = take (suc (full_row n path)) path in

@@ -71,6 +71,6 @@ path_room size i many block count rest path is fits = grind arith steps 100000
 pub usable_more : (size i : ℕ) (block count : ℕ) (rest path : List (ℕ × ℕ)) (nodes bytes : List ℕ) → path ≡ (block, count) ∷ rest → bytes_in (record { off = i * size; len = size }) nodes ≡ bytes → IsUsable size bytes count → AreUsable size nodes (i + 1) rest → AreUsable size nodes i path
 usable_more size i block count rest path nodes bytes is here first others = grind arith steps 100000
 
--- nodes of so many bytes are few
+-- nodes that take at most `many` bytes in all are few
 pub few_nodes : (i size many : ℕ) → 256 ≤ size → i * size + size ≤ many → many ≤ 1048576 → i ≤ 1048576
 few_nodes i size many least room short = let le : i * 1 ≤ i * size = Rattle.std.proofs.Math.Nat.mul-le-mul_left i (omega arith) in omega arith

@@ -18,11 +18,11 @@ abbrev pub part_in_row : (size : ℕ) → (node : List ℕ) → (place : ℕ) �
 part_in_row size node place part cell =
     cond (nat_lt cell place) (bytes_in (value_mark size cell) node) (cond (cell == place) part (bytes_in (value_mark size (cell - 1)) node))
 
--- so many cells from one on
+-- n cells from one on
 abbrev pub row_from : (size : ℕ) → (node : List ℕ) → (place : ℕ) → Cell → (from n : ℕ) → List Cell
 row_from size node place new from n = map (λ i. (key_in_row (take (keys_end size) node) place new.0 i, part_in_row size node place new.1 i)) (range_with_len from n)
 
--- a node of so many bytes that gets a cell at a place
+-- a node of `size` bytes that gets a cell at a place
 pub record GetsCell (size : ℕ) (node : List ℕ) (place : ℕ) (new : Cell) : Type 0 where
   pub long : length node ≡ size
   pub parts : are_key_parts size (take (keys_end size) node) ≡ true
@@ -35,14 +35,14 @@ abbrev pub nodes_from : (size : ℕ) → (nodes : List ℕ) → (i : ℕ) → Li
 nodes_from size nodes i [] = []
 nodes_from size nodes i (p ∷ path) = (p.0, used_cells size (bytes_in (record { off = i * size; len = size }) nodes)) ∷ nodes_from size nodes (i + 1) path
 
--- a block whose key parts and count are those of a node with so many cells
+-- a block whose key parts and count are those of a node with `count` cells
 pub record IsUsable (size : ℕ) (block : List ℕ) (count : ℕ) : Type 0 where
   pub parts : are_key_parts size (take (keys_end size) block) ≡ true
   pub count_is : count_of (take (keys_end size) block) ≡ count
   pub some : 1 ≤ count
   pub few : count ≤ cell_count size
 
--- the same of each block of a path, from block i on
+-- each block of a path is usable, from block i on
 abbrev pub AreUsable : (size : ℕ) → (nodes : List ℕ) → (i : ℕ) → List (ℕ × ℕ) → Type 0
 AreUsable size nodes i [] = Unit {0}
 AreUsable size nodes i (p ∷ path) = IsUsable size (bytes_in (record { off = i * size; len = size }) nodes) p.1 × AreUsable size nodes (i + 1) path
@@ -54,11 +54,11 @@ AreInside a path = AllByRecursion (λ (p : ℕ × ℕ). p.0 < a.blocks) path
 abbrev pub AreBlocks : Area → List ℕ → Type 0
 AreBlocks a blocks = AllByRecursion (λ (b : ℕ). b < a.blocks) blocks
 
--- the same of each block of a path, where it stands in an array
+-- each block of a path is usable, as it lies in an array
 abbrev pub ArePathUsable : Area → Array → List (ℕ × ℕ) → Type 0
 ArePathUsable a A path = AllByRecursion (λ (p : ℕ × ℕ). IsUsable a.size (block_at A (a.start + p.0)) p.1) path
 
--- the same of the array that a transaction shows, where it is told
+-- each block of a path is usable in the array that a transaction shows, where it is told
 abbrev pub AreShownUsable : Area → Tx → List (ℕ × ℕ) → Type 0
 AreShownUsable a t path = ForSome t.base (λ A. ArePathUsable a (own A t.accesses) path)
 

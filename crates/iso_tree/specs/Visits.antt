@@ -5,7 +5,7 @@ use Rattle.store_model.specs.{declared.stores.Area.Area, declared.stores.StoreEr
 use Rattle.tx_blocks.specs.{Runs.{HasRun, WantsMemory}, Tx.Tx}
 use Rattle.iso_tree.specs.declared.visit.Visit.{Visit}
 
--- the mark over the value parts of so many cells from one on
+-- the mark over the value parts of `many` cells from one on
 abbrev pub values_mark : (size first many : ℕ) → Span
 values_mark size first many = record { off = keys_end size + 33 * first; len = 33 * many }
 
@@ -35,7 +35,7 @@ pub record IsVisited (a : Area) (from to : List ℕ) (level : ℕ) (bytes : List
   pub many : visit.many ≡ many_in level from to (keys_of a bytes)
   pub parts : list_all (is_part_at a level) (parts_of (values_of a visit bytes) visit.many) ≡ true
 
--- The scans of nodes (level and block) in turn, until so many pairs are found; these were found before.
+-- The scans of nodes (level and block) in turn, until `most` more pairs are found; these were found before.
 abbrev pub scan_nodes : Area → (from to : List ℕ) → List (ℕ × ℕ) → (most : ℕ) → List (List ℕ × List ℕ) → Program Scanned
 scan_nodes a from to [] most found = Done (Ok found)
 scan_nodes a from to (node ∷ nodes) zero found = Done (Ok found)

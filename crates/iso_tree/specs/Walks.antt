@@ -43,7 +43,7 @@ child_program a key level block =
     Look (a.start + block) (keys_mark a.size) (inner_further a key level)
     (λ keys value. Done (cond (is_node a.size level keys && is_child a.blocks value) (Ok (child_of value, count_of keys)) (Err (store.Broken (a.start + block)))))
 
--- a block of the region but the first, and at most so many cells
+-- a block of the region but the first, and any number of cells
 pub record IsChild (a : Area) (x : ℕ × ℕ) : Type 0 where
   pub some : 1 ≤ x.0
   pub below : x.0 < a.blocks
@@ -97,7 +97,7 @@ abbrev pub IsFollowed : (whole rest : Program Answer) → (t u : Tx) → Result 
 IsFollowed whole rest t u (Ok done) = (v : Tx) (result : Result (Unit {0}) StoreError) → HasRun rest u v result → HasRun whole t v result
 IsFollowed whole rest t u (Err e) = HasRun {X = Unit {0}} whole t u (Err e)
 
--- the transaction after so many writes
+-- the transaction after n writes
 pub record HasWritten (n : ℕ) (t u : Tx) : Type 0 where
   pub size : u.size ≡ t.size
   pub blocks : u.blocks ≡ t.blocks

@@ -16,7 +16,7 @@ pub fn empty_node(into: &mut [u8], level: u8)
     into[1] = level;
 }
 
-/// Adds a cell behind so many others.
+/// Adds a cell after `count` others.
 pub fn add_cell(into: &mut [u8], count: usize, key: &[u8], part: &[u8])
     requires least { 256 ≤ length into.old }
     requires most { length into.old ≤ 4096 }

@@ -70,7 +70,7 @@ fn row_part<'a>(node: &'a [u8], place: usize, part: &'a [u8], cell: usize) -> &'
     piece(node, end + 33 * (cell - 1), 33)
 }
 
-/// A node of so many cells of another node that got a cell at a place, from a cell on.
+/// A node of `count` cells of another node that got a cell at a place, from cell `from` on.
 pub fn fill_row(
     into: &mut [u8],
     level: u8,

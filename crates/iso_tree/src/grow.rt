@@ -10,7 +10,7 @@ use iso_alloc::{are_key_parts, cell_count, lay, piece, take_lowest};
 use store_model::{Area, Region, StoreError, TxError};
 use tx_blocks::{TxBlocks, look_whole};
 
-/// Takes so many free blocks, lowest first.
+/// Takes `need` free blocks, lowest first.
 pub fn take_blocks(map: &mut [u8], region: Region, need: usize, news: &mut [u32])
     requires map { 64 + map_bytes region.size ≤ length map.old }
     requires some { 1 ≤ region.size }
@@ -30,7 +30,7 @@ pub fn take_blocks(map: &mut [u8], region: Region, need: usize, news: &mut [u32]
     }
 }
 
-// Whether key parts and count are those of a node with so many cells.
+// Whether key parts and count are those of a node with `count` cells.
 fn is_usable(size: usize, block: &[u8], count: u32) -> bool
     requires size { IsBlock size }
     requires least { 256 ≤ size }
@@ -45,7 +45,7 @@ fn is_usable(size: usize, block: &[u8], count: u32) -> bool
 }
 
 /// Reads the nodes of a path once more, unmarked; their bytes stand from block `i` on. The descent has tested them, and no test is
-/// asked here: a disk that tells its bytes shows the same ones. Where another one shows a node that cannot be split, the put would
+/// asked here: a disk whose bytes are known shows the same ones. Where another one shows a node that cannot be split, the put would
 /// need the bytes that the descent has read, for which there is no memory: it is never `Broken`.
 pub fn look_nodes<T: TxBlocks>(
     tx: &mut T,

@@ -35,7 +35,7 @@ fn keys_of(block: &[u8]) -> &[u8]
     piece(block, 0, 64 + 31 * cell_count(block.len()))
 }
 
-/// Whether a value part names a block of a region of so many, but the first.
+/// Whether a value part names a block of a region of `blocks` blocks, but the first.
 pub fn is_child(blocks: u32, part: &[u8]) -> bool
     requires { length part.now ≡ 33 }
     ensures { result ≡ is_child blocks part.now }

@@ -44,7 +44,7 @@ fn add_pair(alloc: Global, key: &[u8], value: &[u8], found: &mut PairList) -> Re
     }
 }
 
-// Adds the pairs of cells from one on at the end, until there are so many.
+// Adds the pairs of cells from one on at the end, until there are `max`.
 fn add_pairs(
     alloc: Global,
     size: usize,
@@ -129,7 +129,7 @@ fn step<T: TxBlocks>(
     add_children(unread, level - 1, values, visit.many)
 }
 
-// The first pairs of the range below the unread nodes, at most so many.
+// The first pairs of the range below the unread nodes, at most `max`.
 fn walk<T: TxBlocks>(
     alloc: Global,
     tx: &mut T,
@@ -214,7 +214,7 @@ fn scan_with<T: TxBlocks>(
     }
 }
 
-/// The first pairs of the region's map whose key is at least `from` and below `to`, in order, at most so many. `BadKey` comes
+/// The first pairs of the region's map whose key is at least `from` and below `to`, in order, at most `max`. `BadKey` comes
 /// exactly where one of the keys does not have 1 to 28 bytes, `Broken` where the head, a node or a value part that is read fails
 /// a test. Want of memory for the pairs is that of the transaction: the reads that came before it stay, the last one too where the
 /// pairs are its own. It writes nothing.

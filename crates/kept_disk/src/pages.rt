@@ -247,7 +247,7 @@ fn add_page(ends: &mut Vec<usize>, bytes: &mut Vec<u8>, place: usize)
     ends[place] = end;
 }
 
-// Makes so many bytes stand, in memory that was taken for them.
+// Makes the vector `end` bytes long, in memory that was taken for them.
 fn grow(bytes: &mut Vec<u8>, end: usize)
     requires more { length bytes.old.items ≤ end }
     requires room { end ≤ vec_capacity bytes.old }
@@ -258,7 +258,7 @@ fn grow(bytes: &mut Vec<u8>, end: usize)
     let _ = bytes.resize(end, 0);
 }
 
-// Reads so many bytes of the disk into these, from a place on.
+// Reads `len` bytes of the disk from `at` on into these, from `from` on.
 fn read_into<D: Disk>(
     disk: &mut D,
     at: u64,

@@ -37,14 +37,14 @@ pub(crate) fn read_parts<D: Disk>(
     Ok(())
 }
 
-// Whether so many bytes from a place on, at least one, lie in one page.
+// Whether `len` bytes from a place on, at least one, lie in one page.
 fn is_in_one_page(at: u64, len: usize) -> bool
     ensures { result ≡ true → (0 < len) × (at % 4096 + len ≤ 4096) }
 {
     len != 0 && len <= PAGE - at as usize % PAGE
 }
 
-// How many of so many bytes from a place on lie in the page of that place.
+// How many of the `len` bytes from `at` on lie in the page of `at`.
 fn part_len(at: u64, len: usize) -> usize
     requires { 0 < len }
     ensures inside { at % 4096 + result ≤ 4096 }

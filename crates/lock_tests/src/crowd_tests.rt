@@ -14,7 +14,7 @@ use turn_lock::{Pass, TurnLock};
 
 const TURNS: u64 = 1000;
 
-// So many turns, each of 20 to 50 microseconds. The pauses between them bring looks at the gate at nearly the same moment.
+// `TURNS` turns, each of 20 to 50 microseconds. The pauses between them bring looks at the gate at nearly the same moment.
 fn held<R: Wait + Abort + Clock>(rt: &R, lock: &TurnLock<Log>, pass: Pass<Log>) -> Pass<Log>
     requires { (pass.table_id ≡ lock_id lock.now) × HasNoTurn pass × (0 < (view pass).units) }
     ensures { (result.table_id ≡ lock_id lock.now) × HasNoTurn result × ((view result).units ≡ (view pass).units) }
@@ -28,7 +28,7 @@ fn held<R: Wait + Abort + Clock>(rt: &R, lock: &TurnLock<Log>, pass: Pass<Log>) 
     pass
 }
 
-// So many threads with these turns each: two at once, each of half a crowd.
+// `threads` threads with these turns each: two at once, each of half a crowd.
 fn crowd<R: Threads + Wait + Abort + Sync + Clock>(
     rt: &R,
     lock: &TurnLock<Log>,

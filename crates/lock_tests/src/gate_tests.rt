@@ -19,7 +19,7 @@ const TURNS: u64 = 40;
 
 const SHORT_TURNS: usize = 600;
 
-// So many callers who have one unit of the pass each.
+// `many` callers who have one unit of the pass each.
 pub(crate) fn callers<'a, R: Abort>(
     rt: &R,
     alloc: Global,
@@ -73,7 +73,7 @@ fn rush_all<R: Threads + Wait + Abort + Sync>(rt: &R, crowd: &mut [Caller<'_, Lo
     thread::for_each_mut(rt, crowd, CALLERS, &each);
 }
 
-// Whether so many turns were taken, one after the other.
+// Whether `turns` turns were taken, one after the other.
 pub(crate) fn were_taken<R: Wait + Abort>(
     rt: &R,
     lock: &TurnLock<Log>,

@@ -15,7 +15,7 @@ use std::thread::{self, Threads, join};
 use std::time::{Clock, CpuClock, Duration, Instant};
 use turn_lock::{LAST, Names, Pass, Stands, Turn, TurnLock};
 
-// So many that a lock stands still in which a thread falls asleep at a gate that was opened behind its last look.
+// Enough to stop a lock in which a thread falls asleep at a gate that was opened after its last look.
 const TURNS: u64 = 100_000;
 
 /// What a turn adds to a log: how many entries were in it.
@@ -122,7 +122,7 @@ impl<'a> Caller<'a, Log> {
     }
 }
 
-// So many turns.
+// Takes `turns` turns.
 fn turned<R: Wait + Abort>(rt: &R, lock: &TurnLock<Log>, pass: Pass<Log>, turns: u64) -> Pass<Log>
     requires { (pass.table_id ≡ lock_id lock.now) × HasNoTurn pass × (0 < (view pass).units) }
     ensures { (result.table_id ≡ lock_id lock.now) × HasNoTurn result × ((view result).units ≡ (view pass).units) }
@@ -189,7 +189,7 @@ fn long_and_late<R: Threads + Wait + Abort + Sync + Clock + CpuClock>(
     (first, used)
 }
 
-// Two threads with so many turns each, whose passes are joined.
+// Two threads with `turns` turns each, whose passes are joined.
 fn two_threads<R: Threads + Wait + Abort + Sync>(
     rt: &R,
     lock: &TurnLock<Log>,

@@ -53,7 +53,7 @@ impl Patch {
         self.set_spans(bytes, spans.as_slice());
     }
 
-    /// Does so with the spans of a slice.
+    /// Sets the bytes as `set`, with the spans of a slice.
     pub fn set_spans(&mut self, bytes: &[u8], spans: &[Span])
         requires bytes { length bytes.now ≡ length self.old }
         requires spans { All (λ span. span.off + span.len ≤ length self.old) spans.now }

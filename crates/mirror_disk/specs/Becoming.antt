@@ -7,7 +7,7 @@ pub record Becomes (R : List ℕ → List ℕ → Type 0) (old new : Option (Lis
   pub told : (x : List ℕ) → old ≡ Some x → (y : List ℕ) × (new ≡ Some y) × R (body x) (body y)
   pub untold : old ≡ None → new ≡ None
 
--- the same of the bytes of a mirror
+-- what a mirror tells, before and after: bytes so related, and nothing where nothing was told
 pub record MirrorBecomes (R : List ℕ → List ℕ → Type 0) (old new : Option (List ℕ)) : Type 0 where
   pub told : (c : List ℕ) → old ≡ Some c → (d : List ℕ) × (new ≡ Some d) × R c d
   pub untold : old ≡ None → new ≡ None

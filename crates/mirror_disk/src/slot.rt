@@ -17,7 +17,7 @@ impl Slot {
     ghost use Rattle.std.specs.Prelude.{◌≡◌};
     ghost use Rattle.mirror_disk.specs.Slots.{other, place};
 
-    /// Where its gate stands.
+    /// Where its gate lies.
     pub fn place(self) -> u64
         ensures { result ≡ place self }
     {

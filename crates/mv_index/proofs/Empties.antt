@@ -2,7 +2,7 @@
 use Rattle.mv_index.proofs.Words.{◌≡◌, ◌+◌, ℕ, zero, suc, refl, ap, arith, subst, sym, List, [], ◌∷◌, ◌++◌, length, length_push, BlockVersions, Version, count_of, versions_in}
 use Rattle.std.proofs.lemmas.List.Sums.{sum_by_push}
 
--- so many rows, and none has a version
+-- n rows, and none has a version
 abbrev pub AreBlank : ℕ → List BlockVersions → Type 0
 AreBlank n rows = (length rows ≡ n) × (count_of rows ≡ 0) × ((b : ℕ) → versions_in rows b ≡ [])
 

@@ -113,7 +113,7 @@ newest_since t n p (v ∷ versions) le = since_step t n p v versions le (newest_
 pub since_same : (image : List ℕ) (t n p : ℕ) (versions : List Version) → t ≤ n → byte_in image (upto n (shown_since t versions)) p ≡ byte_in image (upto n versions) p
 since_same image t n p versions le = same_newest (upto n (shown_since t versions)) (upto n versions) (λ q. newest_since t n q versions le) image p
 
--- the same of all versions: none is above this number
+-- the number of no version is above this one
 abbrev highest : List Version → ℕ
 highest [] = 0
 highest (v ∷ versions) = v.number + highest versions

@@ -1,4 +1,4 @@
--- Rows that are trimmed or moved one by one: of the versions of each so many are dropped.
+-- Rows that are trimmed or moved one by one, and how many of their versions are dropped.
 use Rattle.mv_index.proofs.Words.{rules, ◌≡◌, ℕ, ◌+◌, ◌<◌, ◌≤◌, List, length, arith, set, sum_by-set, Version, BlockVersions, block_of, count_of, room_of, versions_in}
 
 -- The rows before i have what f gives of their versions, and the others are as they were.

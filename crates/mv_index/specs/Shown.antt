@@ -39,7 +39,7 @@ abbrev pub place_in : List Version → ℕ → Option ℕ
 place_in [] p = None
 place_in (v ∷ versions) p = or_else (place_in versions p) (place_of p v)
 
--- the version has bytes of a block of this size, and they stand in an image of so many bytes
+-- the version has bytes of a block of `block` bytes, and they lie in an image of `size` bytes
 pub record Lies (block size : ℕ) (v : Version) : Type 0 where
   pub fits : v.off + v.len ≤ block
   pub inside : v.place + v.len ≤ size

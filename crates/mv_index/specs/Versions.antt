@@ -29,7 +29,7 @@ AreWithin size versions = (i : ℕ) → i < length versions → (slice_index_or 
 abbrev pub upto : ℕ → List Version → List Version
 upto n versions = filter (λ v. nat_le v.number n) versions
 
--- whether the byte at p is one of so many from a place on
+-- whether the byte at p is one of `len` bytes from `off` on
 abbrev pub in_bytes : (off len p : ℕ) → Bool
 in_bytes off len p = nat_le off p && nat_lt p (off + len)
 

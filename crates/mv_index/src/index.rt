@@ -28,7 +28,7 @@ impl Model for MvIndex {
 }
 
 impl MvIndex {
-    /// An index of so many blocks, without versions.
+    /// An index of `blocks` blocks, without versions.
     pub fn empty(alloc: Global, blocks: u32) -> Result<MvIndex, Memory>
         ensures blocks { IfOk result (λ index. length index ≡ blocks) }
         ensures none { IfOk result (λ index. (b : ℕ) → versions_in index b ≡ []) }
@@ -78,7 +78,7 @@ impl MvIndex {
         meeting(self.showing(block), from, to)
     }
 
-    /// Makes room for so many more versions of the block.
+    /// Makes room for `count` more versions of the block.
     pub fn reserve(&mut self, block: u32, count: u32) -> Result<(), Memory>
         requires { block < length self.old }
         ensures blocks { length self.new ≡ length self.old }
@@ -122,8 +122,8 @@ impl MvIndex {
         dropped
     }
 
-    /// Drops the versions whose bytes stand before a place of the image, and takes those behind it to another place: what
-    /// stood at `from` stands at `to`. It answers how many it dropped, and takes no memory.
+    /// Drops the versions whose bytes lie before a place of the image, and moves those after it to another place: what
+    /// was at `from` is at `to`. It answers how many it dropped, and takes no memory.
     pub fn move_to(&mut self, from: u64, to: u64) -> u64
         requires split { (b : ℕ) → AreSplit from (versions_in self.old b) }
         requires room { (block size : ℕ) × ((b : ℕ) → AllLie block size (versions_in self.old b)) × (to + size < 2 ^ 64) }

@@ -19,12 +19,12 @@ pub fn trims_follow_one_another()
     ensures { (t later : ℕ) (versions : List Version) → t ≤ later → shown_since later (shown_since t versions) ≡ shown_since later versions }
 {}
 
-/// Versions above the number of a trim stand behind those that it keeps.
+/// Versions above the number of a trim come after those that it keeps.
 pub fn later_versions_are_kept()
     ensures { (t : ℕ) (versions more : List Version) → AllByRecursion (λ v. t < v.number) more → shown_since t (versions ++ more) ≡ shown_since t versions ++ more }
 {}
 
-/// Of two lists one behind the other the one behind shows its bytes, and the first one the others.
+/// Of two lists one after the other the later one shows its bytes, and the first one the others.
 pub fn later_versions_come_first()
     ensures { (image : List ℕ) (xs ys : List Version) (p : ℕ) → byte_in image (xs ++ ys) p ≡ or_else (byte_in image ys p) (byte_in image xs p) }
 {}

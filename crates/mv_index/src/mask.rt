@@ -4,7 +4,7 @@ ghost use Rattle.mv_index.specs.{Masks.is_seen, Versions.in_bytes};
 
 use merge_write::{next_place, set_bits};
 
-/// Marks so many bytes of a block as seen, in a row of 64 words with a bit for each byte. It answers whether one was not.
+/// Marks `len` bytes of a block from `off` on as seen, in a row of 64 words with a bit for each byte. It answers whether one was not.
 pub fn see(seen: &mut [u64], off: usize, len: usize) -> bool
     requires size { length seen.old ≡ 64 }
     requires fits { off + len ≤ 64 * length seen.old }

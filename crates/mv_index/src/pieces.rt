@@ -174,7 +174,7 @@ fn part(pieces: &mut Vec<Version>, first: usize, last: usize) -> usize
     first
 }
 
-/// Takes so many pieces from a place of the list on behind all others.
+/// Moves `count` pieces from a place of the list on to its end.
 fn put_last(pieces: &mut [Version], at: usize, count: usize)
     requires { at + count ≤ length pieces.old }
     ensures { take (length pieces.old - count) pieces.new ≡ take at pieces.old ++ drop (at + count) pieces.old }
@@ -183,7 +183,7 @@ fn put_last(pieces: &mut [Version], at: usize, count: usize)
     rest.rotate_left(count);
 }
 
-/// Takes so many pieces from a place on out of the list.
+/// Takes `count` pieces from a place on out of the list.
 fn take_out(pieces: &mut Vec<Version>, at: usize, count: usize)
     requires { at + count ≤ vec_len pieces.old }
     ensures items { pieces.new.items ≡ take at pieces.old.items ++ drop (at + count) pieces.old.items }

@@ -65,7 +65,7 @@ impl Row {
         self.pieces.as_slice()
     }
 
-    /// Makes room for so many more.
+    /// Makes room for `count` more versions.
     pub fn reserve(&mut self, count: u32) -> Result<(), Memory>
         ensures same { self.new.versions ≡ self.old.versions }
         ensures room { OnOk result (count ≤ self.new.room) }
@@ -100,8 +100,8 @@ impl Row {
         trim_list(&mut self.versions, number, seen)
     }
 
-    /// Drops the versions whose bytes stand before a place, and takes those behind it to another one: what stood at `from`
-    /// stands at `to`. It answers how many it dropped.
+    /// Drops the versions whose bytes lie before a place, and moves those after it to another one: what was at `from`
+    /// is at `to`. It answers how many it dropped.
     pub fn move_to(&mut self, from: u64, to: u64) -> u64
         requires split { AreSplit from self.old.versions }
         requires room { (block size : ℕ) × AllLie block size self.old.versions × (to + size < 2 ^ 64) }

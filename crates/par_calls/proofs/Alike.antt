@@ -14,7 +14,7 @@ module _ (S : SecondStore) (lawful : IsSecond S) (g : Geometry) (B C : Array) (t
   abbrev first : Live
   first = live_of (as_first t)
 
-  -- two replies tell the same of calls
+  -- what two replies say of calls is the same
   abbrev pub TellAlike : Op → (r q : Reply) → Type 0
   TellAlike x r q = (told : Told S) (before after : List Access) → told_more S g x r before after told (S.answered x r) ≡ told_more S g x q before after told (S.answered x q)
 

@@ -174,7 +174,7 @@ module _ (S : SecondStore) (lawful : IsSecond S) (second : SecondGoes S) (g : Ge
       by (Some t) held of =
           is_read (begin_array U.world n) accesses (commit_at U.world n accesses).mode (N.of c) (told_of U t (N.of c) n accesses held kept of.0 of.1 fits.takes.0 is.first more)
 
-  -- the same of all members of a group
+  -- what `read_told` says of one transaction, of all members of a group
   pub members_read : (U : State) (first ends : List MemberEnd) (ts : List Own) (told : List (Told S)) (Q : ℕ → Told S → Type 0) → members_of ends ≡ members_for ts → AllHeld S g H U ts told
       → AreLoose (member_numbers (members_of ends)) U → 0 < U.world.history.first → Extends U.world.history H
       → ((before later : List MemberEnd) (n : ℕ) (accesses : List Access) (m : Told S) → first ++ ends ≡ before ++ ends_bare n accesses ∷ later → (IsTrue m.kept → IsRead (begin_array U.world n) accesses m) → Q n m)

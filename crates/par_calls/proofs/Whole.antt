@@ -1,4 +1,4 @@
--- The store theorem of clients beside each other, by what their lines tell.
+-- The store theorem of clients that run concurrently, by what their lines say.
 use Rattle.par_calls.{proofs.Words.{◌≡◌, ◌∙◌, sym, refl, ap, subst, ℕ, ◌-◌, true, List, [], ◌∷◌, ◌++◌, append_assoc, None, Access, Committed, ReadOnly, Geometry, History, array_at, HasShape, Extends, IsWorld, array_shape, Entry, MemberEnd, Fits, IsLegal, LegalFrom, Start, State, after_all, opened, state_at, follows_all, after_append, legal_append, opened_sound, AnswersWithAt, AreCallsInOrderAt, CommitsAreByCalls, commit_at, commits_as, world_at, IsOfBoth, ToldInOrder, SecondStore, image_hash, second_store, SecondGoes, IsSecond, begin_array, ToldByMap, IsTrue, OfReads, ReadsByMap, CallsAnswer, CommitsInOrder, CommitsKeep, OfCommits, no_notes, notes_after, Event, Made, Runs, entries_in, events_of, found_in}, specs.Notes.Notes, proofs.Events.{AreOps, entries_joined, ops_front}, proofs.Histories.history_all, proofs.Placed.{members_read, read_told, AreSweeps, IsTold, at_place, end_told, located, member_told, members_told}, proofs.Running.{IsAt, IsClientAt, by_client}}
 use Rattle.iso_shared.specs.declared.entry.Entry.TheVariants as entry
 

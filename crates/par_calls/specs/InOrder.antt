@@ -1,4 +1,4 @@
--- The store theorem of clients beside each other by what their lines tell, as one word.
+-- The store theorem of clients that run concurrently, by what their lines say, as one word.
 use Rattle.std.specs.Prelude.{◌≡◌, ℕ, ◌-◌, true, IsTrue, List, [], ◌∷◌, ◌++◌}
 use Rattle.iso_model.specs.{declared.access.EndReply.TheVariants.{Committed, ReadOnly}, declared.access.Geometry.Geometry, declared.access.GroupReply.GroupReply, History.{History, array_at, last}}
 use Rattle.iso_model.specs.declared.access.GroupReply.TheVariants as member

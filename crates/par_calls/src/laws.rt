@@ -7,9 +7,9 @@ ghost use Rattle.par_text.specs.declared.part.Part.{Part};
 ghost use Rattle.par_script.specs.Told.{Told};
 ghost use Rattle.par_calls.specs.InOrder.{LinesTellCalls};
 
-/// Where clients beside each other were told their replies by one list, their lines and entries stand in one order, along which the
+/// Where clients that run concurrently were told their replies by one list, their lines and entries have one order, along which the
 /// calls that lines tell of a transaction go with it from client to client, as looks hand it on. In each such order, where the device
-/// tells its bytes, the stores begin well formed and each commit keeps to them, the calls that are told of each commit answer as one
+/// has known bytes, the stores begin well formed and each commit keeps to them, the calls that are told of each commit answer as one
 /// thread's calls on the maps directly before it, and end in those directly after it; those of a transaction that ended without a
 /// write, and keeps to the stores, answer by the maps at its begin.
 pub fn lines_of_clients_tell_their_calls()

@@ -1,4 +1,4 @@
-//! What the lines of clients beside each other tell of the calls of their transactions.
+//! What the lines of clients that run concurrently say of the calls of their transactions.
 #![tactic(auto)]
 
 mod laws;

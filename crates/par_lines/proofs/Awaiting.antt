@@ -5,7 +5,7 @@ use Rattle.script_model.specs.declared.script.Op.TheVariants as op
 use Rattle.script_model.specs.declared.script.Reply.TheVariants as reply
 use Rattle.iso_shared.specs.declared.entry.Entry.TheVariants as entry
 
--- so many looks in a row that find nothing, and what comes behind them
+-- n looks in a row that find nothing, and what comes after them
 looks : (label : List ℕ) (most n : ℕ) → n ≤ most → (es : List Entry) (r : Result Reply Stop) (own' : Option Own) → LooksFor label (most - n) es r own'
     → LooksFor label most (replicate n (entry.Look label None) ++ es) r own'
 looks label most zero few es r own' rest = let same : most - 0 ≡ most = omega arith in subst (λ m. LooksFor label m es r own') same rest

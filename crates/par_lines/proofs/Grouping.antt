@@ -215,7 +215,7 @@ module _ {D O : Type 0} (A : Start) (s t u : Session D O) (q seen r : Port D O) 
 pub wants_memory : {D O : Type 0} (A : Start) (s : Session D O) (labels : List (List ℕ)) → Answered A s (op.Group labels) (Err stop.Memory) s
 wants_memory A s labels = record { entries = []; moves = moves_none s; did = inr (refl, refl, refl); of = refl }
 
--- a session with so many units has a port with enough for another
+-- a session with more than 33 units has a port with more than 32
 pub port_units : {D O : Type 0} (v : View Entry) (tx : Option (Tx D O)) → IfSome tx (λ t. (tx_view t).units ≡ 1) → 33 < units_of_port v tx → 32 < v.units
 port_units v None one more = omega (arith, more)
 port_units v (Some t) one more = let one' : (tx_view t).units ≡ 1 = one in let more' : 33 < v.units + (tx_view t).units = more in omega (arith, one', more')

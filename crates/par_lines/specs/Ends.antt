@@ -1,4 +1,4 @@
--- How a run of clients beside each other ends.
+-- How clients that run concurrently end.
 use Rattle.std.specs.{Prelude.{◌≡◌, ◌⊎◌, ℕ, List, [], Option, Some, None, Bool, true, false, cond}, List.list_any}
 use Rattle.script_model.specs.{declared.script.Line.Line, declared.stop.Stop.Stop}
 use Rattle.iso_shared.specs.{declared.entry.Entry.Entry, States.Start}

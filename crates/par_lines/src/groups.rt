@@ -16,7 +16,7 @@ use script_model::{MAX_LABELS, Reply, Stop};
 use std::alloc::Global;
 use std::sync::Wait;
 
-/// Room for what is found under so many labels.
+/// Room for what is found under `count` labels.
 fn room_for<D: Disk + Drop, O: Origin>(
     alloc: Global,
     count: usize,

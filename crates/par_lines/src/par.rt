@@ -1,4 +1,4 @@
-// The lines of several clients, beside each other.
+// The lines of several clients that run concurrently.
 ghost use Rattle.std.specs.{Prelude.{◌≡◌, ◌+◌, ◌<◌, ◌≤◌, [], All, IsTrue, length, map, reverse, sum_by, vec_capacity}, List.list_any};
 ghost use Rattle.iso_model.specs.Geometry.{is_valid};
 ghost use Rattle.turn_lock.specs.Views.{fresh};

@@ -19,7 +19,7 @@ module _ {C : Type 0} (steps : C → ℕ → Line → Flow → C → Type 0) whe
     pub halt : steps before line.0 line.1 Halt d
     pub done_is : done ≡ number + 1
 
-  -- so many of the lines were steps, in order: all of them, or those up to the first halt
+  -- the first `done` lines were steps, in order: all of them, or those up to the first halt
   abbrev pub Ran : C → List (ℕ × Line) → (done : ℕ) → C → Type 0
   Ran c lines done d = ((done ≡ length lines) × Went c lines d) ⊎ Halted c lines done d
 

@@ -87,7 +87,7 @@ no_store : Does (record stores { hash = 0 }) true (Some before) (op.HashGet key)
 unfolding step hash_get_step
 no_store = (refl, refl, refl)
 
--- the same of files, which stand behind the stores of an image that has a tree store for their names
+-- sixteen blocks: a tree store for the names of files, and the files after it
 abbrev files : Geometry
 files = record stores { blocks = 16; hash = 0; tree = 4 }
 

@@ -116,7 +116,7 @@ abbrev pub Looks : (label : List ℕ) → List Entry → Result Reply Stop → O
 Looks label (entry.Look l found ∷ []) r own' = (l ≡ label) × (r ≡ Ok (look_reply found)) × (own' ≡ found)
 Looks label es r own' = ⊥
 
--- looks up to the first that finds, or so many that find none
+-- looks up to the first that finds, or `most` that find none
 abbrev pub LooksFor : (label : List ℕ) → (most : ℕ) → List Entry → Result Reply Stop → Option Own → Type 0
 LooksFor label most [] r own' = (most ≡ 0) × (r ≡ Ok reply.NoHandle) × (own' ≡ None)
 LooksFor label most (entry.Look l None ∷ es) r own' = (0 < most) × (l ≡ label) × LooksFor label (most - 1) es r own'

@@ -1,4 +1,4 @@
-//! What clients beside each other were told, as one legal list of entries: the definitions, and laws of them.
+//! What clients that run concurrently were told, as one legal list of entries: the definitions, and laws of them.
 #![tactic(auto)]
 
 /// How often an `await` looks for its label.

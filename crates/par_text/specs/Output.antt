@@ -1,4 +1,4 @@
--- The text of a run of clients beside each other.
+-- The text of clients that run concurrently.
 use Rattle.std.specs.{Prelude.{◌≡◌, ℕ, ◌<◌, ◌≤◌, List, [], ◌∷◌, ◌++◌, Option, Some, None, codes, decimal, flat_map, length, map, take}, List.concat, List.Sorted.{IsPermutation, IsNonDecreasingBy}}
 use Rattle.iso_model.specs.declared.access.GroupReply.{GroupReply}
 use Rattle.iso_model.specs.declared.access.GroupReply.TheVariants as member

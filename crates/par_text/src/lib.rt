@@ -1,4 +1,4 @@
-//! What a run of clients beside each other prints: the replies of each client, and then its commits.
+//! What clients that run concurrently print: the replies of each client, and then its commits.
 #![tactic(auto)]
 
 mod commit_line;

@@ -4,7 +4,7 @@ use Rattle.iso_model.specs.Array.{Array}
 use Rattle.tx_blocks.specs.Tx.{Tx, IsTx, IsArrayOf}
 use Rattle.plain_tx.specs.declared.plain_tx.PlainTx.{PlainTx}
 
--- the blocks of so many bytes
+-- the first `count` blocks of the bytes, with `size` bytes each
 abbrev pub blocks_of : (size count : ℕ) → List ℕ → Array
 blocks_of size count bytes = map (λ b. take size (drop (b * size) bytes)) (range_with_len 0 count)
 

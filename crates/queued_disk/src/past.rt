@@ -46,7 +46,7 @@ impl Past {
         }
     }
 
-    /// This tape is handed on behind the others.
+    /// This tape is handed on after the others.
     pub fn with(&self, tape: &Vec<Call>) -> Self
         ensures { result ≡ tape.now.items ∷ self.now }
     {

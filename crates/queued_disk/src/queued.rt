@@ -92,7 +92,7 @@ impl QueuedDisk {
         self.failed = true;
     }
 
-    /// However many of the calls were done when all stopped, and whatever the writes behind the last sync left then: what the
+    /// However many of the calls were done when all stopped, and whatever the writes after the last sync left then: what the
     /// file holds is one of the images that a crash may leave since any moment before.
     pub fn each_front_leaves_an_image(&self)
         // Of all calls since the disk was given its bytes. A moment is a number of calls.

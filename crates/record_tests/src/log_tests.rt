@@ -27,7 +27,7 @@ fn push_put(buffer: &mut RecordBuffer, number: u64) -> Result<(), Memory>
     buffer.finish(number, 1)
 }
 
-/// A disk of zeros with a log of so many bytes.
+/// A disk of zeros with a log of `room` bytes.
 fn blank(alloc: Global, room: u32) -> Result<MemDisk, AllocError>
     requires { 1 ≤ room }
     ensures { IfOk result (λ d. IsReady small (record { place = 16; room = room; used = 0; last = 0 }) (state_of d)) }

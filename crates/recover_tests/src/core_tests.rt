@@ -78,7 +78,7 @@ pub(crate) fn seen_on(
     }
 }
 
-/// The same of an image.
+/// What `seen_on` finds on a disk with this image.
 fn seen(alloc: Global, image: Vec<u8>, block: u32) -> Option<(u64, u64, u8, [u8; 64])> {
     seen_on(alloc, MemDisk::new(alloc, image), block).0
 }
@@ -149,7 +149,7 @@ fn a_switch_makes_nine_calls(rt: HostRuntime) -> Result<(), Fail> {
     Ok(())
 }
 
-/// Whether a stop after so many calls, of which the opening makes five and a switch nine, leaves what the two commits left, in the form that it has or gets.
+/// Whether a stop after `calls` calls, of which the opening makes five and a switch nine, leaves what the two commits left, in the form that it has or gets.
 fn keeps_the_commits(alloc: Global, calls: u64, upgrade: bool) -> Result<bool, Fail> {
     let mut disk = MemDisk::new(alloc, with_two_commits(alloc)?);
     disk.fuse(calls);
@@ -245,7 +245,7 @@ fn a_full_log_has_room_after_a_compaction(rt: HostRuntime) -> Result<(), Fail> {
     Ok(())
 }
 
-/// How often the core begins a transaction until it refuses to, at most so many times, and what it refuses it for.
+/// How often the core begins a transaction until it refuses to, at most `times` times, and what it refuses it for.
 fn begun_of(core: &mut Core<MemDisk>, times: u32) -> (u32, Option<CoreError>)
     requires up { IsUp state_of core.old }
 {

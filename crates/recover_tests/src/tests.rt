@@ -17,7 +17,7 @@ pub(crate) fn same<T: PartialEq + Debug + Drop>(rt: &impl Abort, found: T, wante
     assert_eq!(rt; found, wanted);
 }
 
-/// A blank disk on which an image is made, after so many calls each call fails; and whether it was made.
+/// A blank disk on which an image is made, where each call after `calls` calls fails; and whether it was made.
 fn make_on(alloc: Global, calls: u64) -> Result<(MemDisk, bool), AllocError> {
     let geometry = small();
     let mut disk = blank(alloc, &geometry)?;
@@ -137,7 +137,7 @@ fn damaged_images_are_refused_by_the_first_test(rt: HostRuntime) -> Result<(), F
         change(&mut image, also, &[other]);
         same(&rt, refusal_of(alloc, image), Some(error));
     }
-    // the same of an image with one commit
+    // the refusals of an image with one commit
     for (at, byte, place, cause) in [
         (353, 2, 353, 2),
         (354, 1, 354, 3),

@@ -160,7 +160,7 @@ module _ (g : Geometry) (a : FileAreas) (A : Array) (is : IsFilesIn g a A) where
         fit _,
       )
 
-  -- what a call that takes so many blocks and one more does once the map is read
+  -- what a call that takes `more` blocks and one more does once the map is read
   abbrev taking : {Y : Type 0} → (more : ℕ) → (List ℕ → Call Y) → (first : List ℕ) → Call Y
   taking more next first =
       cond (nat_lt (free_count first 1 (f.blocks - 1)) (suc more)) (refuse (fs.Store (NoBlocks (suc more) (free_count first 1 (f.blocks - 1)))))

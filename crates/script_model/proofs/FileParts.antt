@@ -33,7 +33,7 @@ file_block_is a file is =
 more_blocks : (q size : ℕ) → (q + 1) * size ≡ q * size + size
 more_blocks q size = grind arith
 
--- the numbers of so many bytes have room in a file block
+-- the numbers of the blocks that these bytes take have room in a file block
 pub count_fits : (size bytes : ℕ) → 256 ≤ size → bytes ≤ most_bytes size → blocks_for size bytes ≤ entry_count size
 count_fits size bytes least few = grind (arith, more_blocks)
 

@@ -63,7 +63,7 @@ pub a_group_asked_in_a_transaction :
 unfolding put clash runs operation_of other_operation step begin_step put_step read_step commit_step end_step words_of number_of hex_of group_step label_text reply_text digits
 a_group_asked_in_a_transaction = refl
 
--- so many labels, each spelled `a`
+-- n labels, each spelled `a`
 abbrev labels : ℕ → List (List ℕ)
 labels n = replicate n (codes "a")
 

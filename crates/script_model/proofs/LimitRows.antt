@@ -6,7 +6,7 @@ use Rattle.std.specs.Prelude.{ℕ, ◌+◌}
 abbrev released : Live
 released = record { number = 1; begin = 0; mode = Serial; accesses = []; place = label (97 ∷ []) }
 
--- the small image with so many of them
+-- the small image with n of them
 abbrev crowded : ℕ → World
 crowded n = record (made small) { live = replicate n released }
 
@@ -15,7 +15,7 @@ pub the_last_place_is_taken : (begin_step (crowded 1023) unattached Serial).0 �
 unfolding begin_step
 the_last_place_is_taken = refl
 
--- a transaction of so many accesses
+-- a transaction of n accesses
 abbrev busy : ℕ → Live
 busy n = record released { accesses = replicate n (read_access 0) }
 

@@ -2,7 +2,7 @@
 use Rattle.script_model.proofs.{Words.{◌≡◌, ◌-◌, [], ◌∷◌, ◌++◌, refl, replicate, codes, None, Some, digits, Serial, Snapshot, LAST, Compact, Upgrade, Committed, Conflict, ModeFixed, TooManyTx, Worn, BadBlock, BadRange, TooManyAccesses, put, clash, runs, operation_of, other_operation, step, put_step, get_step, write_step, numbers, put_access, read_access, begin_step, commit_step, end_step, switch_step, words_of, number_of, hex_of, reply_text, versions, World, Live, label, unattached}, Small.{small, made, text, answers}}
 use Rattle.std.specs.Prelude.{ℕ, ◌+◌, List}
 
--- the small image after so many commits, which its base holds
+-- the small image after n commits, which its base holds
 abbrev ended : ℕ → World
 ended n = record (made small) { history = record { first = n + 1; base = (made small).history.base; commits = [] }; base = n; trim = n }
 

@@ -61,7 +61,7 @@ pub bare_op : (P : Op → Type 0) (op : Op) (words : List (List ℕ)) → P op �
 bare_op P op [] is = given_one P op is
 bare_op P op (word ∷ words) is = given_none P 3
 
--- the arguments of an operation that has two, or three: each is read where there are so many
+-- the arguments of an operation that has two, or three: each is read where there are as many
 of_two : (P : Op → Type 0) (read : List (List ℕ) → Result Op ℕ) → read [] ≡ Err 3 → ((a : List ℕ) → read (a ∷ []) ≡ Err 3) → ((a b c : List ℕ) (words : List (List ℕ)) → read (a ∷ b ∷ c ∷ words) ≡ Err 3)
     → ((a b : List ℕ) → IfGiven P (read (a ∷ b ∷ []))) → (words : List (List ℕ)) → IfGiven P (read words)
 of_two P read none one more two [] = subst (IfGiven P) (sym none) (given_none P 3)

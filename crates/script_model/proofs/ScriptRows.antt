@@ -2,7 +2,7 @@
 use Rattle.script_model.proofs.{Words.{◌≡◌, ◌*◌, [], ◌∷◌, ◌++◌, Some, refl, codes, map, replicate, digits, begin_step, commit_step, end_step, Stat, put, clash, runs, script, last_piece, bad_line, parse_whole, parse, said, operation_of, other_operation, store_operation, tree_operation, file_operation, replies, step, put_step, read_step, words_of, number_of, hex_of, reply_text, fresh, empty_history, Skip, Says}, Small.{small, text}}
 use Rattle.std.specs.Prelude.{ℕ, List, Ok, Err, true}
 
--- so many bytes in hexadecimal, all 17
+-- n bytes in hexadecimal, all 17
 abbrev elevens : ℕ → List ℕ
 elevens n = replicate (2 * n) 49
 

@@ -33,6 +33,6 @@ answers W texts = replies W (lines_of texts)
 abbrev pub after_lines : World → List (List ℕ) → World
 after_lines W texts = after W (lines_of texts)
 
--- so many bytes in hexadecimal, all zero
+-- n bytes in hexadecimal, all zero
 abbrev pub zero_text : ℕ → List ℕ
 zero_text n = replicate (2 * n) 48

@@ -10,7 +10,7 @@ rise_above : (low below high : ℕ) (xs : List ℕ) → below ≤ low → RiseIn
 rise_above low below high [] less rise = tt
 rise_above low below high (x ∷ xs) less rise = (omega (arith, rise.0), rise.1, rise.2)
 
--- the first so many numbers of a range that pass a test
+-- the first m numbers of a range that pass a test
 rise_taken : (test : ℕ → Bool) (m i n high : ℕ) → i + n ≤ high → RiseIn i high (take m (filter test (range_with_len i n)))
 rise_taken test zero i n high fits = tt
 rise_taken test (suc m) i zero high fits = tt
@@ -23,7 +23,7 @@ pub last_rises : (low high x : ℕ) (xs : List ℕ) → RiseIn low high (x ∷ x
 last_rises low high x [] rise = (omega arith, rise.1)
 last_rises low high x (y ∷ ys) rise = let rest = last_rises (suc x) high y ys rise.2 in (omega (arith, rise.2.0, rest.0), rest.1)
 
--- blocks of a region of so many
+-- blocks of a region of `high` blocks
 abbrev pub AreBelow : (high : ℕ) → List ℕ → Type 0
 AreBelow high xs = AllByRecursion (λ x. x < high) xs
 

@@ -13,7 +13,7 @@ drawn x = (x * 6364136223846793005 + 1442695040888963407) % 2 ^ 64
 abbrev pub number_drawn : ℕ → ℕ
 number_drawn x = x / 2 ^ 32
 
--- the state after so many draws
+-- the state after n draws
 abbrev pub after_draws : ℕ → ℕ → ℕ
 after_draws zero x = x
 after_draws (suc n) x = after_draws n (drawn x)
@@ -42,7 +42,7 @@ round_text p q i j v w =
 abbrev pub drawn_round : (x : ℕ) → List ℕ
 drawn_round x = round_text (nth_drawn x 1 64) (nth_drawn x 2 64) (nth_drawn x 3 16) (nth_drawn x 4 16) (nth_drawn x 5 256) (nth_drawn x 6 256)
 
--- the script of so many rounds, drawn from a state
+-- the script of `count` rounds, drawn from a state
 unfoldable pub bench_text : (count x : ℕ) → List ℕ
 bench_text zero x = []
 bench_text (suc count) x = drawn_round x ++ bench_text count (after_draws 6 x)
@@ -87,7 +87,7 @@ bench_summary count lines =
     ++ codes " conflicts " ++ decimal (length (filter is_conflict (answers_to bench_world lines)))
     ++ codes " sha256 " ++ hex_text (sha256 (replies bench_world lines)) ++ 10 ∷ []
 
--- what `bench` with this seed and so many rounds prints
+-- what `bench` with this seed and `count` rounds prints
 abbrev pub bench_output : (seed count : ℕ) → List ℕ
 bench_output seed count = bench_summary count (script (bench_text count seed)).lines
 

@@ -89,7 +89,7 @@ after_store W t refusal answer ended = (store_reply refusal answer ended.1, with
 unfoldable pub store_step : {E R : Type 0} → World → Live → Program (Result R E) → (E → Reply) → (R → Reply) → Reply × World
 store_step W t program refusal answer = after_store W t refusal answer (outcome (MAX_ACCESSES - length t.accesses) program (array_of W t))
 
--- a store of so many blocks that is there, in a transaction that is serial
+-- a store of `blocks` blocks that is there, in a transaction that is serial
 abbrev pub in_store : World → Live → (blocks : ℕ) → Reply × World → Reply × World
 in_store W t blocks result =
     if blocks == 0 then (reply.NoStore, W)

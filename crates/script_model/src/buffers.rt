@@ -5,7 +5,7 @@ ghost use Rattle.iso_model.specs.Marks.{is_outside};
 use iso_model::Memory;
 use std::alloc::Global;
 
-/// Whether the bytes from `off` on, so many of them, are none or pass the end of a block.
+/// Whether the `len` bytes from `off` on are none or pass the end of a block.
 #[inline]
 pub fn is_outside(size: u32, off: u32, len: usize) -> bool
     ensures { result ≡ is_outside size off len }
@@ -13,7 +13,7 @@ pub fn is_outside(size: u32, off: u32, len: usize) -> bool
     len == 0 || len > size as usize || off as usize + len > size as usize
 }
 
-/// So many zeros.
+/// `size` zeros.
 #[inline]
 pub fn zeros(alloc: Global, size: u32) -> Result<Vec<u8>, Memory>
     ensures { IfOk result (λ bytes. length bytes.items ≡ size) }

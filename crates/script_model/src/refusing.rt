@@ -6,7 +6,7 @@ use crate::script::Reply;
 use crate::stop::Stop;
 use iso_model::CoreError;
 
-/// The reply that an error of a core stands for, or why there is none.
+/// The reply for an error of a core, or why there is none.
 #[inline]
 pub fn refused(error: CoreError) -> Result<Reply, Stop>
     ensures { result ≡ refused error }

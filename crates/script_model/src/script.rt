@@ -29,7 +29,7 @@ pub enum Op {
     Release { label: Label },
     /// Attaches the transaction under a label to the client.
     Takeover { label: Label },
-    /// A takeover that waits for the label where clients run beside each other.
+    /// A takeover that waits for the label where clients run concurrently.
     Await { label: Label },
     /// Ends the transactions under these labels, in order, with one body and one gate.
     Group { labels: LabelList },
@@ -53,7 +53,7 @@ pub enum Op {
     TreeGet { key: Bytes },
     /// Removes a key of the tree store.
     TreeDelete { key: Bytes },
-    /// The first pairs of the tree store from one key on and before another, at most so many.
+    /// The first pairs of the tree store from one key on and before another, at most `most`.
     TreeScan { from: Bytes, to: Bytes, most: u32 },
     /// Makes an empty file of this name.
     FileNew { name: Bytes },

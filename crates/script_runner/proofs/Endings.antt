@@ -22,7 +22,7 @@ script_short bytes few =
     ap (λ (cut : Bool). script_from cut 1 (pieces 10 (take MAX_INPUT bytes))) uncut
     ∙ ap (λ (xs : List ℕ). script_from false 1 (pieces 10 xs)) (take_all MAX_INPUT bytes (omega arith))
 
--- the script of an input of which so many bytes are taken that it is cut
+-- the script of an input that has `MAX_INPUT` bytes or more, and so is cut
 script_cut : (bytes more : List ℕ) → length bytes ≡ MAX_INPUT → script (bytes ++ more) ≡ script_from true 1 (pieces 10 bytes)
 unfolding script
 script_cut bytes more full =

@@ -4,10 +4,10 @@ ghost use Rattle.script_runner.specs.Run.{HasNoFeed};
 
 use std::simd::prelude::*;
 
-// So many bytes are looked at at once. Most lines are shorter.
+// How many bytes are looked at at once. Most lines are shorter.
 const LANES: usize = 16;
 
-// How many of so many bytes come before the first line feed among them.
+// How many of `LANES` bytes come before the first line feed among them.
 #[inline(always)]
 fn before_feed(text: &[u8], at: usize) -> usize
     requires { at + LANES ≤ length text.now }

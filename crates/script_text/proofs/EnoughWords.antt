@@ -1,7 +1,7 @@
 -- A line is cut into more words than any operation has, so the words that follow these change nothing.
 use Rattle.script_text.proofs.Words.{◌≡◌, ◌∙◌, ℕ, ◌+◌, ◌<◌, Bool, true, false, ◌&&◌, cond, if◌then◌else◌, List, [], ◌∷◌, length, nat_le, take, bytes_eq, codes, Result, Ok, Err, Op, Group, refl, ap, sym, arith, group_arguments, labels_of, MAX_LABELS, take_all, leb-false, leb-true, lt-leb, length-take-le, client_in_range, operation_of, other_operation, said, store_operation, tree_operation, file_operation, ◌>>=◌, number_of, MOST_WORDS, Says}
 
--- what an operation with more than three arguments says, by what a group of so many labels says
+-- what an operation with more than three arguments says, by what a group of as many labels says
 abbrev with_many : (name : List ℕ) → (group : Result Op ℕ) → Result Op ℕ
 with_many name group =
     if bytes_eq name (codes "begin") then Err 3

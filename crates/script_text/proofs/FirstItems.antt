@@ -1,7 +1,7 @@
 -- The first items of a list that grows at its end, kept in places.
 use Rattle.script_text.proofs.Words.{◌≡◌, ℕ, ◌+◌, ◌<◌, ◌≤◌, min, List, [], ◌∷◌, ◌++◌, take, length, slice_set, ap, sym, ◌∙◌, arith, take_more_set, take-append-le, length-take, length_push, take_all}
 
--- so many of the places are taken
+-- how many of the places are taken
 taken : {A : Type 0} (most n : ℕ) (xs ys : List A) → n ≤ most → length xs ≡ most → take n xs ≡ take most ys → n ≡ min most (length ys)
 taken most n xs ys fits room e =
     let count = length-take n xs in

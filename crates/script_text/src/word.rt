@@ -7,7 +7,7 @@ ghost use Rattle.script_text.specs.Words.{is_word_byte, may_be_decimal, texts, w
 /// changes nothing.
 pub(crate) const MOST_WORDS: usize = 19;
 
-// So many bytes of a long word are looked at with no way out between, and so at once. Most words are shorter.
+// How many bytes of a long word are looked at with no way out between, and so at once. Most words are shorter.
 const LANES: usize = 16;
 
 /// Whether a byte belongs to a word: it is printable, and no space.
@@ -18,7 +18,7 @@ fn is_word_byte(byte: u8) -> bool
     (b'!'..=b'~').contains(&byte)
 }
 
-/// Whether so many bytes from a place on belong to a word.
+/// Whether `LANES` bytes from a place on belong to a word.
 #[inline(always)]
 fn are_word_bytes(rest: &[u8], at: usize) -> bool
     requires { at + LANES ≤ length rest.now }

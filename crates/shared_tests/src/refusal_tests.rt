@@ -16,7 +16,7 @@ use std::sync::Wait;
 use std::sync::ledger::Blank;
 use std::test::Fail;
 
-/// The end of a transaction whose read block another one then wrote; and that of a write of a byte behind so many more,
+/// The end of a transaction whose read block another one then wrote; and that of a write of a byte after others,
 /// which fill the log.
 fn run_full<O: Origin, R: Wait>(
     rt: &R,
@@ -73,7 +73,7 @@ fn a_conflict_and_a_full_log_come_through_the_lock(rt: HostRuntime) -> Result<()
     Ok(())
 }
 
-/// Begins so many transactions, each of which goes under a label of its own; why one is refused, if one is, and how many
+/// Begins `times` transactions, each of which goes under a label of its own; why one is refused, if one is, and how many
 /// were begun.
 fn crowd<O: Origin, R: Wait>(
     rt: &R,

@@ -119,7 +119,7 @@ pub(crate) fn put<O: Origin, R: Wait>(
     Ok((at, reply))
 }
 
-/// So many commits in a block; whether each is one, and begins at the last one before it or later.
+/// `times` commits in a block; whether each is one, and begins at the last one before it or later.
 pub(crate) fn commits<O: Origin, R: Wait>(
     rt: &R,
     shared: &Shared<MemDisk, O>,
@@ -146,7 +146,7 @@ pub(crate) fn commits<O: Origin, R: Wait>(
     (port, in_order)
 }
 
-/// Two threads that each make so many commits in a block of their own; whether all were in order.
+/// Two threads that each make `times` commits in a block of their own; whether all were in order.
 fn side_by_side<O: Origin + Send + Sync, R: Threads + Wait + Sync>(
     rt: &R,
     shared: &Shared<MemDisk, O>,

@@ -67,14 +67,14 @@ is_empty_scan op = false
 abbrev pub replied : {E R : Type 0} → (E → Reply) → (R → Reply) → List Access × Option (Result R E) → List Access × Reply
 replied refusal answer ended = (ended.0, store_reply refusal answer ended.1)
 
--- the same of a call of the hash store or the tree store, and of one on files
+-- the accesses and the reply of a call of the hash store or the tree store, and of one on files
 abbrev pub stored : {R : Type 0} → (R → Reply) → List Access × Option (Result R StoreError) → List Access × Reply
 stored answer ended = replied store_refusal answer ended
 
 abbrev pub filed : {R : Type 0} → (R → Reply) → List Access × Option (Result R FsError) → List Access × Reply
 filed answer ended = replied file_refusal answer ended
 
--- the same of an operation on a store, in a transaction that has room for so many more accesses
+-- the accesses and the reply of an operation on a store, in a transaction that has room for `room` more accesses
 abbrev pub store_ended : FileAreas → Op → (room : ℕ) → Array → List Access × Reply
 store_ended a (HashPut key value) room A = stored (λ done. reply.Done) (outcome room (put_program a.files key value) A)
 store_ended a (HashGet key) room A = stored found_reply (outcome room (get_program a.files key) A)

@@ -40,7 +40,7 @@ gets_of_both a b key one two t u v w x r s A hash_area tree_area apart are base 
       sym (same_got (get (insert (tree_map b A) key two) key) s order.second.answers) ∙ gets_what_was_put (tree_map b A) key two,
     )
 
--- the same of the calls, as their contracts say what they left
+-- what the gets answer, by what the contracts of the four calls say they left
 pub gets_of_calls : (hash_at tree_at : Region) (key one two : List ℕ) (t u v w x : Tx) (p q : Unit {0}) (r s : Option (List ℕ)) → IsHashArea (area_of t hash_at) → IsTreeArea (area_of t tree_at)
     → AreDisjoint (area_of t hash_at) (area_of t tree_at) → HasEnded (hash.put_program (area_of t hash_at) key one) t u (Ok p)
     → IsLocalCall (IsHashRegion (area_of t hash_at)) (hash_map (area_of t hash_at)) (put_op key one) t u p → HasEnded (tree.put_program (area_of u tree_at) key two) u v (Ok q)

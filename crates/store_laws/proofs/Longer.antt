@@ -50,7 +50,7 @@ pub commits_by_calls : (s : MapStore) (H : History) (c : Commit) (t : Tx) (parts
     → IsOfCalls s H c
 commits_by_calls s H c t parts is same mode = record { parts = parts; are = is.are ∙ same; made = is.made; mode = mode }
 
--- THE SAME OF TWO STORES
+-- TWO STORES
 both_longer : (s t : MapStore) (H : History) (c d : Commit) → 0 < H.first → d.begin ≤ last H → IsOfBoth s t H d → IsOfBoth s t (appended H c) d
 both_longer s t H c d first before of = grind (arith, array_longer) steps 100000
 

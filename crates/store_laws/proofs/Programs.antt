@@ -25,7 +25,7 @@ pub reads_within : (s : MapStore) (accesses : List Access) → AreReads accesses
 reads_within s [] reads = tt
 reads_within s (a ∷ accesses) reads = (λ write. absurd (both_ways (is_write a) reads.0 write), reads_within s accesses reads.1)
 
--- the same of a call that reads alone
+-- a call that reads alone writes no block outside of the store
 pub read_within : {X : Type 0} (s : MapStore) (p : Program (Result X StoreError)) (A : Array) (t u : Tx) (r : X) → ((B : Array) → AreReads (accesses_of p B)) → t.base ≡ Some A → HasEnded p t u (Ok r)
     → WriteWithin s (added t u)
 read_within s p A t u r reads = ended_as s p A t u r (λ B. reads_within s (accesses_of p B) (reads B))

@@ -19,7 +19,7 @@ put_then_get a key value t u v p r A area base none region put_ended put_is get_
     let order = live_in_order s (hash_is_of_its_blocks a area) A (Called (Put key value) (added t u) WasPut ∷ Called (Get key) (added u v) (Got r) ∷ []) both.made region in
     sym (same_got (get (insert (hash_map a A) key value) key) r order.answers) ∙ gets_what_was_put (hash_map a A) key value
 
--- the same of two calls, as their contracts say what they left
+-- what the get answers, by what the contracts of the two calls say they left
 pub put_then_get_call : (region : Region) (key value : List ℕ) (t u v : Tx) (p : Unit {0}) (result : Result (Option (List ℕ)) StoreError) → IsHashArea (area_of t region)
     → HasEnded (put_program (area_of t region) key value) t u (Ok p)
     → IsLocalCall (IsHashRegion (area_of t region)) (hash_map (area_of t region)) (put_op key value) t u p

@@ -18,7 +18,7 @@ put_then_scan a key value from to most t u v p r A area base none region put_end
     let order = live_in_order s (tree_is_of_its_blocks a area) A (put ∷ Called (Scan from to most) (added u v) (Found r) ∷ []) both.made region in
     sym (same_found (scan_op from to most (insert (tree_map a A) key value)).0 r order.answers)
 
--- the same of two calls, as their contracts say what they left
+-- what the scan answers, by what the contracts of the two calls say they left
 pub put_then_scan_call : (region : Region) (key value from to : List ℕ) (most : ℕ) (t u v : Tx) (p : Unit {0}) (result : Result (List (List ℕ × List ℕ)) StoreError) → IsTreeArea (area_of t region)
     → HasEnded (put_program (area_of t region) key value) t u (Ok p)
     → IsLocalCall (IsTreeRegion (area_of t region)) (tree_map (area_of t region)) (put_op key value) t u p

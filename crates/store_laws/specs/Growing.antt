@@ -10,7 +10,7 @@ pub record IsMadeOf (s : MapStore) (A : Array) (t : Tx) (parts : List (Part s.Ca
   pub are : accesses_in parts ≡ t.accesses
   pub made : AreMade s A parts
 
--- the same of parts of two stores
+-- The transaction began with this array, and its accesses are those of these parts of two stores.
 pub record IsMadeOfBoth (s t : MapStore) (A : Array) (tx : Tx) (parts : MixedParts s t) : Type 0 where
   pub base : tx.base ≡ Some A
   pub are : accesses_in (firsts parts) ≡ tx.accesses

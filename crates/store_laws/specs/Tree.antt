@@ -3,7 +3,7 @@ use Rattle.std.specs.Prelude.{ℕ, List}
 use Rattle.store_model.specs.{declared.stores.Area.Area, HashRegion.Pairs, TreeRegion.{IsTreeRegion, scan_op, tree_map}}
 use Rattle.store_laws.specs.{Calls.{Found, KeyCall, StoreAnswer, in_area, key_act}, Region.{MapStore, pairs_store}}
 
--- a call on one key, or a scan: the pairs with a key from one on and before another, at most so many
+-- a call on one key, or a scan: the pairs with a key from one on and before another, at most `most`
 pub data TreeCall : Type 0 where
   OnKey : (call : KeyCall) → TreeCall
   Scan : (from to : List ℕ) → (most : ℕ) → TreeCall

@@ -48,7 +48,7 @@ pub fn blank_file_regions_are_empty()
     ensures made { (a : FileAreas) (n : ℕ) → AreFileAreas a → a.files.start + a.files.blocks ≤ n → AreFileRegions a (zeros a.tree.size n) × (files a (zeros a.tree.size n) ≡ empty) }
 {}
 
-/// The same of a hash store and a file store that one transaction calls, each by its own map.
+/// The calls of a hash store and a file store that one transaction calls answer as one thread's, those of each on its own map.
 pub fn calls_of_hash_and_files_answer_in_order()
     ensures history { (a : Area) (b : FileAreas) (g : Geometry) (H : History) (n : ℕ) → IsHashArea a → AreFileAreas b → IsByBoth (hash_store a) (file_store b) g H n → (k : ℕ) → n < k → k ≤ last H
         → IfSome (slice_get H.commits (k - H.first))
@@ -62,9 +62,9 @@ pub fn calls_of_hash_and_files_answer_in_order()
         → BothByMap (hash_store a) (file_store b) parts (array_at H begin) }
 {}
 
-/// A look-up and a scan of the tree store that has the names of the files read alone, where they answered Ok. So they stand in a
-/// transaction that calls the hash store and the file store, as other accesses (`got`, `found`); and a read of a file stands so in one
-/// that calls the hash store and the tree store (`was_read`). A call of the one that writes stands beside no call of the other.
+/// A look-up and a scan of the tree store that has the names of the files read alone, where they answered Ok. So they may be in a
+/// transaction that calls the hash store and the file store, as other accesses (`got`, `found`); and a read of a file may be in one
+/// that calls the hash store and the tree store (`was_read`). A call of the one that writes is in no transaction with a call of the other.
 pub fn tree_look_ups_stand_beside_files()
     ensures got { (a : Area) (b : FileAreas) (key : List ℕ) (A : Array) (t u : Tx) (parts : List (Mixed KeyCall StoreAnswer FileCall FileAnswer)) (r : Option (List ℕ)) → IsMadeOfBoth (hash_store a) (file_store b) A t parts
         → HasEnded (tree.get_program b.tree key) t u (Ok r) → IsMadeOfBoth (hash_store a) (file_store b) A u (parts ++ Neither (added t u) ∷ []) }

@@ -31,7 +31,7 @@ pub fn calls_answer_by_what_is_shown<S: RegionStore>(store: &S)
         → AnswerInOrder s parts A (own A (accesses_in parts)) }
 {}
 
-/// The same of transactions that call two stores: the calls of each answer as one thread's calls on its map. Where the stores are
+/// Where transactions call two stores, the calls of each answer as one thread's calls on its map. Where the stores are
 /// apart, what writes in the region of the one spares that of the other.
 pub fn calls_of_two_stores_answer_in_order<S: RegionStore, T: RegionStore>(first: &S, second: &T)
     ensures commit { let s = S.store first.now in let t = T.store second.now in (H : History) (k : ℕ) (c : Commit) (parts : MixedParts s t) → 0 < H.first → H.first ≤ k
@@ -57,7 +57,7 @@ pub fn histories_stay_by_calls<S: RegionStore>(store: &S)
         → IsByCalls s g (appended H c) n }
 {}
 
-/// The same of a history by calls of two stores.
+/// A history is one by calls of two stores from its last commit on where both are well formed there, and it stays one likewise.
 pub fn histories_of_two_stores_stay_by_calls<S: RegionStore, T: RegionStore>(first: &S, second: &T)
     ensures begun { let s = S.store first.now in let t = T.store second.now in (g : Geometry) (H : History) → IsHistory g H → IsIsolated g H → BothWellFormed s t (array_at H (last H))
         → IsByBoth s t g H (last H) }
@@ -79,7 +79,7 @@ pub fn transactions_grow_by_parts<S: RegionStore>(store: &S)
         → t.accesses ≡ c.accesses → (calls_in parts ≡ []) ⊎ (c.mode ≡ Serial) → IsOfCalls s H c }
 {}
 
-/// The same of a transaction that calls two stores: one part more after each call of either that spares the other's region, and
+/// A transaction that calls two stores gets one part more after each call of either that spares the other's region, and
 /// after other accesses that write neither.
 pub fn transactions_of_two_stores_grow_by_parts<S: RegionStore, T: RegionStore>(
     first: &S,

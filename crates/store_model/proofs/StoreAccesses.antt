@@ -43,7 +43,7 @@ further_are_bytes : (further : Option Span) (block : List ℕ) → AreBytes bloc
 further_are_bytes None block bytes = no_bytes
 further_are_bytes (Some span) block bytes = span_bytes span block bytes
 
--- accesses to the array, at most so many
+-- accesses to the array, at most `room`
 pub record Fits {R : Type 0} (g : Geometry) (room : ℕ) (ended : List Access × Option R) : Type 0 where
   pub accesses : AreAccesses g ended.0
   pub count : length ended.0 ≤ room
@@ -58,7 +58,7 @@ either_fits : {R : Type 0} (g : Geometry) (room : ℕ) (test : Bool) (ended : Li
 either_fits g room true ended fits = fits
 either_fits g room false ended fits = nothing_fits g room None
 
--- The same of a program that runs on this array: it reads what is there, and each answer has P with the array in the end.
+-- The accesses of a program that runs on this array fit: it reads what is there, and each answer has P with the array in the end.
 abbrev pub FitsOn : {R : Type 0} → Geometry → (R → Array → Type 0) → Program R → Array → Type 0
 FitsOn g P (Done r) A = P r A
 FitsOn g P (Look block mark further next) A =
@@ -102,7 +102,7 @@ fits_on g P (Reserve count next) A shape fit = fits_on g P next A shape fit
 fits_on g P (Store block spans bytes next) A shape (access, rest) =
     (access, fits_on g P next (put A (store_access block spans bytes)) (shape_put g A (store_access block spans bytes) shape access) rest)
 
--- what the program does in a transaction that has room for so many more accesses
+-- what the program does in a transaction that has room for `room` more accesses
 pub outcome_fits : {R : Type 0} (g : Geometry) (P : R → Array → Type 0) (room : ℕ) (p : Program R) (A : Array) → FitsOn g P p A → Fits g room (outcome room p A)
 outcome_fits g P room (Done r) A fit = nothing_fits g room (Some r)
 outcome_fits g P zero (Look block mark further next) A fit = nothing_fits g zero None

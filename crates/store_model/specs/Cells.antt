@@ -3,7 +3,7 @@ use Rattle.std.specs.{Prelude.{ℕ, zero, suc, ◌+◌, ◌-◌, ◌*◌, ◌/�
 use Rattle.iso_model.specs.{declared.access.Span.Span, Conflict.first_from}
 use Rattle.store_model.specs.Stores.{bytes_in}
 
--- how many cells a block of so many bytes has
+-- how many cells a block of `size` bytes has
 abbrev pub cell_count : (size : ℕ) → ℕ
 cell_count size = size / 64 - 1
 
@@ -31,7 +31,7 @@ word_at at bytes = from_be_bytes w32 (bytes_in (record { off = at; len = 4 }) by
 abbrev pub is_zero : ℕ → Bool
 is_zero b = b == 0
 
--- whether a part is a length of at most so many, bytes, and zeros
+-- whether a part is a length of at most `most`, as many bytes as it says, and zeros
 abbrev pub is_part : (most : ℕ) → List ℕ → Bool
 is_part most part = nat_le (slice_index part 0) most && list_all is_zero (drop (1 + slice_index part 0) part)
 
@@ -39,7 +39,7 @@ is_part most part = nat_le (slice_index part 0) most && list_all is_zero (drop (
 abbrev pub text_of : List ℕ → List ℕ
 text_of part = take (slice_index part 0) (drop 1 part)
 
--- the part that spells these bytes, with room for so many
+-- the part that spells these bytes, with room for `room` bytes
 abbrev pub part_of : (room : ℕ) → List ℕ → List ℕ
 part_of room text = length text ∷ text ++ replicate (room - length text) 0
 

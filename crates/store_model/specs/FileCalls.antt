@@ -22,7 +22,7 @@ goes_on next (Err e) = refuse (fs.Store e)
 abbrev pub in_tree : {X Y : Type 0} → Program (Result X StoreError) → (X → Call Y) → Call Y
 in_tree p next = then_do p (goes_on next)
 
--- whether a call may read or write so many bytes
+-- whether a call may read or write `count` bytes
 abbrev pub is_many : (count : ℕ) → Bool
 is_many count = nat_le 1 count && nat_le count 4096
 
@@ -66,7 +66,7 @@ unfoldable pub create_program : FileAreas → (name : List ℕ) → Call (Unit {
 create_program a name = cond (is_key name) (in_tree (get_program a.tree name) (create_new a name)) (refuse fs.BadName)
 
 -- READ
--- the bytes of the file from one on and before another, piece by piece; there are at most so many pieces
+-- the bytes of the file from one on and before another, piece by piece; there are at most `most` pieces
 abbrev pub read_pieces : Area → (file : List ℕ) → (most from to : ℕ) → (found : List ℕ) → Call (Option (List ℕ))
 read_pieces a file zero from to found = Done (Ok (Some found))
 read_pieces a file (suc most) from to found =
@@ -85,7 +85,7 @@ read_program a name off len =
     cond (is_key name) (cond (is_many len) (in_tree (get_program a.tree name) (at_file a None (read_from a.files off len))) (refuse fs.BadRange)) (refuse fs.BadName)
 
 -- WRITE
--- The writes of the data blocks, piece by piece; the first blocks so many are old ones.
+-- The writes of the data blocks, piece by piece; the first `old` blocks are old ones.
 abbrev pub write_pieces : Area → (entries : List ℕ) → (old most from to : ℕ) → (bytes : List ℕ) → Call Bool
 write_pieces a entries old zero from to bytes = Done (Ok true)
 write_pieces a entries old (suc most) from to bytes =
@@ -101,7 +101,7 @@ write_sized a off bytes number file news =
     (write_pieces a (entries_of a.size file ++ news) (data_count a.size file) (length bytes) off (off + length bytes) bytes))
     (write_pieces a (entries_of a.size file) (data_count a.size file) (length bytes) off (off + length bytes) bytes)
 
--- so many new blocks, lowest first
+-- `need` new blocks, lowest first
 abbrev pub with_new : {Y : Type 0} → Area → (need : ℕ) → (List ℕ → Call Y) → Call Y
 with_new a zero next = next []
 with_new a (suc more) next = look_map a (λ first.

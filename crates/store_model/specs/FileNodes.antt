@@ -10,7 +10,7 @@ entry_count size = (size - 64) / 4
 abbrev pub most_bytes : (size : ℕ) → ℕ
 most_bytes size = entry_count size * size
 
--- how many blocks so many bytes take
+-- how many blocks `bytes` bytes take
 abbrev pub blocks_for : (size bytes : ℕ) → ℕ
 blocks_for size bytes = (bytes + (size - 1)) / size
 
@@ -27,14 +27,14 @@ data_count size file = blocks_for size (bytes_of file)
 abbrev pub entries_of : (size : ℕ) → (file : List ℕ) → List ℕ
 entries_of size file = map (entry_at file) (range_with_len 0 (data_count size file))
 
--- whether a number is that of a block that a region of so many hands out
+-- whether a number is that of a block that a region of `blocks` blocks hands out
 abbrev pub is_handed : (blocks : ℕ) → (number : ℕ) → Bool
 is_handed blocks number = nat_le 1 number && nat_lt number blocks
 
 abbrev pub are_entries : (blocks : ℕ) → (file : List ℕ) → (count : ℕ) → Bool
 are_entries blocks file count = all_from (λ i. is_handed blocks (entry_at file i)) 0 count
 
--- whether the zeros of a file block with so many numbers are zero
+-- whether the zeros of a file block with `count` numbers are zero
 abbrev pub has_zeros : (file : List ℕ) → (count : ℕ) → Bool
 has_zeros file count =
     list_all is_zero (bytes_in (record { off = 1; len = 3 }) file) && list_all is_zero (bytes_in (record { off = 8; len = 56 }) file) && list_all is_zero (drop (64 + 4 * count) file)

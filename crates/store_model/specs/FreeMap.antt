@@ -2,11 +2,11 @@
 use Rattle.std.specs.{Prelude.{ℕ, zero, suc, ◌+◌, ◌/◌, ◌%◌, ◌^◌, Bool, ◌==◌, not, cond, List, Option, slice_index, slice_set, bit_and, bit_or, bit_xor}, Int.bit_at}
 use Rattle.iso_model.specs.{declared.access.Span.Span, Conflict.first_from}
 
--- how many bytes the bits of so many blocks take
+-- how many bytes the bits of `blocks` blocks take
 abbrev pub map_bytes : (blocks : ℕ) → ℕ
 map_bytes blocks = (blocks + 7) / 8
 
--- the mark over head and map of a region of so many blocks
+-- the mark over head and map of a region of `blocks` blocks
 abbrev pub map_mark : (blocks : ℕ) → Span
 map_mark blocks = record { off = 0; len = 64 + map_bytes blocks }
 

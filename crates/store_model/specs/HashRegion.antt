@@ -54,7 +54,7 @@ view_of a A = record {
   first = block_at A a.start;
 }
 
--- the blocks of a chain from a block on, at most so many
+-- the blocks of a chain from a block on, at most `left`
 abbrev pub chain_from : (ℕ → List ℕ) → (left block : ℕ) → List ℕ
 chain_from keys zero block = []
 chain_from keys (suc left) block = block ∷ cond (next_of (keys block) == 0) [] (chain_from keys left (next_of (keys block)))

@@ -3,8 +3,8 @@ use Rattle.std.specs.{Prelude.{◌≡◌, ℕ, zero, suc, Bool, false, ◌&&◌,
 use Rattle.iso_model.specs.{declared.access.Access.Access, declared.access.Kind.TheVariants.{Read, Write}, declared.access.Span.Span, Array.{Array, put, byte_at}, Effect.{own, covers, is_write}, Premises.block_at}
 
 -- A call that answers an R. `Look` reads a block under a first mark; the bytes under it decide whether there is a further mark,
--- and the bytes under both decide what comes next. `LookWhole` reads a block without a mark. `Reserve` goes on only where so
--- many more accesses fit. `Store` writes the bytes of a block, under these marks.
+-- and the bytes under both decide what comes next. `LookWhole` reads a block without a mark. `Reserve` goes on only where
+-- `count` more accesses fit. `Store` writes the bytes of a block, under these marks.
 pub data Program (R : Type 0) : Type 0 where
   Done : R → Program R
   Look : (block : ℕ) → (mark : Span) → (further : List ℕ → Option Span) → (next : List ℕ → List ℕ → Program R) → Program R
@@ -57,7 +57,7 @@ answer_of (Store block spans bytes next) A = answer_of next (put A (store_access
 abbrev pub after : {R : Type 0} → List Access → List Access × Option R → List Access × Option R
 after done rest = (done ++ rest.0, rest.1)
 
--- The accesses of the program, and its answer, in a transaction that has room for so many more accesses; there is no answer
+-- The accesses of the program, and its answer, in a transaction that has room for `room` more accesses; there is no answer
 -- where an access or a reservation does not fit.
 abbrev pub outcome : {R : Type 0} → (room : ℕ) → Program R → Array → List Access × Option R
 outcome room (Done r) A = ([], Some r)

@@ -133,7 +133,7 @@ Answer = Result (Unit {0}) StoreError
 abbrev pub put_writes : Area → (first taken : List ℕ) → Climb → Program Answer
 put_writes a first taken way = Reserve (1 + length way.writes) (first_write a first taken way.root (store_nodes a way.writes (Done (Ok tt))))
 
--- a put that needs so many new blocks, once the map is read; the nodes to be written are read again before the first write
+-- a put that needs `need` new blocks, once the map is read; the nodes to be written are read again before the first write
 abbrev pub put_new : Area → (key value : List ℕ) → List (ℕ × ℕ) → (first : List ℕ) → (need : ℕ) → Program Answer
 put_new a key value path first need =
     cond (nat_lt (free_count first 1 (a.blocks - 1)) need) (Done (Err (NoBlocks need (free_count first 1 (a.blocks - 1)))))
@@ -185,7 +185,7 @@ abbrev pub and_then : Scanned → (List (List ℕ × List ℕ) → Program Scann
 and_then (Err e) next = Done (Err e)
 and_then (Ok pairs) next = next pairs
 
--- the children in turn, until so many pairs are found
+-- the children in turn, until `most` more pairs are found
 abbrev pub scan_children : (ℕ → ℕ → Program Scanned) → List ℕ → (most : ℕ) → List (List ℕ × List ℕ) → Program Scanned
 scan_children scan [] most found = Done (Ok found)
 scan_children scan (child ∷ children) zero found = Done (Ok found)
@@ -208,7 +208,7 @@ scan_further a level from to keys =
     cond (is_node a.size level keys && not (many_in level from to keys == 0))
     (Some (record { off = keys_end a.size + 33 * first_in level from keys; len = 33 * many_in level from to keys })) None
 
--- so many value parts that stand in a row
+-- n value parts that lie in a row
 abbrev pub parts_of : List ℕ → (n : ℕ) → List (List ℕ)
 parts_of bytes zero = []
 parts_of bytes (suc n) = take 33 bytes ∷ parts_of (drop 33 bytes) n
@@ -218,7 +218,7 @@ abbrev pub pairs_with : (keys : List ℕ) → (i : ℕ) → List (List ℕ) → 
 pairs_with keys i [] = []
 pairs_with keys i (part ∷ parts) = (key_at keys i, text_of part) ∷ pairs_with keys (i + 1) parts
 
--- the first pairs of the range below a node of this level, at most so many
+-- the first pairs of the range below a node of this level, at most `most`
 abbrev pub scan_from : Area → (from to : List ℕ) → (level block most : ℕ) → Program Scanned
 scan_from a from to zero block most =
     Look (a.start + block) (keys_mark a.size) (scan_further a 0 from to)

@@ -21,13 +21,13 @@ abbrev pub has_level : (size level : ℕ) → (keys : List ℕ) → (count : ℕ
 has_level size level keys count =
     ((level == 0) || (nat_le 2 count && (length (key_at keys 0) == 0))) && (not (level == 31) || nat_lt count (cell_count size))
 
--- whether a head is that of a node of this level with so many cells at most
+-- whether a head is that of a node of this level with `cell_count size` cells at most
 abbrev pub has_head : (size level : ℕ) → List ℕ → Bool
 has_head size level keys =
     (slice_index keys 0 == 1) && (slice_index keys 1 == level) && list_all is_zero (bytes_in (record { off = 4; len = 60 }) keys)
     && nat_le (count_of keys) (cell_count size)
 
--- whether so many cells are used, under keys that rise strictly, and the key parts of the others are zero
+-- whether `count` cells are used, under keys that rise strictly, and the key parts of the others are zero
 abbrev pub are_cells : (size : ℕ) → (keys : List ℕ) → (count : ℕ) → Bool
 are_cells size keys count =
     all_from (λ i. is_unused keys i) count (cell_count size - count) && all_from (λ i. before (key_at keys i) (key_at keys (i + 1))) 0 (count - 1)
@@ -59,7 +59,7 @@ below_from key keys i (suc n) = cond (before (key_at keys i) key) (suc (below_fr
 abbrev pub child_of : List ℕ → ℕ
 child_of part = word_at 1 part
 
--- whether a value part is four bytes that name a block but the first of a region of so many
+-- whether a value part is four bytes that name a block but the first of a region of `blocks` blocks
 abbrev pub is_child : (blocks : ℕ) → List ℕ → Bool
 is_child blocks part = (slice_index part 0 == 4) && nat_le 1 (child_of part) && nat_lt (child_of part) blocks && list_all is_zero (drop 5 part)
 

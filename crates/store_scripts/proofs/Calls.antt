@@ -61,7 +61,7 @@ module _ (S : SecondStore) (lawful : IsSecond S) where
         → tell reply.NoStore ≡ None → tell reply.StoreMode ≡ None → tell reply.TooManyAccesses ≡ None → ((e : E) → tell (refusal e) ≡ None) → AreRefusals S E op refusal
     refusals_of of tell told refusal store mode full error = grind arith
 
-    -- a call of which it is told so, in a store of so many blocks
+    -- a call of which it is told so, in a store of `blocks` blocks
     pub told_call : {A E R : Type 0} (of : A → Answered S.Call S.Answer) (tell : Reply → Option A) → ((r : Reply) → S.answered op r ≡ option_map of (tell r)) → (refusal : E → Reply) → AreRefusals S E op refusal
         → (blocks : ℕ) (program : Program (Result R E)) (answer : R → Reply) (name : R → A) → ((r : R) → tell (answer r) ≡ Some (name r))
         → (blocks ≢ 0 → (r : R) → (ended program).1 ≡ Some (Ok r) → IsCall S W.geometry (of (name r)) (array_of W t) (ended program).0) → Goes S Q n W notes c op (Some t) (in_store W t blocks (store_step W t program refusal answer))

@@ -9,7 +9,7 @@ IsRefusal None = Unit {0}
 IsRefusal (Some (Err e)) = Unit {0}
 IsRefusal (Some (Ok r)) = ⊥
 
--- at most so many writes, and then the answer Ok
+-- at most `count` writes, and then the answer Ok
 abbrev Writes : {R : Type 0} → (count : ℕ) → Program (Result R StoreError) → Type 0
 Writes count (Done (Ok r)) = Unit {0}
 Writes count (Done (Err e)) = ⊥

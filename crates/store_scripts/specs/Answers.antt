@@ -40,7 +40,7 @@ answered (TreeDelete key) r = option_map (OfSecond (OnKey (Del key))) (del_answe
 answered (TreeScan from to most) r = option_map (OfSecond (Scan from to most)) (scan_answer r)
 answered op r = None
 
--- The same of a call that makes a file, of a read of one, and of a call that tells whether the file was there.
+-- The answer of a call that makes a file, of a read of one, and of a call that says whether the file was there, by its reply.
 abbrev pub make_answer : Reply → Option FileAnswer
 make_answer reply.Done = Some FileMade
 make_answer r = None

@@ -6,7 +6,7 @@ use Rattle.store_model.specs.{HashRegion.{IsHashRegion, Pairs, hash_map}, Areas.
 use Rattle.store_laws.specs.{Calls.{KeyCall, StoreAnswer, in_area, key_act}, Files.{FileAnswer, FileCall, file_act, in_areas}, Region.MapStore, Tree.{TreeCall, tree_act}}
 use Rattle.store_scripts.specs.Answers.{Answered, answered, file_answered}
 
--- what holds of a store of so many blocks, if it has any
+-- what holds of a store of `blocks` blocks, if it has any
 abbrev pub IfAny : (blocks : ℕ) → Type 0 → Type 0
 IfAny zero P = Unit {0}
 IfAny (suc n) P = P
@@ -15,7 +15,7 @@ abbrev pub pairs_if_any : (blocks : ℕ) → Pairs → Pairs
 pairs_if_any zero m = empty
 pairs_if_any (suc n) m = m
 
--- A store of pairs in so many blocks, by what it is where there are any.
+-- A store of pairs in `blocks` blocks, by what it is where there are any.
 abbrev pub pairs_store : (Call Answer : Type 0) (blocks : ℕ) (has_block : ℕ → Bool) (IsWellFormed : Array → Type 0) (map_of : Array → Pairs) (act : Call → Pairs → Answer × Pairs) → MapStore
 pairs_store Call Answer blocks has_block IsWellFormed map_of act = record {
   Map = Pairs;

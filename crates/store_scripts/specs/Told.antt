@@ -28,7 +28,7 @@ nothing_told S = record { hash = record { calls = []; answers = [] }; second = r
 abbrev pub one_more : {Call Answer : Type 0} → Asked Call Answer → Call → Answer → Asked Call Answer
 one_more asked call answer = record { calls = asked.calls ++ call ∷ []; answers = asked.answers ++ answer ∷ [] }
 
--- with one more call, after which the transaction has so many accesses
+-- with one more call, after which the transaction has `over` accesses
 abbrev pub with_call : (S : SecondStore) → Told S → Answered S.Call S.Answer → (over : ℕ) → Told S
 with_call S told (OfHash call answer) over = record told { hash = one_more told.hash call answer; over = over }
 with_call S told (OfSecond call answer) over = record told { second = one_more told.second call answer; over = over }
@@ -41,7 +41,7 @@ abbrev pub is_done : Reply → Bool
 is_done reply.Done = true
 is_done r = false
 
--- whether an operation puts no mark on an access of a call, where the transaction had so many accesses
+-- whether an operation puts no mark on an access of a call, where the transaction had `count` accesses
 abbrev pub spares_calls : Op → Reply → (over count : ℕ) → Bool
 spares_calls (Mark off len) r over count = not (is_done r) || nat_lt over count
 spares_calls op r over count = true

@@ -28,7 +28,7 @@ pub fn store_calls_of_a_script_answer_in_order()
         → ToldByMap the_tree V.geometry (told_after the_tree W lines t.number) (array_at V.history t.begin) }
 {}
 
-/// The same of the files of an image, beside its hash store: where the transactions that commit write the regions of the tree store and
+/// For the files of an image, with its hash store: where the transactions that commit write the regions of the tree store and
 /// of the files by calls on files that answered Ok alone, these calls answer as one thread's calls on a map from names to bytes. A
 /// call of the tree store that writes does not keep to the files, whose names are in the tree store; one that reads does.
 pub fn file_calls_of_a_script_answer_in_order()

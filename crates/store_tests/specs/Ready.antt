@@ -2,7 +2,7 @@
 use Rattle.std.specs.Prelude.{◌≡◌, ℕ}
 use Rattle.tx_blocks.specs.Tx.{Tx}
 
--- so many blocks of 256 bytes
+-- `blocks` blocks of 256 bytes
 pub record IsReady (blocks : ℕ) (t : Tx) : Type 0 where
   pub size : t.size ≡ 256
   pub count : t.blocks ≡ blocks

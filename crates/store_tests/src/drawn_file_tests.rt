@@ -176,7 +176,7 @@ fn step(alloc: Global, tx: &mut PlainTx, files: &mut Files, number: u32) -> bool
     }
 }
 
-// So many drawn calls; the last number drawn, where all agree.
+// `calls` drawn calls; the last number drawn, where all agree.
 fn run(alloc: Global, tx: &mut PlainTx, files: &mut Files, first: u32, calls: u32) -> Option<u32>
     requires { IsReady 64 (state_of tx.old) }
     ensures { IsReady 64 (state_of tx.new) }
@@ -227,7 +227,7 @@ fn agrees(alloc: Global, tx: &mut PlainTx, files: &Files) -> bool
     true
 }
 
-// So many transactions of 25 drawn calls, of which every third one is aborted; says whether all agrees behind each.
+// `count` transactions of 25 drawn calls, of which every third one is aborted; says whether all agrees after each.
 fn transactions(
     alloc: Global,
     last: &mut PlainTx,

@@ -153,7 +153,7 @@ fn step(
     Ok(true)
 }
 
-// So many drawn calls.
+// `calls` drawn calls.
 fn run(
     alloc: Global,
     tx: &mut PlainTx,

@@ -49,7 +49,7 @@ pub fn with_long_logs() -> Geometry
     }
 }
 
-/// So many zeros.
+/// `count` zeros.
 pub fn zeros(alloc: Global, count: usize) -> Result<Vec<u8>, AllocError>
     ensures { IfOk result (λ v. v.items ≡ replicate count 0) }
 {

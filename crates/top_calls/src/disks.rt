@@ -7,7 +7,7 @@ use std::alloc::{AllocError, Global};
 pub enum Fault {
     /// At no call.
     Never,
-    /// At each call behind so many.
+    /// At each call after this number of calls.
     Behind(u64),
     /// At one call alone, counted from 1.
     At(u64),

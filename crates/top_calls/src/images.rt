@@ -11,7 +11,7 @@ pub fn change(image: &mut Vec<u8>, at: usize, bytes: &[u8]) {
     }
 }
 
-/// So many bytes of an image from `at` on, or fewer where it ends.
+/// `count` bytes of an image from `at` on, or none where it has fewer.
 pub fn part(image: &[u8], at: usize, count: usize) -> &[u8] {
     match image.get(at..at.saturating_add(count)) {
         Some(part) => part,

@@ -130,7 +130,7 @@ fn push_all(lines: &mut Vec<Line>, acts: &[Act]) -> Result<(), AllocError> {
     Ok(())
 }
 
-/// A transaction that makes a file of each name, and then so many lines at most, each of the client whose turn is drawn.
+/// A transaction that makes a file of each name, and then `count` lines at most, each of the client whose turn is drawn.
 pub fn drawn(alloc: Global, seed: u32, count: u32) -> Result<Vec<Line>, AllocError> {
     let mut draws = Draws { state: seed };
     let mut live = [false; CLIENTS];
@@ -179,7 +179,7 @@ pub fn closing() -> [Line; 5] {
     acts.map(|act| Line { client: 0, act })
 }
 
-/// The byte that stands at a place of the bytes that are written.
+/// The byte at a place of the bytes that are written.
 pub fn written(first: u8, at: usize) -> u8 {
     first.wrapping_add((at % 256) as u8)
 }

@@ -6,7 +6,7 @@ use std::fmt::Write;
 /// More bytes than a drawn file has.
 const ROOM: usize = 1000;
 
-/// The bytes of a file, of which the first so many are its own.
+/// The bytes of a file, of which the first `size` are its own.
 #[derive(Clone, Copy)]
 struct Row {
     size: usize,

@@ -1,4 +1,4 @@
-// A script without an end: of its bytes so many are read, and then the line is named at which it was cut.
+// A script without an end: its bytes are read up to the limit, and then the line is named at which it was cut.
 ghost use Rattle.std.specs.Prelude.{None, false};
 
 use crate::asked::gave;

@@ -1,4 +1,4 @@
-// Drawn scripts of clients that share no block: beside each other they are told what they are told one line after another, but for
+// Drawn scripts of clients that share no block: run concurrently, they are told what they are told one line after another, but for
 // the numbers of begins and commits, which tell how the clients were interleaved.
 use crate::asked::same;
 use std::alloc::{AllocError, Global};
@@ -52,7 +52,7 @@ fn push_access(out: &mut Vec<u8>, block: u8, kind: u8, at: u8) -> Result<(), All
     }
 }
 
-/// So many rounds of lines, each client's turn after the other: in three of four it makes an access, in a transaction that ends
+/// `rounds` rounds of lines, each client's turn after the other: in three of four it makes an access, in a transaction that ends
 /// at each fourth of its lines.
 fn drawn(alloc: Global, seed: u32, rounds: u8) -> Result<Vec<u8>, AllocError> {
     let mut draws = Draws { state: seed };

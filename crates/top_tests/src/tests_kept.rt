@@ -13,7 +13,7 @@ const BENCH: &str = "isotope bench t.img 7 200";
 
 const SUMMARY: &[u8] = b"rounds 200 commits 379 conflicts 21 sha256 ";
 
-/// A disk that can be read so many times.
+/// A disk that can be read `reads` times.
 fn readable(alloc: Global, reads: u64) -> MemDisk {
     let mut disk = MemDisk::new(alloc, Vec::new(alloc));
     disk.fail_kind(CallKind::Read, reads.saturating_add(1));

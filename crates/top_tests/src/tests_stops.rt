@@ -1,4 +1,4 @@
-// Clients that commit beside each other, and beside switches of halves, on a disk that stops after each of its calls: whatever a
+// Clients that commit concurrently, and concurrently with switches of halves, on a disk that stops after each of its calls: whatever a
 // crash might have left at that moment opens to a front of what they made, with all that one of them was told.
 use crate::asked::FAULT;
 use std::alloc::{AllocError, Global};
@@ -53,13 +53,13 @@ impl Case {
         }
     }
 
-    /// Whether an image may show so many commits.
+    /// Whether an image may show these numbers of commits.
     fn may_show(&self, front: Front) -> bool {
         !self.in_group || (front.first == front.second && front.second == front.third)
     }
 }
 
-/// What `SHOW` is answered behind so many commits of each.
+/// What `SHOW` is answered after these numbers of commits of each.
 fn shown(alloc: Global, front: Front) -> Result<Vec<u8>, AllocError> {
     let all = front
         .first

@@ -38,7 +38,7 @@ abbrev pub merge : List ℕ → List ℕ → List ℕ
 merge [] ys = ys
 merge (x ∷ xs) ys = insert_rising x (merge xs ys)
 
--- so many numbers, from n on
+-- m numbers, from n on
 abbrev pub count_up : ℕ → ℕ → List ℕ
 count_up n zero = []
 count_up n (suc m) = n ∷ count_up (suc n) m

@@ -41,7 +41,7 @@ const KEPT: u64 = 3;
 // So often one looks whether the gate opens, before it waits.
 const LOOKS: u64 = 100;
 
-// So many turns in a row may go past those who wait. The gate is then kept for one of them.
+// How many turns in a row may go past those who wait. The gate is then kept for one of them.
 const MOST_PAST: u64 = 4;
 
 /// The rule of the table.
@@ -69,7 +69,7 @@ pub struct TurnLock<V: Stands + Drop> {
 impl<V: Stands + Drop> TurnLock<V> {
     ghost use Rattle.turn_lock.specs.{Lock.{lock_id, turn_value, turn_number}, Pass.{view, IsSamePass, HasNoTurn, HasTurn, KeepsTurn, IsAlike}};
 
-    /// A lock round a value that stands for the empty list, and the first pass, which has all units.
+    /// A lock round a value that represents the empty list, and the first pass, which has all units.
     pub fn new(alloc: Global, value: V) -> Result<(TurnLock<V>, Pass<V>), (Memory, V)>
         requires { V.stands value [] }
         ensures ok { IfOk result (λ r. (r.1.table_id ≡ lock_id r.0) × HasNoTurn r.1 × (view r.1 ≡ fresh)) }
@@ -125,7 +125,7 @@ impl<V: Stands + Drop> TurnLock<V> {
         unreachable!()
     }
 
-    // Passes the gate. Who runs comes before those who sleep, but for so many turns in a row.
+    // Passes the gate. Who runs comes before those who sleep, in at most `MOST_PAST` turns in a row.
     fn enter<R: Wait>(&self, rt: &R, pass: &mut Pass<V>)
         requires { pass.old.table_id ≡ lock_id self.now }
         ensures lock { IsSamePass pass.old pass.new }
@@ -227,7 +227,7 @@ impl<V: Stands + Drop> TurnLock<V> {
         unreachable!()
     }
 
-    /// Gives the turn back, with the entry that `N` names behind the list. It waits for nobody.
+    /// Gives the turn back, with the entry that `N` names at the end of the list. It waits for nobody.
     pub fn give<N: Names<V::Entry>>(&self, pass: &mut Pass<V>, turn: Turn<V>)
         requires lock { pass.old.table_id ≡ lock_id self.now }
         requires turn { HasTurn pass.old turn }

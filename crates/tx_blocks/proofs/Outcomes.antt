@@ -1,4 +1,4 @@
--- What a program does in a transaction that has room for so many accesses.
+-- What a program does in a transaction that has room for a given number of accesses.
 use Rattle.tx_blocks.proofs.Words.{◌≡◌, ◌∙◌, sym, refl, ap, ℕ, zero, suc, ◌-◌, true, false, cond, List, [], ◌∷◌, length, Option, Some, None, arith, nat_le, Access, Array, put, own, block_at, Program, Done, Look, LookWhole, Reserve, Store, bytes_in, further_bytes, with_further, look_access, store_access, accesses_of, answer_of, after, outcome, then_do}
 
 no_answer : {R : Type 0} (r : R) → ◌≡◌ {A = Option R} None (Some r) → ⊥

@@ -67,7 +67,7 @@ cause_earlier u few many before mid now error.Disk le later cause = rose_earlier
 cause_earlier u few many before mid now error.Memory le later cause = cause ∙ later
 cause_earlier u few many before mid now error.NotInTx le later cause = (cause.0, cause.1 ∙ later)
 
--- the same of a store's answer
+-- a cause of a store's refusal, of fewer writes, is one of more
 pub store_cause : (u : Tx) (few many : ℕ) (before now : Device) (e : StoreError) → few ≤ many → IsStoreCause u few before now e → IsStoreCause u many before now e
 store_cause u few many before now store.BadKey le cause = cause
 store_cause u few many before now store.BadValue le cause = cause

@@ -89,8 +89,8 @@ WantsMemory p t u result = (result ≡ Err (store.Tx error.Memory)) × Began p t
 abbrev pub Passed : (before now : Device) → Type 0
 Passed before now = now.faults ≡ before.faults
 
--- Why a transaction refuses an access of a store's call that makes at most so many writes: the disk failed in this call; else it
--- did not, and is down, or there is no transaction, or so many accesses do not fit. Want of memory is free.
+-- Why a transaction refuses an access of a store's call that makes at most `writes` writes: the disk failed in this call; else it
+-- did not, and is down, or there is no transaction, or `writes` accesses do not fit. Want of memory is free.
 abbrev pub IsCause : Tx → (writes : ℕ) → (before now : Device) → TxError → Type 0
 IsCause u writes before now error.Memory = Passed before now
 IsCause u writes before now error.Down = IsTrue now.is_down × Passed before now
@@ -102,7 +102,7 @@ IsCause u writes before now error.BadRange = ⊥
 IsCause u writes before now error.NoAccess = ⊥
 IsCause u writes before now error.TooManyMarks = ⊥
 
--- the same of a store's answer
+-- why a store refuses its call that makes at most `writes` writes
 abbrev pub IsStoreCause : Tx → (writes : ℕ) → (before now : Device) → StoreError → Type 0
 IsStoreCause u writes before now (store.Tx e) = IsCause u writes before now e
 IsStoreCause u writes before now store.BadKey = Passed before now
@@ -126,7 +126,7 @@ pub record HasRead (t u : Tx) : Type 0 where
   pub is : u ≡ with_accesses t done
   pub reads : AreReads done
 
--- a refused call that makes at most so many writes has written nothing, but where memory is wanted between two of them
+-- a refused call that makes at most `writes` writes has written nothing, but where memory is wanted between two of them
 abbrev pub IsUnwritten : (t u : Tx) → (writes : ℕ) → StoreError → Type 0
 IsUnwritten t u writes e = (writes ≤ 1) ⊎ (e ≢ store.Tx error.Memory) → HasRead t u
 

@@ -62,7 +62,7 @@ pub fn look_whole<T: TxBlocks>(tx: &mut T, block: u32, into: &mut [u8]) -> Resul
     Ok(())
 }
 
-/// Goes on only where so many more accesses fit.
+/// Goes on only where `count` more accesses fit.
 pub fn reserve<T: TxBlocks>(tx: &T, count: u32) -> Result<(), TxError>
     requires { (T.state tx.now).is_open ≡ true }
     ensures ok { OnOk result (count ≤ room_of (T.state tx.now)) }

@@ -3,7 +3,7 @@ use Rattle.std.specs.{Prelude.{◌≡◌, ℕ, ◌≤◌, Bool, List, [], Option
 use Rattle.iso_model.specs.{declared.access.Access.Access, declared.access.Geometry.Geometry, declared.access.Mode.Mode, declared.access.Span.Span, Effect.is_write, Premises.{AreBytes, AreAccesses, HasBytes, IsSpan}}
 use Rattle.tx_table.specs.declared.rows.Row.{Row}
 
--- a transaction at work on an image of blocks of this size, of which there are so many
+-- a transaction at work on an image of `blocks` blocks of `size` bytes
 pub record Doing : Type 0 where
   pub begin : ℕ
   pub mode : Mode
@@ -18,7 +18,7 @@ pub record Doing : Type 0 where
 abbrev pub span_at : (off len : ℕ) → Span
 span_at off len = record { off = off; len = len }
 
--- the accesses are such to blocks of this size, of which there are so many
+-- the accesses are such to `blocks` blocks of this size
 abbrev pub AreWithin : (size blocks : ℕ) → List Access → Type 0
 AreWithin size blocks accesses = (g : Geometry) → g.block ≡ size → g.blocks ≡ blocks → AreAccesses g accesses
 

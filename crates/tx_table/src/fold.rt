@@ -9,7 +9,7 @@ use byte_marks::{Marks, Touched};
 use iso_model::{Kind, Memory, Span};
 use std::alloc::Global;
 
-// So many rows are added in their own order: to sort them would cost more.
+// How many rows are added in their own order at most: to sort them would cost more.
 const FEW: usize = 16;
 
 // The bytes of its block that a row covers.

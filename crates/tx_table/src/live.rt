@@ -27,7 +27,7 @@ pub struct Begun {
 pub struct Live {
     begins: IndexMap<u64, Begun>,
 
-    // So many of the first ones have left. They are taken out together, since all that stands behind has to move then.
+    // How many of the first ones have left. They are taken out together, since all that comes after has to move then.
     past: usize,
 }
 
@@ -57,7 +57,7 @@ impl Live {
         }
     }
 
-    /// Whether a transaction of this number that begins there comes behind all others.
+    /// Whether a transaction of this number that begins there comes after all others.
     pub fn is_next(&self, tx: u64, at: u64) -> bool
         ensures { OnTrue result (AreBefore tx at self.now) }
     {

@@ -184,7 +184,7 @@ impl Work {
             .push_reserved(Row::unmarked(Kind::Write, block, kept));
     }
 
-    /// Marks a range of the last access: the first mark stands for the whole block, and further ones add to it.
+    /// Marks a range of the last access: the first mark takes the place of the whole block, and further ones add to it.
     pub fn mark(&mut self, off: u16, len: u16) -> Result<(), MarkError>
         ensures ok { OnOk result ((mark_fault self.old.size off len self.old.accesses ≡ None)
             × (self.new ≡ record self.old { accesses = marked (span_at off len) self.old.accesses; settled = false })) }

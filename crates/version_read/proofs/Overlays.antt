@@ -1,7 +1,7 @@
 -- Bytes of an image put into a part of a block.
 use Rattle.version_read.proofs.Words.{◌≡◌, ◌∙◌, ap, ℕ, ◌+◌, ◌-◌, ◌<◌, ◌≤◌, Bool, true, false, ◌&&◌, cond, nat_le, nat_lt, List, ◌++◌, length, take, drop, get_or, arith, length-take, length-drop, slice_range, leb-true, ltb-true, leb-false, ltb-false, get_or_append_left, get_or-append_right, get_or-take, get_or-drop}
 
--- the block with so many bytes of the image from a place on, put at off
+-- the block with `len` bytes of the image from a place on, put at off
 abbrev pub with_part : List ℕ → (place off len : ℕ) → List ℕ → List ℕ
 with_part image place off len old = take off old ++ (slice_range image place (place + len) ++ drop len (drop off old))
 

@@ -21,7 +21,7 @@ same_range off len xs ys within inside same =
 pub whole_range : (n : ℕ) (xs ys : List ℕ) → length xs ≡ n → length ys ≡ n → take n (drop 0 xs) ≡ take n (drop 0 ys) → xs ≡ ys
 whole_range n xs ys long wide same = sym (take_all n xs (omega (arith, long))) ∙ same ∙ take_all n ys (omega (arith, wide))
 
--- the block of so many bytes that the versions show
+-- the block of `size` bytes that the versions show
 abbrev pub whole_block : (image : List ℕ) → (base size : ℕ) → List Version → List ℕ
 whole_block image base size versions = map (λ p. unwrap_or (byte_in image versions p) (get_or image (base + p) 0)) (range_with_len 0 size)
 

@@ -1,7 +1,7 @@
 -- How many bytes are still wanted.
 use Rattle.version_read.proofs.Words.{◌≡◌, inl, inr, ◌∙◌, sym, refl, ap, ℕ, zero, suc, ◌+◌, ◌-◌, ◌<◌, ◌≤◌, Bool, true, false, ◌||◌, not, cond, List, count_by, arith, range_with_len, cases_lt, sum_by-cons, is_seen, in_bytes, in_is, in_over, in_under}
 
--- so many of the n bytes from a on were not seen
+-- how many of the n bytes from a on were not seen
 abbrev pub unseen : List ℕ → (a n : ℕ) → ℕ
 unseen seen a n = count_by (λ p. not (is_seen seen p)) (range_with_len a n)
 

@@ -33,7 +33,7 @@ BlocksRise parts = (i j : ℕ) → i ≤ j → j < length parts → (slice_index
 abbrev pub HasRoom : List PartSpan → List BlockVersions → Type 0
 HasRoom parts index = (b : ℕ) → parts_in b parts ≤ room_of index b
 
--- a part of one of so many blocks, of at most 4,096 bytes each
+-- a part of one of `blocks` blocks, of at most 4,096 bytes each
 pub record IsPart (blocks : ℕ) (part : PartSpan) : Type 0 where
   pub block : part.block < blocks
   pub fits : part.off + part.len ≤ 4096

@@ -9,7 +9,7 @@ use iso_disk::{Disk, DiskFault};
 use merge_write::{next_place, set_bits};
 use mv_index::Version;
 
-/// Reads so many bytes of the image into the front of a slice.
+/// Reads `len` bytes of the image into the front of a slice.
 fn read_front<D: Disk>(
     disk: &mut D,
     place: u64,
@@ -26,7 +26,7 @@ fn read_front<D: Disk>(
     disk.read(place, part)
 }
 
-/// Reads so many bytes of the image into a part of a block.
+/// Reads `len` bytes of the image into a part of a block.
 fn read_part<D: Disk>(
     disk: &mut D,
     place: u64,
@@ -101,7 +101,7 @@ fn lay_one<D: Disk>(
     Ok(())
 }
 
-/// Does so with each version, from the oldest on, one read each.
+/// Lays each version over the range, from the oldest on, with one read each.
 fn lay_over<D: Disk>(
     disk: &mut D,
     versions: &[Version],

@@ -8,7 +8,7 @@ use iso_format::RecordView;
 use iso_model::Memory;
 use mv_index::{MvIndex, Version};
 
-/// Takes the parts of a record into an index, and memory for each: the record has this number, and its gate stands at this
+/// Takes the parts of a record into an index, and memory for each: the record has this number, and its gate lies at this
 /// place of the image. Without memory the index has the versions of the first of them.
 pub fn take_parts(
     index: &mut MvIndex,
@@ -61,7 +61,7 @@ pub fn reserve_parts(index: &mut MvIndex, parts: &[PartSpan]) -> Result<(), Memo
     Ok(())
 }
 
-/// Adds the versions of a record's parts: the record has this number, and its gate stands at this place of the image. There
+/// Adds the versions of a record's parts: the record has this number, and its gate lies at this place of the image. There
 /// is room for them. It takes no memory.
 pub fn add_parts(index: &mut MvIndex, number: u64, gate: u64, parts: &[PartSpan])
     requires may { MayTake number gate parts.now index.old }

@@ -67,7 +67,7 @@ pub fn next_records_may_be_taken_in()
     ensures small { (g : Geometry) (parts : List Run) → IsTrue (is_valid g) → AreRuns g parts → AllByRecursion (λ run. length run.bytes < 2 ^ 16) parts }
 {}
 
-/// The index of a log tells how many bytes the records above a number take, if it is not below that of its last trim: the
+/// The index of a log says how many bytes the records above a number take, if it is not below that of its last trim: the
 /// parts above it, each with its head, and 20 bytes for each record.
 pub fn records_above_are_in_the_index()
     ensures { (g : Geometry) (first place t k : ℕ) (told : List Written) (index : List BlockVersions) → AllByRecursion (IsRecord g) told → IsIndexOf g first place t told index

@@ -62,7 +62,7 @@ fn cut_cause(piece: &[u8]) -> u8
     if piece.len() <= MAX_LINE { 9 } else { 7 }
 }
 
-/// Whether so many bytes are all that is taken of an input.
+/// Whether `len` bytes are all that is taken of an input.
 fn is_cut(len: usize) -> bool
     ensures { result ≡ nat_le MAX_INPUT len }
 {

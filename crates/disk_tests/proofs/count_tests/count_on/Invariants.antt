@@ -1,4 +1,4 @@
--- So many steps are counted.
+-- `counter` steps are counted.
 use Rattle.std.proofs.Common.{◌≡◌, ◌+◌}
 
 abbrev pub invariant-loop : Rattle.disk_tests.proofs.count_tests.count_on.Given.invariant-loop

@@ -1,4 +1,4 @@
--- So many parts are counted, and the others follow.
+-- `count` parts are counted, and the others follow.
 use Rattle.std.proofs.Common.{◌≡◌, ◌+◌, ◌≤◌, length}
 
 abbrev pub invariant-loop-part : Rattle.index_tests.proofs.reading_tests.index_of.Given.invariant-loop-part

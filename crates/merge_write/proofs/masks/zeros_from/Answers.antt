@@ -1,4 +1,4 @@
--- The first bit from a place on is where the word, shifted by so many bits, ends in zeros.
+-- The first bit from a place on is where the word, shifted by the number of that place, ends in zeros.
 use Rattle.merge_write.proofs.{Words.{◌∙◌, sym, ap, ◌-◌, arith, bit_at-zero, bit_at}, Bits.{bit_from, zeros_are}}
 
 pub returns-then-rest-eq0-clause-zeros : Rattle.merge_write.proofs.masks.zeros_from.Goals.returns-then-rest-eq0-clause-zeros

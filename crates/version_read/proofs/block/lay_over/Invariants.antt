@@ -1,4 +1,4 @@
--- So many versions are laid over the range.
+-- The versions before this one are laid over the range.
 use Rattle.version_read.proofs.Words.{◌≡◌, take, ForSome, WritesNothing, IsLaidIn}
 
 abbrev pub invariant-loop-version : Rattle.version_read.proofs.block.lay_over.Given.invariant-loop-version

@@ -1,4 +1,4 @@
--- All rows are applied, and so many of them are in what is touched as the count says.
+-- All rows are applied, and as many of them are in what is touched as the count says.
 use Rattle.tx_table.proofs.{Words.{length-map, take_all, ◌≡◌, ◌∙◌, ◌≤◌, sym, subst, arith, inl, inr, List, map, take, length, AreTouched, Access, Read, Write, Row, AreEffects, HavePatches, access_of}, Last.{have_kept, if_some, rows_within}}
 
 pub returns-then-self-len-clause-within : Rattle.tx_table.proofs.work.Work.settle.Goals.returns-then-self-len-clause-within
