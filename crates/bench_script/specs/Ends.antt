@@ -1,5 +1,5 @@
 -- What contracts see of the script of a bench and of the digest of its replies.
-use Rattle.std.specs.Prelude.{ℕ, Bool, List, Some}
+use Rattle.std.specs.Prelude.{ℕ, Bool, false, List, Some}
 use Rattle.iso_io.specs.{Source.SourceState, Sink.SinkState}
 
 pub record DrawnState : Type 0 where
@@ -16,4 +16,4 @@ pub record DigestedState : Type 0 where
 
 -- as a sink it takes all of each piece
 abbrev pub digested_state : DigestedState → SinkState
-digested_state s = record { written = Some s.text; faults = s.faults; refusals = 0 }
+digested_state s = record { written = Some s.text; faults = s.faults; refusals = 0; is_broken = false }

@@ -241,6 +241,7 @@ impl Book {
             ("fails", _) => self.call.plan.set(side, fault_of(rest)?),
             ("source", _) => self.call.plan.source = failing_of(rest)?,
             ("sink", _) => self.call.plan.sink = failing_of(rest)?,
+            ("breaks", _) => self.call.plan.breaks = number_of(rest)?,
             _ => return Ok(false),
         }
         Ok(true)

@@ -56,13 +56,15 @@ impl Sides {
 }
 
 /// How the disk, or the two sides, the source and the sink of a call fail: the source and the sink at the call of a number, with
-/// pieces of a length.
+/// pieces of a length, and the sink where it is to hand on.
 #[derive(Clone, Copy)]
 pub(crate) struct Plan {
     pub(crate) first: Fault,
     pub(crate) second: Fault,
     pub(crate) source: Option<(u64, usize)>,
     pub(crate) sink: Option<(u64, usize)>,
+    /// The time, from 1, at which the sink cannot hand on, or 0.
+    pub(crate) breaks: u64,
     /// Whether pages of the disk are kept.
     pub(crate) is_kept: bool,
 }
@@ -75,6 +77,7 @@ impl Plan {
             second: Fault::Never,
             source: None,
             sink: None,
+            breaks: 0,
             is_kept: false,
         }
     }
@@ -100,13 +103,15 @@ impl Plan {
 
     /// A sink.
     fn sink_of(self, alloc: Global) -> Result<MemSink, AllocError> {
-        match self.sink {
+        let mut sink = match self.sink {
             Some((number, piece)) => {
                 let failing = [number].to_vec(alloc)?;
-                Ok(MemSink::in_pieces(alloc, failing, piece))
+                MemSink::in_pieces(alloc, failing, piece)
             }
-            None => Ok(whole_sink(alloc)),
-        }
+            None => whole_sink(alloc),
+        };
+        sink.break_at(self.breaks);
+        Ok(sink)
     }
 
     /// A mirror of sides of these bytes.

@@ -181,10 +181,9 @@ fn what_a_writer_holds_back_comes_out_where_the_sink_hands_on(rt: HostRuntime) -
     {
         let mut sink = StdSink::new(BufWriter::new(alloc, &mut bytes)?);
         same(&rt, put_all(&mut sink, b"abc"), Ok(()));
-        sink.hand_on();
-        same(&rt, sink.is_broken(), false);
+        same(&rt, sink.hand_on(), Ok(()));
         same(&rt, put_all(&mut sink, b"de"), Ok(()));
-        sink.hand_on();
+        same(&rt, sink.hand_on(), Ok(()));
     }
     same(&rt, bytes.as_slice(), b"abcde".as_slice());
     Ok(())
@@ -194,9 +193,8 @@ fn what_a_writer_holds_back_comes_out_where_the_sink_hands_on(rt: HostRuntime) -
 fn nothing_is_taken_behind_a_failure_to_hand_on(rt: HostRuntime) -> Result<(), Fail> {
     let mut sink = StdSink::new(BufWriter::new(rt.alloc(), Broken)?);
     same(&rt, sink.put(b"abc"), Ok(3));
-    same(&rt, sink.is_broken(), false);
-    sink.hand_on();
-    same(&rt, sink.is_broken(), true);
+    same(&rt, sink.hand_on(), Err(SinkFault));
     same(&rt, sink.put(b"de"), Err(SinkFault));
+    same(&rt, sink.hand_on(), Err(SinkFault));
     Ok(())
 }

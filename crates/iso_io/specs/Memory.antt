@@ -23,6 +23,9 @@ pub record MemSinkState : Type 0 where
   pub faults : ℕ  -- how many of them failed
   pub starved : ℕ  -- how many of those found no memory
   pub refusals : ℕ  -- how many calls took nothing of a piece that is not empty
+  pub handed : ℕ  -- how often it was to hand on
+  pub breaking : ℕ  -- the time, from 1, at which handing on is to fail
+  pub is_broken : Bool  -- it has failed
 
 abbrev pub sink_state : MemSinkState → SinkState
-sink_state s = record { written = Some s.taken; faults = s.faults; refusals = s.refusals }
+sink_state s = record { written = Some s.taken; faults = s.faults; refusals = s.refusals; is_broken = s.is_broken }

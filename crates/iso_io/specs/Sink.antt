@@ -1,5 +1,5 @@
 -- What a sink is at a moment, and what a put does to it.
-use Rattle.std.specs.{Prelude.{◌≡◌, ◌≤◌, ◌<◌, ℕ, List, Option, length, take, nat_lt, ◌==◌, ◌&&◌, if◌then◌else◌, Result, Ok, Err}, Io.KnownBytes.append_known}
+use Rattle.std.specs.{Prelude.{◌≡◌, ◌≤◌, ◌<◌, ℕ, Bool, List, IsTrue, Option, length, take, nat_lt, ◌==◌, ◌&&◌, if◌then◌else◌, Result, Ok, Err}, Io.KnownBytes.append_known}
 use Rattle.fault_count.specs.Count.{one_more}
 
 -- a sink at a moment, as its callers see it
@@ -7,6 +7,7 @@ pub record SinkState : Type 0 where
   pub written : Option (List ℕ)  -- the bytes taken so far, where they are told
   pub faults : ℕ  -- how often the sink has failed, up to the last value of a u64
   pub refusals : ℕ  -- how many puts took nothing of a piece that is not empty, up to the last value of a u64
+  pub is_broken : Bool  -- handing on has failed, so bytes that it took may never come out, and it takes nothing more
 
 -- from old to new the sink took this text
 abbrev pub Wrote : SinkState → SinkState → List ℕ → Type 0
@@ -32,3 +33,9 @@ pub record NoCountFell (old new : SinkState) : Type 0 where
 pub record CountsStand (old new : SinkState) : Type 0 where
   pub faults : new.faults ≡ old.faults
   pub refusals : new.refusals ≡ old.refusals
+
+-- handing on failed: what the sink took is what it took before, and it is broken
+pub record Broke (old new : SinkState) : Type 0 where
+  pub written : new.written ≡ old.written
+  pub refusals : new.refusals ≡ old.refusals
+  pub broken : IsTrue new.is_broken

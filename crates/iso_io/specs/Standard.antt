@@ -14,8 +14,8 @@ source_state s = record { rest = None; is_ended = s.is_ended; faults = s.faults 
 pub record StdSinkState (T : Type 0) : Type 0 where
   pub writer : T
   pub is_broken : Bool  -- a flush failed
-  pub faults : ℕ  -- how many writes failed
+  pub faults : ℕ  -- how many writes and flushes failed
   pub refusals : ℕ  -- how many writes took nothing of a piece that is not empty
 
 abbrev pub sink_state : {T : Type 0} → StdSinkState T → SinkState
-sink_state s = record { written = None; faults = s.faults; refusals = s.refusals }
+sink_state s = record { written = None; faults = s.faults; refusals = s.refusals; is_broken = s.is_broken }

@@ -1,5 +1,5 @@
 // A sink that keeps its bytes in memory.
-ghost use Rattle.std.specs.Prelude.{◌≡◌, ◌≤◌, ◌⊎◌, ◌^◌, ◌-◌, [], min, length, take, IfOk, IsErr, OnErr, OnOk};
+ghost use Rattle.std.specs.Prelude.{◌≡◌, ◌≤◌, ◌↔◌, ◌⊎◌, ◌^◌, ◌-◌, ◌||◌, [], false, true, is_err, min, length, take, IfOk, IsErr, OnErr, OnOk};
 ghost use Rattle.fault_count.specs.Count.{FailsNext, HasCause, faults_after, one_more};
 ghost use Rattle.iso_io.specs.{Sink.{Wrote, refusals_after}, Memory.sink_state};
 
@@ -18,6 +18,9 @@ pub struct MemSink {
     faults: u64,
     starved: u64,
     refused: u64,
+    handed: u64,
+    breaking: u64,
+    broken: bool,
 }
 
 impl Model for MemSink {
@@ -33,6 +36,9 @@ impl Model for MemSink {
       faults = s.faults;
       starved = s.starved;
       refusals = s.refused;
+      handed = s.handed;
+      breaking = s.breaking;
+      is_broken = s.broken;
     } };
 }
 
@@ -47,6 +53,9 @@ impl MemSink {
           faults = 0;
           starved = 0;
           refusals = 0;
+          handed = 0;
+          breaking = 0;
+          is_broken = false;
         } }
     {
         MemSink::in_pieces(alloc, failing, usize::MAX)
@@ -62,6 +71,9 @@ impl MemSink {
           faults = 0;
           starved = 0;
           refusals = 0;
+          handed = 0;
+          breaking = 0;
+          is_broken = false;
         } }
     {
         MemSink {
@@ -72,7 +84,17 @@ impl MemSink {
             faults: 0,
             starved: 0,
             refused: 0,
+            handed: 0,
+            breaking: 0,
+            broken: false,
         }
+    }
+
+    /// Has it break where it is to hand on for the time with this number, from 1.
+    pub fn break_at(&mut self, number: u64)
+        ensures { self.new ≡ record self.old { breaking = number } }
+    {
+        self.breaking = number;
     }
 
     /// The bytes taken so far.
@@ -99,13 +121,14 @@ impl Sink for MemSink {
         ensures refusals { self.new.refusals ≡ refusals_after self.old.refusals bytes.now result }
         ensures no_fewer { self.old.refusals ≤ self.new.refusals }
         ensures err { OnErr result (self.new.taken ≡ self.old.taken) }
+        ensures broken { self.old.is_broken ≡ true → IsErr result }
         ensures cause { HasCause self.old.faults self.new.faults result }
 
-        // It fails where it is told to, and else only where it found no memory, which it counts.
+        // It fails where it is told to or is broken, and else only where it found no memory, which it counts.
         ensures named { FailsNext self.old.failing self.old.calls → IsErr result }
         ensures named_fed { FailsNext self.old.failing self.old.calls → self.new.starved ≡ self.old.starved }
         ensures fed { OnOk result (self.new.starved ≡ self.old.starved) }
-        ensures starved { OnErr result (FailsNext self.old.failing self.old.calls ⊎ (self.new.starved ≡ one_more self.old.starved)) }
+        ensures starved { OnErr result ((FailsNext self.old.failing self.old.calls ⊎ (self.old.is_broken ≡ true)) ⊎ (self.new.starved ≡ one_more self.old.starved)) }
         ensures given { IfOk result (λ n. n ≡ min (length bytes.now) self.old.piece) }
         ensures after { self.new ≡ record self.old {
           taken = self.new.taken;
@@ -115,7 +138,7 @@ impl Sink for MemSink {
           faults = faults_after self.old.faults result;
         } }
     {
-        if count_call(&self.failing, &mut self.calls) {
+        if count_call(&self.failing, &mut self.calls) || self.broken {
             raise(&mut self.faults);
             return Err(SinkFault);
         }
@@ -131,7 +154,23 @@ impl Sink for MemSink {
         Ok(front)
     }
 
-    fn hand_on(&mut self)
-        ensures { self.new ≡ self.old }
-    {}
+    fn hand_on(&mut self) -> Result<(), SinkFault>
+        ensures cause { HasCause self.old.faults self.new.faults result }
+
+        // It holds nothing back, and fails exactly where it is told to and behind that.
+        ensures named { IsErr result ↔ ((one_more self.old.handed ≡ self.old.breaking) ⊎ (self.old.is_broken ≡ true)) }
+        ensures after { self.new ≡ record self.old {
+          handed = one_more self.old.handed;
+          faults = faults_after self.old.faults result;
+          is_broken = is_err result || self.old.is_broken;
+        } }
+    {
+        raise(&mut self.handed);
+        if self.handed == self.breaking || self.broken {
+            self.broken = true;
+            raise(&mut self.faults);
+            return Err(SinkFault);
+        }
+        Ok(())
+    }
 }

@@ -1,7 +1,7 @@
 // Where bytes go.
-ghost use Rattle.std.specs.Prelude.{◌≤◌, ◌≡◌, length, take, IfOk, OnErr, OnOk, IsErrOf};
+ghost use Rattle.std.specs.Prelude.{◌≤◌, ◌≡◌, true, length, take, IfOk, IsErr, OnErr, OnOk, IsErrOf};
 ghost use Rattle.fault_count.specs.Count.{HasCause, Rose};
-ghost use Rattle.iso_io.specs.Sink.{SinkState, CountsStand, NoCountFell, Wrote, WroteFront, refusals_after};
+ghost use Rattle.iso_io.specs.Sink.{SinkState, Broke, CountsStand, NoCountFell, Wrote, WroteFront, refusals_after};
 
 /// A sink has failed.
 #[derive(Clone, Copy, Debug, PartialEq, Eq)]
@@ -19,14 +19,19 @@ pub trait Sink {
         ensures refusals { (state self.new).refusals ≡ refusals_after (state self.old).refusals bytes.now result }
         ensures no_fewer { (state self.old).refusals ≤ (state self.new).refusals }
 
-        // A put that fails takes nothing.
+        // A put that fails takes nothing. None breaks the sink, and one that is broken takes nothing more.
         ensures err { OnErr result ((state self.new).written ≡ (state self.old).written) }
+        ensures whole { (state self.new).is_broken ≡ (state self.old).is_broken }
+        ensures broken { (state self.old).is_broken ≡ true → IsErr result }
         ensures cause { HasCause (state self.old).faults (state self.new).faults result };
 
-    /// Hands on what the sink holds back of the bytes that it took. It stands as before: where handing on fails, the next
-    /// put fails.
-    fn hand_on(&mut self)
-        ensures { state self.new ≡ state self.old };
+    /// Hands on what the sink holds back of the bytes that it took. Where that fails, bytes that it took may never come out:
+    /// the sink is broken, and each later call fails.
+    fn hand_on(&mut self) -> Result<(), SinkFault>
+        ensures stands { OnOk result (state self.new ≡ state self.old) }
+        ensures breaks { OnErr result (Broke (state self.old) (state self.new)) }
+        ensures broken { (state self.old).is_broken ≡ true → IsErr result }
+        ensures cause { HasCause (state self.old).faults (state self.new).faults result };
 }
 
 /// Why a sink did not take all of a piece.
@@ -52,6 +57,7 @@ pub fn put_all<K: Sink>(sink: &mut K, bytes: &[u8]) -> Result<(), PutError>
     ensures not_failed { IsErrOf result PutError.TookNothing → (K.state sink.new).faults ≡ (K.state sink.old).faults }
     ensures later { NoCountFell (K.state sink.old) (K.state sink.new) }
     ensures passed { OnOk result (CountsStand (K.state sink.old) (K.state sink.new)) }
+    ensures whole { (K.state sink.new).is_broken ≡ (K.state sink.old).is_broken }
 {
     let mut at = 0;
     while at < bytes.len() {

@@ -1,7 +1,7 @@
 // A sink over a writer of std.
-ghost use Rattle.std.specs.{Prelude.{◌≡◌, ◌≤◌, false, true, length, IfOk, IsErr}, Io.KnownBytes.WriteAppends};
+ghost use Rattle.std.specs.{Prelude.{◌≡◌, ◌≤◌, false, true, length, IfOk, IsErr, OnErr, OnOk}, Io.KnownBytes.WriteAppends};
 ghost use Rattle.fault_count.specs.Count.{HasCause, faults_after};
-ghost use Rattle.iso_io.specs.{Sink.refusals_after, Standard.sink_state};
+ghost use Rattle.iso_io.specs.{Sink.{Broke, refusals_after}, Standard.sink_state};
 
 use crate::{Sink, SinkFault};
 use fault_count::raise;
@@ -9,7 +9,7 @@ use std::io::Write;
 use std::marker::Model;
 
 /// A sink over a writer, such as standard output. As a sink it tells no bytes, and each error is a fault. What a writer
-/// holds back is flushed where the sink hands on; once that has failed, each put fails.
+/// holds back is flushed where the sink hands on; once that has failed, each call fails.
 #[derive(Drop)]
 pub struct StdSink<T> {
     writer: T,
@@ -38,13 +38,6 @@ impl<T> StdSink<T> {
             refused: 0,
         }
     }
-
-    /// Whether handing on has failed, so that bytes which the sink took may not have come out.
-    pub fn is_broken(&self) -> bool
-        ensures { result ≡ self.now.is_broken }
-    {
-        self.broken
-    }
 }
 
 impl<T: Write> Sink for StdSink<T> {
@@ -62,7 +55,7 @@ impl<T: Write> Sink for StdSink<T> {
 
         // Behind a failure to hand on nothing is taken.
         ensures broken { self.old.is_broken ≡ true → IsErr result }
-        ensures stays { self.new.is_broken ≡ self.old.is_broken }
+        ensures whole { self.new.is_broken ≡ self.old.is_broken }
     {
         if self.broken {
             raise(&mut self.faults);
@@ -82,11 +75,19 @@ impl<T: Write> Sink for StdSink<T> {
         }
     }
 
-    fn hand_on(&mut self)
-        ensures { sink_state self.new ≡ sink_state self.old }
+    fn hand_on(&mut self) -> Result<(), SinkFault>
+        ensures stands { OnOk result (sink_state self.new ≡ sink_state self.old) }
+        ensures breaks { OnErr result (Broke (sink_state self.old) (sink_state self.new)) }
+        ensures cause { HasCause self.old.faults self.new.faults result }
+
+        // Behind a failure to hand on it fails each time.
+        ensures broken { self.old.is_broken ≡ true → IsErr result }
     {
-        if self.writer.flush().is_err() {
+        if self.broken || self.writer.flush().is_err() {
             self.broken = true;
+            raise(&mut self.faults);
+            return Err(SinkFault);
         }
+        Ok(())
     }
 }

@@ -49,8 +49,10 @@ run_alone stands disk_old disk_new input_old input_new output_old output_new W e
     exit = r.answered.exit;
     moments = r.answered.moments;
     world = nothing_up e;
+    unmade = r.answered.unmade;
     disk = r.answered.disk;
     output = r.answered.output;
+    at_once = r.answered.at_once;
   };
   input = r.input;
 }

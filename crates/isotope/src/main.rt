@@ -55,7 +55,7 @@ fn status_of(status: u8, is_cut: bool) -> u8
 /// The end for want of memory, before anything was done.
 fn without_memory<K: Sink>(output: &mut K) -> ExitCode {
     let _ = put_all(output, b"! memory\n");
-    output.hand_on();
+    let _ = output.hand_on();
     exit_of(8)
 }
 
@@ -78,6 +78,6 @@ fn main(rt: HostRuntime) -> ExitCode {
     let sides = Mirror::of(FileDisk::new(files, alloc), FileDisk::new(more, alloc));
     let disk = Kept::new(alloc, sides);
     let ended = isotope(&rt, alloc, &words, disk, &mut input, &mut output, &Open);
-    output.hand_on();
-    exit_of(status_of(ended.status, output.is_broken()))
+    let is_cut = output.hand_on().is_err();
+    exit_of(status_of(ended.status, is_cut))
 }

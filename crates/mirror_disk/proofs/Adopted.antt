@@ -1,5 +1,5 @@
 -- What is known of two sides that were adopted.
-use Rattle.mirror_disk.proofs.{Words.{◌≡◌, ◌≢◌, ◌⊎◌, inl, inr, ⊎_elim, ℕ, ◌+◌, ◌<◌, ◌≤◌, List, [], take, Option, Some, None, refl, sym, ◌∙◌, ap, subst, arith, IfSome, same_Some, DiskState, IsLawful, IsSettled, LeavesOnly, WritesNothing, at_end, joined_unwritten, Rose, Mark, Slot, Both, OnlyFirst, OnlySecond, AdoptFails, AdoptsFrom, AreAlike, LeavesAlike, OfChosen, OfOther, TellsOn, IsHeader, body, chosen, epoch, last_epoch, rising_first, ChosenOf, chosen_told, HasEpoch, KeepsBody, other, ArePair, AreBoth, FirstLeads, SecondLeads, Stands}, Choosing.{adopts_first, adopts_second}, Done.rose_behind, Ended.keeps_on, Epochs.{chosen_first, chosen_second}, Stands.some_told}
+use Rattle.mirror_disk.proofs.{Words.{◌≡◌, ◌≢◌, ◌⊎◌, inl, inr, ⊎_elim, ℕ, ◌+◌, ◌<◌, ◌≤◌, List, [], take, Option, Some, None, refl, sym, ◌∙◌, ap, subst, arith, IfSome, same_Some, DiskState, IsLawful, IsSettled, LeavesOnly, WritesNothing, at_end, joined_unwritten, Rose, Mark, Slot, Both, OnlyFirst, OnlySecond, FailsByChoice, AdoptsFrom, AreAlike, LeavesAlike, OfChosen, OfOther, TellsOn, IsHeader, body, chosen, epoch, last_epoch, rising_first, ChosenOf, chosen_told, HasEpoch, KeepsBody, other, ArePair, AreBoth, FirstLeads, SecondLeads, Stands}, Choosing.{adopts_first, adopts_second}, Done.rose_behind, Ended.keeps_on, Epochs.{chosen_first, chosen_second}, Stands.some_told}
 
 pub body_tells : {old new : DiskState} → KeepsBody old new → TellsOn old new
 body_tells keeps = record { told = keeps_on keeps; untold = keeps.untold }
@@ -145,7 +145,7 @@ told_header laws still None m is read c told = absurd (cc is)
 pub choice_fails : (a b mid_a mid_b new_a new_b : DiskState) (one two : Mark) → IsLawful mid_a → IsLawful mid_b → WritesNothing a mid_a → WritesNothing b mid_b
     → ((x : List ℕ) → mid_a.now x → HasEpoch one.slot one.epoch x) → ((y : List ℕ) → mid_b.now y → HasEpoch two.slot two.epoch y)
     → (two.epoch ≤ one.epoch → Rose mid_a.faults new_a.faults ⊎ ((last_epoch ≤ one.epoch) × Rose mid_b.faults new_b.faults))
-    → (one.epoch < two.epoch → Rose mid_b.faults new_b.faults ⊎ ((last_epoch ≤ two.epoch) × Rose mid_a.faults new_a.faults)) → AdoptFails a b mid_a mid_b new_a new_b
+    → (one.epoch < two.epoch → Rose mid_b.faults new_b.faults ⊎ ((last_epoch ≤ two.epoch) × Rose mid_a.faults new_a.faults)) → FailsByChoice a b mid_a mid_b new_a new_b
 choice_fails a b mid_a mid_b new_a new_b one two law_a law_b still_a still_b marks_a marks_b first second = inr (λ x told y told'.
     let p : epoch x ≡ one.epoch = (marks_a x (law_a.reads_as_image x (still_a.same_contents ∙ told))).epoch_is in
     let q : epoch y ≡ two.epoch = (marks_b y (law_b.reads_as_image y (still_b.same_contents ∙ told'))).epoch_is in (

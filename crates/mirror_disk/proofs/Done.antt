@@ -35,6 +35,7 @@ pub leaves : {T E : Type 0} (a b mid_a mid_b new_a new_b : DiskState) {used : Us
 leaves a b mid_a mid_b new_a new_b r s is_r is_s cause_a cause_b left = record {
   first = λ _ is. rose_before _ _ _ (rose_of r (sym is_r ∙ left.first_failed is) cause_a) left.later_a;
   second = λ _ is. rose_before _ _ _ (rose_of s (sym is_s ∙ left.second_failed is) cause_b) left.later_b;
+  stays = λ other. absurd (other refl);
 }
 
 becomes_kept : {old new : DiskState} → KeepsBody old new → Becomes (λ c d. d ≡ c) old.contents new.contents

@@ -43,12 +43,25 @@ LeavesAlike a b new_a new_b = (x y : List ℕ) → a.contents ≡ Some x → b.c
 
 -- A side failed: before the choice, or the chosen one did, or the other one while there is no larger epoch. The choice is by what
 -- the sides told.
-abbrev pub AdoptFails : (a b mid_a mid_b new_a new_b : DiskState) → Type 0
-AdoptFails a b mid_a mid_b new_a new_b =
+abbrev pub FailsByChoice : (a b mid_a mid_b new_a new_b : DiskState) → Type 0
+FailsByChoice a b mid_a mid_b new_a new_b =
     (Rose a.faults mid_a.faults ⊎ Rose b.faults mid_b.faults)
     ⊎ ForSome a.contents (λ x. ForSome b.contents (λ y.
     (epoch y ≤ epoch x → Rose mid_a.faults new_a.faults ⊎ ((last_epoch ≤ epoch x) × Rose mid_b.faults new_b.faults))
     × (epoch x < epoch y → Rose mid_b.faults new_b.faults ⊎ ((last_epoch ≤ epoch y) × Rose mid_a.faults new_a.faults))))
+
+-- The same, where the sides at the choice stand between those before the adopt and those behind it.
+pub record AdoptFails (a b mid_a mid_b new_a new_b : DiskState) : Type 0 where
+  pub first_before : a.faults ≤ mid_a.faults
+  pub first_behind : mid_a.faults ≤ new_a.faults
+  pub second_before : b.faults ≤ mid_b.faults
+  pub second_behind : mid_b.faults ≤ new_b.faults
+  pub by : FailsByChoice a b mid_a mid_b new_a new_b
+
+-- a disk that was bound to this name, and reads what it was told that the name has
+pub record WasBound (old new : DiskState) (name : List ℕ) : Type 0 where
+  pub bound : (t : ℕ) × (new.bound ≡ Some (t, name))
+  pub reads : ForSome (old.named name) (λ c. new.contents ≡ Some c)
 
 -- two sides that are not taken for a mirror: they differ in size, or one has no header
 abbrev pub AdoptRefuses : DiskState → DiskState → Type 0

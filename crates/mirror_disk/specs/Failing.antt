@@ -1,5 +1,5 @@
 -- Why a call of a mirror may fail, by the counts of its sides.
-use Rattle.std.specs.Prelude.{◌≡◌, ◌⊎◌, ℕ, ◌≤◌, Bool, true, false}
+use Rattle.std.specs.Prelude.{◌≡◌, ◌≢◌, ◌⊎◌, ℕ, ◌≤◌, Bool, true, false}
 use Rattle.iso_disk.specs.Disk.{DiskState, IsSettled}
 use Rattle.fault_count.specs.Count.{Rose}
 use Rattle.mirror_disk.specs.{declared.used.Used.Used, declared.used.Used.TheVariants.{Plain, Both, OnlyFirst, OnlySecond, Broken, Unbound}, Raised.KeepsBody, Header.last_epoch}
@@ -17,11 +17,12 @@ AllFailed Unbound first first' second second' = Unit {0}
 abbrev pub CannotLeave : Used → (epoch first first' second second' : ℕ) → Type 0
 CannotLeave used epoch first first' second second' = (used ≡ Both) × (last_epoch ≤ epoch) × (Rose first first' ⊎ Rose second second')
 
--- of two sides in use before a call, one that is left out behind it has failed in it; these are the counts of the first side before and
--- after the call, and those of the second one
+-- Of two sides in use before a call, one that is left out behind it has failed in it; these are the counts of the first side before and
+-- after the call, and those of the second one. Where not both are in use, the same are behind it.
 pub record LeavesFailed (before after : Used) (a a' b b' : ℕ) : Type 0 where
   pub first : before ≡ Both → after ≡ OnlySecond → Rose a a'
   pub second : before ≡ Both → after ≡ OnlyFirst → Rose b b'
+  pub stays : before ≢ Both → after ≡ before
 
 -- a side that did not do what it was asked, or failed since then
 abbrev pub HasFailed : (done : Bool) → DiskState → DiskState → Type 0

@@ -2,7 +2,7 @@
 ghost use Rattle.std.specs.{Prelude.{◌≡◌, ◌≢◌, ◌↔◌, ◌⊎◌, ◌+◌, ◌<◌, ◌≤◌, [], ℕ, List, None, Err, Some, IfErr, IfOk, IfSome, OnOk, OnErr}, Option.ForSome};
 ghost use Rattle.iso_disk.specs.Disk.{IsSettled, WritesNothing};
 ghost use Rattle.fault_count.specs.Count.{Rose};
-ghost use Rattle.mirror_disk.specs.{Adopting.{AdoptFails, AdoptRefuses, AdoptsFrom, LeavesAlike}, declared.adopt.MirrorError.TheVariants.{Disk, NotMirror, SizesDiffer}, Header.{IsHeader, body, chosen, last_epoch}, Pairs.{ChosenOf, chosen_told, mirrored}, declared.used.Used.TheVariants.{Both, OnlyFirst, OnlySecond}, Raised.HasEpoch, Standing.{IsPair, StandsBy}};
+ghost use Rattle.mirror_disk.specs.{Adopting.{AdoptFails, AdoptRefuses, AdoptsFrom, LeavesAlike}, declared.adopt.MirrorError.TheVariants.{Disk, NotMirror, SizesDiffer}, Header.{IsHeader, body, chosen, last_epoch}, Pairs.{ChosenOf, chosen_told, mirrored}, declared.used.Used.TheVariants.{Both, Broken, OnlyFirst, OnlySecond}, Raised.HasEpoch, Standing.{IsPair, StandsBy}};
 
 use crate::header::read_header;
 use crate::marks::Marks;
@@ -38,6 +38,7 @@ impl<A: Image, B: Image> Mirror<A, B> {
         ensures contents { IfOk result (λ m. (state_of m).contents ≡ chosen_told (A.state first).contents (B.state second).contents) }
         ensures settled { IfOk result (λ m. IsSettled (state_of m)) }
         ensures in_use { IfOk result (λ m. IsPair m.marks.used) }
+        ensures goes_on { IfOk result (λ m. m.marks.used ≢ Broken) }
         ensures left_first { IfOk result (λ m. m.marks.used ≡ OnlySecond → Rose (A.state first).faults (A.state m.first).faults) }
         ensures left_second { IfOk result (λ m. m.marks.used ≡ OnlyFirst → Rose (B.state second).faults (B.state m.second).faults) }
         ensures alike { IfOk result (λ m. m.marks.used ≡ Both → (x y : List ℕ) → (A.state m.first).contents ≡ Some x → (B.state m.second).contents ≡ Some y → body x ≡ body y) }
@@ -73,6 +74,7 @@ pub(crate) fn adopt_sides<A: Disk, B: Disk>(
     second: &mut B,
 ) -> Result<Marks, MirrorError>
     ensures pair { IfOk result (λ m. IsPair m.used) }
+    ensures goes_on { IfOk result (λ m. m.used ≢ Broken) }
     ensures left_first { IfOk result (λ m. m.used ≡ OnlySecond → Rose (A.state first.old).faults (A.state first.new).faults) }
     ensures left_second { IfOk result (λ m. m.used ≡ OnlyFirst → Rose (B.state second.old).faults (B.state second.new).faults) }
     ensures stands { IfOk result (λ m. StandsBy (A.state first.new) (B.state second.new) m []) }
@@ -151,6 +153,7 @@ fn settle_on<A: Disk, B: Disk>(
     requires first { (one.epoch ≤ last_epoch) × ((x : List ℕ) → (A.state first.old).now x → HasEpoch one.slot one.epoch x) }
     requires second { (two.epoch ≤ last_epoch) × ((y : List ℕ) → (B.state second.old).now y → HasEpoch two.slot two.epoch y) }
     ensures pair { IfOk result (λ m. IsPair m.used) }
+    ensures goes_on { IfOk result (λ m. m.used ≢ Broken) }
     ensures left_first { IfOk result (λ m. m.used ≡ OnlySecond → Rose (A.state first.old).faults (A.state first.new).faults) }
     ensures left_second { IfOk result (λ m. m.used ≡ OnlyFirst → Rose (B.state second.old).faults (B.state second.new).faults) }
     ensures stands { IfOk result (λ m. StandsBy (A.state first.new) (B.state second.new) m []) }

@@ -1,8 +1,8 @@
 // Binding a mirror to a name.
-ghost use Rattle.std.specs.{Prelude.{◌≡◌, ◌⊎◌, ◌+◌, ◌-◌, ◌^◌, ◌<◌, ◌≤◌, [], ℕ, List, Some, None, true, false, length, replicate, IfOk, OnOk, OnErr, IfNone, IfSome, IsSome}, Option.ForSome};
+ghost use Rattle.std.specs.{Prelude.{◌≡◌, ◌≢◌, ◌⊎◌, ◌+◌, ◌-◌, ◌^◌, ◌<◌, ◌≤◌, [], ℕ, List, Some, None, true, false, length, replicate, IfOk, OnOk, OnErr, IfNone, IfSome, IsSome}, Option.ForSome};
 ghost use Rattle.iso_disk.specs.Disk.{IsSettled};
 ghost use Rattle.fault_count.specs.Count.{HasCause, Rose, one_more};
-ghost use Rattle.mirror_disk.specs.{Adopting.AdoptRefuses, declared.used.Used.TheVariants.{Both, OnlyFirst, OnlySecond}, Pairs.{chosen_told, first_name, mirrored, names_mirror, second_name}, Standing.{IsPair, StandsBy, state_by}};
+ghost use Rattle.mirror_disk.specs.{Adopting.{AdoptRefuses, WasBound}, declared.used.Used.TheVariants.{Both, Broken, OnlyFirst, OnlySecond, Plain, Unbound}, Pairs.{chosen_told, first_name, mirrored, names_mirror, second_name}, Standing.{IsPair, StandsBy, state_by}};
 
 use crate::adopt::adopt_sides;
 use crate::header::lay_header;
@@ -42,11 +42,15 @@ impl<A: Image, B: Image> Image for Mirror<A, B> {
         ensures unbound { OnErr result ((state_of self.new).bound ≡ None) }
         ensures counted { (state_of self.new).binds ≡ one_more (state_of self.old).binds }
         ensures cause { HasCause (state_of self.old).faults (state_of self.new).faults result }
+        ensures plain { names_mirror name.now ≡ false → self.new.marks.used ≡ Plain }
+        ensures alone { names_mirror name.now ≡ false → self.new.second ≡ self.old.second }
+        ensures goes_on { OnOk result (names_mirror name.now ≡ true → IsPair self.new.marks.used × (self.new.marks.used ≢ Broken)) }
+        ensures released { OnErr result (names_mirror name.now ≡ true → self.new.marks.used ≡ Unbound) }
         ensures left_first { OnOk result (names_mirror name.now ≡ true → self.new.marks.used ≡ OnlySecond → Rose (A.state self.old.first).faults (A.state self.new.first).faults) }
         ensures left_second { OnOk result (names_mirror name.now ≡ true → self.new.marks.used ≡ OnlyFirst → Rose (B.state self.old.second).faults (B.state self.new.second).faults) }
         ensures made { OnOk result (names_mirror name.now ≡ true → IfSome want (λ w. self.new.marks.used ≡ Both)) }
         ensures first_fails { OnErr result (names_mirror name.now ≡ false → Rose (A.state self.old.first).faults (A.state self.new.first).faults) }
-        ensures fails { OnErr result (names_mirror name.now ≡ true → ((Rose (A.state self.old.first).faults (A.state self.new.first).faults ⊎ Rose (B.state self.old.second).faults (B.state self.new.second).faults) ⊎ (((4095 < length name.now) ⊎ IfSome want (λ w. 2 ^ 64 - 65 < w)) ⊎ ((want ≡ None) × ((x : A) × (y : B) × AdoptRefuses (A.state x) (B.state y)))))) }
+        ensures fails { OnErr result (names_mirror name.now ≡ true → ((Rose (A.state self.old.first).faults (A.state self.new.first).faults ⊎ Rose (B.state self.old.second).faults (B.state self.new.second).faults) ⊎ (((4095 < length name.now) ⊎ IfSome want (λ w. 2 ^ 64 - 65 < w)) ⊎ ((want ≡ None) × ((x : A) × (y : B) × WasBound (A.state self.old.first) (A.state x) (first_name name.now) × WasBound (B.state self.old.second) (B.state y) (second_name name.now) × AdoptRefuses (A.state x) (B.state y)))))) }
     {
         raise(&mut self.binds);
         bind_parts(
@@ -96,13 +100,14 @@ fn take_sides<A: Image, B: Image>(
 ) -> Result<Marks, DiskFault>
     requires { length name.now ≤ 4095 }
     ensures pair { IfOk result (λ m. IsPair m.used) }
+    ensures goes_on { IfOk result (λ m. m.used ≢ Broken) }
     ensures left_first { IfOk result (λ m. m.used ≡ OnlySecond → Rose (A.state first.old).faults (A.state first.new).faults) }
     ensures left_second { IfOk result (λ m. m.used ≡ OnlyFirst → Rose (B.state second.old).faults (B.state second.new).faults) }
     ensures stands { IfOk result (λ m. StandsBy (A.state first.new) (B.state second.new) m []) }
     ensures existing { OnOk result (ForSome (chosen_told ((A.state first.old).named (first_name name.now)) ((B.state second.old).named (second_name name.now))) (λ c. (chosen_told (A.state first.new).contents (B.state second.new).contents) ≡ Some c)) }
     ensures settled { OnOk result (IsSettled (mirrored (A.state first.new) (B.state second.new) [] 0 0)) }
     ensures bound { OnOk result ((t : ℕ) × ((A.state first.new).bound ≡ Some (t, first_name name.now))) }
-    ensures cause { OnErr result ((Rose (A.state first.old).faults (A.state first.new).faults ⊎ Rose (B.state second.old).faults (B.state second.new).faults) ⊎ ((x : A) × (y : B) × AdoptRefuses (A.state x) (B.state y))) }
+    ensures cause { OnErr result ((Rose (A.state first.old).faults (A.state first.new).faults ⊎ Rose (B.state second.old).faults (B.state second.new).faults) ⊎ ((x : A) × (y : B) × WasBound (A.state first.old) (A.state x) (first_name name.now) × WasBound (B.state second.old) (B.state y) (second_name name.now) × AdoptRefuses (A.state x) (B.state y))) }
     ensures later { ((A.state first.old).faults ≤ (A.state first.new).faults) × ((B.state second.old).faults ≤ (B.state second.new).faults) }
 {
     bind_side(first, name, FIRST, None)?;
@@ -121,6 +126,7 @@ fn bind_sides<A: Image, B: Image>(
     want: Option<u64>,
 ) -> Result<Marks, DiskFault>
     ensures pair { IfOk result (λ m. IsPair m.used) }
+    ensures goes_on { IfOk result (λ m. m.used ≢ Broken) }
     ensures left_first { IfOk result (λ m. m.used ≡ OnlySecond → Rose (A.state first.old).faults (A.state first.new).faults) }
     ensures left_second { IfOk result (λ m. m.used ≡ OnlyFirst → Rose (B.state second.old).faults (B.state second.new).faults) }
     ensures made { IfOk result (λ m. IfSome want (λ w. m.used ≡ Both)) }
@@ -132,7 +138,7 @@ fn bind_sides<A: Image, B: Image>(
     ensures settled { OnOk result (IfNone want (IsSettled (mirrored (A.state first.new) (B.state second.new) [] 0 0))) }
     ensures told { OnOk result (IsSome (chosen_told ((A.state first.old).named (first_name name.now)) ((B.state second.old).named (second_name name.now))) → IsSome (chosen_told (A.state first.new).contents (B.state second.new).contents)) }
     ensures bound { OnOk result ((t : ℕ) × ((A.state first.new).bound ≡ Some (t, first_name name.now))) }
-    ensures cause { OnErr result ((Rose (A.state first.old).faults (A.state first.new).faults ⊎ Rose (B.state second.old).faults (B.state second.new).faults) ⊎ (((4095 < length name.now) ⊎ IfSome want (λ w. 2 ^ 64 - 65 < w)) ⊎ ((want ≡ None) × ((x : A) × (y : B) × AdoptRefuses (A.state x) (B.state y))))) }
+    ensures cause { OnErr result ((Rose (A.state first.old).faults (A.state first.new).faults ⊎ Rose (B.state second.old).faults (B.state second.new).faults) ⊎ (((4095 < length name.now) ⊎ IfSome want (λ w. 2 ^ 64 - 65 < w)) ⊎ ((want ≡ None) × ((x : A) × (y : B) × WasBound (A.state first.old) (A.state x) (first_name name.now) × WasBound (B.state second.old) (B.state y) (second_name name.now) × AdoptRefuses (A.state x) (B.state y))))) }
     ensures later { ((A.state first.old).faults ≤ (A.state first.new).faults) × ((B.state second.old).faults ≤ (B.state second.new).faults) }
 {
     if name.len() > LONGEST {
@@ -169,11 +175,15 @@ fn bind_parts<A: Image, B: Image>(
     ensures bound { (binds : ℕ) → OnOk result ((state_by marks.new (A.state first.new) (B.state second.new) past.new faults.new binds).bound ≡ Some ((state_by marks.new (A.state first.new) (B.state second.new) past.new faults.new binds).clock, name.now)) }
     ensures unbound { (binds : ℕ) → OnErr result ((state_by marks.new (A.state first.new) (B.state second.new) past.new faults.new binds).bound ≡ None) }
     ensures cause { HasCause faults.old faults.new result }
+    ensures plain { names_mirror name.now ≡ false → marks.new.used ≡ Plain }
+    ensures alone { names_mirror name.now ≡ false → second.new ≡ second.old }
+    ensures goes_on { OnOk result (names_mirror name.now ≡ true → IsPair marks.new.used × (marks.new.used ≢ Broken)) }
+    ensures released { OnErr result (names_mirror name.now ≡ true → marks.new.used ≡ Unbound) }
     ensures left_first { OnOk result (names_mirror name.now ≡ true → marks.new.used ≡ OnlySecond → Rose (A.state first.old).faults (A.state first.new).faults) }
     ensures left_second { OnOk result (names_mirror name.now ≡ true → marks.new.used ≡ OnlyFirst → Rose (B.state second.old).faults (B.state second.new).faults) }
     ensures made { OnOk result (names_mirror name.now ≡ true → IfSome want (λ w. marks.new.used ≡ Both)) }
     ensures first_fails { OnErr result (names_mirror name.now ≡ false → Rose (A.state first.old).faults (A.state first.new).faults) }
-    ensures fails { OnErr result (names_mirror name.now ≡ true → ((Rose (A.state first.old).faults (A.state first.new).faults ⊎ Rose (B.state second.old).faults (B.state second.new).faults) ⊎ (((4095 < length name.now) ⊎ IfSome want (λ w. 2 ^ 64 - 65 < w)) ⊎ ((want ≡ None) × ((x : A) × (y : B) × AdoptRefuses (A.state x) (B.state y)))))) }
+    ensures fails { OnErr result (names_mirror name.now ≡ true → ((Rose (A.state first.old).faults (A.state first.new).faults ⊎ Rose (B.state second.old).faults (B.state second.new).faults) ⊎ (((4095 < length name.now) ⊎ IfSome want (λ w. 2 ^ 64 - 65 < w)) ⊎ ((want ≡ None) × ((x : A) × (y : B) × WasBound (A.state first.old) (A.state x) (first_name name.now) × WasBound (B.state second.old) (B.state y) (second_name name.now) × AdoptRefuses (A.state x) (B.state y)))))) }
 {
     if !is_mirror(name.as_bytes()) {
         marks.used = Used::Plain;

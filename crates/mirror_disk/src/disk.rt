@@ -2,7 +2,7 @@
 ghost use Rattle.std.specs.{Prelude.{◌≡◌, ◌≢◌, ◌⊎◌, ◌+◌, ◌≤◌, false, length, OnOk, OnErr}, List.slice_range, Option.ForSome};
 ghost use Rattle.iso_disk.specs.Disk.{Elapses, IsSettled, Splices, TellsTorn, TornFrom};
 ghost use Rattle.fault_count.specs.Count.{HasCause, Rose};
-ghost use Rattle.mirror_disk.specs.{declared.used.Used.TheVariants.{Both, Unbound}, Failing.{AllFailed, CannotLeave, LeavesFailed}, Standing.sides_in};
+ghost use Rattle.mirror_disk.specs.{declared.used.Used.TheVariants.{Both, Broken, Unbound}, Failing.{AllFailed, CannotLeave, LeavesFailed}, Standing.sides_in};
 
 use crate::mirror::Mirror;
 use crate::parts::{read_parts, sync_parts, write_parts};
@@ -37,6 +37,8 @@ impl<A: Image, B: Image> Disk for Mirror<A, B> {
         ensures contents { (state_of self.new).contents ≡ (state_of self.old).contents }
         ensures crash { Elapses (state_of self.old) (state_of self.new) (state_of self.old).now }
         ensures unbound { OnOk result (self.old.marks.used ≢ Unbound) }
+        ensures goes_on { OnOk result (self.new.marks.used ≢ Broken) }
+        ensures same { self.new.marks ≡ self.old.marks }
         ensures cause { HasCause (state_of self.old).faults (state_of self.new).faults result }
         ensures first_idle { (sides_in self.old.marks.used).0 ≡ false → self.new.first ≡ self.old.first }
         ensures second_idle { (sides_in self.old.marks.used).1 ≡ false → self.new.second ≡ self.old.second }
@@ -63,6 +65,9 @@ impl<A: Image, B: Image> Disk for Mirror<A, B> {
         ensures crash { Elapses (state_of self.old) (state_of self.new) (TornFrom at (length bytes.now) (state_of self.old).now) }
         ensures unbound { OnOk result (self.old.marks.used ≢ Unbound) }
         ensures cause { HasCause (state_of self.old).faults (state_of self.new).faults result }
+        ensures goes_on { OnOk result (self.new.marks.used ≢ Broken) }
+        ensures breaks { OnErr result (self.old.marks.used ≡ Both → self.new.marks.used ≡ Broken) }
+        ensures same { self.new.marks ≡ record self.old.marks { used = self.new.marks.used } }
         ensures left { LeavesFailed self.old.marks.used self.new.marks.used (A.state self.old.first).faults (A.state self.new.first).faults (B.state self.old.second).faults (B.state self.new.second).faults }
         ensures first_idle { (sides_in self.old.marks.used).0 ≡ false → self.new.first ≡ self.old.first }
         ensures second_idle { (sides_in self.old.marks.used).1 ≡ false → self.new.second ≡ self.old.second }
@@ -86,6 +91,9 @@ impl<A: Image, B: Image> Disk for Mirror<A, B> {
         ensures crash { Elapses (state_of self.old) (state_of self.new) (state_of self.old).now }
         ensures unbound { OnOk result (self.old.marks.used ≢ Unbound) }
         ensures cause { HasCause (state_of self.old).faults (state_of self.new).faults result }
+        ensures goes_on { OnOk result (self.new.marks.used ≢ Broken) }
+        ensures breaks { OnErr result (self.old.marks.used ≡ Both → self.new.marks.used ≡ Broken) }
+        ensures same { self.new.marks ≡ record self.old.marks { used = self.new.marks.used } }
         ensures left { LeavesFailed self.old.marks.used self.new.marks.used (A.state self.old.first).faults (A.state self.new.first).faults (B.state self.old.second).faults (B.state self.new.second).faults }
         ensures first_idle { (sides_in self.old.marks.used).0 ≡ false → self.new.first ≡ self.old.first }
         ensures second_idle { (sides_in self.old.marks.used).1 ≡ false → self.new.second ≡ self.old.second }

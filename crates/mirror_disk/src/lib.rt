@@ -2,7 +2,8 @@
 //!
 //! Bound to a name that ends in `+`, its images are those of the larger epoch (`sides`). `counted` and `fails` say when its count may
 //! rise. A side is left out only where it failed in that call (`left`), and has the lower epoch then (`first_leads`, `second_leads`).
-//! `adopt` makes both alike (`alike`, `kept`). That an Ok never breaks it is no clause.
+//! A call that is Ok leaves a side in use (`goes_on`). `adopt` makes both alike (`alike`, `kept`). Nothing is claimed of a side that
+//! returns wrong bytes.
 #![tactic(auto)]
 
 mod adopt;

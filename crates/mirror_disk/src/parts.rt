@@ -2,7 +2,7 @@
 ghost use Rattle.std.specs.{Prelude.{◌≡◌, ◌≢◌, ◌⊎◌, ◌+◌, ◌≤◌, ℕ, length, true, false, OnOk, OnErr}, List.slice_range, Option.ForSome};
 ghost use Rattle.iso_disk.specs.Disk.{Elapses, IsSettled, Splices, TellsTorn, TornFrom};
 ghost use Rattle.fault_count.specs.Count.{HasCause, Rose};
-ghost use Rattle.mirror_disk.specs.{declared.used.Used.TheVariants.{Both, Unbound}, Failing.{AllFailed, CannotLeave, LeavesFailed}, Standing.{StandsBy, sides_in, state_by}};
+ghost use Rattle.mirror_disk.specs.{declared.used.Used.TheVariants.{Both, Broken, Unbound}, Failing.{AllFailed, CannotLeave, LeavesFailed}, Standing.{StandsBy, sides_in, state_by}};
 
 use crate::marks::Marks;
 use crate::past::Past;
@@ -42,6 +42,9 @@ pub(crate) fn write_parts<A: Disk, B: Disk>(
     ensures crash { (binds : ℕ) → Elapses (state_by marks.old (A.state first.old) (B.state second.old) past.old faults.old binds) (state_by marks.new (A.state first.new) (B.state second.new) past.new faults.new binds) (TornFrom at (length bytes.now) (state_by marks.old (A.state first.old) (B.state second.old) past.old faults.old binds).now) }
     ensures bound { OnOk result (marks.old.used ≢ Unbound) }
     ensures cause { HasCause faults.old faults.new result }
+    ensures goes_on { OnOk result (marks.new.used ≢ Broken) }
+    ensures breaks { OnErr result (marks.old.used ≡ Both → marks.new.used ≡ Broken) }
+    ensures same { marks.new ≡ record marks.old { used = marks.new.used } }
     ensures left { LeavesFailed marks.old.used marks.new.used (A.state first.old).faults (A.state first.new).faults (B.state second.old).faults (B.state second.new).faults }
     ensures first_idle { (sides_in marks.old.used).0 ≡ false → first.new ≡ first.old }
     ensures second_idle { (sides_in marks.old.used).1 ≡ false → second.new ≡ second.old }
@@ -87,6 +90,9 @@ pub(crate) fn sync_parts<A: Disk, B: Disk>(
     ensures crash { (binds : ℕ) → Elapses (state_by marks.old (A.state first.old) (B.state second.old) past.old faults.old binds) (state_by marks.new (A.state first.new) (B.state second.new) past.new faults.new binds) (state_by marks.old (A.state first.old) (B.state second.old) past.old faults.old binds).now }
     ensures bound { OnOk result (marks.old.used ≢ Unbound) }
     ensures cause { HasCause faults.old faults.new result }
+    ensures goes_on { OnOk result (marks.new.used ≢ Broken) }
+    ensures breaks { OnErr result (marks.old.used ≡ Both → marks.new.used ≡ Broken) }
+    ensures same { marks.new ≡ record marks.old { used = marks.new.used } }
     ensures left { LeavesFailed marks.old.used marks.new.used (A.state first.old).faults (A.state first.new).faults (B.state second.old).faults (B.state second.new).faults }
     ensures first_idle { (sides_in marks.old.used).0 ≡ false → first.new ≡ first.old }
     ensures second_idle { (sides_in marks.old.used).1 ≡ false → second.new ≡ second.old }
@@ -132,6 +138,7 @@ pub(crate) fn read_parts<A: Disk, B: Disk>(
     ensures contents { (binds : ℕ) → (state_by marks (A.state first.new) (B.state second.new) past.new faults.new binds).contents ≡ (state_by marks (A.state first.old) (B.state second.old) past.old faults.old binds).contents }
     ensures crash { (binds : ℕ) → Elapses (state_by marks (A.state first.old) (B.state second.old) past.old faults.old binds) (state_by marks (A.state first.new) (B.state second.new) past.new faults.new binds) (state_by marks (A.state first.old) (B.state second.old) past.old faults.old binds).now }
     ensures bound { OnOk result (marks.used ≢ Unbound) }
+    ensures goes_on { OnOk result (marks.used ≢ Broken) }
     ensures cause { HasCause faults.old faults.new result }
     ensures first_idle { (sides_in marks.used).0 ≡ false → first.new ≡ first.old }
     ensures second_idle { (sides_in marks.used).1 ≡ false → second.new ≡ second.old }

@@ -119,6 +119,8 @@ pub(crate) fn write_sides<A: Disk, B: Disk>(
         → chosen_told (A.state first.new).contents (B.state second.new).contents ≡ option_map (λ c. spliced c at bytes.now) (chosen_told (A.state first.old).contents (B.state second.old).contents) }
     ensures failed { result.1 ≡ false → (past : List (ℕ × ℕ)) → Stands (A.state first.old) (B.state second.old) used past epoch one two
         → MirrorBecomes (Torn at (length bytes.now)) (chosen_told (A.state first.old).contents (B.state second.old).contents) (chosen_told (A.state first.new).contents (B.state second.new).contents) }
+    ensures goes_on { result.1 ≡ true → result.0 ≢ Broken }
+    ensures breaks { used ≡ Both → result.1 ≡ false → result.0 ≡ Broken }
     ensures left { LeavesFailed used result.0 (A.state first.old).faults (A.state first.new).faults (B.state second.old).faults (B.state second.new).faults }
     ensures first_idle { (sides_in used).0 ≡ false → first.new ≡ first.old }
     ensures second_idle { (sides_in used).1 ≡ false → second.new ≡ second.old }
@@ -183,6 +185,8 @@ pub(crate) fn sync_sides<A: Disk, B: Disk>(
         → chosen_told (A.state first.new).contents (B.state second.new).contents ≡ chosen_told (A.state first.old).contents (B.state second.old).contents }
     ensures settled { result.1 ≡ true → (past : List (ℕ × ℕ)) → Stands (A.state first.old) (B.state second.old) used past epoch one two
         → IsSettled (mirrored (A.state first.new) (B.state second.new) (((A.state first.old).clock, (B.state second.old).clock) ∷ past) 0 0) }
+    ensures goes_on { result.1 ≡ true → result.0 ≢ Broken }
+    ensures breaks { used ≡ Both → result.1 ≡ false → result.0 ≡ Broken }
     ensures left { LeavesFailed used result.0 (A.state first.old).faults (A.state first.new).faults (B.state second.old).faults (B.state second.new).faults }
     ensures first_idle { (sides_in used).0 ≡ false → first.new ≡ first.old }
     ensures second_idle { (sides_in used).1 ≡ false → second.new ≡ second.old }
@@ -222,6 +226,7 @@ pub(crate) fn read_sides<A: Disk, B: Disk>(
     ensures contents { chosen_told (A.state first.new).contents (B.state second.new).contents ≡ chosen_told (A.state first.old).contents (B.state second.old).contents }
     ensures bytes { result ≡ true → (past : List (ℕ × ℕ)) (epoch : ℕ) (one two : Slot) → Stands (A.state first.old) (B.state second.old) used past epoch one two
         → ForSome (chosen_told (A.state first.old).contents (B.state second.old).contents) (λ c. into.new ≡ slice_range c at (at + length into.old)) }
+    ensures goes_on { result ≡ true → used ≢ Broken }
     ensures first_idle { (sides_in used).0 ≡ false → first.new ≡ first.old }
     ensures second_idle { (sides_in used).1 ≡ false → second.new ≡ second.old }
     ensures second_last { used ≡ Both → Rose (A.state first.old).faults (A.state first.new).faults ⊎ (second.new ≡ second.old) }

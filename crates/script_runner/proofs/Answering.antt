@@ -1,5 +1,5 @@
 -- A line of the input, between those before it and what follows.
-use Rattle.script_runner.proofs.{Words.{◌≡◌, ◌≤◌, ℕ, ◌+◌, Bool, List, [], ◌∷◌, ◌++◌, Some, Result, Ok, Err, IfErr, OnOk, inr, length, refl, sym, ap, subst, ◌∙◌, append_assoc, append-nil, length-append, arith, DiskState, SinkState, BadLine, Line, LineError, Parsed, Script, before_script, parse_whole, script_from, pieces, World, Gives, Halt, RunEnd, AnswersParsed, EndsAt, IsByStep, Ran, Reads, SaysFirst, behind, end_of, lines_of, AreFirst, AreLinesOf, Answered, HasNoFeed, Cause, NoMemory, Skip, Says}, Feeds.{no_feed-append, no_feed-nil}, Fronts.{before-parsed, says-more, script-line}, Steps.{ended_here, halted_more, ran_more}}
+use Rattle.script_runner.proofs.{Words.{◌≡◌, ◌≤◌, ℕ, ◌+◌, Bool, List, [], ◌∷◌, ◌++◌, Some, Result, Ok, Err, IfErr, OnOk, inr, length, refl, sym, ap, subst, ◌∙◌, append_assoc, append-nil, length-append, arith, Rose, DiskState, Broke, SinkState, BadLine, Line, LineError, Parsed, Script, before_script, parse_whole, script_from, pieces, World, Gives, Halt, RunEnd, AnswersParsed, EndsAt, IsByStep, Ran, Reads, SaysFirst, behind, end_of, lines_of, AreFirst, AreLinesOf, Answered, HasNoFeed, Cause, NoMemory, Skip, Says}, Feeds.{no_feed-append, no_feed-nil}, Fronts.{before-parsed, says-more, script-line}, Steps.{ended_here, halted_more, held_here, ran_more}}
 use Rattle.script_runner.specs.declared.run_end.Halt.TheVariants as halt
 use Rattle.script_runner.specs.declared.run_end.RunEnd.TheVariants as end
 
@@ -143,17 +143,32 @@ ends_before W bytes more how ends = record {
   answered = ends.answered;
 }
 
+-- the lines answered are the first ones, whatever follows the bytes taken
+pub answered_first : {stands : World → Type 0} {d e : DiskState} {k l : SinkState} (W : World) (bytes : List ℕ) (number : ℕ) (held : List ℕ)
+    → (r : Reads stands d e k l W bytes number held) → (cut : Bool) (more : List ℕ) → AreFirst (script_from cut 1 (pieces 10 (bytes ++ more))).lines r.done []
+answered_first W bytes number held r cut more =
+    let split : bytes ++ more ≡ r.front ++ (held ++ more) = ap (λ xs. xs ++ more) r.bytes_are ∙ append_assoc r.front held more in
+    first_none _ r.done (script_from cut number (pieces 10 (held ++ more))).lines
+    (ap (λ (s : Script). s.lines) (ap (λ xs. script_from cut 1 (pieces 10 xs)) split ∙ r.says cut (held ++ more)))
+
 -- memory ran out where the front of a line was to be held
 pub unheld_ends : {stands : World → Type 0} {d e : DiskState} {k l : SinkState} (W : World) (bytes : List ℕ) (number : ℕ) (held : List ℕ)
     → Reads stands d e k l W bytes number held → EndsAt stands d e k l W bytes end.Memory
 unheld_ends W bytes number held r = record {
   done = r.done;
   next = [];
-  lines = λ cut more.
-      let split : bytes ++ more ≡ r.front ++ (held ++ more) = ap (λ xs. xs ++ more) r.bytes_are ∙ append_assoc r.front held more in
-      first_none _ r.done (script_from cut number (pieces 10 (held ++ more))).lines
-      (ap (λ (s : Script). s.lines) (ap (λ xs. script_from cut 1 (pieces 10 xs)) split ∙ r.says cut (held ++ more)));
+  lines = answered_first W bytes number held r;
   answered = ended_here W r.done end.Memory tt r.ran;
+}
+
+-- the sink could not hand on what it held back
+pub held_ends : {stands : World → Type 0} {d e : DiskState} {k mid l : SinkState} (W : World) (bytes : List ℕ) (number : ℕ) (held : List ℕ)
+    → Reads stands d e k mid W bytes number held → Broke mid l → Rose mid.faults l.faults → EndsAt stands d e k l W bytes end.Output
+held_ends W bytes number held r broke rose = record {
+  done = r.done;
+  next = [];
+  lines = answered_first W bytes number held r;
+  answered = held_here W r.done r.ran broke rose;
 }
 
 -- what answering a line does

@@ -1,5 +1,5 @@
 -- How a run ends.
-use Rattle.script_runner.proofs.{Words.{◌≡◌, ◌≢◌, ◌<◌, ◌≤◌, ℕ, ◌+◌, ◌-◌, Bool, true, false, List, [], ◌∷◌, ◌++◌, Option, Some, None, Result, Ok, Err, IfSome, length, take, nat_le, inl, refl, sym, ap, subst, ◌∙◌, append_assoc, append-nil, length-append, arith, eqb-false, eqb-true, lt-ltb, lt-leb, le-leb, take_all, take-append-add, prepend_known, Rose, DiskState, IsLawful, SinkState, SourceState, MetEnd, Took, prepend_known-append, prepend_known-nil, MAX_INPUT, MAX_LINE, BadLine, Line, LineError, Parsed, last, Shows, Script, bad_line, before_script, last_piece, no_lines, parse, parse_whole, script, script_from, is_empty, pieces, World, IsWorld, Gives, Halt, RunEnd, SourceCount, AnswersParsed, EndsAt, Gave, IsByStep, Ran, Reads, behind, end_of, in_front, lines_of, AreFirst, AreLinesOf, Answered, HasRun, Cause, NoMemory, Skip, Says}, Feeds.{HasFirst, no_feed-nil, one_piece, pieces-first, pieces_of}, Fronts.{before-parsed, says-nothing}, Steps.{ended_here, halted_more, ran_more, ran_none}, Answering.{first_none, first_of, step_lines, unheld_ends}}
+use Rattle.script_runner.proofs.{Words.{◌≡◌, ◌≢◌, ◌<◌, ◌≤◌, ℕ, ◌+◌, ◌-◌, Bool, true, false, List, [], ◌∷◌, ◌++◌, Option, Some, None, Result, Ok, Err, IfSome, length, take, nat_le, inl, refl, sym, ap, subst, ◌∙◌, append_assoc, append-nil, length-append, arith, eqb-false, eqb-true, lt-ltb, lt-leb, le-leb, take_all, take-append-add, prepend_known, Rose, DiskState, IsLawful, SinkState, SourceState, MetEnd, Took, prepend_known-append, prepend_known-nil, MAX_INPUT, MAX_LINE, BadLine, Line, LineError, Parsed, last, Shows, Script, bad_line, before_script, last_piece, no_lines, parse, parse_whole, script, script_from, is_empty, pieces, World, IsWorld, Gives, Halt, RunEnd, SourceCount, AnswersParsed, EndsAt, Gave, IsByStep, Ran, Reads, behind, end_of, in_front, lines_of, AreFirst, AreLinesOf, Answered, HasRun, Cause, NoMemory, Skip, Says}, Feeds.{HasFirst, no_feed-nil, one_piece, pieces-first, pieces_of}, Fronts.{before-parsed, says-nothing}, Steps.{ended_here, halted_more, ran_more, ran_none}, Answering.{answered_first, first_none, first_of, step_lines, unheld_ends}}
 use Rattle.std.specs.Prelude.{◌==◌}
 use Rattle.script_runner.specs.declared.run_end.Halt.TheVariants as halt
 use Rattle.script_runner.specs.declared.run_end.RunEnd.TheVariants as end
@@ -176,15 +176,10 @@ module _ {stands : World → Type 0} {d e : DiskState} {k l : SinkState} (W : Wo
   pub input_runs : (i mid j : SourceState) → Gave i mid bytes → length bytes < MAX_INPUT → j.rest ≡ mid.rest → Rose mid.faults j.faults
       → HasRun stands d e i j k l W end.Input
   input_runs i mid j gave few kept rose =
-      let first : (cut : Bool) (more : List ℕ) → AreFirst (script_from cut 1 (pieces 10 (bytes ++ more))).lines r.done [] =
-      λ cut more.
-      let split : bytes ++ more ≡ r.front ++ (held ++ more) = ap (λ xs. xs ++ more) r.bytes_are ∙ append_assoc r.front held more in
-      first_none _ r.done (script_from cut number (pieces 10 (held ++ more))).lines
-      (ap (λ (s : Script). s.lines) (ap (λ xs. script_from cut 1 (pieces 10 xs)) split ∙ r.says cut (held ++ more))) in
       let each : (more : List ℕ) → AreLinesOf end.Input (script (bytes ++ more)) r.done [] =
       λ more. (
         subst (λ (s : Script). AreFirst s.lines r.done []) (sym (script_more bytes more (omega arith)))
-            (first (nat_le MAX_INPUT (length (bytes ++ more))) (take (MAX_INPUT - length bytes) more)),
+            (answered_first W bytes number held r (nat_le MAX_INPUT (length (bytes ++ more))) (take (MAX_INPUT - length bytes) more)),
         refl,
       ) in
       let took : Took i j bytes = gave.took ∙ ap (prepend_known bytes) (sym kept) in

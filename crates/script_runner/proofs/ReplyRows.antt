@@ -15,7 +15,7 @@ is_first : (r : Reply) (V : World) → AreRepliesTo (rehearsed 4) ending (r ∷ 
 is_first r V are = same_commit r 1 (subst (SameButShown r) (ap (λ x. x.0) second_end) (are.1.plain tt).0)
 
 abbrev told_text : List ℕ → SinkState
-told_text text = record { written = Some text; faults = 0; refusals = 0 }
+told_text text = record { written = Some text; faults = 0; refusals = 0; is_broken = false }
 
 abbrev other_text : List ℕ
 other_text = codes "1 ok commit 2" ++ 10 ∷ []

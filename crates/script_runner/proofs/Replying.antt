@@ -1,5 +1,5 @@
 -- The replies of a run, and their text.
-use Rattle.script_runner.proofs.Words.{arith, ◌≡◌, ℕ, List, [], ◌∷◌, ◌++◌, inr, take, ap, refl, sym, subst, ◌∙◌, append_assoc, append-nil, append_known, DiskState, SinkState, Wrote, append_known-append, append_known-nil, World, IsWorld, Line, Reply, answers_to, replies, step, reply_line, RunEnd, AreRepliesTo, AreSameButShown, IfCut, IsReplyTo, PutReplies, PutRepliesBy, Replied, text_of, ArePlain, IsPlain, SameButShown, StandsSo, Disk, Output}
+use Rattle.script_runner.proofs.Words.{arith, ◌≡◌, ℕ, List, [], ◌∷◌, ◌++◌, inl, inr, take, ap, refl, sym, subst, ◌∙◌, append_assoc, append-nil, append_known, DiskState, SinkState, Wrote, append_known-append, append_known-nil, World, IsWorld, Line, Reply, answers_to, replies, step, reply_line, RunEnd, AreRepliesTo, AreSameButShown, IfCut, IsReplyTo, PutReplies, PutRepliesBy, Replied, text_of, ArePlain, IsPlain, SameButShown, StandsSo, Disk, Output}
 
 -- the text of one reply
 pub reply_is : (W : World) (number : ℕ) (said : Line) (answer : Reply) (given set : List ℕ) → given ≡ set → set ≡ reply_line said.client answer
@@ -15,7 +15,8 @@ wrote_nothing : (k mid l : SinkState) (first : List ℕ) → Wrote k mid first �
 wrote_nothing k mid l first one two = subst (λ (xs : List ℕ). Wrote k l xs) (append-nil first) (wrote_on k mid l first [] one two)
 
 pub replied_on : (end : RunEnd) (k mid l : SinkState) (first next : List ℕ) → Wrote k mid first → Replied end mid l [] next → Replied end k l first next
-replied_on Output k mid l first next one two = record { count = two.count; short = two.short; wrote = wrote_on k mid l first (take two.count next) one two.wrote }
+replied_on Output k mid l first next one (inl two) = inl (record { count = two.count; short = two.short; wrote = wrote_on k mid l first (take two.count next) one two.wrote })
+replied_on Output k mid l first next one (inr two) = inr (two.0, wrote_nothing k mid l first one two.1)
 replied_on x k mid l first next one two = wrote_nothing k mid l first one two
 
 -- an end that no line brings: neither the disk nor the sink failed
@@ -107,6 +108,10 @@ put_quiet end k l W V xs quiet done = record {
   last_is = quiet_cut end _ quiet;
   put = quiet_replies end k l (text_of xs done.given) [] quiet done.put;
 }
+
+-- the sink ended the run where it was to hand on, and no line ran behind those
+pub put_held : (k mid l : SinkState) (W V : World) (xs : List (ℕ × Line)) → PutReplies k mid W xs V → l.written ≡ mid.written → PutRepliesBy Output k l W xs [] V V
+put_held k mid l W V xs done same = record { given = done.given; last = []; are = done.are; last_is = refl; put = inr (refl, same ∙ done.put) }
 
 -- replies to lines that call no store are the model's but for the bytes shown
 pub plain_same : (W V : World) (xs : List (ℕ × Line)) (rs : List Reply) → ArePlain xs → AreRepliesTo W xs rs V → AreSameButShown rs (answers_to W xs)

@@ -1,5 +1,5 @@
 -- Lines that are answered one after the other.
-use Rattle.script_runner.proofs.{Words.{arith, ◌≡◌, ℕ, List, [], ◌∷◌, ◌++◌, ap, refl, sym, subst, ◌∙◌, inl, inr, append_assoc, append-nil, IsSome, AllByRecursion, append_known, Rose, DiskState, IsLawful, LeavesOnly, started, weakened, at_end, SinkState, CountsStand, Wrote, append_known-nil, Line, last, Shows, replies, after, step, reply_line, World, AreLines, IsOp, IsWorld, LeadsTo, after_leads, step_leads, RunEnd, ShowsEither, ShowsBetween, DiskCount, SinkCounts, Ran, IfTold, IsPlain, StandsSo, PutReplies, PutRepliesBy, Replied, Answered, IfUp, IsBehind, leads_on, Disk, Output, Memory}, Acknowledged.all_kept, Replying.{IsQuiet, put_halted, put_more, put_none, put_quiet, quiet_replies, replied_on, wrote_on}, Histories.{between_since, runs_joined, shows_last, step_between}}
+use Rattle.script_runner.proofs.{Words.{arith, ◌≡◌, ℕ, Bool, false, IsTrue, List, [], ◌∷◌, ◌++◌, ap, refl, sym, subst, ◌∙◌, inl, inr, append_assoc, append-nil, IsSome, AllByRecursion, append_known, Rose, DiskState, IsLawful, LeavesOnly, started, weakened, at_end, SinkState, Broke, CountsStand, Wrote, append_known-nil, Line, last, Shows, replies, after, step, reply_line, World, AreLines, IsOp, IsWorld, LeadsTo, after_leads, step_leads, RunEnd, ShowsEither, ShowsBetween, ShowsLast, DiskCount, SinkCounts, Ran, IfTold, IsPlain, StandsSo, PutReplies, PutRepliesBy, Replied, Answered, IfUp, IsBehind, AllShow, MadeNothing, leads_on, Disk, Output, Memory}, Acknowledged.all_kept, Replying.{IsQuiet, put_halted, put_held, put_more, put_none, put_quiet, quiet_replies, replied_on, wrote_on}, Histories.{between_since, runs_joined, shows_last, step_between}}
 
 pub after-append : (W : World) (xs ys : List (ℕ × Line)) → after W (xs ++ ys) ≡ after (after W xs) ys
 after-append W [] ys = refl
@@ -13,6 +13,10 @@ replies-append W (x ∷ xs) ys =
 
 pub counts_stand : (k : SinkState) → CountsStand k k
 counts_stand k = record { faults = refl; refusals = refl }
+
+-- a sink that stays as whole as it was, and was whole, is not broken
+broke_not : {before now : Bool} → now ≡ before → before ≡ false → IsTrue now → ⊥
+broke_not same whole broken = cc
 
 counts_on : (k mid l : SinkState) → CountsStand k mid → CountsStand mid l → CountsStand k l
 counts_on k mid l first second = record { faults = second.faults ∙ first.faults; refusals = second.refusals ∙ first.refusals }
@@ -64,6 +68,7 @@ module _ {stands : World → Type 0} {d : DiskState} {k : SinkState} (W : World)
     world = stood;
     disk = refl;
     output = counts_stand k;
+    whole = refl;
   }
 
 -- an image shows a history, whatever its world is
@@ -83,8 +88,8 @@ module _ {stands : World → Type 0} {d e : DiskState} {k l : SinkState} (W : Wo
   pub ran_one : (so : StandsSo stands d (IsPlain x.1.op) (step W x.1.client x.1.op).1) → IsWorld so.world
       → ((c : List ℕ) → e.now c → Shows c so.world.geometry so.world.history (last so.world.history))
       → IfTold d (Wrote k l (replies W (x ∷ []))) → PutReplies k l W (x ∷ []) so.world → IfTold d (IsSome e.contents) → e.faults ≡ d.faults → CountsStand k l
-      → Ran stands d e k l W (x ∷ [])
-  ran_one so sound shown text put tells faults counts = record {
+      → l.is_broken ≡ k.is_broken → Ran stands d e k l W (x ∷ [])
+  ran_one so sound shown text put tells faults counts whole = record {
     sound = is;
     good = (good, tt);
     replies = text;
@@ -97,13 +102,14 @@ module _ {stands : World → Type 0} {d e : DiskState} {k l : SinkState} (W : Wo
     world = so.is;
     disk = faults;
     output = counts;
+    whole = whole;
   }
 
   -- one line may have been run, and halts
-  halted_at : (end : RunEnd) (V : World) → V.history ≡ (step W x.1.client x.1.op).1.history → V.geometry ≡ (step W x.1.client x.1.op).1.geometry → IsBehind d W (x ∷ []) V
+  halted_at : (end : RunEnd) (V : World) → (end ≡ Memory → MadeNothing d e W W ⊎ AllShow e V) → V.history ≡ (step W x.1.client x.1.op).1.history → V.geometry ≡ (step W x.1.client x.1.op).1.geometry → IsBehind d W (x ∷ []) V
       → IsLawful e → IfTold d (Replied end k l [] (replies W (x ∷ []))) → PutRepliesBy end k l W [] (x ∷ []) W V → IfUp end (stands V)
-      → DiskCount end d.faults e.faults → SinkCounts end k l → Answered stands d e k l W end [] (x ∷ [])
-  halted_at end V history geometry behind laws text put up faults counts =
+      → DiskCount end d.faults e.faults → SinkCounts end k l → l.is_broken ≡ k.is_broken → Answered stands d e k l W end [] (x ∷ [])
+  halted_at end V made history geometry behind laws text put up faults counts whole =
       let shown : LeavesOnly d e (ShowsBetween W V) = line_moments W x is good V history geometry moments in
       record {
         good = (good, tt);
@@ -121,21 +127,25 @@ module _ {stands : World → Type 0} {d e : DiskState} {k l : SinkState} (W : Wo
         exit = at_end laws shown;
         moments = shown;
         world = up;
+        unmade = made;
         disk = faults;
         output = counts;
+        at_once = λ before now. absurd (broke_not whole before now);
       }
 
   -- the step failed
-  pub halted_step : (end : RunEnd) → IsLawful e → IfTold d (Replied end k l [] (replies W (x ∷ [])))
+  pub halted_step : (end : RunEnd) → (end ≡ Memory → LeavesOnly d e (ShowsLast W)) → IsLawful e → IfTold d (Replied end k l [] (replies W (x ∷ [])))
       → PutRepliesBy end k l W [] (x ∷ []) W (step W x.1.client x.1.op).1 → IfUp end (stands (step W x.1.client x.1.op).1)
-      → DiskCount end d.faults e.faults → SinkCounts end k l → Answered stands d e k l W end [] (x ∷ [])
-  halted_step end laws text put up faults counts = halted_at end (step W x.1.client x.1.op).1 refl refl (behind_step W x is good) laws text put up faults counts
+      → DiskCount end d.faults e.faults → SinkCounts end k l → l.is_broken ≡ k.is_broken → Answered stands d e k l W end [] (x ∷ [])
+  halted_step end made laws text put up faults counts whole =
+      halted_at end (step W x.1.client x.1.op).1 (λ memory. let shown : LeavesOnly d e (ShowsBetween W W) = weakened (made memory) (shows_last W) in inl (record { exit = at_end laws shown; moments = shown }))
+      refl refl (behind_step W x is good) laws text put up faults counts whole
 
   -- the step was done
   pub halted_one : (end : RunEnd) → (so : StandsSo stands d (IsPlain x.1.op) (step W x.1.client x.1.op).1) → IsWorld so.world
-      → IsLawful e → IfTold d (Replied end k l [] (replies W (x ∷ []))) → PutRepliesBy end k l W [] (x ∷ []) W so.world → IfUp end (stands so.world)
-      → DiskCount end d.faults e.faults → SinkCounts end k l → Answered stands d e k l W end [] (x ∷ [])
-  halted_one end so sound laws text put up faults counts = halted_at end so.world so.history so.geometry (behind_one W x is good so sound) laws text put up faults counts
+      → ((c : List ℕ) → e.now c → Shows c so.world.geometry so.world.history (last so.world.history)) → IsLawful e → IfTold d (Replied end k l [] (replies W (x ∷ []))) → PutRepliesBy end k l W [] (x ∷ []) W so.world → IfUp end (stands so.world)
+      → DiskCount end d.faults e.faults → SinkCounts end k l → l.is_broken ≡ k.is_broken → Answered stands d e k l W end [] (x ∷ [])
+  halted_one end so sound shown laws text put up faults counts whole = halted_at end so.world (λ memory. inr (λ c here. shows_last so.world c (shown c here))) so.history so.geometry (behind_one W x is good so sound) laws text put up faults counts whole
 
 -- counts, after a run in which they stand
 disk_on : (end : RunEnd) (before mid now : ℕ) → mid ≡ before → DiskCount end mid now → DiskCount end before now
@@ -187,7 +197,17 @@ module _ {stands : World → Type 0} {d mid e : DiskState} {k mid_sink l : SinkS
         world = second.world;
         disk = second.disk ∙ first.disk;
         output = counts_on k mid_sink l first.output second.output;
+        whole = second.whole ∙ first.whole;
       }
+
+  -- nothing was made behind the later lines, and so behind all
+  made_behind : (first : Ran before_stands d mid k mid_sink W xs) {V F : World} → MadeNothing mid e first.reached V ⊎ AllShow e F → V ≡ first.reached
+      → LeadsTo W first.reached → MadeNothing d e W first.reached ⊎ AllShow e F
+  made_behind first (inr made) same leads = inr made
+  made_behind first (inl made) same leads =
+      let U = first.reached in
+      let nothing : MadeNothing mid e U U = subst (λ (V : World). MadeNothing mid e U V) same made in
+      inl (record { exit = nothing.exit; moments = runs_joined W U U leads (after_leads U [] leads.world tt) first.moments nothing.moments })
 
   -- more lines, behind which one halts
   pub halted_more : (end : RunEnd) → (first : Ran before_stands d mid k mid_sink W xs) → (ys ≡ [] → ⊥) → Answered stands mid e mid_sink l first.reached end [] ys
@@ -211,18 +231,21 @@ module _ {stands : World → Type 0} {d mid e : DiskState} {k mid_sink l : SinkS
         exit = λ c here. between_since U second.reached second.final second.reached_is.leads c (second.exit c here);
         moments = runs_joined W U second.final first.reached_is.leads second.final_is.leads first.moments second.moments;
         world = second.world;
+        unmade = λ memory. made_behind first (second.unmade memory) (second.reached_is.known (inr tt)) first.reached_is.leads;
         disk = disk_on end d.faults mid.faults e.faults first.disk second.disk;
         output = sink_on end k mid_sink l first.output second.output;
+        at_once = λ before now. second.at_once (first.whole ∙ before) now;
       }
 
 -- the run ends between two lines
-pub ended_here : {stands : World → Type 0} {d e : DiskState} {k l : SinkState} (W : World) (xs : List (ℕ × Line)) (end : RunEnd) → IsQuiet end → Ran stands d e k l W xs
+ended_by : {stands : World → Type 0} {d e : DiskState} {k mid l : SinkState} (W : World) (xs : List (ℕ × Line)) (end : RunEnd) → (ran : Ran stands d e k mid W xs)
+    → IfTold d (Replied end k l (replies W xs) []) → PutRepliesBy end k l W xs [] ran.reached ran.reached → DiskCount end d.faults e.faults → SinkCounts end k l
     → Answered stands d e k l W end xs []
-ended_here {stands = stands} {d = d} {e = e} {k = k} {l = l} W xs end quiet ran =
+ended_by {stands = stands} {d = d} W xs end ran text put faults counts =
     let all : xs ≡ xs ++ [] = sym (append-nil xs) in
     record {
       good = subst (λ (ys : List (ℕ × Line)). AreLines ys) all ran.good;
-      replies = λ told. quiet_replies end k l (replies W xs) [] quiet (ran.replies told);
+      replies = text;
       order = after_leads W xs ran.sound ran.good;
       order_next = after_on W xs [] ran.sound ran.good tt;
       acknowledged = all_kept W xs ran.sound ran.good;
@@ -232,10 +255,26 @@ ended_here {stands = stands} {d = d} {e = e} {k = k} {l = l} W xs end quiet ran 
       final_is = subst (λ (ys : List (ℕ × Line)). IsBehind d W ys ran.reached) all ran.reached_is;
       final_on = after_leads ran.reached [] ran.reached_is.leads.world tt;
       whole_is = λ none. refl;
-      on_any_disk = put_quiet end k l W ran.reached xs quiet ran.on_any_disk;
+      on_any_disk = put;
       exit = ran.exit;
       moments = ran.moments;
       world = if_up end (stands ran.reached) ran.world;
-      disk = quiet_disk end d.faults e.faults quiet ran.disk;
-      output = quiet_sink end k l quiet ran.output;
+      unmade = λ memory. inl (record { exit = ran.exit; moments = ran.moments });
+      disk = faults;
+      output = counts;
+      at_once = λ before now. refl;
     }
+
+-- with no fault
+pub ended_here : {stands : World → Type 0} {d e : DiskState} {k l : SinkState} (W : World) (xs : List (ℕ × Line)) (end : RunEnd) → IsQuiet end → Ran stands d e k l W xs
+    → Answered stands d e k l W end xs []
+ended_here {d = d} {e = e} {k = k} {l = l} W xs end quiet ran =
+    ended_by W xs end ran (λ told. quiet_replies end k l (replies W xs) [] quiet (ran.replies told)) (put_quiet end k l W ran.reached xs quiet ran.on_any_disk)
+    (quiet_disk end d.faults e.faults quiet ran.disk) (quiet_sink end k l quiet ran.output)
+
+-- the sink could not hand on what it held back
+pub held_here : {stands : World → Type 0} {d e : DiskState} {k mid l : SinkState} (W : World) (xs : List (ℕ × Line)) → Ran stands d e k mid W xs → Broke mid l
+    → Rose mid.faults l.faults → Answered stands d e k l W Output xs []
+held_here {k = k} {mid = mid} {l = l} W xs ran broke rose =
+    ended_by W xs Output ran (λ told. inr (refl, broke.written ∙ ran.replies told)) (put_held k mid l W ran.reached xs ran.on_any_disk broke.written)
+    ran.disk (inl (subst (λ n. Rose n l.faults) ran.output.faults rose, broke.refusals ∙ ran.output.refusals))

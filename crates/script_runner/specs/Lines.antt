@@ -41,7 +41,7 @@ abbrev pub IsByStep : Halt → Type 0
 IsByStep (halt.BadLine line) = ⊥
 IsByStep end = Unit {0}
 
--- From the world W these lines were answered, and no count rose.
+-- From the world W these lines were answered, no count rose, and the sink did not break.
 pub record Ran (stands : World → Type 0) (disk_old disk_new : DiskState) (output_old output_new : SinkState) (W : World) (done : List (ℕ × Line)) : Type 0 where
   pub sound : IsWorld W
   pub good : AreLines done
@@ -55,6 +55,7 @@ pub record Ran (stands : World → Type 0) (disk_old disk_new : DiskState) (outp
   pub world : stands reached
   pub disk : disk_new.faults ≡ disk_old.faults
   pub output : CountsStand output_old output_new
+  pub whole : output_new.is_broken ≡ output_old.is_broken
 
 -- What answering a text does, by what it says and what the answer is.
 abbrev pub AnswersParsed : (stands : World → Type 0) (disk_old disk_new : DiskState) (output_old output_new : SinkState) (W : World) (number : ℕ)

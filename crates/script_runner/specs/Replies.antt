@@ -12,9 +12,9 @@ pub record WroteBehind (old new : SinkState) (text next : List ℕ) : Type 0 whe
   pub wrote : Wrote old new (text ++ take count next)
 
 -- what the sink took of the replies: the whole text of those to the lines answered; where it ended the run, a front of
--- one more reply behind it
+-- one more reply behind it, or nothing more where no line ran behind those
 abbrev pub Replied : RunEnd → SinkState → SinkState → (text next : List ℕ) → Type 0
-Replied Output old new text next = WroteBehind old new text next
+Replied Output old new text next = WroteBehind old new text next ⊎ ((next ≡ []) × Wrote old new text)
 Replied end old new text next = Wrote old new text
 
 -- Whatever the disk tells, a line was answered so from the world W, and led to the world V: as the model does it, but for the
@@ -51,7 +51,7 @@ TellsCommit [] replies n = ⊥
 TellsCommit (line ∷ lines) [] n = ⊥
 TellsCommit (line ∷ lines) (reply ∷ replies) n = (IsPlain line.1.op × SaysCommit reply n) ⊎ TellsCommit lines replies n
 
--- what holds where the sink ended the run, and so the reply to one more line was made
+-- what holds where the sink ended the run, and so a reply was made to each line that ran
 abbrev pub IfCut : RunEnd → Type 0 → Type 0
 IfCut Output P = P
 IfCut end P = Unit {0}
@@ -62,7 +62,7 @@ pub record PutReplies (old new : SinkState) (W : World) (lines : List (ℕ × Li
   pub are : AreRepliesTo W lines given V
   pub put : Wrote old new (text_of lines given)
 
--- The sink took the text of such replies to the lines `done`, and a front of the one to the line `next` where it ended the run.
+-- The sink took the text of such replies to the lines `done`, and a front of the one to the line `next`, if one ran, where it ended the run.
 pub record PutRepliesBy (end : RunEnd) (old new : SinkState) (W : World) (done next : List (ℕ × Line)) (reached final : World) : Type 0 where
   pub given : List Reply
   pub last : List Reply

@@ -1,5 +1,5 @@
 -- What a run over the lines of a script has done.
-use Rattle.std.specs.Prelude.{◌≡◌, ◌⊎◌, ℕ, ◌≤◌, List, [], ◌∷◌, ◌++◌, Some, None, Contains, IfSome, length}
+use Rattle.std.specs.Prelude.{◌≡◌, ◌⊎◌, ℕ, ◌≤◌, false, List, [], ◌∷◌, ◌++◌, Some, None, Contains, IfSome, IsTrue, length}
 use Rattle.iso_disk.specs.Disk.{DiskState, LeavesOnly}
 use Rattle.iso_io.specs.{Source.{SourceState, MetEnd, Took}, Sink.SinkState}
 use Rattle.iso_model.specs.{declared.limits.TheConstants.MAX_INPUT, History.last, World.World, Worlds.LeadsTo, Between.ShowsBetween}
@@ -55,6 +55,16 @@ pub record IsBehind (d : DiskState) (W : World) (lines : List (ℕ × Line)) (V 
   pub known : IfKnown d (ArePlain lines) (V ≡ after W lines)
   pub leads : LeadsTo W V
 
+-- each image that a crash leaves now shows the history of this world at its last commit
+abbrev pub AllShow : DiskState → World → Type 0
+AllShow d V = (c : List ℕ) → d.now c → ShowsBetween V V c
+
+-- Behind the lines that led from the world W to this one nothing was made: each image shows its last commit, and at each moment of
+-- the run one from the last of W on to it.
+pub record MadeNothing (disk_old disk_new : DiskState) (W reached : World) : Type 0 where
+  pub exit : AllShow disk_new reached
+  pub moments : LeavesOnly disk_old disk_new (ShowsBetween W reached)
+
 -- From the world W the lines `done` were answered: the sink took the whole reply to each. Behind them the machine may
 -- have run the lines `next`.
 pub record Answered (stands : World → Type 0) (disk_old disk_new : DiskState) (output_old output_new : SinkState) (W : World) (end : RunEnd)
@@ -82,9 +92,13 @@ pub record Answered (stands : World → Type 0) (disk_old disk_new : DiskState) 
   pub moments : LeavesOnly disk_old disk_new (ShowsBetween W final)
   -- the machine answers as the world after these lines
   pub world : IfUp end (stands final)
+  -- where memory was wanting the line behind those answered made nothing, or was done as a whole, and its text alone is missing
+  pub unmade : end ≡ Memory → MadeNothing disk_old disk_new W reached ⊎ AllShow disk_new final
   -- no fault was passed over
   pub disk : DiskCount end disk_old.faults disk_new.faults
   pub output : SinkCounts end output_old output_new
+  -- where the sink broke, which it does where it cannot hand on, no line ran behind those answered
+  pub at_once : output_old.is_broken ≡ false → IsTrue output_new.is_broken → next ≡ []
 
 -- What a run from the world W has done that ended so.
 pub record HasRun (stands : World → Type 0) (disk_old disk_new : DiskState) (input_old input_new : SourceState) (output_old output_new : SinkState)

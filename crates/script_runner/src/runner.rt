@@ -62,8 +62,11 @@ fn answer_next<M: ScriptMachine, S: Source, K: Sink>(
         → Reads (M.stands machine.old) (M.disk m) (M.disk machine.old) k (K.state output.old) W bytes progress.old.number progress.old.held.items
         → IfErr result (λ end. HasRun (M.stands machine.new) (M.disk m) (M.disk machine.new) i (S.state input.new) k (K.state output.new) W end) }
 {
-    // whoever feeds the input by what it is told has all replies before more input is waited for
-    output.hand_on();
+    // whoever feeds the input by what it is told has all replies before more input is waited for; where they do not come out, no
+    // line more is run
+    if let Err(_) = output.hand_on() {
+        return Err(RunEnd::Output);
+    }
     let count = match input.take(piece) {
         Ok(count) => count,
         Err(_) => return Err(RunEnd::Input),
@@ -148,7 +151,7 @@ fn answer_input<M: ScriptMachine, S: Source, K: Sink>(
 }
 
 /// Answers the lines of an input on a machine. The sink has the whole reply to each line before the next line runs, and hands
-/// on what it holds back before more input is taken. The input is taken in pieces of up to 65,536 bytes, and no more than 2^32
+/// on what it holds back before more input is taken; where it cannot, the run ends, and no line more has run. The input is taken in pieces of up to 65,536 bytes, and no more than 2^32
 /// bytes of it. A line that is bad, a fault and want of memory end the run at once.
 pub fn run<M: ScriptMachine, S: Source, K: Sink>(
     alloc: Global,

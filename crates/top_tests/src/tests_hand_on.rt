@@ -26,9 +26,9 @@ impl Sink for Counted {
         self.kept.put(bytes)
     }
 
-    fn hand_on(&mut self) {
+    fn hand_on(&mut self) -> Result<(), SinkFault> {
         self.times = self.times.saturating_add(1);
-        self.kept.hand_on();
+        self.kept.hand_on()
     }
 }
 

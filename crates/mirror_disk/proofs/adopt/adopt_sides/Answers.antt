@@ -1,4 +1,4 @@
-use Rattle.mirror_disk.proofs.{Words.{inl, inr, starts_unwritten}, Adopted.{alike_behind, choice_fails, ended_early, mark_of, told_header}}
+use Rattle.mirror_disk.proofs.{Words.{arith, inl, inr, starts_unwritten}, Adopted.{alike_behind, choice_fails, ended_early, mark_of, told_header}}
 use Rattle.mirror_disk.proofs.adopt.adopt_sides.Goals as goal
 
 pub returns-then-size-other-clause-kept : goal.returns-then-size-other-clause-kept
@@ -31,16 +31,28 @@ pub returns-in_default-two-clause-cause : goal.returns-in_default-two-clause-cau
 returns-in_default-two-clause-cause g c = inr (inr (inr (c.in-Ok.ensures.not_second c.in_default-two.is)))
 
 pub returns-in_default-clause-choice : goal.returns-in_default-clause-choice
-returns-in_default-clause-choice g c is = (c.read_headers.new.first, c.read_headers.new.second, inl c.in_default.ensures.cause)
+returns-in_default-clause-choice g c is =
+    let call = c.read_headers in (
+      call.new.first,
+      call.new.second,
+      record { first_before = call.ensures.later.0; first_behind = omega arith; second_before = call.ensures.later.1; second_behind = omega arith; by = inl c.in_default.ensures.cause },
+    )
 
 pub returns-in-Err-clause-choice : goal.returns-in-Err-clause-choice
 returns-in-Err-clause-choice g c is =
     let call = c.read_headers in (
       call.new.first,
       call.new.second,
-      choice_fails (g.A.Disk.state c.args.first.now) (g.B.Disk.state c.args.second.now) (g.A.Disk.state call.new.first) (g.B.Disk.state call.new.second) (g.A.Disk.state c.settle_on.new.first) (g.B.Disk.state c.settle_on.new.second) c.in-Some.one c.in-Some-two.two
-          (g.met.A.Disk.lawful call.new.first) (g.met.B.Disk.lawful call.new.second) call.ensures.first_unwritten call.ensures.second_unwritten
-          (mark_of (g.A.Disk.state call.new.first) c.in-Ok.one c.in-Some.one c.in-Some.is c.in-Ok.ensures.first_mark) (mark_of (g.B.Disk.state call.new.second) c.in-Ok.two c.in-Some-two.two c.in-Some-two.is c.in-Ok.ensures.second_mark) c.in-Err.ensures.first_cause c.in-Err.ensures.second_cause,
+      record {
+        first_before = call.ensures.later.0;
+        first_behind = c.settle_on.ensures.later.0;
+        second_before = call.ensures.later.1;
+        second_behind = c.settle_on.ensures.later.1;
+        by =
+            choice_fails (g.A.Disk.state c.args.first.now) (g.B.Disk.state c.args.second.now) (g.A.Disk.state call.new.first) (g.B.Disk.state call.new.second) (g.A.Disk.state c.settle_on.new.first) (g.B.Disk.state c.settle_on.new.second) c.in-Some.one c.in-Some-two.two
+            (g.met.A.Disk.lawful call.new.first) (g.met.B.Disk.lawful call.new.second) call.ensures.first_unwritten call.ensures.second_unwritten
+            (mark_of (g.A.Disk.state call.new.first) c.in-Ok.one c.in-Some.one c.in-Some.is c.in-Ok.ensures.first_mark) (mark_of (g.B.Disk.state call.new.second) c.in-Ok.two c.in-Some-two.two c.in-Some-two.is c.in-Ok.ensures.second_mark) c.in-Err.ensures.first_cause c.in-Err.ensures.second_cause;
+      },
     )
 
 pub returns-then-size-other-clause-still : goal.returns-then-size-other-clause-still

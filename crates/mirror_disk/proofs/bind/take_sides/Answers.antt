@@ -1,4 +1,16 @@
-use Rattle.mirror_disk.proofs.{Words.{first_name, second_name}, Blank.named_taken}
+use Rattle.mirror_disk.proofs.{Words.{inl, inr, ⊎_elim, first_name, second_name}, Blank.named_taken, Done.rose_behind}
+
+-- the sides that are not taken for a mirror are those that were bound
+pub returns-in-Err-clause-cause : Rattle.mirror_disk.proofs.bind.take_sides.Goals.returns-in-Err-clause-cause
+returns-in-Err-clause-cause g c =
+    ⊎_elim (λ rose. inl (⊎_elim (λ first. inl (rose_behind _ _ _ c.bind_side.ensures.cause.later first)) (λ second. inr (rose_behind _ _ _ c.bind_side-2.ensures.cause.later second)) rose))
+    (λ refuses. inr (
+      c.bind_side.new.side,
+      c.bind_side-2.new.side,
+      record { bound = (_, c.in_ok-bind_side.ensures.bound); reads = c.in_ok-bind_side.ensures.existing },
+      record { bound = (_, c.in_ok-bind_side-2.ensures.bound); reads = c.in_ok-bind_side-2.ensures.existing },
+      refuses,
+    )) c.in-Err.ensures.cause
 
 pub returns-in-Ok-clause-existing : Rattle.mirror_disk.proofs.bind.take_sides.Goals.returns-in-Ok-clause-existing
 returns-in-Ok-clause-existing g c =

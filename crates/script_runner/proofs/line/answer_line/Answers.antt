@@ -5,24 +5,26 @@ pub returns-in-Err-Disk-clause-halted : goal.returns-in-Err-Disk-clause-halted
 returns-in-Err-Disk-clause-halted g c W number stood =
     let law = g.met.M.ScriptMachine in (
       tt,
-      halted_step {stands = g.M.ScriptMachine.stands c.step.new.self} W (number, c.args.line.now) (law.sound c.args.machine.now W stood) c.requires.line.op (c.step.ensures.moments W stood) Disk (law.lawful c.step.new.self)
-          (λ told. sym (append_known-nil _)) (put_silent Disk _ W _ (number, c.args.line.now) (λ P. tt) (sym (append_known-nil _))) tt (c.step.ensures.cause.failed (c.in-Err-Disk.is ∙ ap (λ s. Err s) c.in-Err-Disk.field-0-is)) (counts_stand _),
+      halted_step {stands = g.M.ScriptMachine.stands c.step.new.self} W (number, c.args.line.now) (law.sound c.args.machine.now W stood) c.requires.line.op (c.step.ensures.moments W stood) Disk (λ memory. absurd (cc memory)) (law.lawful c.step.new.self)
+          (λ told. sym (append_known-nil _)) (put_silent Disk _ W _ (number, c.args.line.now) (λ P. tt) (sym (append_known-nil _))) tt (c.step.ensures.cause.failed (c.in-Err-Disk.is ∙ ap (λ s. Err s) c.in-Err-Disk.field-0-is)) (counts_stand _) refl,
     )
 
 pub returns-in-Err-Memory-clause-halted : goal.returns-in-Err-Memory-clause-halted
 returns-in-Err-Memory-clause-halted g c W number stood =
     let law = g.met.M.ScriptMachine in (
       tt,
-      halted_step {stands = g.M.ScriptMachine.stands c.step.new.self} W (number, c.args.line.now) (law.sound c.args.machine.now W stood) c.requires.line.op (c.step.ensures.moments W stood) Memory (law.lawful c.step.new.self)
-          (λ told. sym (append_known-nil _)) (put_silent Memory _ W _ (number, c.args.line.now) (λ P. tt) (sym (append_known-nil _))) tt (c.step.ensures.cause.memory (c.in-Err-Memory.is ∙ ap (λ s. Err s) c.in-Err-Memory.field-0-is)) (counts_stand _),
+      halted_step {stands = g.M.ScriptMachine.stands c.step.new.self} W (number, c.args.line.now) (law.sound c.args.machine.now W stood) c.requires.line.op (c.step.ensures.moments W stood) Memory
+          (λ memory. c.step.ensures.unmade W stood (c.in-Err-Memory.is ∙ ap (λ s. Err s) c.in-Err-Memory.field-0-is)) (law.lawful c.step.new.self)
+          (λ told. sym (append_known-nil _)) (put_silent Memory _ W _ (number, c.args.line.now) (λ P. tt) (sym (append_known-nil _))) tt (c.step.ensures.cause.memory (c.in-Err-Memory.is ∙ ap (λ s. Err s) c.in-Err-Memory.field-0-is)) (counts_stand _) refl,
     )
 
 pub returns-in-Err-clause-halted : goal.returns-in-Err-clause-halted
 returns-in-Err-clause-halted g c W number stood =
     let law = g.met.M.ScriptMachine in (
       tt,
-      halted_one W (number, c.args.line.now) (law.sound c.args.machine.now W stood) c.requires.line.op (c.step.ensures.moments W stood) Memory (c.in-Ok.ensures.world W stood) (law.sound c.step.new.self (c.in-Ok.ensures.world W stood).world (c.in-Ok.ensures.world W stood).is) (law.lawful c.step.new.self)
-          (λ told. sym (append_known-nil _)) (put_silent Memory _ W _ (number, c.args.line.now) (λ P. tt) (sym (append_known-nil _))) tt c.in-Ok.ensures.cause.passed (counts_stand _),
+      halted_one W (number, c.args.line.now) (law.sound c.args.machine.now W stood) c.requires.line.op (c.step.ensures.moments W stood) Memory (c.in-Ok.ensures.world W stood) (law.sound c.step.new.self (c.in-Ok.ensures.world W stood).world (c.in-Ok.ensures.world W stood).is)
+          (λ d here. law.shown c.step.new.self (c.in-Ok.ensures.world W stood).world d (c.in-Ok.ensures.world W stood).is here) (law.lawful c.step.new.self)
+          (λ told. sym (append_known-nil _)) (put_silent Memory _ W _ (number, c.args.line.now) (λ P. tt) (sym (append_known-nil _))) tt c.in-Ok.ensures.cause.passed (counts_stand _) refl,
     )
 
 pub returns-in-Err-put_all-clause-halted : goal.returns-in-Err-put_all-clause-halted
@@ -42,18 +44,18 @@ returns-in-Err-put_all-clause-halted g c W number stood =
       | TookNothing ↦ λ is. let how = c.in-Err-put_all.is ∙ ap (λ s. Err s) is in inr (put.took_nothing how, put.not_failed how)
     ] refl in (
       tt,
-      halted_one W x (law.sound c.args.machine.now W stood) c.requires.line.op (c.step.ensures.moments W stood) Output so (law.sound c.step.new.self so.world so.is) (law.lawful c.step.new.self)
-          (λ told. record {
+      halted_one W x (law.sound c.args.machine.now W stood) c.requires.line.op (c.step.ensures.moments W stood) Output so (law.sound c.step.new.self so.world so.is) (λ d here. law.shown c.step.new.self so.world d so.is here) (law.lawful c.step.new.self)
+          (λ told. inl (record {
             count = err.count;
             short = subst (λ (t : List ℕ). err.count < length t) (text told) err.short;
             wrote = err.wrote ∙ ap (λ t. append_known (g.K.Sink.state c.args.output.now).written (take err.count t)) (text told);
-          })
-          (put_front (g.K.Sink.state c.args.output.now) (g.K.Sink.state c.put_all.new.sink) W so.world x c.in-Ok.answer (is_reply W c.args.line.now c.in-Ok.answer so (law.sound c.step.new.self so.world so.is) (c.in-Ok.ensures.but_shown W stood)) (record {
+          }))
+          (put_front (g.K.Sink.state c.args.output.now) (g.K.Sink.state c.put_all.new.sink) W so.world x c.in-Ok.answer (is_reply W c.args.line.now c.in-Ok.answer so (law.sound c.step.new.self so.world so.is) (c.in-Ok.ensures.but_shown W stood)) (inl (record {
             count = err.count;
             short = subst (λ (t : List ℕ). err.count < length t) made err.short;
             wrote = err.wrote ∙ ap (λ t. append_known (g.K.Sink.state c.args.output.now).written (take err.count t)) made;
-          }))
-          so.is c.in-Ok.ensures.cause.passed failed,
+          })))
+          so.is c.in-Ok.ensures.cause.passed failed put.whole,
     )
 
 pub returns-clause-ran : goal.returns-clause-ran
@@ -68,4 +70,4 @@ returns-clause-ran g c W number stood =
     ran_one W x (law.sound c.args.machine.now W stood) c.requires.line.op (c.step.ensures.moments W stood) so (law.sound c.step.new.self so.world so.is) (λ d here. law.shown c.step.new.self so.world d so.is here)
     (λ told. c.in_default-put_all.ensures.ok ∙ ap (append_known (g.K.Sink.state c.args.output.now).written) (text told))
     (put_one (g.K.Sink.state c.args.output.now) (g.K.Sink.state c.put_all.new.sink) W x c.in-Ok.answer so.world (is_reply W c.args.line.now c.in-Ok.answer so (law.sound c.step.new.self so.world so.is) (c.in-Ok.ensures.but_shown W stood))
-    (c.in_default-put_all.ensures.ok ∙ ap (append_known (g.K.Sink.state c.args.output.now).written) made)) c.in-Ok.ensures.told c.in-Ok.ensures.cause.passed c.in_default-put_all.ensures.passed
+    (c.in_default-put_all.ensures.ok ∙ ap (append_known (g.K.Sink.state c.args.output.now).written) made)) c.in-Ok.ensures.told c.in-Ok.ensures.cause.passed c.in_default-put_all.ensures.passed c.put_all.ensures.whole
