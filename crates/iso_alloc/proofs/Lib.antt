@@ -1,6 +1,7 @@
 pub mod Words
 pub mod Loops
 mod Zeros
+mod KeyParts
 pub mod Bits
 pub mod Laying
 pub mod Finding

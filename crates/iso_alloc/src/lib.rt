@@ -12,8 +12,8 @@ pub use buffers::{buffer, is_key, is_value, spelled};
 pub use cells::Cells;
 pub use free_map::{free_blocks, give_back, map_span, region_of, take_lowest};
 pub use parts::{
-    are_zero, cell_count, clear, is_part, key_part, lay, lay_alone, piece, spell, text_of,
-    value_part, word_at,
+    are_zero, cell_count, clear, is_key_part, is_part, key_part, lay, lay_alone, piece, spell,
+    text_of, value_part, word_at,
 };
 pub use search::{are_key_parts, cell_with, is_alone, unused_cell};
 pub use store_model::{Region, StoreError};

@@ -3,6 +3,7 @@ ghost use Rattle.std.specs.{Prelude.{◌≡◌, ◌+◌, ◌-◌, ◌*◌, ◌<�
 ghost use Rattle.store_model.specs.{Cells.{block_with, cell_count, is_part, is_zero, key_mark, laid_at, part_of, text_of, value_part, word_at}, Stores.bytes_in};
 
 use byteorder::{BigEndian, ByteOrder};
+use std::simd::prelude::*;
 
 /// How many cells a block of `size` bytes has.
 pub fn cell_count(size: usize) -> usize
@@ -66,6 +67,21 @@ pub fn key_part(keys: &[u8], cell: usize) -> &[u8]
     ensures length { length result.now ≡ 31 }
 {
     piece(keys, 64 + 31 * cell, 31)
+}
+
+/// Whether the key part of a cell is a length of at most 28, so many bytes, and zeros. All of it is looked at at once, with the byte
+/// before it.
+pub fn is_key_part(keys: &[u8], cell: usize) -> bool
+    requires { 64 + 31 * cell + 31 ≤ length keys.now }
+    ensures { result ≡ is_part 28 (bytes_in (key_mark cell) keys.now) }
+{
+    let at = 64 + 31 * cell;
+    let other = u8x32::from_slice(&keys[at - 1..])
+        .simd_ne(u8x32::splat(0))
+        .to_bitmask();
+    let len = keys[at];
+    // Bit i + 1 stands for byte i of the part.
+    len <= 28 && other >> (len + 2) == 0
 }
 
 /// Puts bytes in the place of others, from `at` on.

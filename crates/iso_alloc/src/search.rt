@@ -2,7 +2,7 @@
 ghost use Rattle.std.specs.Prelude.{◌≡◌, ◌+◌, ◌*◌, ◌<◌, ◌≤◌, ◌==◌, ◌||◌, true, length, IfSome};
 ghost use Rattle.store_model.specs.{Cells.{cell_count, keys_end, are_key_parts, cell_with, is_unused, unused_cell}, HashCalls.is_alone};
 
-use crate::parts::{cell_count, is_part, key_part, text_of};
+use crate::parts::{cell_count, is_key_part, key_part, text_of};
 
 /// Whether the key parts of a block of `size` bytes are well formed.
 pub fn are_key_parts(size: usize, keys: &[u8]) -> bool
@@ -11,7 +11,7 @@ pub fn are_key_parts(size: usize, keys: &[u8]) -> bool
     ensures { result ≡ are_key_parts size keys.now }
 {
     for cell in 0..cell_count(size) {
-        if !is_part(key_part(keys, cell), 28) {
+        if !is_key_part(keys, cell) {
             return false;
         }
     }

@@ -1,13 +1,11 @@
-use Rattle.iso_alloc.proofs.{Words.{◌≡◌, ◌∙◌, sym, ap, true, false, arith, common_steps, is_part, key_mark, are_key_parts, bytes_in}, Loops.{all_fails, all_goes_on}}
+use Rattle.iso_alloc.proofs.{Words.{◌≡◌, ◌∙◌, sym, true, false, arith, common_steps, is_part, key_mark, are_key_parts, bytes_in}, Loops.{all_fails, all_goes_on}}
 
-pub returns-then-not-is_part : Rattle.iso_alloc.proofs.search.are_key_parts.Goals.returns-then-not-is_part
-returns-then-not-is_part c =
-    let so : is_part 28 (bytes_in (key_mark c.loop-cell.cell) c.args.keys.now) ≡ c.is_part.result = ap (is_part 28) (sym c.key_part.ensures.part) ∙ sym c.is_part.ensures in
-    let fails : c.is_part.result ≡ false = grind (arith, common_steps) in
-    sym (all_fails (λ i. is_part 28 (bytes_in (key_mark i) c.args.keys.now)) c.loop-cell.cell c.cell_count-cell-end.result (are_key_parts c.args.size c.args.keys.now) c.loop-cell-test.true c.loop-cell.invariant (so ∙ fails))
+pub returns-then-not-is_key_part : Rattle.iso_alloc.proofs.search.are_key_parts.Goals.returns-then-not-is_key_part
+returns-then-not-is_key_part c =
+    let fails : c.is_key_part.result ≡ false = grind (arith, common_steps) in
+    sym (all_fails (λ i. is_part 28 (bytes_in (key_mark i) c.args.keys.now)) c.loop-cell.cell c.cell_count-cell-end.result (are_key_parts c.args.size c.args.keys.now) c.loop-cell-test.true c.loop-cell.invariant (sym c.is_key_part.ensures ∙ fails))
 
 pub loop-cell-preserved : Rattle.iso_alloc.proofs.search.are_key_parts.Goals.loop-cell-preserved
 loop-cell-preserved c =
-    let so : is_part 28 (bytes_in (key_mark c.loop-cell.cell) c.args.keys.now) ≡ c.is_part.result = ap (is_part 28) (sym c.key_part.ensures.part) ∙ sym c.is_part.ensures in
-    let passes : c.is_part.result ≡ true = grind (arith, common_steps) in
-    all_goes_on (λ i. is_part 28 (bytes_in (key_mark i) c.args.keys.now)) c.loop-cell.cell c.cell_count-cell-end.result (are_key_parts c.args.size c.args.keys.now) c.loop-cell-test.true c.loop-cell.invariant (so ∙ passes)
+    let passes : c.is_key_part.result ≡ true = grind (arith, common_steps) in
+    all_goes_on (λ i. is_part 28 (bytes_in (key_mark i) c.args.keys.now)) c.loop-cell.cell c.cell_count-cell-end.result (are_key_parts c.args.size c.args.keys.now) c.loop-cell-test.true c.loop-cell.invariant (sym c.is_key_part.ensures ∙ passes)
