@@ -1,5 +1,5 @@
 -- What no run puts of the script of the tests, whatever its disk tells.
-use Rattle.script_runner.proofs.{Words.{◌≡◌, ◌∙◌, ℕ, List, [], ◌∷◌, ◌++◌, Some, None, ap, subst, get_or, arith, codes, digits, DiskState, SinkState, World, Line, End, Reply, reply_text, Done, rehearsed, AreRepliesTo, text_of, Answered, SameButShown}, Rehearsals.second_end}
+use Rattle.script_runner.proofs.{Words.{◌≡◌, ◌∙◌, ℕ, false, List, [], ◌∷◌, ◌++◌, Some, None, ap, subst, get_or, arith, codes, digits, DiskState, SinkState, World, Line, End, Reply, reply_text, Done, rehearsed, AreRepliesTo, text_of, Answered, SameButShown}, Rehearsals.second_end}
 use Rattle.script_model.specs.declared.script.Reply.TheVariants as reply
 
 -- the line that makes the first commit

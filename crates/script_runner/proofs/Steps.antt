@@ -1,5 +1,5 @@
 -- Lines that are answered one after the other.
-use Rattle.script_runner.proofs.{Words.{arith, ◌≡◌, ℕ, Bool, false, IsTrue, List, [], ◌∷◌, ◌++◌, ap, refl, sym, subst, ◌∙◌, inl, inr, append_assoc, append-nil, IsSome, AllByRecursion, append_known, Rose, DiskState, IsLawful, LeavesOnly, started, weakened, at_end, SinkState, Broke, CountsStand, Wrote, append_known-nil, Line, last, Shows, replies, after, step, reply_line, World, AreLines, IsOp, IsWorld, LeadsTo, after_leads, step_leads, RunEnd, ShowsEither, ShowsBetween, ShowsLast, DiskCount, SinkCounts, Ran, IfTold, IsPlain, StandsSo, PutReplies, PutRepliesBy, Replied, Answered, IfUp, IsBehind, AllShow, MadeNothing, leads_on, Disk, Output, Memory}, Acknowledged.all_kept, Replying.{IsQuiet, put_halted, put_held, put_more, put_none, put_quiet, quiet_replies, replied_on, wrote_on}, Histories.{between_since, runs_joined, shows_last, step_between}}
+use Rattle.script_runner.proofs.{Words.{arith, ◌≡◌, ◌⊎◌, ℕ, Bool, false, IsTrue, List, [], ◌∷◌, ◌++◌, ap, refl, sym, subst, ◌∙◌, inl, inr, append_assoc, append-nil, IsSome, AllByRecursion, append_known, Rose, DiskState, IsLawful, LeavesOnly, started, weakened, at_end, SinkState, Broke, CountsStand, Wrote, append_known-nil, Line, last, Shows, replies, after, step, reply_line, World, AreLines, IsOp, IsWorld, LeadsTo, after_leads, step_leads, RunEnd, ShowsEither, ShowsBetween, ShowsLast, DiskCount, SinkCounts, Ran, IfTold, IsPlain, StandsSo, PutReplies, PutRepliesBy, Replied, Answered, IfUp, IsBehind, AllShow, MadeNothing, leads_on, Disk, Output, Memory}, Acknowledged.all_kept, Replying.{IsQuiet, put_halted, put_held, put_more, put_none, put_quiet, quiet_replies, replied_on, wrote_on}, Histories.{between_since, runs_joined, shows_last, step_between}}
 
 pub after-append : (W : World) (xs ys : List (ℕ × Line)) → after W (xs ++ ys) ≡ after (after W xs) ys
 after-append W [] ys = refl
@@ -176,6 +176,16 @@ after_on : (W : World) (xs ys : List (ℕ × Line)) → IsWorld W → AreLines x
 after_on W xs ys is good more =
     subst (λ (V : World). LeadsTo (after W xs) V) (sym (after-append W xs ys)) (after_leads (after W xs) ys (after_leads W xs is good).world more)
 
+-- nothing was made behind the later lines, and so behind all
+made_behind : {stands : World → Type 0} {d mid e : DiskState} {k l : SinkState} (W : World) (xs : List (ℕ × Line)) → (first : Ran stands d mid k l W xs)
+    → {V F : World} → MadeNothing mid e first.reached V ⊎ AllShow e F → V ≡ first.reached → MadeNothing d e W first.reached ⊎ AllShow e F
+made_behind W xs first (inr made) same = inr made
+made_behind {mid = mid} {e = e} W xs first (inl made) same =
+    let U = first.reached in
+    let leads = first.reached_is.leads in
+    let nothing : MadeNothing mid e U U = subst (λ (V : World). MadeNothing mid e U V) same made in
+    inl (record { exit = nothing.exit; moments = runs_joined W U U leads (after_leads U [] leads.world tt) first.moments nothing.moments })
+
 module _ {stands : World → Type 0} {d mid e : DiskState} {k mid_sink l : SinkState} {before_stands : World → Type 0} (W : World) (xs ys : List (ℕ × Line)) where
   -- more lines
   pub ran_more : (first : Ran before_stands d mid k mid_sink W xs) → Ran stands mid e mid_sink l first.reached ys → Ran stands d e k l W (xs ++ ys)
@@ -200,15 +210,6 @@ module _ {stands : World → Type 0} {d mid e : DiskState} {k mid_sink l : SinkS
         whole = second.whole ∙ first.whole;
       }
 
-  -- nothing was made behind the later lines, and so behind all
-  made_behind : (first : Ran before_stands d mid k mid_sink W xs) {V F : World} → MadeNothing mid e first.reached V ⊎ AllShow e F → V ≡ first.reached
-      → LeadsTo W first.reached → MadeNothing d e W first.reached ⊎ AllShow e F
-  made_behind first (inr made) same leads = inr made
-  made_behind first (inl made) same leads =
-      let U = first.reached in
-      let nothing : MadeNothing mid e U U = subst (λ (V : World). MadeNothing mid e U V) same made in
-      inl (record { exit = nothing.exit; moments = runs_joined W U U leads (after_leads U [] leads.world tt) first.moments nothing.moments })
-
   -- more lines, behind which one halts
   pub halted_more : (end : RunEnd) → (first : Ran before_stands d mid k mid_sink W xs) → (ys ≡ [] → ⊥) → Answered stands mid e mid_sink l first.reached end [] ys
       → Answered stands d e k l W end xs ys
@@ -231,7 +232,7 @@ module _ {stands : World → Type 0} {d mid e : DiskState} {k mid_sink l : SinkS
         exit = λ c here. between_since U second.reached second.final second.reached_is.leads c (second.exit c here);
         moments = runs_joined W U second.final first.reached_is.leads second.final_is.leads first.moments second.moments;
         world = second.world;
-        unmade = λ memory. made_behind first (second.unmade memory) (second.reached_is.known (inr tt)) first.reached_is.leads;
+        unmade = λ memory. made_behind W xs first (second.unmade memory) (second.reached_is.known (inr tt));
         disk = disk_on end d.faults mid.faults e.faults first.disk second.disk;
         output = sink_on end k mid_sink l first.output second.output;
         at_once = λ before now. second.at_once (first.whole ∙ before) now;

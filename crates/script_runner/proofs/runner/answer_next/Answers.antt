@@ -6,7 +6,7 @@ fits bytes piece into count same few = omega (arith, same, few, length-append by
 pub returns-in-Err-clause-ends : Rattle.script_runner.proofs.runner.answer_next.Goals.returns-in-Err-clause-ends
 returns-in-Err-clause-ends g c W m i k bytes gave few r =
     halt_runs i (g.S.Source.state c.args.input.now) W bytes gave (omega (arith, few)) Output
-    (held_ends W bytes c.args.progress.now.number c.args.progress.now.held.items r c.in-Err.ensures.breaks (c.hand_on.ensures.cause.failed c.in-Err.is))
+    (held_ends W bytes c.args.progress.now.number c.args.progress.now.held.items r c.in-Err.ensures.breaks (c.in-Err.ensures.cause.failed refl))
 
 pub returns-in-Err-take-clause-ends : Rattle.script_runner.proofs.runner.answer_next.Goals.returns-in-Err-take-clause-ends
 returns-in-Err-take-clause-ends g c W m i k bytes gave few r =
