@@ -26,7 +26,7 @@ BUDGETS = {
     "docs/script.md": 3900,
     "docs/image.md": 2400,
     "docs/stores.md": 2600,
-    "docs/threads.md": 2000,
+    "docs/threads.md": 2100,
     "docs/library.md": 1800,
     "docs/promises.md": 4600,
     "docs/developing.md": 2400,

@@ -2,7 +2,7 @@
 ghost use Rattle.std.specs.Prelude.{◌≡◌, ◌⊎◌, ◌<◌, ◌≤◌, is_some, length, map, IfErr, IfOk};
 ghost use Rattle.iso_core.specs.declared.group_end.TheConstants.{MAX_GROUP};
 ghost use Rattle.iso_model.specs.declared.core_error.CoreError.TheVariants.{Disk as OfDisk, Down as OfDown, Memory as OfMemory};
-ghost use Rattle.iso_shared.specs.Ports.{IsPort, port_view};
+ghost use Rattle.iso_shared.specs.{declared.entry.Entry.TheVariants.EndGroup, Groups.answered, Ports.{IsPort, MadeAll, port_view, tx_view}, Told.members_in};
 ghost use Rattle.group_commit.specs.Groups.{AreMembers, AreTxs, HasEnded, HasGrouped, KnowsAll, found_in, marks_of, units_all};
 
 use crate::aborts::{abort_all, abort_found};
@@ -15,7 +15,7 @@ use std::alloc::Global;
 use std::sync::Wait;
 
 /// Ends a group in one turn. Those that are handed back are aborted.
-fn end_all<D: Disk + Drop, O: Origin, R: Wait>(
+pub(crate) fn end_all<D: Disk + Drop, O: Origin, R: Wait>(
     rt: &R,
     shared: &Shared<D, O>,
     port: &mut Port<D, O>,
@@ -28,6 +28,7 @@ fn end_all<D: Disk + Drop, O: Origin, R: Wait>(
     ensures port { IsPort shared.now port.new }
     ensures units { (port_view port.new).units ≡ units_all (port_view port.old) group.items }
     ensures did { HasEnded O.start (port_view port.old) group.items result (port_view port.new) }
+    ensures made { IfOk result (λ replies. MadeAll O.start (port_view port.old) (map tx_view group.items) (EndGroup (answered (members_in group.items) replies)) (port_view port.new)) }
     ensures only { IfErr result (λ e. (e ≡ OfDown) ⊎ (e ≡ OfDisk) ⊎ (e ≡ OfMemory)) }
     ensures told { KnowsAll group.items (port_view port.new).seen }
 {

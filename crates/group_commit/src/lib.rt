@@ -1,12 +1,16 @@
-//! Transactions that end as a group: those that were found under labels, with an answer for each label.
+//! Transactions that end as a group: those that were found under labels, with an answer for each label, and those that were handed
+//! in, each of which learns how it ended.
 //!
 //! `commit_group` says which entries it makes, in order and legal, what each place is answered and whose places they are (`did`). The
-//! port has all units (`units`) and knows what each member did (`told`), also after a refusal. The call may wait.
+//! port has all units (`units`) and knows what each member did (`told`), also after a refusal. `end_each` and `commit_each` give each
+//! member a port that has seen its end (`ok`, `told`). Each of these calls may wait.
 #![tactic(auto)]
 
 mod aborts;
 mod answers;
 mod commit;
+mod each;
 mod members;
 
 pub use commit::commit_group;
+pub use each::{Ended, commit_each, end_each};

@@ -246,7 +246,7 @@ module _ {D O : Type 0} (s : Shared D O) (A : Start) where
         distinct_by (numbers_in ts) (λ n. let a = each n in let b = sum n in let one = alone some n in omega (arith, a, b, one)),
       )
 
-  is_back : (mid seen : List Entry) (t u w x : Tx D O) → IsPrefix mid seen → IsNoteOf s A mid t u → IsSameTx u w → IsPartOf s seen w x → IsBack s A seen t x
+  pub is_back : (mid seen : List Entry) (t u w x : Tx D O) → IsPrefix mid seen → IsNoteOf s A mid t u → IsSameTx u w → IsPartOf s seen w x → IsBack s A seen t x
   is_back mid seen t u w x p noted same part =
       let work : x.work ≡ (let d : Doing = record u.work { settled = x.work.settled } in d) = part.work ∙ same.work ∙ (λ i. record u.work { settled = (sym part.work i).settled }) in
       let number : x.number ≡ u.number = part.number ∙ same.number in

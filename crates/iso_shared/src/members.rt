@@ -1,6 +1,6 @@
 // The passes of the members of a group: they are joined into a port, and split off again.
 ghost use Rattle.std.specs.{Prelude.{◌≡◌, ℕ, ◌+◌, ◌<◌, ◌≤◌, List, [], ◌∷◌, IfNone, IfSome, length, vec_len}, List.AllByRecursion};
-ghost use Rattle.iso_shared.specs.{declared.entry.Entry.Entry, Groups.{ArePaired, IsNote, IsNoteOf, IsPartOf, held_in, made_in, numbers_in, units_of}, Ports.{IsPort, IsTx, number_of, port_view, tx_view}};
+ghost use Rattle.iso_shared.specs.{declared.entry.Entry.Entry, Groups.{ArePaired, IsBack, IsNote, IsNoteOf, IsPartOf, held_in, made_in, numbers_in, units_of}, Ports.{IsPort, IsTx, number_of, port_view, tx_view}};
 ghost use mathlib.Core.List.{IsPrefix};
 ghost use Rattle.turn_lock.specs.{Lists.{AreDistinct, times}, Numbers.{AreHeld, without}};
 
@@ -66,6 +66,21 @@ impl<D: Disk + Drop, O: Origin> Shared<D, O> {
         let pass = self.lock.split(&mut port.pass, Some(tx.number), 1);
         let note = mem::replace(&mut tx.pass, pass);
         self.lock.join(&mut port.pass, note);
+    }
+
+    /// Leaves the places of a transaction with a port, and all of its units but one. Both have then seen what either had. It makes
+    /// no entry, and waits for nobody.
+    pub fn leave_places(&self, port: &mut Port<D, O>, tx: &mut Tx<D, O>)
+        requires port { IsPort self.now port.old }
+        requires tx { IsTx self.now O.start tx.old }
+        ensures port { IsPort self.now port.new }
+        ensures units { (port_view port.new).units + 1 ≡ (port_view port.old).units + (tx_view tx.old).units }
+        ensures seen { IsPrefix (port_view port.old).seen (port_view port.new).seen × IsPrefix (tx_view tx.old).seen (port_view port.new).seen }
+        ensures places { (p : ℕ) → times p (port_view port.new).mine ≡ times p (port_view port.old).mine + times p (tx_view tx.old).mine }
+        ensures tx { IsBack self.now O.start (port_view port.new).seen tx.old tx.new }
+    {
+        self.join_member(port, tx);
+        self.split_member(port, tx);
     }
 
     // Splits all members off again.
