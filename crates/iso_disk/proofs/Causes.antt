@@ -1,5 +1,5 @@
 -- The cause of a failure, over a run of calls.
-use Rattle.std.proofs.Common.{◌≡◌, ℕ, Result, Ok, Err, arith, refl, subst}
+use Rattle.std.proofs.Common.{◌≡◌, ℕ, Ok, Err, arith, refl, subst}
 use Rattle.fault_count.specs.Count.{HasCause, Rose}
 
 -- calls that passed
