@@ -1,5 +1,5 @@
 -- What a disk tells after a run of calls that writes in one range alone.
-use Rattle.half_switch.proofs.Words.{◌≡◌, ◌≤◌, ◌+◌, ◌-◌, ℕ, List, length, take, drop, Result, Ok, Err, OnErr, Option, Some, None, refl, ◌∙◌, arith, DiskState, IsLawful, IsSettled, Splices, TellsTorn, torn_same, torn_twice, torn_wider, length-contents, tells_spliced, HalfPlace, IsPut}
+use Rattle.half_switch.proofs.Words.{◌≡◌, ◌≤◌, ◌+◌, ◌-◌, ℕ, List, length, take, drop, Result, Ok, Err, OnErr, Option, Some, None, refl, ◌∙◌, arith, DiskState, IsLawful, IsSettled, LeavesOnly, Splices, TellsTorn, TornFrom, WritesNothing, weakened, torn_same, torn_twice, torn_wider, length-contents, tells_spliced, HalfPlace, IsPut}
 
 pub on_err : {T E P : Type 0} (r : Result T E) → P → OnErr r P
 on_err (Ok x) p = tt
@@ -8,6 +8,10 @@ on_err (Err e) p = p
 -- a run that leaves the contents
 pub tells_same : (from len : ℕ) (old new : DiskState) → new.contents ≡ old.contents → TellsTorn from len old new
 tells_same from len old new same = record { told = λ c is. (c, same ∙ is, torn_same from len c); untold = λ is. same ∙ is }
+
+-- at each moment of a run that writes nothing, an image is one from before it
+pub inside_still : {old new : DiskState} (from len : ℕ) → WritesNothing old new → LeavesOnly old new (TornFrom from len old.now)
+inside_still from len still = weakened still.moments (λ c image. record { old = c; was = image; torn = torn_same from len c })
 
 -- one run more, in a part of the range
 pub tells_more : (from len at n : ℕ) → from ≤ at → at + n ≤ from + len → (old mid new : DiskState) → TellsTorn from len old mid → TellsTorn at n mid new → TellsTorn from len old new

@@ -30,7 +30,10 @@ pub fn close_half<D: Disk>(disk: &mut D, place: &HalfPlace) -> Result<(), DiskFa
     ensures failed { OnErr result (TellsTorn place.now.header 1 (D.state disk.old) (D.state disk.new)) }
     ensures cause { HasCause (D.state disk.old).faults (D.state disk.new).faults result }
 {
-    if stands_closed(disk, place.header)? {
+    let Ok(closed) = stands_closed(disk, place.header) else {
+        return Err(DiskFault);
+    };
+    if closed {
         return Ok(());
     }
     shut_gate(disk, place.header)

@@ -8,6 +8,7 @@ pub mod Standings
 pub mod Trims
 pub mod Decides
 pub mod Spellings
+pub mod Causes
 pub mod Nexts
 pub mod Prepares
 pub mod Commits

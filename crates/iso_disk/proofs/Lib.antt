@@ -1,4 +1,5 @@
 pub mod Bytes
+pub mod Causes
 pub mod Images
 pub mod Moments
 pub mod Ranges

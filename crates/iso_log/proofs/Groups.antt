@@ -1,5 +1,5 @@
 -- What becomes of a log's records, and of the half that an image holds, as a group of records is appended.
-use Rattle.iso_log.proofs.{Words.{◌≡◌, ◌⊎◌, ◌<◌, ◌≤◌, ◌+◌, ◌-◌, ℕ, List, [], ◌∷◌, ◌++◌, length, get_or, sym, ◌∙◌, ap, arith, length-append, append_assoc, subst, Geometry, Written, kind_of, records, spell, DiskState, IsLawful, LeavesOnly, spliced, length-image, weakened, IsClosed, Appending, Half, HasLog, IsHeld, MayFollow, last_told, told_bytes, with_records, adding, added, log_gate, log_step, log_whole, records-append, Extent, extent_of, next_place, AppendedTo, AppendingFrom, HasTold, IsNext}, Counts.spell_gate}
+use Rattle.iso_log.proofs.{Words.{◌≡◌, ◌⊎◌, ◌<◌, ◌≤◌, ◌+◌, ◌-◌, ℕ, List, [], ◌∷◌, ◌++◌, length, get_or, sym, ◌∙◌, ap, arith, length-append, append_assoc, subst, Geometry, Written, kind_of, records, spell, DiskState, IsLawful, LeavesOnly, spliced, length-image, inl, started, torn_same, weakened, IsClosed, Appending, Half, HasLog, IsHeld, MayFollow, last_told, told_bytes, with_records, adding, added, log_gate, log_step, log_whole, records-append, Extent, extent_of, next_place, AppendedTo, AppendingFrom, HasTold, IsNext}, Counts.spell_gate}
 
 -- ---- where a log that was opened into its fields goes on
 
@@ -93,6 +93,14 @@ module _ (g : Geometry) (x : Half) (more : List Written) (bytes : List ℕ) (ima
 
 -- ---- a run of calls that appends
 
+-- before its first call
+pub before_append : {d : DiskState} → IsLawful d → (log : Extent) (g : Geometry) (first : ℕ) (told : List Written) → HasTold log g first told d.now → (bytes : List ℕ) → LeavesOnly d d (AppendingFrom (next_place log) bytes d.now)
+before_append {d = d} laws log g first told has bytes = started laws (λ c image. record {
+  old = c;
+  was = image;
+  appending = record { torn = torn_same (next_place log) (length bytes) c; state = inl (closed_next log g first told d.now has c image) };
+})
+
 module _ {old : DiskState} (laws : IsLawful old) (a log : Extent) (same : a ≡ log) (bytes : List ℕ) (n : ℕ) (n_is : n ≡ a.used) (inside : log.place + log.room ≤ old.size)
     (free : ℕ) (kept : a.used ≤ a.room) (free_is : free ≡ a.room - a.used) (enough : length bytes ≤ free) where
   gate_same : a.place + n ≡ next_place log
@@ -105,7 +113,7 @@ module _ {old : DiskState} (laws : IsLawful old) (a log : Extent) (same : a ≡ 
   each_fits c image = omega (arith, length-image laws c image, inside)
 
   module _ {new : DiskState} (run : LeavesOnly old new (AppendingFrom (a.place + n) bytes old.now)) where
-    here : LeavesOnly old new (AppendingFrom (next_place log) bytes old.now)
+    pub here : LeavesOnly old new (AppendingFrom (next_place log) bytes old.now)
     here = subst (λ (n : ℕ). LeavesOnly old new (AppendingFrom n bytes old.now)) gate_same run
 
     pub told_run : (g : Geometry) (first : ℕ) (told more : List Written) → HasTold log g first told old.now → IsNext log g more bytes
@@ -119,7 +127,7 @@ module _ {old : DiskState} (laws : IsLawful old) (a log : Extent) (same : a ≡ 
         (subst (λ (e : Extent). AppendingFrom (next_place e) bytes old.now c) is from))
 
   module _ (new : DiskState) (whole : (c : List ℕ) → new.now c → AppendedTo (a.place + n) bytes old.now c) where
-    there : (c : List ℕ) → new.now c → AppendedTo (next_place log) bytes old.now c
+    pub there : (c : List ℕ) → new.now c → AppendedTo (next_place log) bytes old.now c
     there c image = subst (λ (n : ℕ). AppendedTo n bytes old.now c) gate_same (whole c image)
 
     pub told_end : (g : Geometry) (first : ℕ) (told more : List Written) → HasTold log g first told old.now → IsNext log g more bytes

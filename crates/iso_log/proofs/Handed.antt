@@ -17,6 +17,10 @@ disk_passes before now x y call = record { later = call.later; failed = λ is. a
 pub memory_fails : {U : Type 0} (n : ℕ) → BlamesDisk {T = U} n n (Err Memory)
 memory_fails n = record { later = omega arith; failed = λ is. absurd cc; passed = tt; other = λ no_fault. refl }
 
+-- a log that is full, before any call
+pub full_fails : {U : Type 0} (n need free : ℕ) → BlamesDisk {T = U} n n (Err (LogFull need free))
+full_fails n need free = record { later = omega arith; failed = λ is. absurd cc; passed = tt; other = λ no_fault. refl }
+
 -- calls that passed
 pub blames_none : {U : Type 0} (before now : ℕ) (y : U) → now ≡ before → BlamesDisk before now (Ok y)
 blames_none before now y same = record { later = omega (arith, same); failed = λ is. absurd cc; passed = same; other = tt }

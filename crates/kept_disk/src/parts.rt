@@ -31,7 +31,9 @@ pub(crate) fn read_parts<D: Disk>(
     while done < into.len() {
         let place = at + done as u64;
         let count = part_len(place, into.len() - done);
-        read_part(disk, pages, place, &mut into[done..done + count])?;
+        if let Err(fault) = read_part(disk, pages, place, &mut into[done..done + count]) {
+            return Err(fault);
+        }
         done += count;
     }
     Ok(())
@@ -89,6 +91,10 @@ pub(crate) fn lay_parts(pages: &mut Pages, at: u64, bytes: &[u8])
     requires { at + length bytes.now < 2 ^ 64 }
     ensures { (c : List ℕ) → at + length bytes.now ≤ length c → Stand pages.old.numbers.items pages.old.ends.items pages.old.bytes.items c → Stand pages.new.numbers.items pages.new.ends.items pages.new.bytes.items (spliced c at bytes.now) }
 {
+    if is_in_one_page(at, bytes.len()) {
+        lay_part(pages, at, bytes);
+        return;
+    }
     let mut done = 0;
     while done < bytes.len() {
         let place = at + done as u64;

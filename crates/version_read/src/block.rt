@@ -68,7 +68,9 @@ fn fill<D: Disk>(
     let mut count = 0;
     while at < end {
         let to = next_place(seen, at, end, true);
-        read_part(disk, place + (at - off) as u64, at, to - at, into)?;
+        if let Err(fault) = read_part(disk, place + (at - off) as u64, at, to - at, into) {
+            return Err(fault);
+        }
         count += to - at;
         at = next_place(seen, to, end, false);
     }
@@ -116,7 +118,9 @@ fn lay_over<D: Disk>(
     ensures cause { HasCause (D.state disk.old).faults (D.state disk.new).faults result }
 {
     for version in versions {
-        lay_one(disk, version, from, to, into)?;
+        if let Err(fault) = lay_one(disk, version, from, to, into) {
+            return Err(fault);
+        }
     }
     Ok(())
 }
@@ -155,12 +159,12 @@ pub fn read_pieces<D: Disk>(
     ensures cause { HasCause (D.state disk.old).faults (D.state disk.new).faults result }
 {
     if is_whole(versions, from, to) {
-        lay_over(disk, versions, from, to, into)?;
-        return Ok(());
+        return lay_over(disk, versions, from, to, into);
     }
-    read_part(disk, base + from as u64, from, to - from, into)?;
-    lay_over(disk, versions, from, to, into)?;
-    Ok(())
+    if let Err(fault) = read_part(disk, base + from as u64, from, to - from, into) {
+        return Err(fault);
+    }
+    lay_over(disk, versions, from, to, into)
 }
 
 /// Reads a block of at most 4,096 bytes, whose base bytes stand at a place, with its versions over them: from the newest
@@ -186,18 +190,22 @@ pub fn read_block<D: Disk>(
     while left > 0 && wanted > 0 {
         left -= 1;
         let version = versions[left];
-        let count = fill(
+        let Ok(count) = fill(
             disk,
             version.place,
             version.off as usize,
             version.len as usize,
             &mut seen,
             into,
-        )?;
+        ) else {
+            return Err(DiskFault);
+        };
         wanted -= count;
     }
     if wanted > 0 {
-        fill(disk, base, 0, size, &mut seen, into)?;
+        if let Err(fault) = fill(disk, base, 0, size, &mut seen, into) {
+            return Err(fault);
+        }
     }
     Ok(())
 }

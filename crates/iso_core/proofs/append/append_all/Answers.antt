@@ -1,4 +1,4 @@
-use Rattle.iso_core.proofs.{Words.{◌+◌, half_of_world}, Nexts.next_all, Staging.told_so}
+use Rattle.iso_core.proofs.{Words.{◌+◌, ◌∙◌, ap, half_of_world, next_place}, Causes.{append_fails, append_passes}, Nexts.next_all, Staging.told_so}
 use Rattle.iso_core.proofs.append.append_all.Goals as goal
 
 pub append_group-requires-clause-next : goal.append_group-requires-clause-next
@@ -31,3 +31,18 @@ pub append_group-requires-clause-told : goal.append_group-requires-clause-told
 append_group-requires-clause-told g c =
     let (W, more, all, of, next, bytes) = c.requires.next in
     (W.geometry, W.base + 1, (half_of_world W c.args.kept.now.half).told, told_so (g.D.Disk.state c.args.disk.now) c.args.kept.now W of)
+
+pub returns-in-Ok-clause-settled : goal.returns-in-Ok-clause-settled
+returns-in-Ok-clause-settled g c = c.in-Ok.ensures.settled
+
+pub returns-in-Ok-clause-told : goal.returns-in-Ok-clause-told
+returns-in-Ok-clause-told g c = c.in-Ok.ensures.told
+
+pub returns-in-Ok-clause-gate : goal.returns-in-Ok-clause-gate
+returns-in-Ok-clause-gate g c W of = c.in-Ok.ensures.place ∙ ap next_place of.kept_of.keeps.log
+
+pub returns-in-Ok-clause-cause : goal.returns-in-Ok-clause-cause
+returns-in-Ok-clause-cause g c = append_passes c.in-Ok.ensures.cause
+
+pub returns-in-Err-clause-cause : goal.returns-in-Err-clause-cause
+returns-in-Err-clause-cause g c = append_fails c.in-Err.ensures.only (c.in-Err.ensures.not_full c.requires.fits) c.in-Err.ensures.cause

@@ -1,24 +1,25 @@
-use Rattle.kept_disk.proofs.{Words.{◌≡◌, ◌<◌, ◌/◌, ◌%◌, ◌+◌, ◌-◌, ◌≤◌, ℕ, length, take, drop, sym, ◌∙◌, ap, subst, arith, mod-lt, length-spliced, on_ok_weaker, IsHeld, Pages}, Moments.further, Paging.{held_in, held_further, held_page}, Slices.{length-slice, lent_part, read_further}}
+use Rattle.kept_disk.proofs.{Words.{◌≡◌, ◌<◌, ◌/◌, ◌%◌, ◌+◌, ◌-◌, ◌≤◌, ℕ, length, take, drop, sym, ◌∙◌, ap, subst, arith, mod-lt, all_passed, failed_behind, length-spliced, on_ok_weaker, IsHeld, Pages}, Moments.further, Paging.{held_in, held_further, held_page}, Slices.{length-slice, lent_part, read_further}}
+use Rattle.kept_disk.proofs.parts.read_parts.Goals as goal
 
-pub returns-then-is_in_one_page-clause-held : Rattle.kept_disk.proofs.parts.read_parts.Goals.returns-then-is_in_one_page-clause-held
+pub returns-then-is_in_one_page-clause-held : goal.returns-then-is_in_one_page-clause-held
 returns-then-is_in_one_page-clause-held g c range =
     let one = c.is_in_one_page.ensures c.if-is_in_one_page.true in
     let here = c.read_part.ensures.held (range c.args.at (omega arith) (omega (arith, one.0))) in
     (here.0, here.1)
 
-pub returns-then-is_in_one_page-clause-holds : Rattle.kept_disk.proofs.parts.read_parts.Goals.returns-then-is_in_one_page-clause-holds
+pub returns-then-is_in_one_page-clause-holds : goal.returns-then-is_in_one_page-clause-holds
 returns-then-is_in_one_page-clause-holds g c =
     let one = c.is_in_one_page.ensures c.if-is_in_one_page.true in
     let place : c.args.at / 4096 % 2048 < 2048 = mod-lt (c.args.at / 4096) (omega arith) in
     on_ok_weaker c.read_part.result (λ holds enough small. held_page c.read_part.new.pages.numbers.items c.args.at (length c.args.into.now) one.1 (holds (omega (arith, place, enough)))) c.read_part.ensures.holds
 
-pub returns-in_err-read_part-clause-held : Rattle.kept_disk.proofs.parts.read_parts.Goals.returns-in_err-read_part-clause-held
-returns-in_err-read_part-clause-held g c range =
+pub returns-in-Err-clause-held : goal.returns-in-Err-clause-held
+returns-in-Err-clause-held g c range =
     let so_far = c.loop-done.invariant.held range in
-    let ended = c.in_err-read_part.ensures.held (subst (λ (p : Pages). IsHeld p.numbers.items ((c.args.at + c.loop-done.done) / 4096)) (sym so_far.1) (held_in c.args.pages.now.numbers.items c.args.at (length c.args.into.now) c.loop-done.done (omega (arith, c.loop-done-test.true, c.loop-done.auto.into)) range)) in
+    let ended = c.in-Err.ensures.held (subst (λ (p : Pages). IsHeld p.numbers.items ((c.args.at + c.loop-done.done) / 4096)) (sym so_far.1) (held_in c.args.pages.now.numbers.items c.args.at (length c.args.into.now) c.loop-done.done (omega (arith, c.loop-done-test.true, c.loop-done.auto.into)) range)) in
     absurd (cc (ended.0))
 
-pub loop-done-preserved : Rattle.kept_disk.proofs.parts.read_parts.Goals.loop-done-preserved
+pub loop-done-preserved : goal.loop-done-preserved
 loop-done-preserved g c =
     let done = c.loop-done.done in
     let count = c.part_len-count.result in
@@ -32,13 +33,13 @@ loop-done-preserved g c =
     record {
       within = omega (arith, fits, ap length is, length-spliced into done part lies);
       bytes = λ l told.
-          let read = c.in_ok-read_part.ensures.bytes l (so_far.contents ∙ told) ∙ ap (λ (k : ℕ). take k (drop (c.args.at + done) l)) (sym c.read_part-in-loop-done.auto.into) in
+          let read = c.in_default.ensures.bytes l (so_far.contents ∙ told) ∙ ap (λ (k : ℕ). take k (drop (c.args.at + done) l)) (sym c.read_part-in-loop-done.auto.into) in
           (let back : count ≡ length part = sym size in λ i. take (done + back i) (is i))
           ∙ read_further into part l c.args.at done lies (so_far.bytes l told) read
           ∙ ap (λ (k : ℕ). take (done + k) (drop c.args.at l)) size;
       contents = c.read_part-in-loop-done.ensures.contents ∙ so_far.contents;
       crash = further so_far.crash c.read_part-in-loop-done.ensures.crash;
-      faults = c.in_ok-read_part.ensures.cause.passed ∙ so_far.faults;
+      faults = c.in_default.ensures.cause.passed ∙ so_far.faults;
       stand = λ l told. c.read_part-in-loop-done.ensures.stand l (so_far.contents ∙ told);
       places = c.read_part-in-loop-done.ensures.places ∙ so_far.places;
       held = λ range.
@@ -47,6 +48,45 @@ loop-done-preserved g c =
           (here.1 ∙ before.0, here.2 ∙ before.1);
       holds = λ enough small.
           let place : (c.args.at + done) / 4096 % 2048 < 2048 = mod-lt ((c.args.at + done) / 4096) (omega arith) in
-          let here = c.in_ok-read_part.ensures.holds (omega (arith, place, enough, so_far.places)) in
-          held_further c.loop-done.pages.numbers.items c.read_part-in-loop-done.new.pages.numbers.items c.args.at done count c.part_len-count.ensures.inside (omega (arith, fits, small, c.loop-done.auto.into)) here c.in_ok-read_part.ensures.others (so_far.holds enough small);
+          let here = c.in_default.ensures.holds (omega (arith, place, enough, so_far.places)) in
+          held_further c.loop-done.pages.numbers.items c.read_part-in-loop-done.new.pages.numbers.items c.args.at done count c.part_len-count.ensures.inside (omega (arith, fits, small, c.loop-done.auto.into)) here c.in_default.ensures.others (so_far.holds enough small);
     }
+
+pub returns-then-is_in_one_page-clause-bytes : goal.returns-then-is_in_one_page-clause-bytes
+returns-then-is_in_one_page-clause-bytes g c = c.read_part.ensures.bytes
+
+pub returns-then-is_in_one_page-clause-contents : goal.returns-then-is_in_one_page-clause-contents
+returns-then-is_in_one_page-clause-contents g c = c.read_part.ensures.contents
+
+pub returns-then-is_in_one_page-clause-crash : goal.returns-then-is_in_one_page-clause-crash
+returns-then-is_in_one_page-clause-crash g c = c.read_part.ensures.crash
+
+pub returns-then-is_in_one_page-clause-cause : goal.returns-then-is_in_one_page-clause-cause
+returns-then-is_in_one_page-clause-cause g c = c.read_part.ensures.cause
+
+pub returns-then-is_in_one_page-clause-stand : goal.returns-then-is_in_one_page-clause-stand
+returns-then-is_in_one_page-clause-stand g c = c.read_part.ensures.stand
+
+pub returns-in-Err-clause-contents : goal.returns-in-Err-clause-contents
+returns-in-Err-clause-contents g c = c.read_part-in-loop-done.ensures.contents ∙ c.loop-done.invariant.contents
+
+pub returns-in-Err-clause-crash : goal.returns-in-Err-clause-crash
+returns-in-Err-clause-crash g c = further c.loop-done.invariant.crash c.read_part-in-loop-done.ensures.crash
+
+pub returns-in-Err-clause-cause : goal.returns-in-Err-clause-cause
+returns-in-Err-clause-cause g c = failed_behind c.loop-done.invariant.faults c.in-Err.ensures.cause
+
+pub returns-in-Err-clause-stand : goal.returns-in-Err-clause-stand
+returns-in-Err-clause-stand g c l told = c.read_part-in-loop-done.ensures.stand l (c.loop-done.invariant.contents ∙ told)
+
+pub returns-clause-contents : goal.returns-clause-contents
+returns-clause-contents g c = c.loop-done.invariant.contents
+
+pub returns-clause-crash : goal.returns-clause-crash
+returns-clause-crash g c = c.loop-done.invariant.crash
+
+pub returns-clause-cause : goal.returns-clause-cause
+returns-clause-cause g c = all_passed c.loop-done.invariant.faults
+
+pub returns-clause-stand : goal.returns-clause-stand
+returns-clause-stand g c = c.loop-done.invariant.stand
