@@ -1,7 +1,7 @@
 // A sink that keeps its bytes in memory.
 ghost use Rattle.std.specs.Prelude.{◌≡◌, ◌≤◌, ◌↔◌, ◌⊎◌, ◌^◌, ◌-◌, ◌||◌, [], false, true, is_err, min, length, take, IfOk, IsErr, OnErr, OnOk};
 ghost use Rattle.fault_count.specs.Count.{FailsNext, HasCause, faults_after, one_more};
-ghost use Rattle.iso_io.specs.{Sink.{Wrote, refusals_after}, Memory.sink_state};
+ghost use Rattle.iso_io.specs.{Sink.{Broke, Wrote, refusals_after}, Memory.sink_state};
 
 use crate::{Sink, SinkFault};
 use fault_count::{count_call, raise};
@@ -121,6 +121,7 @@ impl Sink for MemSink {
         ensures refusals { self.new.refusals ≡ refusals_after self.old.refusals bytes.now result }
         ensures no_fewer { self.old.refusals ≤ self.new.refusals }
         ensures err { OnErr result (self.new.taken ≡ self.old.taken) }
+        ensures whole { self.new.is_broken ≡ self.old.is_broken }
         ensures broken { self.old.is_broken ≡ true → IsErr result }
         ensures cause { HasCause self.old.faults self.new.faults result }
 
@@ -155,6 +156,9 @@ impl Sink for MemSink {
     }
 
     fn hand_on(&mut self) -> Result<(), SinkFault>
+        ensures stands { OnOk result (sink_state self.new ≡ sink_state self.old) }
+        ensures breaks { OnErr result (Broke (sink_state self.old) (sink_state self.new)) }
+        ensures broken { self.old.is_broken ≡ true → IsErr result }
         ensures cause { HasCause self.old.faults self.new.faults result }
 
         // It holds nothing back, and fails exactly where it is told to and behind that.
