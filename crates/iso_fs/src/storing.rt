@@ -1,6 +1,6 @@
 // The writes of the data blocks of a file.
 ghost use Rattle.std.specs.Prelude.{◌≡◌, ◌+◌, ◌-◌, ◌*◌, ◌<◌, ◌≤◌, ◌++◌, ℕ, suc, Err, IfErr, IfOk, OnErr, OnOk, cond, drop, length, slice_index, [], ◌∷◌, true, false};
-ghost use Rattle.store_model.specs.{Stores.store_access, FileCalls.write_pieces, FileNodes.{data_count, entries_of, is_file}};
+ghost use Rattle.store_model.specs.{Stores.store_access, FileCalls.write_pieces, FileNodes.{data_count, entries_of, is_file, most_bytes}};
 ghost use Rattle.iso_model.specs.Premises.{IsSpan};
 ghost use Rattle.tx_blocks.{specs.Tx.with_accesses, specs.Runs.IsCause, proofs.Progress.IsAt};
 ghost use Rattle.iso_tree.specs.Rows.{AreBlocks};
@@ -8,6 +8,7 @@ ghost use Rattle.iso_fs.specs.Ends.{FsBehaves, HasArea, HasRun, IsOfTx, IsPart};
 
 use crate::file::entry_at;
 use crate::reading::piece_mark;
+use crate::writing::Writing;
 use iso_alloc::{lay_alone, piece};
 use iso_model::Span;
 use store_model::{Area, FsError, StoreError, TxError};
@@ -52,36 +53,35 @@ fn store_piece<T: TxBlocks>(
     store(tx, block, &[], bytes)
 }
 
-/// Writes the pieces of a range.
-pub fn write_pieces<T: TxBlocks>(
+/// Writes the data blocks of the range, once the file block has `old` of their numbers, or those and new ones.
+pub(crate) fn write_pieces<T: TxBlocks>(
     tx: &mut T,
-    area: Area,
-    file: &[u8],
+    writing: &Writing,
     old: usize,
     news: &[u32],
-    from: u32,
-    to: u32,
-    bytes: &[u8],
     into: &mut [u8],
 ) -> Result<bool, FsError>
-    requires holds { HasArea (T.state tx.old) area }
-    requires file { is_file area file.now ≡ true }
-    requires long { length file.now ≡ area.size }
-    requires old { old ≡ data_count area.size file.now }
-    requires news { AreBlocks area news.now }
-    requires up { from ≤ to }
-    requires covered { to ≤ (old + length news.now) * area.size }
-    requires bytes { length bytes.now ≡ to - from }
-    requires into { length into.old ≡ area.size }
-    ensures part { IsPart false 1 (write_pieces area (entries_of area.size file.now ++ news.now) old (length bytes.now) from to bytes.now) (T.state tx.old) (T.state tx.new) (T.device tx.old) (T.device tx.new) result }
+    requires holds { HasArea (T.state tx.old) writing.now.area }
+    requires old { old ≡ data_count writing.now.area.size writing.now.file.now }
+    requires news { AreBlocks writing.now.area news.now }
+    requires end { writing.now.off + length writing.now.bytes.now ≤ most_bytes writing.now.area.size }
+    requires covered { writing.now.off + length writing.now.bytes.now ≤ (old + length news.now) * writing.now.area.size }
+    requires into { length into.old ≡ writing.now.area.size }
+    ensures part { IsPart false 1 (write_pieces writing.now.area (entries_of writing.now.area.size writing.now.file.now ++ news.now) old (length writing.now.bytes.now) writing.now.off (writing.now.off + length writing.now.bytes.now) writing.now.bytes.now) (T.state tx.old) (T.state tx.new) (T.device tx.old) (T.device tx.new) result }
     ensures of_tx { IfErr result IsOfTx }
 {
-    let mut at = from;
-    while at < to {
-        let rest = piece(bytes, (at - from) as usize, (to - at) as usize);
-        let span = piece_mark(area.size, at, to);
+    let area = writing.area;
+    let end = writing.off + writing.bytes.len() as u32;
+    let mut at = writing.off;
+    while at < end {
+        let rest = piece(
+            writing.bytes,
+            (at - writing.off) as usize,
+            (end - at) as usize,
+        );
+        let span = piece_mark(area.size, at, end);
         let place = (at / area.size) as usize;
-        let number = number_at(area, file, old, news, place);
+        let number = number_at(area, writing.file, old, news, place);
         lay_alone(into, span.off as usize, &rest[..span.len as usize]);
         if let Err(e) = store_piece(tx, area.start + number, span, place < old, into) {
             return Err(FsError::Store(StoreError::Tx(e)));

@@ -16,178 +16,149 @@ use std::alloc::Global;
 use store_model::{Area, FileAreas, FsError, FsRegion, StoreError};
 use tx_blocks::{TxBlocks, look, store};
 
+/// Bytes that are written into a file from a byte on: the area of the files, the number of the file block, and its bytes, which are
+/// well formed.
+#[derive(Drop)]
+pub(crate) struct Writing<'a> {
+    pub(crate) area: Area,
+    pub(crate) number: u32,
+    pub(crate) off: u32,
+    pub(crate) bytes: &'a [u8],
+    pub(crate) file: &'a [u8],
+    ghost inside: { number < area.blocks },
+    ghost good: { is_file area file.now ≡ true },
+    ghost long: { length file.now ≡ area.size },
+}
+
 // Writes the file block of a file that grows, and its data.
 fn write_grown<T: TxBlocks>(
     tx: &mut T,
-    area: Area,
-    number: u32,
-    off: u32,
-    bytes: &[u8],
-    file: &[u8],
+    writing: &Writing,
     news: &[u32],
     into: &mut [u8],
 ) -> Result<bool, FsError>
-    requires holds { HasArea (T.state tx.old) area }
-    requires number { number < area.blocks }
-    requires file { is_file area file.now ≡ true }
-    requires long { length file.now ≡ area.size }
-    requires news { AreBlocks area news.now }
-    requires end { off + length bytes.now ≤ most_bytes area.size }
-    requires count { data_count area.size file.now + length news.now ≡ blocks_for area.size (off + length bytes.now) }
-    requires grows { bytes_of file.now < off + length bytes.now }
-    requires into { length into.old ≡ area.size }
-    ensures part { IsPart false 1 (write_sized area off bytes.now number file.now news.now) (T.state tx.old) (T.state tx.new) (T.device tx.old) (T.device tx.new) result }
+    requires holds { HasArea (T.state tx.old) writing.now.area }
+    requires news { AreBlocks writing.now.area news.now }
+    requires end { writing.now.off + length writing.now.bytes.now ≤ most_bytes writing.now.area.size }
+    requires count { data_count writing.now.area.size writing.now.file.now + length news.now ≡ blocks_for writing.now.area.size (writing.now.off + length writing.now.bytes.now) }
+    requires grows { bytes_of writing.now.file.now < writing.now.off + length writing.now.bytes.now }
+    requires into { length into.old ≡ writing.now.area.size }
+    ensures part { IsPart false 1 (write_sized writing.now.area writing.now.off writing.now.bytes.now writing.now.number writing.now.file.now news.now) (T.state tx.old) (T.state tx.new) (T.device tx.old) (T.device tx.new) result }
     ensures of_tx { IfErr result IsOfTx }
 {
-    let end = off + bytes.len() as u32;
-    let old = data_count(area, file);
-    lay_sized(area, file, old, news, end, into);
-    if let Err(e) = store(tx, area.start + number, &[], into) {
+    let area = writing.area;
+    let end = writing.off + writing.bytes.len() as u32;
+    let old = data_count(area, writing.file);
+    lay_sized(area, writing.file, old, news, end, into);
+    if let Err(e) = store(tx, area.start + writing.number, &[], into) {
         return Err(FsError::Store(StoreError::Tx(e)));
     }
-    write_pieces(tx, area, file, old, news, off, end, bytes, into)
+    write_pieces(tx, writing, old, news, into)
 }
 
 // Writes the file block where the size changes, and then the data.
 fn write_sized<T: TxBlocks>(
     tx: &mut T,
-    area: Area,
-    number: u32,
-    off: u32,
-    bytes: &[u8],
-    file: &[u8],
+    writing: &Writing,
     news: &[u32],
     into: &mut [u8],
 ) -> Result<bool, FsError>
-    requires holds { HasArea (T.state tx.old) area }
-    requires number { number < area.blocks }
-    requires file { is_file area file.now ≡ true }
-    requires long { length file.now ≡ area.size }
-    requires news { AreBlocks area news.now }
-    requires end { off + length bytes.now ≤ most_bytes area.size }
-    requires count { bytes_of file.now < off + length bytes.now → data_count area.size file.now + length news.now ≡ blocks_for area.size (off + length bytes.now) }
-    requires none { off + length bytes.now ≤ bytes_of file.now → news.now ≡ [] }
-    requires into { length into.old ≡ area.size }
-    ensures part { IsPart false 1 (write_sized area off bytes.now number file.now news.now) (T.state tx.old) (T.state tx.new) (T.device tx.old) (T.device tx.new) result }
+    requires holds { HasArea (T.state tx.old) writing.now.area }
+    requires news { AreBlocks writing.now.area news.now }
+    requires end { writing.now.off + length writing.now.bytes.now ≤ most_bytes writing.now.area.size }
+    requires count { bytes_of writing.now.file.now < writing.now.off + length writing.now.bytes.now → data_count writing.now.area.size writing.now.file.now + length news.now ≡ blocks_for writing.now.area.size (writing.now.off + length writing.now.bytes.now) }
+    requires none { writing.now.off + length writing.now.bytes.now ≤ bytes_of writing.now.file.now → news.now ≡ [] }
+    requires into { length into.old ≡ writing.now.area.size }
+    ensures part { IsPart false 1 (write_sized writing.now.area writing.now.off writing.now.bytes.now writing.now.number writing.now.file.now news.now) (T.state tx.old) (T.state tx.new) (T.device tx.old) (T.device tx.new) result }
     ensures of_tx { IfErr result IsOfTx }
 {
-    let end = off + bytes.len() as u32;
-    if bytes_of(file) < end {
-        return write_grown(tx, area, number, off, bytes, file, news, into);
+    let end = writing.off + writing.bytes.len() as u32;
+    if bytes_of(writing.file) < end {
+        return write_grown(tx, writing, news, into);
     }
-    let old = data_count(area, file);
-    write_pieces(tx, area, file, old, news, off, end, bytes, into)
+    let old = data_count(writing.area, writing.file);
+    write_pieces(tx, writing, old, news, into)
 }
 
 // Writes the map, in which new blocks are taken, and then the file.
 fn write_news<T: TxBlocks>(
     tx: &mut T,
-    area: Area,
-    number: u32,
-    off: u32,
-    bytes: &[u8],
-    file: &[u8],
+    writing: &Writing,
     map: &[u8],
     news: &[u32],
     into: &mut [u8],
 ) -> Result<bool, FsError>
-    requires area { IsTreeArea area }
-    requires holds { HasArea (T.state tx.old) area }
-    requires number { number < area.blocks }
-    requires file { is_file area file.now ≡ true }
-    requires long { length file.now ≡ area.size }
-    requires map { length map.now ≡ area.size }
+    requires area { IsTreeArea writing.now.area }
+    requires holds { HasArea (T.state tx.old) writing.now.area }
+    requires map { length map.now ≡ writing.now.area.size }
     requires some { 0 < length news.now }
     requires rising { Up 1 news.now }
-    requires news { AreBlocks area news.now }
-    requires end { off + length bytes.now ≤ most_bytes area.size }
-    requires grows { bytes_of file.now < off + length bytes.now }
-    requires count { data_count area.size file.now + length news.now ≡ blocks_for area.size (off + length bytes.now) }
-    requires into { length into.old ≡ area.size }
-    ensures part { (first : List ℕ) → take (64 + map_bytes area.blocks) map.now ≡ with_used first news.now → IsPart false 1 (first_write area first news.now None (write_sized area off bytes.now number file.now news.now)) (T.state tx.old) (T.state tx.new) (T.device tx.old) (T.device tx.new) result }
+    requires news { AreBlocks writing.now.area news.now }
+    requires end { writing.now.off + length writing.now.bytes.now ≤ most_bytes writing.now.area.size }
+    requires grows { bytes_of writing.now.file.now < writing.now.off + length writing.now.bytes.now }
+    requires count { data_count writing.now.area.size writing.now.file.now + length news.now ≡ blocks_for writing.now.area.size (writing.now.off + length writing.now.bytes.now) }
+    requires into { length into.old ≡ writing.now.area.size }
+    ensures part { (first : List ℕ) → take (64 + map_bytes writing.now.area.blocks) map.now ≡ with_used first news.now → IsPart false 1 (first_write writing.now.area first news.now None (write_sized writing.now.area writing.now.off writing.now.bytes.now writing.now.number writing.now.file.now news.now)) (T.state tx.old) (T.state tx.new) (T.device tx.old) (T.device tx.new) result }
     ensures of_tx { IfErr result IsOfTx }
 {
-    if let Err(e) = store_first(tx, area, map, news, None, into) {
+    if let Err(e) = store_first(tx, writing.area, map, news, None, into) {
         return Err(FsError::Store(StoreError::Tx(e)));
     }
-    write_sized(tx, area, number, off, bytes, file, news, into)
+    write_sized(tx, writing, news, into)
 }
 
 // Takes new blocks, once the map is read.
 fn write_taken<T: TxBlocks>(
     tx: &mut T,
-    area: Area,
+    writing: &Writing,
     need: u32,
-    number: u32,
-    off: u32,
-    bytes: &[u8],
-    file: &[u8],
     map: &mut [u8],
     into: &mut [u8],
 ) -> Result<bool, FsError>
-    requires area { IsTreeArea area }
-    requires holds { HasArea (T.state tx.old) area }
-    requires number { number < area.blocks }
-    requires file { is_file area file.now ≡ true }
-    requires long { length file.now ≡ area.size }
-    requires map { length map.old ≡ area.size }
+    requires area { IsTreeArea writing.now.area }
+    requires holds { HasArea (T.state tx.old) writing.now.area }
+    requires map { length map.old ≡ writing.now.area.size }
     requires some { 1 ≤ need }
     requires few { need ≤ 16 }
-    requires end { off + length bytes.now ≤ most_bytes area.size }
-    requires grows { bytes_of file.now < off + length bytes.now }
-    requires count { data_count area.size file.now + need ≡ blocks_for area.size (off + length bytes.now) }
-    requires into { length into.old ≡ area.size }
-    ensures { IsPart false 1 (with_taken area need (write_sized area off bytes.now number file.now) (bytes_in (map_mark area.blocks) map.old)) (T.state tx.old) (T.state tx.new) (T.device tx.old) (T.device tx.new) result }
+    requires end { writing.now.off + length writing.now.bytes.now ≤ most_bytes writing.now.area.size }
+    requires grows { bytes_of writing.now.file.now < writing.now.off + length writing.now.bytes.now }
+    requires count { data_count writing.now.area.size writing.now.file.now + need ≡ blocks_for writing.now.area.size (writing.now.off + length writing.now.bytes.now) }
+    requires into { length into.old ≡ writing.now.area.size }
+    ensures { IsPart false 1 (with_taken writing.now.area need (write_sized writing.now.area writing.now.off writing.now.bytes.now writing.now.number writing.now.file.now) (bytes_in (map_mark writing.now.area.blocks) map.old)) (T.state tx.old) (T.state tx.new) (T.device tx.old) (T.device tx.new) result }
 {
-    let free = free_blocks(map, region_of(area), 1);
+    let region = region_of(writing.area);
+    let free = free_blocks(map, region, 1);
     if free < need {
         return Err(FsError::Store(StoreError::NoBlocks { need, free }));
     }
     let mut news = [0; 16];
-    take_blocks(map, region_of(area), need as usize, &mut news);
-    write_news(
-        tx,
-        area,
-        number,
-        off,
-        bytes,
-        file,
-        map,
-        &news[..need as usize],
-        into,
-    )
+    take_blocks(map, region, need as usize, &mut news);
+    write_news(tx, writing, map, &news[..need as usize], into)
 }
 
 // Reads the map, and takes new blocks.
 fn write_new<T: TxBlocks>(
     tx: &mut T,
-    area: Area,
+    writing: &Writing,
     need: u32,
-    number: u32,
-    off: u32,
-    bytes: &[u8],
-    file: &[u8],
     map: &mut [u8],
     into: &mut [u8],
 ) -> Result<bool, FsError>
-    requires area { IsTreeArea area }
-    requires holds { HasArea (T.state tx.old) area }
-    requires number { number < area.blocks }
-    requires file { is_file area file.now ≡ true }
-    requires long { length file.now ≡ area.size }
-    requires map { length map.old ≡ area.size }
+    requires area { IsTreeArea writing.now.area }
+    requires holds { HasArea (T.state tx.old) writing.now.area }
+    requires map { length map.old ≡ writing.now.area.size }
     requires some { 1 ≤ need }
     requires few { need ≤ 16 }
-    requires end { off + length bytes.now ≤ most_bytes area.size }
-    requires grows { bytes_of file.now < off + length bytes.now }
-    requires count { data_count area.size file.now + need ≡ blocks_for area.size (off + length bytes.now) }
-    requires into { length into.old ≡ area.size }
-    ensures { IsPart false 1 (with_new area need (write_sized area off bytes.now number file.now)) (T.state tx.old) (T.state tx.new) (T.device tx.old) (T.device tx.new) result }
+    requires end { writing.now.off + length writing.now.bytes.now ≤ most_bytes writing.now.area.size }
+    requires grows { bytes_of writing.now.file.now < writing.now.off + length writing.now.bytes.now }
+    requires count { data_count writing.now.area.size writing.now.file.now + need ≡ blocks_for writing.now.area.size (writing.now.off + length writing.now.bytes.now) }
+    requires into { length into.old ≡ writing.now.area.size }
+    ensures { IsPart false 1 (with_new writing.now.area need (write_sized writing.now.area writing.now.off writing.now.bytes.now writing.now.number writing.now.file.now)) (T.state tx.old) (T.state tx.new) (T.device tx.old) (T.device tx.new) result }
 {
-    if let Err(e) = look(tx, area.start, map_mark(area), map) {
+    if let Err(e) = look(tx, writing.area.start, map_mark(writing.area), map) {
         return Err(FsError::Store(StoreError::Tx(e)));
     }
-    write_taken(tx, area, need, number, off, bytes, file, map, into)
+    write_taken(tx, writing, need, map, into)
 }
 
 // How many blocks `bytes` bytes take.
@@ -212,38 +183,31 @@ fn is_fit(size: u32, bytes: u32) -> bool
 // Writes bytes into a file whose file block is read.
 fn write_to<T: TxBlocks>(
     tx: &mut T,
-    area: Area,
-    number: u32,
-    off: u32,
-    bytes: &[u8],
-    file: &[u8],
+    writing: &Writing,
     map: &mut [u8],
     into: &mut [u8],
 ) -> Result<bool, FsError>
-    requires area { IsTreeArea area }
-    requires holds { HasArea (T.state tx.old) area }
-    requires number { number < area.blocks }
-    requires file { is_file area file.now ≡ true }
-    requires long { length file.now ≡ area.size }
-    requires some { 1 ≤ length bytes.now }
-    requires few { length bytes.now ≤ 4096 }
-    requires map { length map.old ≡ area.size }
-    requires into { length into.old ≡ area.size }
-    ensures { IsPart false 1 (write_to area off bytes.now number file.now) (T.state tx.old) (T.state tx.new) (T.device tx.old) (T.device tx.new) result }
+    requires area { IsTreeArea writing.now.area }
+    requires holds { HasArea (T.state tx.old) writing.now.area }
+    requires some { 1 ≤ length writing.now.bytes.now }
+    requires few { length writing.now.bytes.now ≤ 4096 }
+    requires map { length map.old ≡ writing.now.area.size }
+    requires into { length into.old ≡ writing.now.area.size }
+    ensures { IsPart false 1 (write_to writing.now.area writing.now.off writing.now.bytes.now writing.now.number writing.now.file.now) (T.state tx.old) (T.state tx.new) (T.device tx.old) (T.device tx.new) result }
 {
-    if bytes_of(file) < off {
+    if bytes_of(writing.file) < writing.off {
         return Err(FsError::BadRange);
     }
-    let end = off + bytes.len() as u32;
-    if !is_fit(area.size, end) {
+    let end = writing.off + writing.bytes.len() as u32;
+    if !is_fit(writing.area.size, end) {
         return Err(FsError::BadRange);
     }
-    let old = data_count(area, file) as u32;
-    let now = blocks_for(area.size, end);
+    let old = data_count(writing.area, writing.file) as u32;
+    let now = blocks_for(writing.area.size, end);
     if now <= old {
-        return write_sized(tx, area, number, off, bytes, file, &[], into);
+        return write_sized(tx, writing, &[], into);
     }
-    write_new(tx, area, now - old, number, off, bytes, file, map, into)
+    write_new(tx, writing, now - old, map, into)
 }
 
 // Writes bytes into the file of a name, with buffers for three blocks.
@@ -267,7 +231,16 @@ fn write_with<T: TxBlocks>(
     ensures { IsPart false 1 (write_program a name.now off bytes.now) (T.state tx.old) (T.state tx.new) (T.device tx.old) (T.device tx.new) result }
 {
     match find(alloc, tx, a, name, file) {
-        Ok(Some(number)) => write_to(tx, a.files, number, off, bytes, file, map, into),
+        Ok(Some(number)) => {
+            let writing = Writing {
+                area: a.files,
+                number,
+                off,
+                bytes,
+                file,
+            };
+            write_to(tx, &writing, map, into)
+        }
         Ok(None) => Ok(false),
         Err(e) => Err(e),
     }

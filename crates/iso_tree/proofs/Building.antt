@@ -8,12 +8,15 @@ laid_mid xs ys zs ws at here same =
     ap (drop (at + length ys)) (sym (append_assoc xs zs ws)) ∙ drop_at (xs ++ zs) ws (at + length ys) (omega (arith, length-append xs zs)) in
     λ i. (take_at xs (zs ++ ws) at here) i ++ (ys ++ back i)
 
-module _ (size level : ℕ) (cs : List Cell) (key part : List ℕ) (fit : FitCells cs) (few : length cs < cell_count size) (short : length key ≤ 28) (whole : length part ≡ 33) where
+module _ (size level : ℕ) (cs ds : List Cell) (fit : FitCells cs) (fits : FitCells ds) (few : length cs + length ds ≤ cell_count size) where
   abbrev n : ℕ
   n = length cs
 
+  abbrev d : ℕ
+  d = length ds
+
   abbrev m : ℕ
-  m = cell_count size - suc (length cs)
+  m = cell_count size - (length cs + length ds)
 
   abbrev head : (count : ℕ) → List ℕ
   head count = 1 ∷ level ∷ count / 256 ∷ count % 256 ∷ replicate 60 0
@@ -24,76 +27,79 @@ module _ (size level : ℕ) (cs : List Cell) (key part : List ℕ) (fit : FitCel
   abbrev Vs : List ℕ
   Vs = flat_map (λ (c : Cell). c.1) cs
 
+  -- the bytes of the new cells
+  abbrev Kd : List ℕ
+  Kd = flat_map (λ (c : Cell). key_part c.0) ds
+
+  abbrev Vd : List ℕ
+  Vd = flat_map (λ (c : Cell). c.1) ds
+
   abbrev Zk : List ℕ
   Zk = replicate (31 * m) 0
 
   abbrev Zv : List ℕ
   Zv = replicate (33 * m) 0
 
-  left : cell_count size - length cs ≡ suc m
-  left = omega arith
+  zeros_k : replicate {A = ℕ} (31 * (cell_count size - length cs)) 0 ≡ replicate (31 * d) 0 ++ Zk
+  zeros_k = let e : 31 * (cell_count size - length cs) ≡ 31 * d + 31 * m = omega arith in ap (λ k. replicate k 0) e ∙ zeros_more (31 * d) (31 * m)
 
-  zeros_k : replicate {A = ℕ} (31 * (cell_count size - length cs)) 0 ≡ replicate 31 0 ++ Zk
-  zeros_k = let e : 31 * (cell_count size - length cs) ≡ 31 + 31 * m = omega arith in ap (λ k. replicate k 0) e ∙ zeros_more 31 (31 * m)
+  zeros_v : replicate {A = ℕ} (33 * (cell_count size - length cs)) 0 ≡ replicate (33 * d) 0 ++ Zv
+  zeros_v = let e : 33 * (cell_count size - length cs) ≡ 33 * d + 33 * m = omega arith in ap (λ k. replicate k 0) e ∙ zeros_more (33 * d) (33 * m)
 
-  zeros_v : replicate {A = ℕ} (33 * (cell_count size - length cs)) 0 ≡ replicate 33 0 ++ Zv
-  zeros_v = let e : 33 * (cell_count size - length cs) ≡ 33 + 33 * m = omega arith in ap (λ k. replicate k 0) e ∙ zeros_more 33 (33 * m)
-
-  old_is : node_bytes size level cs ≡ (head n ++ Ks) ++ (replicate 31 0 ++ (Zk ++ (Vs ++ (replicate 33 0 ++ Zv))))
+  old_is : node_bytes size level cs ≡ (head n ++ Ks) ++ (replicate (31 * d) 0 ++ (Zk ++ (Vs ++ (replicate (33 * d) 0 ++ Zv))))
   old_is =
       (λ i. (head n ++ (Ks ++ zeros_k i)) ++ (Vs ++ zeros_v i))
-      ∙ append_assoc (head n) (Ks ++ (replicate 31 0 ++ Zk)) (Vs ++ (replicate 33 0 ++ Zv))
-      ∙ ap (λ l. head n ++ l) (append_assoc Ks (replicate 31 0 ++ Zk) (Vs ++ (replicate 33 0 ++ Zv)) ∙ ap (λ l. Ks ++ l) (append_assoc (replicate 31 0) Zk (Vs ++ (replicate 33 0 ++ Zv))))
-      ∙ sym (append_assoc (head n) Ks (replicate 31 0 ++ (Zk ++ (Vs ++ (replicate 33 0 ++ Zv)))))
+      ∙ append_assoc (head n) (Ks ++ (replicate (31 * d) 0 ++ Zk)) (Vs ++ (replicate (33 * d) 0 ++ Zv))
+      ∙ ap (λ l. head n ++ l) (append_assoc Ks (replicate (31 * d) 0 ++ Zk) (Vs ++ (replicate (33 * d) 0 ++ Zv)) ∙ ap (λ l. Ks ++ l) (append_assoc (replicate (31 * d) 0) Zk (Vs ++ (replicate (33 * d) 0 ++ Zv))))
+      ∙ sym (append_assoc (head n) Ks (replicate (31 * d) 0 ++ (Zk ++ (Vs ++ (replicate (33 * d) 0 ++ Zv)))))
 
   front_long : length (head n ++ Ks) ≡ 64 + 31 * n
   front_long = let h : length (head n) ≡ 64 = refl in omega (arith, length-append (head n) Ks, length-keys cs fit)
 
-  key_laid : laid_at (64 + 31 * n) (key_part key) (node_bytes size level cs) ≡ (head n ++ Ks) ++ (key_part key ++ (Zk ++ (Vs ++ (replicate 33 0 ++ Zv))))
-  key_laid = ap (laid_at (64 + 31 * n) (key_part key)) old_is
-      ∙ laid_mid (head n ++ Ks) (key_part key) (replicate 31 0) (Zk ++ (Vs ++ (replicate 33 0 ++ Zv))) (64 + 31 * n) front_long (let e : length (replicate {A = ℕ} 31 0) ≡ 31 = refl in e ∙ sym (length-key_part key short))
+  keys_laid : laid_at (64 + 31 * n) Kd (node_bytes size level cs) ≡ (head n ++ Ks) ++ (Kd ++ (Zk ++ (Vs ++ (replicate (33 * d) 0 ++ Zv))))
+  keys_laid = ap (laid_at (64 + 31 * n) Kd) old_is
+      ∙ laid_mid (head n ++ Ks) Kd (replicate (31 * d) 0) (Zk ++ (Vs ++ (replicate (33 * d) 0 ++ Zv))) (64 + 31 * n) front_long (length-replicate {A = ℕ} (31 * d) 0 ∙ sym (length-keys ds fits))
 
-  mid_is : (head n ++ Ks) ++ (key_part key ++ (Zk ++ (Vs ++ (replicate 33 0 ++ Zv)))) ≡ (((head n ++ Ks) ++ (key_part key ++ Zk)) ++ Vs) ++ (replicate 33 0 ++ Zv)
+  mid_is : (head n ++ Ks) ++ (Kd ++ (Zk ++ (Vs ++ (replicate (33 * d) 0 ++ Zv)))) ≡ (((head n ++ Ks) ++ (Kd ++ Zk)) ++ Vs) ++ (replicate (33 * d) 0 ++ Zv)
   mid_is =
-      ap (λ l. (head n ++ Ks) ++ l) (sym (append_assoc (key_part key) Zk (Vs ++ (replicate 33 0 ++ Zv))))
-      ∙ sym (append_assoc (head n ++ Ks) (key_part key ++ Zk) (Vs ++ (replicate 33 0 ++ Zv)))
-      ∙ sym (append_assoc ((head n ++ Ks) ++ (key_part key ++ Zk)) Vs (replicate 33 0 ++ Zv))
+      ap (λ l. (head n ++ Ks) ++ l) (sym (append_assoc Kd Zk (Vs ++ (replicate (33 * d) 0 ++ Zv))))
+      ∙ sym (append_assoc (head n ++ Ks) (Kd ++ Zk) (Vs ++ (replicate (33 * d) 0 ++ Zv)))
+      ∙ sym (append_assoc ((head n ++ Ks) ++ (Kd ++ Zk)) Vs (replicate (33 * d) 0 ++ Zv))
 
-  mid_long : length (((head n ++ Ks) ++ (key_part key ++ Zk)) ++ Vs) ≡ keys_end size + 33 * n
+  mid_long : length (((head n ++ Ks) ++ (Kd ++ Zk)) ++ Vs) ≡ keys_end size + 33 * n
   mid_long = omega (
     arith,
-    length-append ((head n ++ Ks) ++ (key_part key ++ Zk)) Vs,
-    length-append (head n ++ Ks) (key_part key ++ Zk),
-    length-append (key_part key) Zk,
+    length-append ((head n ++ Ks) ++ (Kd ++ Zk)) Vs,
+    length-append (head n ++ Ks) (Kd ++ Zk),
+    length-append Kd Zk,
     front_long,
-    length-key_part key short,
+    length-keys ds fits,
     length-replicate {A = ℕ} (31 * m) 0,
     length-values cs fit,
   )
 
-  both_laid : laid_at (keys_end size + 33 * n) part (laid_at (64 + 31 * n) (key_part key) (node_bytes size level cs)) ≡ (((head n ++ Ks) ++ (key_part key ++ Zk)) ++ Vs) ++ (part ++ Zv)
-  both_laid = ap (laid_at (keys_end size + 33 * n) part) (key_laid ∙ mid_is)
-      ∙ laid_mid (((head n ++ Ks) ++ (key_part key ++ Zk)) ++ Vs) part (replicate 33 0) Zv (keys_end size + 33 * n) mid_long (let e : length (replicate {A = ℕ} 33 0) ≡ 33 = refl in e ∙ sym whole)
+  both_laid : laid_at (keys_end size + 33 * n) Vd (laid_at (64 + 31 * n) Kd (node_bytes size level cs)) ≡ (((head n ++ Ks) ++ (Kd ++ Zk)) ++ Vs) ++ (Vd ++ Zv)
+  both_laid = ap (laid_at (keys_end size + 33 * n) Vd) (keys_laid ∙ mid_is)
+      ∙ laid_mid (((head n ++ Ks) ++ (Kd ++ Zk)) ++ Vs) Vd (replicate (33 * d) 0) Zv (keys_end size + 33 * n) mid_long (length-replicate {A = ℕ} (33 * d) 0 ∙ sym (length-values ds fits))
 
-  counted : set (set ((((head n ++ Ks) ++ (key_part key ++ Zk)) ++ Vs) ++ (part ++ Zv)) 2 ((n + 1) / 256)) 3 ((n + 1) % 256) ≡ (((head (n + 1) ++ Ks) ++ (key_part key ++ Zk)) ++ Vs) ++ (part ++ Zv)
+  counted : set (set ((((head n ++ Ks) ++ (Kd ++ Zk)) ++ Vs) ++ (Vd ++ Zv)) 2 ((n + d) / 256)) 3 ((n + d) % 256) ≡ (((head (n + d) ++ Ks) ++ (Kd ++ Zk)) ++ Vs) ++ (Vd ++ Zv)
   counted = refl
 
-  new_is : node_bytes size level (cs ++ (key, part) ∷ []) ≡ (((head (n + 1) ++ Ks) ++ (key_part key ++ Zk)) ++ Vs) ++ (part ++ Zv)
+  new_is : node_bytes size level (cs ++ ds) ≡ (((head (n + d) ++ Ks) ++ (Kd ++ Zk)) ++ Vs) ++ (Vd ++ Zv)
   new_is =
-      let more : List Cell = cs ++ (key, part) ∷ [] in
-      let long : length more ≡ n + 1 = length-append cs ((key, part) ∷ []) in
-      let keys : flat_map (λ (c : Cell). key_part c.0) more ≡ Ks ++ key_part key = flat_map-append (λ (c : Cell). key_part c.0) cs ((key, part) ∷ []) ∙ ap (λ l. Ks ++ l) (append-nil (key_part key)) in
-      let values : flat_map (λ (c : Cell). c.1) more ≡ Vs ++ part = flat_map-append (λ (c : Cell). c.1) cs ((key, part) ∷ []) ∙ ap (λ l. Vs ++ l) (append-nil part) in
-      let rest : cell_count size - length more ≡ m = omega arith in
+      let long : length (cs ++ ds) ≡ n + d = length-append cs ds in
+      let keys : flat_map (λ (c : Cell). key_part c.0) (cs ++ ds) ≡ Ks ++ Kd = flat_map-append (λ (c : Cell). key_part c.0) cs ds in
+      let values : flat_map (λ (c : Cell). c.1) (cs ++ ds) ≡ Vs ++ Vd = flat_map-append (λ (c : Cell). c.1) cs ds in
+      let rest : cell_count size - length (cs ++ ds) ≡ m = omega arith in
       (λ i. (head (long i) ++ (keys i ++ replicate (31 * rest i) 0)) ++ (values i ++ replicate (33 * rest i) 0))
-      ∙ (λ i. (head (n + 1) ++ append_assoc Ks (key_part key) Zk i) ++ append_assoc Vs part Zv i)
-      ∙ ap (λ l. l ++ (Vs ++ (part ++ Zv))) (sym (append_assoc (head (n + 1)) Ks (key_part key ++ Zk)))
-      ∙ sym (append_assoc ((head (n + 1) ++ Ks) ++ (key_part key ++ Zk)) Vs (part ++ Zv))
+      ∙ (λ i. (head (n + d) ++ append_assoc Ks Kd Zk i) ++ append_assoc Vs Vd Zv i)
+      ∙ ap (λ l. l ++ (Vs ++ (Vd ++ Zv))) (sym (append_assoc (head (n + d)) Ks (Kd ++ Zk)))
+      ∙ sym (append_assoc ((head (n + d) ++ Ks) ++ (Kd ++ Zk)) Vs (Vd ++ Zv))
 
-  -- a cell more
-  pub cell_added : set (set (laid_at (keys_end size + 33 * length cs) part (laid_at (64 + 31 * length cs) (key_part key) (node_bytes size level cs))) 2 ((length cs + 1) / 256)) 3 ((length cs + 1) % 256)
-      ≡ node_bytes size level (cs ++ (key, part) ∷ [])
-  cell_added = ap (λ l. set (set l 2 ((n + 1) / 256)) 3 ((n + 1) % 256)) both_laid ∙ counted ∙ sym new_is
+  -- cells more
+  pub cells_added : set (set (laid_at (keys_end size + 33 * length cs) Vd (laid_at (64 + 31 * length cs) Kd (node_bytes size level cs))) 2 ((length cs + length ds) / 256)) 3 ((length cs + length ds) % 256)
+      ≡ node_bytes size level (cs ++ ds)
+  cells_added = ap (λ l. set (set l 2 ((n + d) / 256)) 3 ((n + d) % 256)) both_laid ∙ counted ∙ sym new_is
 
 -- the cells of a row, with one more
 pub cells_more : (keys : List ℕ) (value : ℕ → List ℕ) (i m : ℕ) → cells_by keys value i (m + 1) ≡ cells_by keys value i m ++ (key_at keys (i + m), value (i + m)) ∷ []

@@ -1,5 +1,5 @@
 -- The bytes of a node that gets a cell, cell by cell.
-use Rattle.iso_tree.proofs.{Words.{◌≡◌, ◌∙◌, sym, refl, ap, ℕ, zero, suc, ◌+◌, ◌-◌, ◌*◌, ◌/◌, ◌%◌, ◌<◌, ◌≤◌, ◌==◌, true, false, cond, List, [], ◌∷◌, ◌++◌, length, map, take, drop, replicate, arith, inl, inr, eq-eqb, ne_eqb, nat_lt, range_with_len, flat_map, cases_lt, cases_eq, nat_tests, append_assoc, length-take, length-drop, cell_count, keys_end, key_part, value_mark, key_at, are_key_parts, laid_at, bytes_in, before, Cell, FitCells, IsBlock, count_of, cells_by, used_cells, node_bytes, upto_from, key_in_row, part_in_row, row_from, put_after, placed}, Building.laid_mid, Bytes.length-key_part, Fits.key_short}
+use Rattle.iso_tree.proofs.{Words.{◌≡◌, ◌∙◌, sym, refl, ap, ℕ, zero, suc, ◌+◌, ◌-◌, ◌*◌, ◌/◌, ◌%◌, ◌<◌, ◌≤◌, ◌==◌, true, false, cond, List, [], ◌∷◌, ◌++◌, length, map, take, drop, replicate, arith, inl, inr, eq-eqb, ne_eqb, nat_lt, range_with_len, flat_map, cases_lt, cases_eq, nat_tests, append_assoc, length-take, length-drop, cell_count, keys_end, key_part, value_mark, key_at, are_key_parts, laid_at, bytes_in, before, Cell, FitCells, IsBlock, count_of, cells_by, used_cells, node_bytes, upto_from, key_in_row, part_in_row, row_from, cells_from, put_after, placed}, Building.laid_mid, Bytes.length-key_part, Fits.key_short}
 
 -- STEPS OF THE LOOP OVER KEYS
 upto_step : (key keys : List ℕ) (i n : ℕ) → i < n → upto_from key keys i (n - i) ≡ cond (before key (key_at keys i)) 0 (suc (upto_from key keys (i + 1) (n - (i + 1))))
@@ -12,13 +12,6 @@ pub upto_ends : (key keys : List ℕ) (i n c total : ℕ) → i < n → c + upto
 upto_ends key keys i n c total below so less = grind (arith, upto_step) steps 100000
 
 -- ROWS
-more_map : (f : ℕ → Cell) (from n : ℕ) → map f (range_with_len from (n + 1)) ≡ map f (range_with_len from n) ++ f (from + n) ∷ []
-more_map f from zero = let e : from + 0 ≡ from = omega arith in ap (λ (k : ℕ). f k ∷ []) (sym e)
-more_map f from (suc n) =
-    let e : suc n + 1 ≡ suc (n + 1) = omega arith in
-    let g : from + 1 + n ≡ from + suc n = omega arith in
-    ap (λ (k : ℕ). map f (range_with_len from k)) e ∙ ap (λ l. f from ∷ l) (more_map f (from + 1) n ∙ ap (λ (k : ℕ). map f (range_with_len (from + 1) n) ++ f k ∷ []) g)
-
 pub length-range : (f : ℕ → Cell) (from n : ℕ) → length (map f (range_with_len from n)) ≡ n
 length-range f from zero = refl
 length-range f from (suc n) = ap suc (length-range f (from + 1) n)
@@ -32,9 +25,6 @@ module _ (size : ℕ) (node : List ℕ) (place : ℕ) (new : Cell) where
 
   abbrev pub at_row : ℕ → Cell
   at_row i = (key_in_row K place new.0 i, part_in_row size node place new.1 i)
-
-  pub row_more : (from n : ℕ) → row_from size node place new from (n + 1) ≡ row_from size node place new from n ++ at_row (from + n) ∷ []
-  row_more from n = more_map at_row from n
 
   pub length-row : (from n : ℕ) → length (row_from size node place new from n) ≡ n
   length-row from n = length-range at_row from n
@@ -101,6 +91,29 @@ row_split size node place new i m n = range_parts (at_row size node place new) i
 
 at_place : (size : ℕ) (node : List ℕ) (place : ℕ) (new : Cell) → at_row size node place new place ≡ new
 at_place size node place new = grind arith steps 100000
+
+-- the cells of a row that stand behind the new one, before it, or about it
+pub row_behind : (size : ℕ) (node : List ℕ) (place : ℕ) (new : Cell) (from n : ℕ) → place < from → cells_from size node (from - 1) n ≡ row_from size node place new from n
+row_behind size node place new from n past = sym (after_place size node place new from n past)
+
+pub row_ahead : (size : ℕ) (node : List ℕ) (place : ℕ) (new : Cell) (from n : ℕ) → from + n ≤ place → cells_from size node from n ≡ row_from size node place new from n
+row_ahead size node place new from n most = sym (before_place size node place new from n most)
+
+pub row_about : (size : ℕ) (node : List ℕ) (place : ℕ) (new : Cell) (from n : ℕ) → from ≤ place → place < from + n
+    → (cells_from size node from (place - from) ++ new ∷ []) ++ cells_from size node place (n - (place - from + 1)) ≡ row_from size node place new from n
+row_about size node place new from n low high =
+    let before = place - from in
+    let rest = n - (place - from + 1) in
+    let e : before + suc rest ≡ n = omega arith in
+    let here : from + before ≡ place = omega arith in
+    let back : place + 1 - 1 ≡ place = omega arith in
+    let front = before_place size node place new from before (omega arith) in
+    let behind = after_place size node place new (place + 1) rest (omega arith) ∙ ap (λ (k : ℕ). cells_from size node k rest) back in
+    append_assoc (cells_from size node from before) (new ∷ []) (cells_from size node place rest)
+    ∙ (λ i. sym front i ++ sym (at_place size node place new) i ∷ sym behind i)
+    ∙ ap (λ (k : ℕ). row_from size node place new from before ++ row_from size node place new k (suc rest)) (sym here)
+    ∙ sym (row_split size node place new from before (suc rest))
+    ∙ ap (row_from size node place new from) e
 
 -- a cell put in after those whose keys are not above
 put_cells : (key keys : List ℕ) (value : ℕ → List ℕ) (new : Cell) (i m : ℕ)

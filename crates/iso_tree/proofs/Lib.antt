@@ -16,6 +16,7 @@ pub mod Passes
 pub mod Leaves
 pub mod Fits
 pub mod Building
+pub mod Copying
 pub mod Dels
 pub mod DelCalls
 pub mod Stored

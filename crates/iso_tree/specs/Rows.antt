@@ -1,6 +1,6 @@
 -- The cells of a node that gets one more.
 use Rattle.std.specs.{Prelude.{◌≡◌, ℕ, zero, suc, ◌+◌, ◌-◌, ◌*◌, ◌<◌, ◌≤◌, ◌==◌, true, cond, List, [], ◌∷◌, nat_lt, length, take, map}, List.{range_with_len, AllByRecursion}, Option.ForSome}
-use Rattle.store_model.specs.{declared.stores.Area.Area, Cells.{cell_count, keys_end, value_mark, key_at, are_key_parts}, Stores.bytes_in, TreeNodes.{before, Cell, count_of, used_cells}}
+use Rattle.store_model.specs.{declared.stores.Area.Area, Cells.{cell_count, keys_end, value_mark, key_at, are_key_parts}, Stores.bytes_in, TreeNodes.{before, Cell, cells_by, count_of, used_cells}}
 use Rattle.iso_model.specs.{Array.Array, Effect.own, Premises.block_at}
 use Rattle.store_model.specs.TreeCalls.{need_of}
 use Rattle.tx_blocks.specs.Tx.{Tx}
@@ -21,6 +21,10 @@ part_in_row size node place part cell =
 -- n cells from one on
 abbrev pub row_from : (size : ℕ) → (node : List ℕ) → (place : ℕ) → Cell → (from n : ℕ) → List Cell
 row_from size node place new from n = map (λ i. (key_in_row (take (keys_end size) node) place new.0 i, part_in_row size node place new.1 i)) (range_with_len from n)
+
+-- n cells of a node from one on
+abbrev pub cells_from : (size : ℕ) → (node : List ℕ) → (from n : ℕ) → List Cell
+cells_from size node from n = cells_by (take (keys_end size) node) (λ i. bytes_in (value_mark size i) node) from n
 
 -- a node of `size` bytes that gets a cell at a place
 pub record GetsCell (size : ℕ) (node : List ℕ) (place : ℕ) (new : Cell) : Type 0 where

@@ -1,6 +1,7 @@
 // The bytes of a node, made of its cells.
-ghost use Rattle.std.specs.{Prelude.{◌≡◌, ◌+◌, ◌*◌, ◌<◌, ◌≤◌, ℕ, List, length, [], ◌∷◌, ◌++◌, take, true, not, cond}, Str.bytes_eq};
-ghost use Rattle.store_model.specs.{Cells.{cell_count, keys_end}, TreeNodes.{is_node, node_bytes, used_cells, Cell, FitCells, IsBlock}, TreeCalls.without_key};
+ghost use Rattle.std.specs.{Prelude.{◌≡◌, ◌+◌, ◌*◌, ◌<◌, ◌≤◌, ℕ, List, length, [], ◌∷◌, ◌++◌, take, true, not, cond}, List.flat_map, Str.bytes_eq};
+ghost use Rattle.store_model.specs.{Cells.{are_key_parts, cell_count, key_part, keys_end}, TreeNodes.{is_node, node_bytes, used_cells, Cell, FitCells, IsBlock}, TreeCalls.without_key};
+ghost use Rattle.iso_tree.specs.Rows.{cells_from};
 
 use crate::keys::{count_of, key_of};
 use iso_alloc::{cell_count, clear, lay, piece, spell};
@@ -16,6 +17,22 @@ pub fn empty_node(into: &mut [u8], level: u8)
     into[1] = level;
 }
 
+// Adds `many` cells after `count` others, by their key parts and their value parts.
+fn add_parts(into: &mut [u8], count: usize, many: usize, keys: &[u8], values: &[u8])
+    requires least { 256 ≤ length into.old }
+    requires most { length into.old ≤ 4096 }
+    requires room { count + many ≤ cell_count (length into.old) }
+    requires keys { length keys.now ≡ 31 * many }
+    requires values { length values.now ≡ 33 * many }
+    ensures added { (size level : ℕ) → (cs ds : List Cell) → into.old ≡ node_bytes size level cs → length cs ≡ count → FitCells cs → length into.old ≡ size → length ds ≡ many → FitCells ds → keys.now ≡ flat_map (λ d. key_part d.0) ds → values.now ≡ flat_map (λ d. d.1) ds → into.new ≡ node_bytes size level (cs ++ ds) }
+{
+    let end = 64 + 31 * cell_count(into.len());
+    lay(into, 64 + 31 * count, keys);
+    lay(into, end + 33 * count, values);
+    into[2] = ((count + many) / 256) as u8;
+    into[3] = ((count + many) % 256) as u8;
+}
+
 /// Adds a cell after `count` others.
 pub fn add_cell(into: &mut [u8], count: usize, key: &[u8], part: &[u8])
     requires least { 256 ≤ length into.old }
@@ -25,13 +42,25 @@ pub fn add_cell(into: &mut [u8], count: usize, key: &[u8], part: &[u8])
     requires part { length part.now ≡ 33 }
     ensures added { (size level : ℕ) → (cs : List Cell) → into.old ≡ node_bytes size level cs → length cs ≡ count → FitCells cs → length into.old ≡ size → into.new ≡ node_bytes size level (cs ++ (key.now, part.now) ∷ []) }
 {
-    let end = 64 + 31 * cell_count(into.len());
     let mut key_part = [0u8; 31];
     spell(&mut key_part, key);
-    lay(into, 64 + 31 * count, &key_part);
-    lay(into, end + 33 * count, part);
-    into[2] = ((count + 1) / 256) as u8;
-    into[3] = ((count + 1) % 256) as u8;
+    add_parts(into, count, 1, &key_part, part);
+}
+
+/// Adds so many cells of a node, from one on, behind so many others.
+pub fn add_cells(into: &mut [u8], count: usize, node: &[u8], first: usize, many: usize)
+    requires size { IsBlock (length node.now) }
+    requires least { 256 ≤ length node.now }
+    requires into { length into.old ≡ length node.now }
+    requires parts { are_key_parts (length node.now) (take (keys_end (length node.now)) node.now) ≡ true }
+    requires inside { first + many ≤ cell_count (length node.now) }
+    requires room { count + many ≤ cell_count (length node.now) }
+    ensures added { (level : ℕ) → (cs : List Cell) → into.old ≡ node_bytes (length node.now) level cs → length cs ≡ count → FitCells cs → into.new ≡ node_bytes (length node.now) level (cs ++ cells_from (length node.now) node.now first many) }
+{
+    let end = 64 + 31 * cell_count(node.len());
+    let keys = piece(node, 64 + 31 * first, 31 * many);
+    let values = piece(node, end + 33 * first, 33 * many);
+    add_parts(into, count, many, keys, values);
 }
 
 // Adds a cell, unless it is that of a key; says how many cells there are then.

@@ -1,11 +1,11 @@
 // The bytes of nodes that get a new cell.
 ghost use Rattle.std.specs.Prelude.{◌≡◌, ◌+◌, ◌-◌, ◌*◌, ◌<◌, ◌≤◌, ℕ, List, length, take, [], ◌∷◌, true};
 ghost use Rattle.store_model.specs.{Cells.{are_key_parts, cell_count, keys_end}, TreeNodes.{child_part, count_of, node_bytes, Cell, FitCells, IsBlock}, TreeCalls.root_cells, Trees.emptied};
-ghost use Rattle.iso_tree.specs.Rows.{key_in_row, part_in_row, row_from, upto_from, GetsCell};
+ghost use Rattle.iso_tree.specs.Rows.{key_in_row, row_from, upto_from, GetsCell};
 
-use crate::build::{add_cell, empty_node};
+use crate::build::{add_cell, add_cells, empty_node};
 use crate::keys::{count_of, is_before, key_of};
-use iso_alloc::{cell_count, lay, piece, spell};
+use iso_alloc::{lay, spell};
 
 /// How many cells in a row from one on have a key that is not above this one.
 pub fn upto(size: usize, key: &[u8], keys: &[u8], first: usize) -> usize
@@ -50,27 +50,8 @@ pub fn row_key<'a>(
     key_of(size, keys, cell - 1)
 }
 
-// The value part of a cell of a node that got a cell at a place.
-fn row_part<'a>(node: &'a [u8], place: usize, part: &'a [u8], cell: usize) -> &'a [u8]
-    requires size { IsBlock (length node.now) }
-    requires least { 256 ≤ length node.now }
-    requires part { length part.now ≡ 33 }
-    requires place { place ≤ cell_count (length node.now) }
-    requires cell { cell ≤ cell_count (length node.now) }
-    ensures value { result.now ≡ part_in_row (length node.now) node.now place part.now cell }
-    ensures length { length result.now ≡ 33 }
-{
-    let end = 64 + 31 * cell_count(node.len());
-    if cell < place {
-        return piece(node, end + 33 * cell, 33);
-    }
-    if cell == place {
-        return part;
-    }
-    piece(node, end + 33 * (cell - 1), 33)
-}
-
-/// A node of `count` cells of another node that got a cell at a place, from cell `from` on.
+/// A node of `count` cells of another node that got a cell at a place, from cell `from` on: the cells before that place, the new one,
+/// and those after it.
 pub fn fill_row(
     into: &mut [u8],
     level: u8,
@@ -89,14 +70,19 @@ pub fn fill_row(
     requires count { count ≤ cell_count (length node.now) }
     ensures { into.new ≡ node_bytes (length node.now) level (row_from (length node.now) node.now place (key.now, part.now) from count) }
 {
-    let size = node.len();
-    let keys = piece(node, 0, 64 + 31 * cell_count(size));
     empty_node(into, level);
-    for i in 0..count {
-        let cell_key = row_key(size, keys, place, key, from + i);
-        let cell_part = row_part(node, place, part, from + i);
-        add_cell(into, i, cell_key, cell_part);
+    if place < from {
+        add_cells(into, 0, node, from - 1, count);
+        return;
     }
+    if from + count <= place {
+        add_cells(into, 0, node, from, count);
+        return;
+    }
+    let before = place - from;
+    add_cells(into, 0, node, from, before);
+    add_cell(into, before, key, part);
+    add_cells(into, before + 1, node, place, count - (before + 1));
 }
 
 /// Makes the first key of an inner node empty.

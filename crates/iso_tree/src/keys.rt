@@ -2,12 +2,15 @@
 ghost use Rattle.std.specs.Prelude.{◌≡◌, ◌+◌, ◌-◌, ◌<◌, ◌≤◌, ◌==◌, ◌||◌, ◌&&◌, if◌then◌else◌, nat_lt, slice_index, true, length, IfSome};
 ghost use Rattle.store_model.specs.{Cells.{cell_count, keys_end, are_key_parts, is_part, key_at, text_of}, TreeNodes.{are_cells, before, has_head, has_level, below_from, cell_of, count_of, is_node, place_of}};
 
-use iso_alloc::{are_zero, cell_count, is_part, key_part, piece, text_of};
+use iso_alloc::{are_zero, cell_count, is_key_part, key_part, piece, text_of};
 
-/// Whether a key is before another in byte order.
+/// Whether a key is before another in byte order. Most of two differ in the first byte.
 pub fn is_before(x: &[u8], y: &[u8]) -> bool
     ensures { result ≡ before x.now y.now }
 {
+    if !x.is_empty() && !y.is_empty() && x[0] != y[0] {
+        return x[0] < y[0];
+    }
     x.cmp(y).is_lt()
 }
 
@@ -76,10 +79,10 @@ fn are_cells(size: usize, keys: &[u8], count: usize) -> bool
 {
     let mut last: &[u8] = b"";
     for cell in 0..cell_count(size) {
-        let part = key_part(keys, cell);
-        if !is_part(part, 28) {
+        if !is_key_part(keys, cell) {
             return false;
         }
+        let part = key_part(keys, cell);
         if !may_follow(part, last, cell, count) {
             return false;
         }

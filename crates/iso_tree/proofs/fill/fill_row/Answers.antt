@@ -1,22 +1,33 @@
-use Rattle.iso_tree.proofs.{Words.{◌≡◌, ◌∙◌, sym, refl, ap, ℕ, ◌+◌, ◌*◌, List, [], ◌∷◌, ◌++◌, length, take, arith, keys_end, Cell, node_bytes, row_from, key_in_row}, Filling.{key_fits, row_fits, row_more, length-row}}
+use Rattle.iso_tree.proofs.{Words.{◌≡◌, ◌∙◌, refl, ap, ℕ, ◌+◌, ◌-◌, ◌≤◌, ◌<◌, List, [], ◌∷◌, ◌++◌, length, length-append, arith, Cell, FitCells, node_bytes, cells_from, all_append}, Copying.cells_fit_from, Filling.{row_behind, row_ahead, row_about}, Fits.length-cells}
+use Rattle.iso_tree.proofs.fill.fill_row.Goals as goal
 
-pub add_cell-requires-clause-key : Rattle.iso_tree.proofs.fill.fill_row.Goals.add_cell-requires-clause-key
-add_cell-requires-clause-key c =
-    let node = c.args.node.now in
-    let same : c.row_key-cell_key.result.now ≡ key_in_row (take (keys_end (length node)) node) c.args.place c.args.key.now (c.args.from + c.loop-i.i) =
-    c.row_key-cell_key.ensures ∙ ap (λ (k : List ℕ). key_in_row k c.args.place c.args.key.now (c.args.from + c.loop-i.i)) (c.piece-keys.ensures.value ∙ ap (λ (n : ℕ). take (64 + 31 * n) node) c.cell_count.ensures) in
-    omega (arith, ap length same, key_fits (length node) node c.args.place (c.args.key.now, c.args.part.now) c.requires.gets.parts c.requires.gets.key c.requires.gets.inside (c.args.from + c.loop-i.i) (omega (arith, c.requires.inside, c.loop-i-test.true)))
-
-pub loop-i-preserved : Rattle.iso_tree.proofs.fill.fill_row.Goals.loop-i-preserved
-loop-i-preserved c =
+pub returns-then-place-from : goal.returns-then-place-from
+returns-then-place-from c =
     let node = c.args.node.now in
     let size = length node in
-    let i = c.loop-i.i in
+    c.add_cells.ensures.added c.args.level [] (c.empty_node.ensures ∙ ap (λ (n : ℕ). node_bytes n c.args.level []) c.requires.into) refl tt
+    ∙ ap (node_bytes size c.args.level) (row_behind size node c.args.place (c.args.key.now, c.args.part.now) c.args.from c.args.count c.if-place-from.true)
+
+pub returns-then-from-count : goal.returns-then-from-count
+returns-then-from-count c =
+    let node = c.args.node.now in
+    let size = length node in
+    c.add_cells-then-from-count.ensures.added c.args.level [] (c.empty_node.ensures ∙ ap (λ (n : ℕ). node_bytes n c.args.level []) c.requires.into) refl tt
+    ∙ ap (node_bytes size c.args.level) (row_ahead size node c.args.place (c.args.key.now, c.args.part.now) c.args.from c.args.count c.if-from-count.true)
+
+pub returns : goal.returns
+returns c =
+    let node = c.args.node.now in
+    let size = length node in
     let new : Cell = (c.args.key.now, c.args.part.now) in
-    let same : c.row_key-cell_key.result.now ≡ key_in_row (take (keys_end size) node) c.args.place c.args.key.now (c.args.from + i) =
-    c.row_key-cell_key.ensures ∙ ap (λ (k : List ℕ). key_in_row k c.args.place c.args.key.now (c.args.from + i)) (c.piece-keys.ensures.value ∙ ap (λ (n : ℕ). take (64 + 31 * n) node) c.cell_count.ensures) in
-    let cs = row_from size node c.args.place new c.args.from i in
-    let fit = row_fits size node c.args.place new c.requires.gets.parts c.requires.gets.key c.requires.size refl c.requires.gets.part c.requires.gets.inside c.args.from i (omega (arith, c.requires.inside, c.loop-i-test.true)) in
-    c.add_cell.ensures.added size c.args.level cs c.loop-i.invariant (length-row size node c.args.place new c.args.from i) fit (c.loop-i.auto.into ∙ c.empty_node.auto.into ∙ c.requires.into)
-    ∙ (λ j. node_bytes size c.args.level (cs ++ (same j, c.row_part-cell_part.ensures.value j) ∷ []))
-    ∙ ap (node_bytes size c.args.level) (sym (row_more size node c.args.place new c.args.from i))
+    let low : c.args.from ≤ c.args.place = omega (arith, c.if-place-from.false) in
+    let high : c.args.place < c.args.from + c.args.count = omega (arith, c.if-from-count.false) in
+    let before = c.args.place - c.args.from in
+    let front = cells_from size node c.args.from before in
+    let long : length front ≡ before = length-cells _ _ c.args.from before in
+    let fit = cells_fit_from size node c.requires.size refl c.requires.gets.parts c.args.from before (omega (arith, low, c.requires.gets.inside)) in
+    let first = c.add_cells-2.ensures.added c.args.level [] (c.empty_node.ensures ∙ ap (λ (n : ℕ). node_bytes n c.args.level []) c.requires.into) refl tt in
+    let second = c.add_cell.ensures.added size c.args.level front first long fit (c.add_cells-2.auto.into ∙ c.empty_node.auto.into ∙ c.requires.into) in
+    let both : FitCells (front ++ new ∷ []) = all_append (λ (d : Cell). (length d.0 ≤ 28) × (length d.1 ≡ 33)) front (new ∷ []) fit ((c.requires.gets.key, c.requires.gets.part), tt) in
+    c.add_cells-3.ensures.added c.args.level (front ++ new ∷ []) second (length-append front (new ∷ []) ∙ ap (λ (n : ℕ). n + 1) long) both
+    ∙ ap (node_bytes size c.args.level) (row_about size node c.args.place new c.args.from c.args.count low high)
