@@ -1,4 +1,5 @@
-//! Accounts in a hash store: what their transactions do, and that their sum stays, as laws on the definitions.
+//! Accounts in a hash store, as laws on the definitions: their sum stays in each history of a shared device (`history`) and in each
+//! image of a crash (`images`), where each commit is by their calls. No code.
 #![tactic(auto)]
 
 pub mod laws;

@@ -1,4 +1,5 @@
-//! Accounts in the hash store of a shared device: threads move amounts between them, and their sum stays.
+//! An example: accounts in the hash store of a shared device. Threads move amounts between them, in transactions of their own, in a
+//! group, and half by half, and their sum stays (`run`). That all transfers are made, or that a thread gets its turn, is no clause.
 #![tactic(auto)]
 
 mod account;

@@ -1,4 +1,4 @@
-//! The digest of the array that an image holds.
+//! The digest of the array after the last commit (`digest`), for `recover`. It writes nothing.
 #![tactic(auto)]
 
 mod digest;

@@ -1,4 +1,5 @@
-//! What a half of an image holds, and what becomes of it as bytes change; where things stand in an image.
+//! Where things are in an image, what a half of it holds, and what becomes of it as bytes change. `laws`: records that are appended
+//! count once their gate is open, all or none; the other half may change while its gate is closed. Nothing here reads a disk.
 #![tactic(auto)]
 
 mod kind;

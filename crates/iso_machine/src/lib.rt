@@ -1,4 +1,5 @@
-//! Clients and labels over a core, on one thread.
+//! Clients and labels over a core, on one thread. Each operation is the model's step: its reply (`reply`), the world after it
+//! (`world`), and at each moment of the call what an image shows (`moments`). Lines and texts are not its matter.
 #![tactic(auto)]
 
 mod accessing;

@@ -1,4 +1,5 @@
-//! What the lines of clients that run concurrently say of the calls of their transactions.
+//! The store theorem by what the lines of concurrent clients say: the calls of a transaction, whoever had it, answer in order
+//! (`LinesTellCalls`, `lines_of_clients_tell_their_calls`). It says nothing of lines on an opaque disk.
 #![tactic(auto)]
 
 mod laws;

@@ -1,4 +1,5 @@
-//! What clients that run concurrently were told, as one legal list of entries: the definitions, and laws of them.
+//! What clients that run concurrently were told, as one legal list of turns: definitions alone, and laws of them. `ClientLines` says
+//! which turns a client's line takes and what it is answered, `Told` that all clients were told by one list.
 #![tactic(auto)]
 
 /// How often an `await` looks for its label.

@@ -1,4 +1,5 @@
-//! What clients that run concurrently print: the replies of each client, and then its commits.
+//! What clients that run concurrently print: the replies of each client, and then each commit in rising number (`ok`); without
+//! memory, first lines of that (`err`). It runs no line.
 #![tactic(auto)]
 
 mod commit_line;

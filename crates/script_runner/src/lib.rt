@@ -1,4 +1,6 @@
-//! A script, answered line by line on a machine.
+//! A script, answered line by line on any machine. `run` puts each reply before the next line runs, and says how far it came and why
+//! it ended (`ran`). It takes no more input while replies cannot be handed on (`at_once`). What a line is answered is up to the
+//! machine.
 #![tactic(auto)]
 
 mod feed;

@@ -1,4 +1,5 @@
-//! Steps that contracts count. A counter takes no memory and no time.
+//! Steps that contracts count: `Steps` begins at 0 (`start`) and each `tick` adds one. A counter takes no memory and no time; what is
+//! counted is for the contracts above.
 #![tactic(auto)]
 
 mod steps;
