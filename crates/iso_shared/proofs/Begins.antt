@@ -1,5 +1,5 @@
 -- A transaction that has just begun.
-use Rattle.iso_shared.proofs.{Words.{tests_passed, ◌≡◌, ℕ, suc, zero, ◌+◌, ◌-◌, ◌<◌, ◌≤◌, ◌==◌, Bool, true, false, ◌&&◌, not, cond, List, [], ◌∷◌, ◌++◌, Option, Some, None, Result, Ok, Err, IfOk, IsTrue, nat_le, nat_lt, length, take, eq-eqb, refl, sym, ap, ◌∙◌, subst, arith, Checked, up_to, Begun, Core, StandsFor, up, down, DiskState, Access, Commit, Geometry, Mode, Serial, CoreError, LAST, MAX_LIVE, CoreReply, clash, clash_from, first_after, has_write, is_block_size, same_mode, History, last, after_begin, begin_step, mode_named, World, Live, unattached, IsWorld, Doing, Entry, IsLegal, IsAhead, IsOwn, Holds, IsOn, IsTxOf, Tx, standing_of, Start, State, is_live, live_of, opened, state_at, IfErr, IsErrOf, take-length, AreNotesAfter, Recent, IsRecent, recent_entry}, Trace.{after_snoc, legal_last, opened_sound, sound_all}, Cores.{Did, by_lost, refused_down}}
+use Rattle.iso_shared.proofs.{Words.{view, tests_passed, ◌≡◌, ℕ, suc, zero, ◌+◌, ◌-◌, ◌<◌, ◌≤◌, ◌==◌, Bool, true, false, ◌&&◌, not, cond, List, [], ◌∷◌, ◌++◌, Option, Some, None, Result, Ok, Err, IfOk, IsTrue, nat_le, nat_lt, length, take, eq-eqb, refl, sym, ap, ◌∙◌, subst, arith, Checked, up_to, Begun, Core, StandsFor, up, down, DiskState, Access, Commit, Geometry, Mode, Serial, CoreError, LAST, MAX_LIVE, CoreReply, clash, clash_from, first_after, has_write, is_block_size, same_mode, History, last, after_begin, begin_step, mode_named, World, Live, unattached, IsWorld, Doing, Entry, IsLegal, IsAhead, IsOwn, Holds, IsOn, IsTxOf, Tx, standing_of, Start, State, is_live, live_of, opened, state_at, IfErr, IsErrOf, take-length, AreNotesAfter, Recent, IsRecent, recent_entry}, Trace.{after_snoc, legal_last, opened_sound, sound_all}, Cores.{Did, by_lost, refused_down}}
 use Rattle.std.proofs.Common.{drop}
 use Rattle.iso_model.specs.declared.core_error.CoreError.TheVariants as error
 use Rattle.iso_model.specs.declared.core_reply.CoreReply.TheVariants as reply
@@ -159,7 +159,7 @@ ahead_gone_on S old new checked begin is = ahead_first S new (record { upto = ne
 pub gone_on : {D O : Type 0} {A : Start} (t : Tx D O) {accesses : List Access} {ready : Option ℕ} {settled : Bool} (new : Doing) → new ≡ record t.work { accesses = accesses; ready = ready; settled = settled } → IsTxOf A t
     → IsTxOf A (record t { work = new; checked = record { upto = new.begin; clash = None } })
 gone_on {A = A} t new is tx =
-    let S : State = state_at A t.pass.me.0.seen in
+    let S : State = state_at A (view t.pass).seen in
     let begin : new.begin ≡ t.work.begin = ap (λ (w : Doing). w.begin) is in
     let size : new.size ≡ t.work.size = ap (λ (w : Doing). w.size) is in
     let blocks : new.blocks ≡ t.work.blocks = ap (λ (w : Doing). w.blocks) is in

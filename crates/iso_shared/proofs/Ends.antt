@@ -1,5 +1,5 @@
 -- The end of a transaction leaves an entry that is legal at its place.
-use Rattle.iso_shared.proofs.{Words.{◌≡◌, ◌≢◌, ◌⊎◌, inl, inr, ⊎_elim, ℕ, ◌+◌, ◌<◌, ◌≤◌, Bool, true, false, cond, List, [], ◌∷◌, ◌++◌, Option, Some, None, Result, Ok, Err, IfOk, IfErr, OnOk, IsSome, length, refl, sym, ap, ◌∙◌, subst, arith, IsErrOf, Checked, Core, BlamesDisk, IsCheckedOf, IsWorkOf, Refuses, Writes, StandsFor, disk_of, up, down, ShowsEither, ShowsLast, DiskState, LeavesOnly, StaysTold, weakened, Access, Clash, Commit, EndReply, Committed, ReadOnly, Conflict, Geometry, CoreError, CoreReply, clash, has_write, last, after_commit, after_leaving, commit_step, end_step, commit_from, World, AreWithin, Doing, Entry, Answers, IsLegal, MayHaveMade, end_answer, reply_of, IsAhead, IsOwn, Holds, IsOn, ShowsSince, faults_of, with_lost, Start, State, after_end, is_live, state_at, tx_of, end_entry}, Growing.{since_after, since_last}, Standings.Moved, Cores.{Did, by_disk, by_lost, holds_up, refused_down, refused_up}}
+use Rattle.iso_shared.proofs.{Words.{◌≡◌, ◌≢◌, ◌⊎◌, inl, inr, ⊎_elim, ℕ, ◌+◌, ◌<◌, ◌≤◌, Bool, true, false, cond, List, [], ◌∷◌, ◌++◌, Option, Some, None, Result, Ok, Err, IfOk, IfErr, OnOk, IsSome, length, refl, sym, ap, ◌∙◌, subst, arith, IsErrOf, Checked, Core, BlamesDisk, IsCheckedOf, IsWorkOf, Refuses, Writes, StandsFor, disk_of, up, down, ShowsEither, ShowsLast, DiskState, LeavesOnly, StaysTold, weakened, Access, Clash, Commit, EndReply, Committed, ReadOnly, Conflict, Geometry, CoreError, CoreReply, clash, has_write, last, after_commit, after_leaving, commit_step, end_step, commit_from, World, AreWithin, Doing, Entry, Answers, IsLegal, MayHaveMade, end_answer, reply_of, IsAhead, IsOwn, Holds, IsOn, ShowsFrom, faults_of, with_lost, Start, State, after_end, is_live, state_at, tx_of, end_entry}, Growing.{from_after, from_last}, Standings.Moved, Cores.{Did, by_disk, by_lost, holds_up, refused_down, refused_up}}
 use Rattle.iso_core.specs.Calls as calls
 use Rattle.iso_model.specs.declared.core_error.CoreError.TheVariants as error
 use Rattle.iso_model.specs.declared.core_reply.CoreReply.TheVariants as reply
@@ -166,8 +166,8 @@ moved_end {D} disk A es old new b n tx accesses r legal some is answers ended lo
     S : State
     S = state_at A es
 
-    before : (e : Entry) → Answers S e → (c : List ℕ) → ShowsLast S.world c → ShowsSince A (es ++ e ∷ []) c
-    before e answers c shown = since_last A es e legal some answers c (subst (λ (o : Option (List Commit)). ShowsLast (with_lost S.world o) c) (sym is) shown)
+    before : (e : Entry) → Answers S e → (c : List ℕ) → ShowsLast S.world c → ShowsFrom A es (es ++ e ∷ []) c
+    before e answers c shown = from_last A es e legal some answers c (subst (λ (o : Option (List Commit)). ShowsLast (with_lost S.world o) c) (sym is) shown)
 
     by : (r : Result EndReply CoreError) → Answers S (end_entry b n tx accesses r)
         → IfOk r (λ x. ((end_step S.world (tx_of S.world tx accesses)).0 ≡ calls.reply_of x) × StandsFor disk new (end_step S.world (tx_of S.world tx accesses)).1 up)
@@ -176,7 +176,7 @@ moved_end {D} disk A es old new b n tx accesses r legal some is answers ended lo
     by (Ok x) answers ended lost unwritten =
         let same = ends_so S.world tx accesses x (ended.0 ∙ same_reply x) in
         inr (weakened run (λ c shown. ⊎_elim (before (entry.End tx accesses x) answers c)
-        (λ (after : ShowsLast (end_step S.world (tx_of S.world tx accesses)).1 c). since_after A es (entry.End tx accesses x) legal some answers c
+        (λ (after : ShowsLast (end_step S.world (tx_of S.world tx accesses)).1 c). from_after A es (entry.End tx accesses x) legal some answers c
         (subst (λ (o : Option (List Commit)). ShowsLast (with_lost (after_end S.world tx accesses x) o) c) (sym is) (subst (λ (V : World). ShowsLast V c) same after)))
         shown))
     by (Err e) answers ended lost unwritten =
@@ -191,5 +191,5 @@ moved_end {D} disk A es old new b n tx accesses r legal some is answers ended lo
         failed answers same =
             let e : Entry = end_entry b n tx accesses (Err error.Disk) in
             inr (weakened run (λ c shown. ⊎_elim (before e answers c)
-            (λ (after : ShowsLast (end_step S.world (tx_of S.world tx accesses)).1 c). since_after A es e legal some answers c (subst (λ (V : World). ShowsLast V c) same after))
+            (λ (after : ShowsLast (end_step S.world (tx_of S.world tx accesses)).1 c). from_after A es e legal some answers c (subst (λ (V : World). ShowsLast V c) same after))
             shown))

@@ -1,5 +1,5 @@
 -- The end of a group leaves an entry that is legal at its place.
-use Rattle.iso_shared.proofs.{Words.{◌≡◌, ◌≢◌, ◌⊎◌, inl, inr, ⊎_elim, ℕ, ◌<◌, ◌≤◌, List, [], ◌∷◌, ◌++◌, Option, Some, None, Result, Ok, Err, IfErr, OnOk, length, map, refl, sym, ap, ◌∙◌, subst, arith, unwrap_or, append-nil, append_cancel_left, IsErrOf, AllByRecursion, AreDistinct, AreEach, AreHeld, Bool, IsJoined, Posted, Shared, Standing, View, Tx, cause_of, end_of, false, handed, held_after, is_down, members_in, numbers_in, returned, IsEnd, IsMember, MAX_GROUP, MayHaveMade, ShowsSince, hit_same, is_live, member_numbers, numbers_handed, suc, times, true, BlamesDisk, Core, StandsFor, disk_of, up, down, ShowsEither, ShowsLast, DiskState, LeavesOnly, StaysTold, weakened, Commit, CoreError, GroupEnd, GroupReply, bare_end, reply_in, group, group_is, decided, leave_all, leave_all_is, made_by, member_reply, numbers_told, ahead, end_step, with_commits, History, World, Live, Entry, Answers, IsGroup, IsLegal, Member, Holds, faults_of, with_lost, Start, State, after_group, commits_made, group_answers, lost_commits, members_of, replies_of, state_at, txs_of, with_world, ends_at, group_entry, members_at, IsPrefix}, Cores.{Did, by_lost, holds_up, is_tx, refused_down, same_faults, same_told}, Ends.{may_have, work_of}, Giving.{Lends, live_lent, refused_holds}, Grouped.after_live, Growing.{since_after, since_last}, Mades.own_on, Standings.Moved}
+use Rattle.iso_shared.proofs.{Words.{◌≡◌, ◌≢◌, ◌⊎◌, inl, inr, ⊎_elim, ℕ, ◌<◌, ◌≤◌, List, [], ◌∷◌, ◌++◌, Option, Some, None, Result, Ok, Err, IfErr, OnOk, length, map, refl, sym, ap, ◌∙◌, subst, arith, unwrap_or, append-nil, append_cancel_left, IsErrOf, AllByRecursion, AreDistinct, AreEach, AreHeld, Bool, IsJoined, Posted, Shared, Standing, View, Tx, cause_of, end_of, false, handed, held_after, is_down, members_in, numbers_in, returned, IsEnd, IsMember, MAX_GROUP, MayHaveMade, ShowsFrom, hit_same, is_live, member_numbers, numbers_handed, suc, times, true, BlamesDisk, Core, StandsFor, disk_of, up, down, ShowsEither, ShowsLast, DiskState, LeavesOnly, StaysTold, weakened, Commit, CoreError, GroupEnd, GroupReply, bare_end, reply_in, group, group_is, decided, leave_all, leave_all_is, made_by, member_reply, numbers_told, ahead, end_step, with_commits, History, World, Live, Entry, Answers, IsGroup, IsLegal, Member, Holds, faults_of, with_lost, Start, State, after_group, commits_made, group_answers, lost_commits, members_of, replies_of, state_at, txs_of, with_world, ends_at, group_entry, members_at, IsPrefix}, Cores.{Did, by_lost, holds_up, is_tx, refused_down, same_faults, same_told}, Ends.{may_have, work_of}, Giving.{Lends, live_lent, refused_holds}, Grouped.after_live, Growing.{from_after, from_last}, Mades.own_on, Standings.Moved}
 use Rattle.iso_model.specs.declared.access.GroupReply.TheVariants as member
 use Rattle.iso_model.specs.declared.core_error.CoreError.TheVariants as error
 use Rattle.iso_shared.specs.declared.entry.Call.TheVariants as call
@@ -198,15 +198,15 @@ moved_group disk A es old new ends last r b n legal some h answers so =
     ms : List Member
     ms = members_at ends
 
-    before : (e : Entry) → S.lost ≡ None → Answers S e → (c : List ℕ) → ShowsLast S.world c → ShowsSince A (es ++ e ∷ []) c
-    before e is answers c shown = since_last A es e legal some answers c (subst (λ (o : Option (List Commit)). ShowsLast (with_lost S.world o) c) (sym is) shown)
+    before : (e : Entry) → S.lost ≡ None → Answers S e → (c : List ℕ) → ShowsLast S.world c → ShowsFrom A es (es ++ e ∷ []) c
+    before e is answers c shown = from_last A es e legal some answers c (subst (λ (o : Option (List Commit)). ShowsLast (with_lost S.world o) c) (sym is) shown)
 
     by : (r : Result (Unit {0}) CoreError) → S.lost ≡ None → StandsFor disk old S.world up → Answers S (group_entry b n last r) → Groups disk S old new ends last r → Moved disk A es (group_entry b n last r) old new
     by (Ok done) is stands answers so =
         let e : Entry = entry.EndGroup (ends_at last) in
         let are = answered_so disk S old new ends last (Ok done) so in
         inr (weakened (so.moments stands) (λ c shown. ⊎_elim (before e is answers c)
-        (λ (after_it : ShowsLast (after_group S.world ms) c). since_after A es e legal some answers c
+        (λ (after_it : ShowsLast (after_group S.world ms) c). from_after A es e legal some answers c
         (subst (λ (o : Option (List Commit)). ShowsLast (with_lost (after_group S.world (members_of (ends_at last))) o) c) (sym is)
         (subst (λ (l : List Member). ShowsLast (after_group S.world l) c) (sym are) after_it)))
         shown))
@@ -223,7 +223,7 @@ moved_group disk A es old new ends last r b n legal some h answers so =
             let are = refused_so disk S old new ends last (Err error.Disk) so in
             let lost : List Member → List Commit = lost_commits S.world in
             inr (weakened (so.moments stands) (λ c shown. ⊎_elim (before e is answers c)
-            (λ (after_it : ShowsLast (after_group S.world ms) c). since_after A es e legal some answers c
+            (λ (after_it : ShowsLast (after_group S.world ms) c). from_after A es e legal some answers c
             (subst (λ (l : List Member). ShowsLast (with_lost (leave_all (txs_of S.world l) S.world) (Some (lost_commits S.world l))) c) are
             (subst (λ (V : World). ShowsLast (with_lost V (Some (lost_commits S.world ms))) c) (sym (leave_all_is (txs_of S.world ms) S.world))
             (subst (λ (V : World). ShowsLast V c) (after_live S.world ms) after_it))))
@@ -237,7 +237,7 @@ held_again last ends holds same held =
     let one = subst (λ (ms : List Member). AreHeld (member_numbers ms) holds) (sym (same_members last ends same)) (subst (λ (ns : List ℕ). AreHeld ns holds) (sym (numbers_are ends)) held) in
     (one, subst (λ (ms : List Member). AreHeld (member_numbers ms) holds) (sym (bare_members last)) one)
 
-module _ {D : Type 0} {disk : D → DiskState} {A : Start} {first : DiskState} {lent : Core D} {items : List (List ℕ × Posted)} {es : List Entry} {holds : List ℕ} (l : Lends disk A first lent items es holds) where
+module _ {D : Type 0} {disk : D → DiskState} {A : Start} {first : DiskState} {lent : Core D} {items : List (List ℕ × Posted)} {es : List Entry} {ms : List ℕ} {holds : List ℕ} (l : Lends disk A first lent items es ms holds) where
   -- members that a pass holds are live
   all_live : (ends : List GroupEnd) → AreHeld (numbers_handed ends) holds → AllByRecursion (λ (g : GroupEnd). is_live g.tx (state_at A es).world.live ≡ true) ends
   all_live [] held = tt

@@ -1,5 +1,5 @@
 -- What images show of the history while the list grows.
-use Rattle.iso_shared.proofs.{Words.{◌≡◌, ℕ, ◌<◌, ◌≤◌, List, [], ◌∷◌, ◌++◌, Option, Some, None, refl, sym, ap, ◌∙◌, subst, arith, Access, Commit, EndReply, Committed, ReadOnly, Conflict, Geometry, History, last, Shows, World, Extends, shows_any_form, shows_longer, extends_itself, extends_on, ShowsBetween, ShowsLast, leave_all_is, Call, Cause, Entry, Member, Answers, IsLegal, LegalFrom, MayRefuse, ShowsSince, whole, with_lost, Start, State, after, after_all, after_end, after_fault, after_group, after_refusal, lost_commit, lost_commits, members_of, opened, state_at, txs_of}, Follows.{last_longer, one_more_commit}, Grouped.{after_live, behind_it}, Trace.after_snoc}
+use Rattle.iso_shared.proofs.{Words.{◌≡◌, ⊎_elim, ℕ, ◌<◌, ◌≤◌, List, [], ◌∷◌, ◌++◌, Option, Some, None, refl, sym, ap, ◌∙◌, subst, arith, Access, Commit, EndReply, Committed, ReadOnly, Conflict, Geometry, History, last, Shows, World, Extends, shows_any_form, shows_longer, extends_itself, extends_on, ShowsBetween, ShowsLast, Core, DiskState, StandsFor, disk_of, shows_world, standing_of, Holds, IsPrefix, ShowsFrom, leave_all_is, Call, Cause, Entry, Member, Answers, IsLegal, LegalFrom, MayRefuse, ShowsSince, whole, with_lost, Start, State, after, after_all, after_end, after_fault, after_group, after_refusal, lost_commit, lost_commits, members_of, opened, state_at, txs_of}, Follows.{follows_prefix, last_longer, one_more_commit}, Grouped.{after_live, behind_it}, Trace.after_snoc}
 use Rattle.iso_shared.specs.declared.entry.Call.TheVariants as call
 use Rattle.iso_shared.specs.declared.entry.Cause.TheVariants as cause
 use Rattle.iso_shared.specs.declared.entry.Entry.TheVariants as entry
@@ -98,6 +98,26 @@ grows_from S (e ∷ es) legal = grows_on (whole S) (whole (after S e)) (whole (a
 pub grows_all : (A : Start) (es : List Entry) → IsLegal A es → Grows A.world (whole (state_at A es))
 grows_all A es legal = grows_from (opened A) es legal
 
+grows_lost : (W : World) (o : Option (List Commit)) → Grows W (with_lost W o)
+grows_lost W None = grows_itself W
+grows_lost W (Some lost) = record { geometry = refl; history = behind_it W.history lost }
+
+-- what the images of now show of a core that stands for the state
+pub shows_now : {D : Type 0} (disk : D → DiskState) (core : Core D) (S : State) → Holds disk core S → (c : List ℕ) → (disk (disk_of core)).now c → ShowsBetween S.world (whole S) c
+shows_now disk core S h c here = by S.lost h.world
+  where
+    W : World
+    W = S.world
+
+    by : (o : Option (List Commit)) → StandsFor disk core W (standing_of o) → ShowsBetween W (with_lost W o) c
+    by None stands = record { at = last W.history; from = omega arith; to = omega arith; shows = shows_world W core.kept.half stands.kept_of.world c (stands.images.each c here) }
+    by (Some lost) stands =
+        let some : 0 < W.history.first = stands.kept_of.world.history.first in
+        let V : World = with_lost W (Some lost) in
+        ⊎_elim (λ (s : ShowsLast W c). last_between W W V c some (grows_itself W) some (grows_lost W (Some lost)) s)
+        (λ (s : ShowsLast V c). last_between W V V c some (grows_lost W (Some lost)) some (grows_itself V) s)
+        (stands.images c here)
+
 first_whole : (W : World) (o : Option (List Commit)) → 0 < W.history.first → 0 < (with_lost W o).history.first
 first_whole W None some = some
 first_whole W (Some lost) some = some
@@ -110,16 +130,35 @@ module _ (A : Start) (es : List Entry) (e : Entry) (legal : IsLegal A es) (some 
   pub since_next : (c : List ℕ) → ShowsSince A es c → ShowsSince A (es ++ e ∷ []) c
   since_next c shown = grind (arith, after_snoc, between_grown, first_here, grows_next)
 
-  -- an image that shows the last commit before the entry, or the last one after it
-  pub since_last : (c : List ℕ) → ShowsLast (whole (state_at A es)) c → ShowsSince A (es ++ e ∷ []) c
-  since_last c shown = grind (arith, grows_all, first_here, after_snoc, last_between, grows_next)
+  -- an image that shows the last commit before the entry, or the last one after it, shows none before that one
+  pub from_last : (c : List ℕ) → ShowsLast (whole (state_at A es)) c → ShowsFrom A es (es ++ e ∷ []) c
+  from_last c shown =
+      let S : State = state_at A es in
+      subst (λ (T : State). ShowsBetween S.world (whole T) c) (sym (after_snoc (opened A) es e))
+      (last_between S.world (whole S) (whole (after S e)) c some (grows_lost S.world S.lost) first_here (grows_next S e answers) shown)
 
-  pub since_after : (c : List ℕ) → ShowsLast (whole (after (state_at A es) e)) c → ShowsSince A (es ++ e ∷ []) c
-  since_after c shown =
-      let begins = grows_all A es legal in
-      let next = grows_next (state_at A es) e answers in
+  pub from_after : (c : List ℕ) → ShowsLast (whole (after (state_at A es) e)) c → ShowsFrom A es (es ++ e ∷ []) c
+  from_after c shown =
+      let S : State = state_at A es in
+      let next = grows_next S e answers in
       let here = first_here in
-      let same : (whole (state_at A es)).history.first ≡ A.world.history.first = begins.history.first in
-      let later : (whole (after (state_at A es) e)).history.first ≡ (whole (state_at A es)).history.first = next.history.first in
-      subst (λ (T : State). ShowsBetween A.world (whole T) c) (sym (after_snoc (opened A) es e))
-      (last_between A.world (whole (after (state_at A es) e)) (whole (after (state_at A es) e)) c (omega arith) (grows_on A.world (whole (state_at A es)) (whole (after (state_at A es) e)) begins next) (omega arith) (grows_itself (whole (after (state_at A es) e))) shown)
+      let later : (whole (after S e)).history.first ≡ (whole S).history.first = next.history.first in
+      subst (λ (T : State). ShowsBetween S.world (whole T) c) (sym (after_snoc (opened A) es e))
+      (last_between S.world (whole (after S e)) (whole (after S e)) c some (grows_on S.world (whole S) (whole (after S e)) (grows_lost S.world S.lost) next) (omega arith) (grows_itself (whole (after S e))) shown)
+
+  -- what shows no commit before the last one of a front shows none with one entry more
+  pub from_next : (before : List Entry) (c : List ℕ) → ShowsFrom A before es c → ShowsFrom A before (es ++ e ∷ []) c
+  from_next before c shown =
+      let S : State = state_at A es in
+      let B : World = (state_at A before).world in
+      subst (λ (T : State). ShowsBetween B (whole T) c) (sym (after_snoc (opened A) es e))
+      (between_grown B (whole S) (whole (after S e)) c first_here (grows_next S e answers) shown)
+
+  -- nor before the last one of a shorter front
+  pub from_front : (before : List Entry) → IsPrefix before es → (c : List ℕ) → ShowsFrom A es (es ++ e ∷ []) c → ShowsFrom A before (es ++ e ∷ []) c
+  from_front before is c shown =
+      let more = (follows_prefix A before es is).history in
+      let same : (state_at A es).world.history.first ≡ (state_at A before).world.history.first = more.first in
+      let le : last (state_at A before).world.history ≤ last (state_at A es).world.history = last_longer (state_at A before).world.history (state_at A es).world.history (omega (arith, some, same)) more in
+      let from : last (state_at A es).world.history ≤ shown.at = shown.from in
+      record { at = shown.at; from = omega (arith, le, from); to = shown.to; shows = shown.shows }

@@ -1,5 +1,5 @@
 -- Numbers of members that a port holds, of which no pass holds one twice.
-use Rattle.iso_shared.{proofs.Words.{◌≡◌, ℕ, ◌<◌, ◌≤◌, ◌==◌, Bool, true, false, cond, nat_tests, List, [], ◌∷◌, map, refl, subst, arith, AllByRecursion, AreDistinct, AreHeld, hit, hit_same, times, total, ◌+◌, ◌||◌, is_among, ◌++◌, length, Some, ap, ◌∙◌, View, times_append, prefix_trans, Entry, Shared, Tx, IsJoined, IsNote, IsNoteOf, held_in, Start, IsPrefix, times_without, both, kept_part, sym, suc, length-map, prefix_more, Doing, GroupEnd, Member, MemberEnd, ArePaired, IsBack, IsPartOf, IsSameTx, IsTaken, Made, MadeAll, answered, bare_end, end_of, ends_at, made_in, members_at, members_in, numbers_in, replies_of, Checked, IsAhead, IsLegal, IsOwn, state_at, units_of, unwrap_or, tx_view}, specs.Ports.IsTx, proofs.Mades.{ahead_on, own_on}, proofs.Ends.{ahead_same, on_same, own_same}}
+use Rattle.iso_shared.{proofs.Words.{view, ◌≡◌, ℕ, ◌<◌, ◌≤◌, ◌==◌, Bool, true, false, cond, nat_tests, List, [], ◌∷◌, map, refl, subst, arith, AllByRecursion, AreDistinct, AreHeld, hit, hit_same, times, total, ◌+◌, ◌||◌, is_among, ◌++◌, length, Some, ap, ◌∙◌, View, times_append, prefix_trans, Entry, Shared, Tx, IsJoined, IsNote, IsNoteOf, held_in, Start, IsPrefix, times_without, both, kept_part, sym, suc, length-map, prefix_more, Doing, GroupEnd, Member, MemberEnd, ArePaired, IsBack, IsPartOf, IsSameTx, IsTaken, Made, MadeAll, answered, bare_end, end_of, ends_at, made_in, members_at, members_in, numbers_in, replies_of, Checked, IsAhead, IsLegal, IsOwn, state_at, units_of, unwrap_or, tx_view}, specs.Ports.IsTx, proofs.Mades.{ahead_on, own_on}, proofs.Ends.{ahead_same, on_same, own_same}}
 use Rattle.turn_lock.specs.Numbers.{without}
 use Rattle.iso_model.specs.declared.access.GroupReply.TheVariants as member
 
@@ -233,7 +233,7 @@ module _ {D O : Type 0} (s : Shared D O) (A : Start) where
   many_units [] all = omega arith
   many_units (t ∷ ts) all = let rest = many_units ts all.1 in let one = all.0.0.2 in omega (arith, rest, one)
 
-  numbers_held : (ts : List (Tx D O)) → AllByRecursion (IsTx s A) ts → AllByRecursion (λ (t : Tx D O). 0 < times t.number t.pass.me.0.holds) ts
+  numbers_held : (ts : List (Tx D O)) → AllByRecursion (IsTx s A) ts → AllByRecursion (λ (t : Tx D O). 0 < times t.number (view t.pass).holds) ts
   numbers_held [] all = tt
   numbers_held (t ∷ ts) all = (all.0.1.held, numbers_held ts all.1)
 
@@ -241,7 +241,7 @@ module _ {D O : Type 0} (s : Shared D O) (A : Start) where
   pub members_held : (ts : List (Tx D O)) (old new : List ℕ) → AllByRecursion (IsTx s A) ts → 0 < length ts → ((n : ℕ) → times n new ≡ times n old + held_in n ts) → (0 < length ts → (n : ℕ) → times n new ≤ 1)
       → AreHeld (numbers_in ts) new × AreDistinct (numbers_in ts)
   members_held ts old new all some sum alone =
-      let each = times_held (λ (t : Tx D O). t.number) (λ (t : Tx D O). t.pass.me.0.holds) ts (numbers_held ts all) in (
+      let each = times_held (λ (t : Tx D O). t.number) (λ (t : Tx D O). (view t.pass).holds) ts (numbers_held ts all) in (
         held_by (numbers_in ts) new (λ n. let a = each n in let b = sum n in omega (arith, a, b)),
         distinct_by (numbers_in ts) (λ n. let a = each n in let b = sum n in let one = alone some n in omega (arith, a, b, one)),
       )
@@ -255,7 +255,7 @@ module _ {D O : Type 0} (s : Shared D O) (A : Start) where
       let own = own_same S u.number u.work x.work work (own_on A mid seen u.number u.work p noted.joined.own) in
       let ahead = ahead_same S u.work x.work u.checked work (ahead_on A mid seen u.work u.checked p noted.joined.ahead) in
       let one : times x.number (w.number ∷ []) ≡ 1 = let h = hit_same w.number x.number (sym part.number) in omega (arith, h) in
-      let held : times x.number x.pass.me.0.holds ≡ times x.number (w.number ∷ []) = ap (times x.number) part.has.1 in record {
+      let held : times x.number (view x.pass).holds ≡ times x.number (w.number ∷ []) = ap (times x.number) part.has.1 in record {
         tx = (
           part.lock,
           record {

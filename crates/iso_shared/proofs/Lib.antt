@@ -6,6 +6,7 @@ pub mod HandedBack
 pub mod Follows
 pub mod Growing
 pub mod Standings
+pub mod Stamping
 pub mod TestStarts
 pub mod Mades
 pub mod Cores

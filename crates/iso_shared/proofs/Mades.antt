@@ -1,6 +1,6 @@
 -- What a call made, from what it took and gave.
-use Rattle.iso_shared.{proofs.{Words.{zero, suc, Bool, true, false, cond, nat_lt, length-append, ◌≡◌, ℕ, ◌+◌, ◌<◌, List, [], ◌∷◌, ◌++◌, length, refl, sym, ap, ◌∙◌, subst, arith, Checked, Doing, times, longer, count_up, places, View, prefix_more, prefix_trans, prefix_whole, times_append, nat_tests, Entry, IsLegal, IsAhead, IsOwn, IsTxOf, Made, MadeBoth, Start, Tx, state_at, tx_view, IsPrefix}, Follows.{ahead_kept, follows_prefix, own_kept}}, specs.declared.guarded.Guarded.{Guarded}}
-use Rattle.turn_lock.specs.Pass.{PassOf, view}
+use Rattle.iso_shared.{proofs.{Words.{Stamped, view, zero, suc, Bool, true, false, cond, nat_lt, length-append, ◌≡◌, ℕ, ◌+◌, ◌<◌, List, [], ◌∷◌, ◌++◌, length, refl, sym, ap, ◌∙◌, subst, arith, Checked, Doing, times, longer, count_up, places, View, prefix_more, prefix_trans, prefix_whole, times_append, nat_tests, Entry, IsLegal, IsAhead, IsOwn, IsTxOf, Made, MadeBoth, Start, Tx, state_at, tx_view, IsPrefix}, Follows.{ahead_kept, follows_prefix, own_kept}}, specs.declared.guarded.Guarded.{Guarded}}
+use Rattle.turn_lock.specs.Pass.{PassOf}
 
 -- t is the pass at its turn, w the pass after it
 pub made_by : (A : Start) (v u t w : View Entry) (e : Entry) → IsPrefix v.seen t.seen → IsPrefix u.seen t.seen → t.mine ≡ u.mine
@@ -71,7 +71,7 @@ pub ahead_on : (A : Start) (xs ys : List Entry) (work : Doing) (checked : Checke
 ahead_on A xs ys work checked p is = ahead_kept (state_at A xs) (state_at A ys) work checked (follows_prefix A xs ys p) is
 
 -- a transaction is one of the list while its pass has seen more of it, and holds the same
-pub tx_on : {D O : Type 0} {A : Start} (t : Tx D O) (p : PassOf (Guarded D O) Entry) → IsPrefix (tx_view t).seen (view p).seen → (view p).holds ≡ (tx_view t).holds → IsTxOf A t → IsTxOf A (record t { pass = p })
+pub tx_on : {D O : Type 0} {A : Start} (t : Tx D O) (p : PassOf (Guarded D O) Stamped) → IsPrefix (tx_view t).seen (view p).seen → (view p).holds ≡ (tx_view t).holds → IsTxOf A t → IsTxOf A (record t { pass = p })
 tx_on {A = A} t p begins same is = record {
   held = held_same t.number (tx_view t).holds (view p).holds same is.held;
   on = is.on;

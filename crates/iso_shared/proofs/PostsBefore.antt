@@ -1,5 +1,5 @@
 -- What stood before: a look finds what was posted and nothing has taken out since, and a begin is at or above each commit that was told of.
-use Rattle.iso_shared.proofs.{Words.{◌≡◌, ◌⊎◌, inl, inr, ℕ, ◌+◌, ◌≤◌, ◌==◌, Bool, true, false, cond, List, [], ◌∷◌, ◌++◌, Option, Some, None, refl, sym, ap, ◌∙◌, subst, arith, bytes_eq, drop, option_map, slice_get, AllByRecursion, lookup, remove_entry, bytes_eq-Decides, hit, times, hit_same, Access, Call, Cause, Entry, Posting, Fits, IsLegal, LegalFrom, WasPosted, is_number, takes_out, Start, State, after, after_all, after_fault, after_refusal, opened, posting_of, racked, state_at, ◌-◌, ◌<◌, nat_lt, length-append, ahead, decided, group_is, made_by, member_reply, Clash, EndReply, Committed, ReadOnly, Conflict, Mode, CoreReply, LAST, clash, has_write, last, commit_from, commit_step, end_step, need, World, Live, used, MemberEnd, CommitsUpTo, IsMemberUpTo, IsReplyUpTo, replies_of, tx_of}, Trace.{IsSound, first_parts, hits, hits_are, label_parts, legal_last, opened_sound, sound_next}, Begins.began_last, Follows.{follows_all, last_longer}, Grouped.{after_history, decided_extends}}
+use Rattle.iso_shared.proofs.{Words.{ShowsFrom, ◌≡◌, ◌⊎◌, inl, inr, ℕ, ◌+◌, ◌≤◌, ◌==◌, Bool, true, false, cond, List, [], ◌∷◌, ◌++◌, Option, Some, None, refl, sym, ap, ◌∙◌, subst, arith, bytes_eq, drop, option_map, slice_get, AllByRecursion, lookup, remove_entry, bytes_eq-Decides, hit, times, hit_same, Access, Call, Cause, Entry, Posting, Fits, IsLegal, LegalFrom, WasPosted, is_number, takes_out, Start, State, after, after_all, after_fault, after_refusal, opened, posting_of, racked, state_at, ◌-◌, ◌<◌, nat_lt, length-append, ahead, decided, group_is, made_by, member_reply, Clash, EndReply, Committed, ReadOnly, Conflict, Mode, CoreReply, LAST, clash, has_write, last, commit_from, commit_step, end_step, need, World, Live, used, MemberEnd, CommitsUpTo, IsMemberUpTo, IsReplyUpTo, replies_of, tx_of}, Trace.{IsSound, first_parts, hits, hits_are, label_parts, legal_last, opened_sound, sound_next}, Begins.began_last, Follows.{follows_all, last_longer}, Grouped.{after_history, decided_extends}}
 use Rattle.iso_shared.specs.declared.entry.Call.TheVariants as call
 use Rattle.iso_shared.specs.declared.entry.Cause.TheVariants as cause
 use Rattle.iso_shared.specs.declared.entry.Entry.TheVariants as entry
@@ -211,3 +211,7 @@ all_told S (e ∷ es) bound some legal upto =
 
 pub begins_after_commits : (A : Start) (es : List Entry) (n at : ℕ) (mode : Mode) → 0 < A.world.history.first → IsLegal A (es ++ entry.Begin n at mode ∷ []) → AllByRecursion (λ e. CommitsUpTo at e) es
 begins_after_commits A es n at mode some legal = grind (arith, legal_last, all_told, began_last)
+
+-- an image that shows no commit before the last one of a list shows none before one that the list told of
+pub told_shown : (A : Start) (told es : List Entry) (image : List ℕ) → 0 < A.world.history.first → IsLegal A told → (shown : ShowsFrom A told es image) → AllByRecursion (λ e. CommitsUpTo shown.at e) told
+told_shown A told es image some legal shown = all_told (opened A) told shown.at some legal shown.from

@@ -1,5 +1,5 @@
 -- Transactions under labels: what they have kept, and what stands under the lock after a call on labels.
-use Rattle.iso_shared.proofs.{Words.{◌≡◌, ℕ, ◌+◌, ◌<◌, ◌≤◌, ◌==◌, Bool, true, false, cond, List, [], ◌∷◌, ◌++◌, Option, Some, None, refl, sym, ap, ◌∙◌, subst, arith, bytes_eq, drop, option_map, lookup, remove_entry, AllByRecursion, lookup-map_values, Core, DiskState, Geometry, last, World, Live, IsLive, hit, times, hit_same, Entry, Posting, Posted, Call, Cause, Fits, LegalFrom, IsOwn, IsOn, StandsAt, posting_in, Start, State, after, after_all, after_refusal, is_live, live_of, opened, posting_of, racked, state_at, inl, Ok, Err, is_some, slice_get, map-append, held_after, PostError, Answers, handed, returned, Holds, postings, post_entry}, Follows.{Follows, follows_all, follows_next}, Giving.{fault_keeps, Lends, live_lent}, Standings.{sound_at, MayLeave, Moved, stands_next}, Trace.{IsSound, loose_is, opened_sound, sound_next}, Cores.Did}
+use Rattle.iso_shared.proofs.{Words.{clock_of, ◌≡◌, ℕ, ◌+◌, ◌<◌, ◌≤◌, ◌==◌, Bool, true, false, cond, List, [], ◌∷◌, ◌++◌, Option, Some, None, refl, sym, ap, ◌∙◌, subst, arith, bytes_eq, drop, option_map, lookup, remove_entry, AllByRecursion, lookup-map_values, Core, DiskState, Geometry, last, World, Live, IsLive, hit, times, hit_same, Entry, Posting, Posted, Call, Cause, Fits, LegalFrom, IsOwn, IsOn, StandsAt, posting_in, Start, State, after, after_all, after_refusal, is_live, live_of, opened, posting_of, racked, state_at, inl, Ok, Err, is_some, slice_get, map-append, held_after, PostError, Answers, handed, returned, Holds, postings, post_entry}, Follows.{Follows, follows_all, follows_next}, Giving.{fault_keeps, Lends, live_lent}, Standings.{sound_at, MayLeave, Moved, stands_next}, Trace.{IsSound, loose_is, opened_sound, sound_next}, Cores.Did}
 use Rattle.iso_shared.specs.declared.entry.Entry.TheVariants as entry
 use Rattle.iso_shared.specs.declared.entry.Cause.TheVariants as cause
 use Rattle.tx_table.specs.declared.rack.PostError.TheVariants as post
@@ -105,8 +105,8 @@ pub record IsFound (g : Geometry) (S : State) (p : Posted) : Type 0 where
   pub within : p.work.begin ≤ last S.world.history
   pub first : 0 < S.world.history.first
 
-pub found_own : {D : Type 0} → (disk : D → DiskState) {first : DiskState} (A : Start) (core : Core D) (items : List (List ℕ × Posted)) (es : List Entry) (test : List ℕ → Bool) (p : Posted)
-    → StandsAt disk A first core items es → lookup test items ≡ Some p → IsFound A.world.geometry (state_at A es) p
+pub found_own : {D : Type 0} → (disk : D → DiskState) {first : DiskState} {ms : List ℕ} (A : Start) (core : Core D) (items : List (List ℕ × Posted)) (es : List Entry) (test : List ℕ → Bool) (p : Posted)
+    → StandsAt disk A first core items es ms → lookup test items ≡ Some p → IsFound A.world.geometry (state_at A es) p
 found_own disk A core items es test p s is =
     let S : State = state_at A es in
     let at : lookup test S.rack ≡ Some (posting_in p) = sym (ap (lookup test) s.rack) ∙ lookup-map_values posting_in test items ∙ ap (option_map posting_in) is in
@@ -157,17 +157,17 @@ pub post_may : (label : List ℕ) (p : Posted) (e : PostError) (holds : List ℕ
 post_may label p post.LabelTaken holds h = ((h, tt), tt)
 post_may label p post.Memory holds h = ((h, tt), tt)
 
-module _ {D : Type 0} {disk : D → DiskState} {A : Start} {first : DiskState} {lent : Core D} {items : List (List ℕ × Posted)} {es : List Entry} {holds : List ℕ} (l : Lends disk A first lent items es holds) where
+module _ {D : Type 0} {disk : D → DiskState} {A : Start} {first : DiskState} {lent : Core D} {items : List (List ℕ × Posted)} {es : List Entry} {ms : List ℕ} {holds : List ℕ} (l : Lends disk A first lent items es ms holds) where
   abbrev S : State
   S = state_at A es
 
   -- a call of the labels, of which the core knows nothing
   stands_kept : (left : List (List ℕ × Posted)) (e : Entry) → MayLeave holds e → Answers S e → Holds disk lent (after S e) → postings left ≡ (after S e).rack → AllByRecursion (λ i. IsOn A.world.geometry i.1.work) left
-      → StandsAt disk A first lent left (es ++ e ∷ [])
+      → StandsAt disk A first lent left (es ++ e ∷ []) (ms ++ clock_of disk lent ∷ [])
   stands_kept left e may answers core rack works = stands_next disk A lent lent items left es e holds l.at l.out may (inl refl) answers core rack works
 
   pub stands_look : (left : List (List ℕ × Posted)) (label : List ℕ) (found : Option Posted) → found ≡ lookup (bytes_eq label) items → left ≡ remove_entry (bytes_eq label) items
-      → StandsAt disk A first lent left (es ++ entry.Look label (option_map posting_in found) ∷ [])
+      → StandsAt disk A first lent left (es ++ entry.Look label (option_map posting_in found) ∷ []) (ms ++ clock_of disk lent ∷ [])
   stands_look left label found is rest =
       let test = bytes_eq label in
       let h = l.at.core in
@@ -183,7 +183,7 @@ module _ {D : Type 0} {disk : D → DiskState} {A : Start} {first : DiskState} {
       (sound_at disk A lent items es l.at).racked n (subst (λ r. 0 < times n (racked r)) l.at.rack some)
 
   pub stands_sweep : (new : Core D) (left : List (List ℕ × Posted)) (n : ℕ) → Some n ≡ option_map (λ e. e.1.number) (slice_get items 0) → left ≡ drop 1 items → Moved disk A es (entry.Sweep (Some n)) lent new → Did disk S new (entry.Abort n)
-      → StandsAt disk A first new left (es ++ entry.Sweep (Some n) ∷ [])
+      → StandsAt disk A first new left (es ++ entry.Sweep (Some n) ∷ []) (ms ++ clock_of disk new ∷ [])
   stands_sweep new left n is rest moved did =
       let h = did.1 in
       stands_next disk A lent new items left es (entry.Sweep (Some n)) holds l.at l.out (tt, tt) moved
@@ -192,7 +192,7 @@ module _ {D : Type 0} {disk : D → DiskState} {A : Start} {first : DiskState} {
       (ap postings rest ∙ postings_rest items ∙ ap (drop 1) l.at.rack)
       (subst (AllByRecursion (λ i. IsOn A.world.geometry i.1.work)) (sym rest) (all_rest (λ i. IsOn A.world.geometry i.1.work) items l.at.works))
 
-  pub stands_unswept : (left : List (List ℕ × Posted)) → None ≡ option_map (λ e. e.1) (slice_get items 0) → left ≡ drop 1 items → StandsAt disk A first lent left (es ++ entry.Sweep None ∷ [])
+  pub stands_unswept : (left : List (List ℕ × Posted)) → None ≡ option_map (λ e. e.1) (slice_get items 0) → left ≡ drop 1 items → StandsAt disk A first lent left (es ++ entry.Sweep None ∷ []) (ms ++ clock_of disk lent ∷ [])
   stands_unswept left is rest =
       let none : items ≡ [] = none_first items is in
       let r : left ≡ items = rest ∙ ap (drop 1) none ∙ sym none in
@@ -205,7 +205,7 @@ module _ {D : Type 0} {disk : D → DiskState} {A : Start} {first : DiskState} {
       none_first (i ∷ items) is = absurd (cc is)
 
   pub stands_post : (left : List (List ℕ × Posted)) (label : List ℕ) (p : Posted) → 0 < times p.number holds → IsOwn S p.number p.work → lookup (bytes_eq label) items ≡ None → left ≡ items ++ (label, p) ∷ []
-      → StandsAt disk A first lent left (es ++ post_entry label p (Ok tt) ∷ [])
+      → StandsAt disk A first lent left (es ++ post_entry label p (Ok tt) ∷ []) (ms ++ clock_of disk lent ∷ [])
   stands_post left label p held own free put =
       let test = bytes_eq label in
       let live = live_lent l p.number held in
@@ -221,7 +221,7 @@ module _ {D : Type 0} {disk : D → DiskState} {A : Start} {first : DiskState} {
 
   pub stands_unposted : (left : List (List ℕ × Posted)) (label : List ℕ) (p : Posted) (e : PostError) → 0 < times p.number holds → left ≡ items
       → (e ≡ post.LabelTaken → is_some (lookup (bytes_eq label) items) ≡ true) → (e ≡ post.Memory → lookup (bytes_eq label) items ≡ None)
-      → StandsAt disk A first lent left (es ++ post_entry label p (Err e) ∷ [])
+      → StandsAt disk A first lent left (es ++ post_entry label p (Err e) ∷ []) (ms ++ clock_of disk lent ∷ [])
   stands_unposted left label p e held same taken free =
       let test = bytes_eq label in
       let looked : lookup test S.rack ≡ option_map posting_in (lookup test items) = sym (ap (lookup test) l.at.rack) ∙ lookup-map_values posting_in test items in

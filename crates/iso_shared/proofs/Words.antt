@@ -9,4 +9,4 @@ unfoldable pub use Rattle.iso_model.specs.{Array.put, Conflict.clash, Effect.run
 pub use Rattle.turn_lock.{proofs.Outs.{held_first, times_without}, proofs.Prefixes.{prefix_more, prefix_self, prefix_trans, prefix_whole}, proofs.Rising.times_append, proofs.Totals.hit_same, specs.Lists.{AreDistinct, count_up, hit, longer, places, times, total}, specs.Numbers.{AreFree, AreHeld, IsOut, held_after, is_among, is_out, out_from, out_next}, specs.Views.{both, kept_part}, specs.declared.view.View.View}
 pub use Rattle.tx_table.specs.{Work.{AreWithin, Doing}, declared.rack.PostError.PostError}
 pub use mathlib.Core.List.{IsPrefix}
-pub use Rattle.iso_shared.specs.{Groups.{ArePaired, IsBack, IsEnd, IsJoined, IsNote, IsNoteOf, IsPartOf, IsTaken, answered, end_of, held_in, made_in, numbers_handed, numbers_in, units_of}, Legal.{Answers, AreLoose, Fits, IsCall, IsGroup, IsLegal, IsOfCore, LegalFrom, MayHaveMade, MayRefuse, MayWantMemory, answer_to, end_answer, ended, ended_by, handed, needed, numbers_at, reply_of, returned, switch_answer, tx_in}, Plain.{CommitsUpTo, IsMemberUpTo, IsReplyUpTo, WasPosted, is_number, takes_out}, Ports.{IsAhead, IsIsolatedAt, IsOwn, IsRecent, IsSameTx, IsTxOf, Made, MadeAll, MadeBoth, TookFew, most_steps, tx_view}, Standing.{Came, Holds, IsOn, ShowsSince, StandsAt, faults_of, posting_in, postings, standing_of, start_at, whole, with_lost}, States.{Start, State, after, after_all, after_end, after_fault, after_group, after_refusal, after_sweep, commits_made, group_answers, is_live, is_loose, live_of, lost_commit, lost_commits, member_numbers, member_of, members_of, opened, posting_of, racked, replies_of, state_at, tx_of, txs_of, with_world}, TestImage.{MayStart, small}, Told.{begin_entry, cause_of, compact_entry, end_entry, ends_at, entry_of, fetch_entry, group_entry, members_at, members_in, numbers_of, post_entry, recent_entry, told_entry, trim_entry, upgrade_entry, wanting_entry}, declared.entry.Call.Call, declared.entry.Cause.Cause, declared.entry.Entry.Entry, declared.entry.Entry.TheVariants.Abort, declared.entry.Member.Member, declared.entry.MemberEnd.MemberEnd, declared.entry.Numbers.Numbers, declared.entry.Posting.Posting, declared.guarded.Posted.Posted, declared.shared.Shared.Shared, declared.tx.Tx.Tx}
+pub use Rattle.iso_shared.specs.{Groups.{ArePaired, IsBack, IsEnd, IsJoined, IsNote, IsNoteOf, IsPartOf, IsTaken, answered, end_of, held_in, made_in, numbers_handed, numbers_in, units_of}, Legal.{Answers, AreLoose, Fits, IsCall, IsGroup, IsLegal, IsOfCore, LegalFrom, MayHaveMade, MayRefuse, MayWantMemory, answer_to, end_answer, ended, ended_by, handed, needed, numbers_at, reply_of, returned, switch_answer, tx_in}, Plain.{CommitsUpTo, IsMemberUpTo, IsReplyUpTo, WasPosted, is_number, takes_out}, Ports.{IsAhead, IsIsolatedAt, IsOwn, IsRecent, IsSameTx, IsTxOf, Made, MadeAll, MadeBoth, TookFew, most_steps, tx_view}, Standing.{Came, Holds, IsOn, HaveEnded, ShowsFrom, ShowsSince, StandsAt, WasAt, faults_of, posting_in, postings, standing_of, start_at, whole, with_lost}, States.{Start, State, after, after_all, after_end, after_fault, after_group, after_refusal, after_sweep, commits_made, group_answers, is_live, is_loose, live_of, lost_commit, lost_commits, member_numbers, member_of, members_of, opened, posting_of, racked, replies_of, state_at, tx_of, txs_of, with_world}, TestImage.{MayStart, small}, Stamps.{clock_of, entries_in, moments_in, stamped}, Turns.{moments, shown, view}, Told.{begin_entry, cause_of, compact_entry, end_entry, ends_at, entry_of, fetch_entry, group_entry, members_at, members_in, numbers_of, post_entry, recent_entry, told_entry, trim_entry, upgrade_entry, wanting_entry}, declared.entry.Call.Call, declared.entry.Cause.Cause, declared.entry.Entry.Entry, declared.entry.Entry.TheVariants.Abort, declared.entry.Member.Member, declared.entry.MemberEnd.MemberEnd, declared.entry.Numbers.Numbers, declared.entry.Posting.Posting, declared.guarded.Posted.Posted, declared.guarded.Stamped.Stamped, declared.shared.Shared.Shared, declared.tx.Tx.Tx}

@@ -4,8 +4,8 @@ use mathlib.Core.List.{IsPrefix}
 use Rattle.iso_core.specs.declared.group_end.GroupEnd.{GroupEnd}
 use Rattle.iso_model.specs.declared.access.GroupReply.{GroupReply}
 use Rattle.tx_table.specs.Work.{AreWithin, Doing}
-use Rattle.turn_lock.specs.{Lists.{times, total}, Lock.lock_id, Pass.{HasNoTurn, view}}
-use Rattle.iso_shared.specs.{declared.entry.Entry.Entry, declared.entry.Member.Member, declared.entry.MemberEnd.MemberEnd, declared.shared.Shared.Shared, declared.tx.Tx.Tx, Ports.{IsAhead, IsOf, IsOwn, IsSameTx, IsTx}, Standing.IsOn, States.{Start, state_at}}
+use Rattle.turn_lock.specs.{Lists.{times, total}, Lock.lock_id}
+use Rattle.iso_shared.specs.{declared.entry.Entry.Entry, declared.entry.Member.Member, declared.entry.MemberEnd.MemberEnd, declared.shared.Shared.Shared, declared.tx.Tx.Tx, Ports.{IsAhead, IsOf, IsOwn, IsSameTx, IsTx}, Standing.IsOn, States.{Start, state_at}, Turns.{HasNoTurn, view}}
 
 -- two lists of the same length, item by item
 abbrev pub ArePaired : {A B : Type 0} → (A → B → Type 0) → List A → List B → Type 0
@@ -50,7 +50,7 @@ module _ {D O : Type 0} where
 
   -- a pass that was joined into a port has left a note in its place: without a unit, a number and a place, and it has seen no more than the port
   pub record IsNote (s : Shared D O) (seen : List Entry) (t : Tx D O) : Type 0 where
-    pub lock : (t.pass.table_id ≡ lock_id s.lock) × HasNoTurn t.pass
+    pub lock : (t.pass.table_id ≡ lock_id s.lock.lock) × HasNoTurn t.pass
     pub seen_is : IsPrefix (view t.pass).seen seen
     pub bare : ((view t.pass).mine ≡ []) × ((view t.pass).holds ≡ []) × ((view t.pass).units ≡ 0)
 

@@ -6,3 +6,5 @@ pub mod Ports
 pub mod Groups
 pub mod TestImage
 pub mod Plain
+pub mod Stamps
+pub mod Turns

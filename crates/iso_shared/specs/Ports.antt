@@ -5,12 +5,12 @@ use Rattle.conflict_rule.specs.{declared.decision.Checked.Checked, Decision.{Are
 use Rattle.iso_core.specs.declared.answers.Recent.{Recent}
 use Rattle.iso_model.specs.{declared.access.Geometry.Geometry, Conflict.clash, History.last, Isolation.IsIsolated}
 use Rattle.tx_table.specs.Work.{Doing}
-use Rattle.turn_lock.specs.{declared.lock.TurnLock.TurnLock, declared.view.View.View, Lists.{hit, times, total}, Lock.lock_id, Numbers.held_after, Pass.{PassOf, view, HasNoTurn}}
-use Rattle.iso_shared.specs.{declared.entry.Entry.Entry, declared.guarded.Guarded.Guarded, declared.shared.Port.Port, declared.shared.Shared.Shared, declared.tx.Tx.Tx, Legal.{IsLegal, handed, returned}, Standing.IsOn, States.{Start, State, is_live, live_of, state_at}}
+use Rattle.turn_lock.specs.{declared.view.View.View, Lists.{hit, times, total}, Lock.lock_id, Numbers.held_after, Pass.PassOf}
+use Rattle.iso_shared.specs.{declared.entry.Entry.Entry, declared.guarded.Guarded.Guarded, declared.guarded.Stamped.Stamped, declared.shared.Port.Port, declared.shared.Shared.Shared, declared.turns.Turns.Turns, declared.tx.Tx.Tx, Legal.{IsLegal, handed, returned}, Standing.IsOn, States.{Start, State, is_live, live_of, state_at}, Turns.{HasNoTurn, moments, view}}
 
 -- a pass of the lock, at rest, with a unit
-abbrev pub IsOf : {X E : Type 0} → TurnLock X E → PassOf X E → Type 0
-IsOf l p = (p.table_id ≡ lock_id l) × HasNoTurn p × (0 < (view p).units)
+abbrev pub IsOf : {D O : Type 0} → Turns D O → PassOf (Guarded D O) Stamped → Type 0
+IsOf l p = (p.table_id ≡ lock_id l.lock) × HasNoTurn p × (0 < (view p).units)
 
 -- the work is that of the transaction of this number, in as far as it is still live
 pub record IsOwn (S : State) (tx : ℕ) (work : Doing) : Type 0 where
@@ -45,8 +45,15 @@ module _ {D O : Type 0} where
   abbrev pub tx_view : Tx D O → View Entry
   tx_view t = view t.pass
 
+  -- the moments at which the turns ended whose entries a port, or a transaction, has seen
+  abbrev pub port_moments : Port D O → List ℕ
+  port_moments p = moments p.pass
+
+  abbrev pub tx_moments : Tx D O → List ℕ
+  tx_moments t = moments t.pass
+
   -- a transaction's pass, its number, what it does, and what was checked of it ahead
-  abbrev pub pass_of : Tx D O → PassOf (Guarded D O) Entry
+  abbrev pub pass_of : Tx D O → PassOf (Guarded D O) Stamped
   pass_of t = t.pass
 
   abbrev pub number_of : Tx D O → ℕ
@@ -93,8 +100,8 @@ module _ {D O : Type 0} where
     pub checked : u.checked ≡ t.checked
 
   -- the turn was given back, with this entry
-  pub record IsGiven (A : Start) (s : Shared D O) (old new : PassOf (Guarded D O) Entry) (e : Entry) : Type 0 where
-    pub lock : (new.table_id ≡ lock_id s.lock) × HasNoTurn new
+  pub record IsGiven (A : Start) (s : Shared D O) (old new : PassOf (Guarded D O) Stamped) (e : Entry) : Type 0 where
+    pub lock : (new.table_id ≡ lock_id s.lock.lock) × HasNoTurn new
     pub seen : (view new).seen ≡ (view old).seen ++ e ∷ []
     pub mine : (view new).mine ≡ (view old).mine ++ length (view old).seen ∷ []
     pub holds : (view new).holds ≡ held_after handed returned e (view old).holds

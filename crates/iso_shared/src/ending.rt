@@ -2,9 +2,9 @@
 ghost use Rattle.std.specs.Prelude.{◌≡◌, ◌≢◌, ◌+◌, ◌-◌, ◌<◌, ◌≤◌, ℕ, Some, None, Ok, Err, length, IfOk, IfErr, IfSome, IfNone, MatchOption, MatchResult};
 ghost use Rattle.iso_model.specs.declared.core_error.CoreError.TheVariants.{Disk as OfDisk};
 ghost use Rattle.iso_shared.specs.declared.entry.Call.TheVariants as TheCall;
-ghost use Rattle.iso_shared.specs.{declared.entry.Entry.TheVariants.{End, Refused}, Ports.{IsPort, IsSameTx, IsTx, Made, MadeBoth, TookFew, check_of, doing_of, number_of, port_view, tx_view}, Told.{cause_of, end_entry}};
+ghost use Rattle.iso_shared.specs.{declared.entry.Entry.TheVariants.{End, Refused}, Ports.{IsPort, IsSameTx, IsTx, Made, MadeBoth, TookFew, check_of, doing_of, number_of, port_view, tx_view}, Told.{cause_of, end_entry}, Turns.HasNoTurn};
+ghost use Rattle.turn_lock.specs.Lock.{lock_id};
 ghost use Rattle.tx_table.specs.Work.{AreWithin};
-ghost use Rattle.turn_lock.specs.{Lock.lock_id, Pass.HasNoTurn};
 
 use crate::guarded::Origin;
 use crate::shared::{Port, Shared};
@@ -36,7 +36,7 @@ impl<D: Disk + Drop, O: Origin> Shared<D, O> {
         steps: &mut Steps<L>,
     ) -> Result<EndReply, CoreError>
         requires tx { IsTx self.now O.start tx.old }
-        ensures pass { (tx.new.pass.table_id ≡ lock_id self.now.lock) × HasNoTurn tx.new.pass }
+        ensures pass { (tx.new.pass.table_id ≡ lock_id self.now.lock.lock) × HasNoTurn tx.new.pass }
         ensures units { (tx_view tx.new).units ≡ (tx_view tx.old).units }
         ensures tx { IfErr result (λ e. e ≢ OfDisk → IsTx self.now O.start tx.new) }
         ensures same { IsSameTx tx.old tx.new }

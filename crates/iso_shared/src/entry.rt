@@ -2,8 +2,6 @@
 
 use iso_model::{Access, EndReply, GroupReply, Label, Mode};
 use std::collections::LinkedList;
-use std::marker::Brand;
-use turn_lock::Names;
 
 /// A member of a group: its number and its accesses.
 pub struct Member {
@@ -133,10 +131,4 @@ pub enum Entry {
         call: Call,
         cause: Cause,
     },
-}
-
-impl Names<Entry> for Brand {
-    ghost use Rattle.iso_shared.specs.declared.entry.Entry.TheVariants.{Trim};
-
-    ghost entry = { Trim 0 };
 }

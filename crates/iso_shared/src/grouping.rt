@@ -4,11 +4,10 @@ ghost use mathlib.Core.List.{IsPrefix};
 ghost use Rattle.iso_core.specs.{declared.group_end.TheConstants.MAX_GROUP, Planned.bare_end};
 ghost use Rattle.iso_model.specs.declared.core_error.CoreError.TheVariants.{Disk as OfDisk, Down as OfDown, Memory as OfMemory};
 ghost use Rattle.iso_shared.specs.declared.entry.Call.TheVariants as TheCall;
-ghost use Rattle.iso_shared.specs.{declared.entry.Entry.TheVariants.{EndGroup, Refused}, Groups.{ArePaired, IsBack, IsEnd, IsJoined, IsNote, IsTaken, answered, end_of, numbers_handed, numbers_in, units_of}, Ports.{IsGiven, IsPort, IsSameTx, IsTx, Made, MadeAll, port_view, tx_view}, Told.{cause_of, group_entry, members_at, members_in, wanting_entry}, Legal.{needed, returned}, Standing.StandsAt};
-ghost use Rattle.turn_lock.specs.{Lists.AreDistinct, Lock.{lock_id, turn_value}, Numbers.AreHeld, Pass.{view, HasTurn}};
+ghost use Rattle.iso_shared.specs.{declared.entry.Entry.TheVariants.{EndGroup, Refused}, Groups.{ArePaired, IsBack, IsEnd, IsJoined, IsNote, IsTaken, answered, end_of, numbers_handed, numbers_in, units_of}, Ports.{IsGiven, IsPort, IsSameTx, IsTx, Made, MadeAll, port_view, tx_view}, Told.{cause_of, group_entry, members_at, members_in, wanting_entry}, Legal.{needed, returned}, Standing.StandsAt, Stamps.stamped, Turns.{moments, view}};
+ghost use Rattle.turn_lock.specs.{Lists.AreDistinct, Lock.{lock_id, turn_value}, Numbers.AreHeld, Pass.HasTurn};
 
-use crate::entry::Entry;
-use crate::guarded::{Guarded, Origin};
+use crate::guarded::{Guarded, Origin, Stamped};
 use crate::shared::{Port, Shared};
 use crate::told::Told;
 use crate::tx::Tx;
@@ -79,18 +78,18 @@ impl<D: Disk + Drop, O: Origin> Shared<D, O> {
     }
 
     // Gives the turn back, with the entry of a group that is refused before the core was asked.
-    fn give_wanting<N: Names<Entry>>(
+    fn give_wanting<N: Names<Stamped>>(
         &self,
         pass: &mut Pass<Guarded<D, O>>,
         turn: Turn<Guarded<D, O>>,
         group: &[Tx<D, O>],
         error: CoreError,
     )
-        requires named { N.entry ≡ wanting_entry group.now error }
-        requires lock { (pass.old.table_id ≡ lock_id self.now.lock) × HasTurn pass.old turn }
-        requires value { StandsAt D.state O.start O.disk (turn_value turn).core (turn_value turn).rack ((view pass.old).seen ++ N.entry ∷ []) }
-        requires held { AreHeld (needed N.entry) (view pass.old).holds × AreHeld (returned N.entry) (view pass.old).holds }
-        ensures { IsGiven O.start self.now pass.old pass.new N.entry }
+        requires named { N.entry ≡ stamped D.state (turn_value turn).core (wanting_entry group.now error) }
+        requires lock { (pass.old.table_id ≡ lock_id self.now.lock.lock) × HasTurn pass.old turn }
+        requires value { StandsAt D.state O.start O.disk (turn_value turn).core (turn_value turn).rack ((view pass.old).seen ++ N.entry.entry ∷ []) (moments pass.old ++ N.entry.moment ∷ []) }
+        requires held { AreHeld (needed N.entry.entry) (view pass.old).holds × AreHeld (returned N.entry.entry) (view pass.old).holds }
+        ensures { IsGiven O.start self.now pass.old pass.new N.entry.entry }
     {
         let _ = group;
         let _ = error;

@@ -4,7 +4,7 @@ use crate::entry::Entry;
 use iso_core::Core;
 use iso_disk::Disk;
 use std::marker::{Brand, PhantomData};
-use turn_lock::Stands;
+use turn_lock::{Names, Stands};
 use tx_table::{Rack, Work};
 
 /// Where the list begins, for contracts alone. No value of it is made.
@@ -29,6 +29,12 @@ impl Origin for Brand {
     ghost disk = { untold 0 0 0 None };
 }
 
+/// An entry of the list, and the moment at which its turn ended, as the clock of the disk tells it. No value of it is made.
+pub struct Stamped {
+    pub entry: Entry,
+    pub moment: u64,
+}
+
 /// A transaction under a label.
 #[derive(Drop)]
 pub struct Posted {
@@ -45,15 +51,21 @@ pub struct Guarded<D: Disk, O> {
 }
 
 impl<D: Disk, O: Origin> Stands for Guarded<D, O> {
-    ghost use Rattle.iso_shared.specs.{Standing.StandsAt, Legal.{handed, needed, returned}};
+    ghost use Rattle.iso_shared.specs.{Standing.StandsAt, Legal.{handed, needed, returned}, Stamps.{entries_in, moments_in}};
 
-    type Entry = Entry;
+    type Entry = Stamped;
 
-    ghost stands = { λ g es. StandsAt D.state O.start O.disk g.core g.rack es };
+    ghost stands = { λ g turns. StandsAt D.state O.start O.disk g.core g.rack (entries_in turns) (moments_in turns) };
 
-    ghost hands = { handed };
+    ghost hands = { λ s. handed s.entry };
 
-    ghost needs = { needed };
+    ghost needs = { λ s. needed s.entry };
 
-    ghost takes = { returned };
+    ghost takes = { λ s. returned s.entry };
+}
+
+impl Names<Stamped> for Brand {
+    ghost use Rattle.iso_shared.specs.declared.entry.Entry.TheVariants.{Trim};
+
+    ghost entry = { record { entry = Trim 0; moment = 0 } };
 }

@@ -1,7 +1,7 @@
 // The laws of legal lists: each function does nothing, and its contract is the law.
 ghost use Rattle.std.specs.{Prelude.{◌≡◌, ℕ, ◌<◌, List, [], ◌∷◌, ◌++◌, Some}, List.AllByRecursion};
 ghost use Rattle.iso_model.specs.{declared.access.Mode.Mode, Worlds.Extends};
-ghost use Rattle.iso_shared.specs.{declared.entry.Entry.Entry, declared.entry.Entry.TheVariants.{Begin, Look}, declared.entry.Posting.Posting, Legal.{IsLegal, handed, returned}, Plain.{CommitsUpTo, WasPosted}, States.{Start, is_loose, opened, state_at}};
+ghost use Rattle.iso_shared.specs.{declared.entry.Entry.Entry, declared.entry.Entry.TheVariants.{Begin, Look}, declared.entry.Posting.Posting, Legal.{IsLegal, handed, returned}, Plain.{CommitsUpTo, WasPosted}, Standing.ShowsFrom, States.{Start, is_loose, opened, state_at}};
 ghost use Rattle.turn_lock.specs.Numbers.{is_out};
 
 /// In a legal list a number is out exactly where its transaction is live and under no label.
@@ -22,4 +22,9 @@ pub fn histories_of_lists_grow()
 /// A begin is at or above each commit that was told of before it.
 pub fn begins_are_above_the_commits_before()
     ensures { (A : Start) (es : List Entry) (n at : ℕ) (mode : Mode) → 0 < A.world.history.first → IsLegal A (es ++ Begin n at mode ∷ []) → AllByRecursion (λ e. CommitsUpTo at e) es }
+{}
+
+/// An image that shows no commit before the last one of a list shows none before one that the list told of.
+pub fn told_commits_are_shown()
+    ensures { (A : Start) (told es : List Entry) (image : List ℕ) → 0 < A.world.history.first → IsLegal A told → (shown : ShowsFrom A told es image) → AllByRecursion (λ e. CommitsUpTo shown.at e) told }
 {}

@@ -2,8 +2,8 @@
 //!
 //! Each call that waits makes exactly one entry of one legal list, with its transaction, arguments and answer (`made`, `ok`, `err`):
 //! what one thread's rules give at its place. What a port or transaction has seen only grows (`told`). `close` gives the core of the
-//! whole list, whose history is isolated (`core`, `legal`, `isolated`). Each image of a crash shows it at some commit (`came`). That
-//! a call returns is no clause.
+//! whole list, whose history is isolated (`core`, `legal`, `isolated`). Each image of a crash shows it at some commit (`came`), and from
+//! the end of a turn on all commits of the list up to that turn (`ended`). That a call returns is no clause.
 #![tactic(auto)]
 
 mod ahead;
@@ -17,12 +17,14 @@ mod members;
 mod shared;
 mod told;
 mod transactions;
+mod turns;
 mod tx;
 mod upkeep;
 mod works;
 
 pub use entry::{Call, Cause, Entry, Member, MemberEnd, Numbers, Posting};
-pub use guarded::{Guarded, Origin, Posted};
+pub use guarded::{Guarded, Origin, Posted, Stamped};
 pub use laws::numbers_out_are_loose;
 pub use shared::{Port, Shared};
+pub use turns::Turns;
 pub use tx::Tx;

@@ -1,13 +1,13 @@
 // The shared device itself, and its ports.
 ghost use Rattle.std.specs.Prelude.{◌≡◌, ◌+◌, ◌<◌, ℕ, [], ◌∷◌, ◌++◌, None, length, IfOk, IfErr};
 ghost use mathlib.Core.List.{IsPrefix};
-ghost use Rattle.turn_lock.specs.{Lists.{longer, places, times}, Lock.{lock_id, turn_value}, Numbers.AreHeld, Pass.{view, HasTurn, IsAlike}, Views.{fresh, given_part, kept_part}};
+ghost use Rattle.turn_lock.specs.{Lists.{longer, places, times}, Lock.{lock_id, turn_value}, Numbers.AreHeld, Pass.{HasTurn, IsAlike}, Views.{fresh, given_part, kept_part}};
 ghost use Rattle.iso_core.specs.Core.{disk_of};
-ghost use Rattle.iso_shared.specs.{Legal.{IsLegal, needed, returned}, Standing.{Came, Holds, StandsAt, faults_of}, States.{opened, state_at}, Told.told_entry};
+ghost use Rattle.iso_shared.specs.{Legal.{IsLegal, needed, returned}, Standing.{Came, HaveEnded, Holds, StandsAt, faults_of}, States.{opened, state_at}, Stamps.{clock_of, stamped}, Told.told_entry, Turns.{moments, view}};
 
-use crate::entry::Entry;
-use crate::guarded::{Guarded, Origin};
+use crate::guarded::{Guarded, Origin, Stamped};
 use crate::told::Told;
+use crate::turns::Turns;
 use crate::tx::Tx;
 use iso_core::Core;
 use iso_disk::Disk;
@@ -15,13 +15,13 @@ use iso_model::{Geometry, LAST, Memory};
 use std::alloc::Global;
 use std::marker::{Brand, PhantomData};
 use std::snapshot::Snapshot;
-use turn_lock::{Names, Pass, Turn, TurnLock};
+use turn_lock::{Names, Pass, Turn};
 use tx_table::Rack;
 
 /// A core and its labels behind a turn lock. Each call of a core adds one entry to one legal list.
 #[derive(Drop)]
 pub struct Shared<D: Disk + Drop, O: Origin> {
-    pub(crate) lock: TurnLock<Guarded<D, O>>,
+    pub(crate) lock: Turns<D, O>,
     pub(crate) alloc: Global,
     geometry: Geometry,
 }
@@ -33,7 +33,7 @@ pub struct Port<D: Disk + Drop, O: Origin> {
 }
 
 impl<D: Disk + Drop, O: Origin> Shared<D, O> {
-    ghost use Rattle.iso_shared.specs.Ports.{IsGiven, IsIsolatedAt, IsOf, IsPort, IsSameTx, IsTx, doing_of, first_geometry, port_view, tx_view};
+    ghost use Rattle.iso_shared.specs.Ports.{IsGiven, IsIsolatedAt, IsOf, IsPort, IsSameTx, IsTx, doing_of, first_geometry, port_moments, port_view, tx_view};
 
     /// A device over a core that is up and has no live transaction, and its first port, which has all units. It takes all
     /// memory of the lock.
@@ -52,7 +52,7 @@ impl<D: Disk + Drop, O: Origin> Shared<D, O> {
             rack: Rack::empty(alloc),
             origin: PhantomData,
         };
-        match TurnLock::new(alloc, guarded) {
+        match Turns::new(alloc, guarded) {
             Ok((lock, pass)) => Ok((
                 Shared {
                     lock,
@@ -79,19 +79,19 @@ impl<D: Disk + Drop, O: Origin> Shared<D, O> {
         self.geometry
     }
 
-    // Gives the turn back, with an entry that tells what the call did.
-    fn give_as<N: Names<Entry>>(
+    // Gives the turn back, with an entry that tells what the call did, and the moment of now.
+    fn give_as<N: Names<Stamped>>(
         &self,
         pass: &mut Pass<Guarded<D, O>>,
         turn: Turn<Guarded<D, O>>,
         before: Snapshot<Core<D>>,
         told: Told,
     )
-        requires named { N.entry ≡ told_entry (faults_of D.state before.value) (faults_of D.state (turn_value turn).core) told }
-        requires lock { (pass.old.table_id ≡ lock_id self.now.lock) × HasTurn pass.old turn }
-        requires value { StandsAt D.state O.start O.disk (turn_value turn).core (turn_value turn).rack ((view pass.old).seen ++ N.entry ∷ []) }
-        requires held { AreHeld (needed N.entry) (view pass.old).holds × AreHeld (returned N.entry) (view pass.old).holds }
-        ensures { IsGiven O.start self.now pass.old pass.new N.entry }
+        requires named { N.entry ≡ stamped D.state (turn_value turn).core (told_entry (faults_of D.state before.value) (faults_of D.state (turn_value turn).core) told) }
+        requires lock { (pass.old.table_id ≡ lock_id self.now.lock.lock) × HasTurn pass.old turn }
+        requires value { StandsAt D.state O.start O.disk (turn_value turn).core (turn_value turn).rack ((view pass.old).seen ++ N.entry.entry ∷ []) (moments pass.old ++ N.entry.moment ∷ []) }
+        requires held { AreHeld (needed N.entry.entry) (view pass.old).holds × AreHeld (returned N.entry.entry) (view pass.old).holds }
+        ensures { IsGiven O.start self.now pass.old pass.new N.entry.entry }
     {
         let _ = before;
         let _ = told;
@@ -106,9 +106,9 @@ impl<D: Disk + Drop, O: Origin> Shared<D, O> {
         before: Snapshot<Core<D>>,
         told: Told,
     )
-        requires lock { (pass.old.table_id ≡ lock_id self.now.lock) × HasTurn pass.old turn }
+        requires lock { (pass.old.table_id ≡ lock_id self.now.lock.lock) × HasTurn pass.old turn }
         requires value { StandsAt D.state O.start O.disk (turn_value turn).core (turn_value turn).rack
-            ((view pass.old).seen ++ told_entry (faults_of D.state before.value) (faults_of D.state (turn_value turn).core) told ∷ []) }
+            ((view pass.old).seen ++ told_entry (faults_of D.state before.value) (faults_of D.state (turn_value turn).core) told ∷ []) (moments pass.old ++ clock_of D.state (turn_value turn).core ∷ []) }
         requires held { AreHeld (needed (told_entry (faults_of D.state before.value) (faults_of D.state (turn_value turn).core) told)) (view pass.old).holds
             × AreHeld (returned (told_entry (faults_of D.state before.value) (faults_of D.state (turn_value turn).core) told)) (view pass.old).holds }
         ensures { IsGiven O.start self.now pass.old pass.new (told_entry (faults_of D.state before.value) (faults_of D.state (turn_value turn).core) told.entry) }
@@ -136,6 +136,7 @@ impl<D: Disk + Drop, O: Origin> Shared<D, O> {
         requires units { (0 < units) × (units < (port_view from.old).units) }
         ensures from { IsPort self.now from.new × (port_view from.new ≡ kept_part None units (port_view from.old)) }
         ensures new { IsPort self.now result × (port_view result ≡ given_part None units (port_view from.old)) }
+        ensures past { (port_moments from.new ≡ port_moments from.old) × (port_moments result ≡ port_moments from.old) }
     {
         Port {
             pass: self.lock.split(&mut from.pass, None, units),
@@ -149,6 +150,7 @@ impl<D: Disk + Drop, O: Origin> Shared<D, O> {
         ensures into { IsPort self.now into.new }
         ensures units { (port_view into.new).units ≡ (port_view into.old).units + (port_view from).units }
         ensures seen { IsPrefix (port_view into.old).seen (port_view into.new).seen × IsPrefix (port_view from).seen (port_view into.new).seen }
+        ensures past { IsPrefix (port_moments into.old) (port_moments into.new) × IsPrefix (port_moments from) (port_moments into.new) }
         ensures places { (p : ℕ) → times p (port_view into.new).mine ≡ times p (port_view into.old).mine + times p (port_view from).mine }
     {
         let Port { pass } = from;
@@ -214,12 +216,15 @@ impl<D: Disk + Drop, O: Origin> Shared<D, O> {
 
     /// Ends the device, and gives the core back, which represents the whole list. The port has all units. It waits for nobody.
     /// The list's commits stand in one order, in which each is serial or snapshot, as its mode says. The disk is bound as it was.
+    /// What a caller was told is there: from the moment at which the turn of its call ended on, each image that a crash might have left
+    /// shows the commits of the list up to that turn.
     pub fn close(self, port: Port<D, O>) -> Core<D>
         requires port { IsPort self port × ((port_view port).units ≡ LAST) }
         ensures legal { IsLegal O.start (port_view port).seen }
         ensures isolated { IsIsolatedAt O.start (port_view port).seen }
         ensures core { Holds D.state result (state_at O.start (port_view port).seen) }
         ensures came { Came O.start O.disk (D.state (disk_of result)) (port_view port).seen }
+        ensures ended { HaveEnded D.state O.start O.disk (D.state (disk_of result)) (port_view port).seen (port_moments port) }
         ensures all { (port_view port).mine ≡ places (length (port_view port).seen) }
     {
         let Shared {

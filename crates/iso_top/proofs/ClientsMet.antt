@@ -76,6 +76,8 @@ module _ {D : Type 0} (state : D → DiskState) (lawful : (d : D) → IsLawful (
         exit = λ bytes here. images_shown state closed.core S closed.holds bytes (subst (λ (d : D). (state d).now bytes) closed.image_is here);
         since = since_bind begins.name begins.binds
             (joined (weakened first (λ c shown. between_grown W W (whole S) c begins.stands.kept_of.world.history.first (grows_all A closed.entries closed.legal) shown)) closed.came.moments);
+        moments = closed.moments;
+        turns = closed.turns;
         bound = bound_still image closed.came.moments.same_bound;
         once = closed.came.moments.same_binds ∙ has.untouched.same_binds ∙ has.once;
         unwritten = λ none. since_bind name has.binds (lasts (lawful (disk_of core)) has.untouched (closed.came.unwritten none));

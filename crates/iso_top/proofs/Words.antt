@@ -13,7 +13,7 @@ pub use Rattle.iso_model.{proofs.FreshWorlds.empty_world_is, specs.Between.Shows
 pub use Rattle.iso_recover.specs.{Cause.{IsBlamed, IsTest}, Made.IsUnmadeOrEmpty, Opened.HasOpened}
 pub use Rattle.iso_refusal.{proofs.ImageLaws.image_opens, proofs.SmallImages.with_piece, specs.Refusal.refusal, specs.declared.open_error.OpenError.OpenError}
 unfoldable pub use Rattle.iso_refusal.proofs.{SmallImages.{blank, one_commit}, Words.{fault_of, half_of, parts_fault, put, super_of}}
-pub use Rattle.iso_shared.{proofs.Growing.{between_grown, grows_all}, proofs.Standings.came_first, specs.Legal.{Fits, LegalFrom, MayRefuse}, specs.Ports.port_view, specs.Standing.{Came, Holds, standing_of, start_at, whole}, specs.States.{Start, State, after_all, after_fault, after_refusal, opened, state_at}, specs.declared.entry.Call.Call, specs.declared.entry.Cause.Cause, specs.declared.entry.Entry.Entry}
+pub use Rattle.iso_shared.{proofs.Growing.{between_grown, grows_all}, proofs.Standings.came_first, specs.Legal.{Fits, LegalFrom, MayRefuse}, specs.Ports.{port_moments, port_view}, specs.Standing.{Came, HaveEnded, Holds, standing_of, start_at, whole}, specs.States.{Start, State, after_all, after_fault, after_refusal, opened, state_at}, specs.declared.entry.Call.Call, specs.declared.entry.Cause.Cause, specs.declared.entry.Entry.Entry}
 pub use Rattle.par_lines.specs.{Ends.{Ends, HasEnded, status_of, stopped, wants}, declared.par.ParEnd.ParEnd}
 pub use Rattle.par_script.specs.{Lines.{Aborts, Begins, CallsStore, ClientLines, Compacts, Did, Does, EndsThen, Fetches, GroupEnds, Groups, Looks, LooksFor, Own, Posts, Reads, Says, Stats, StopsAtLast, StopsBy, Trims, Upgrades, Where, WhereShown, fetches as all_fetches, refused, refused_fetch}, Told.{Told, entries_of, lines_run}}
 pub use Rattle.par_text.specs.{Output.{IsFront, IsOutput}, declared.part.Part.Part}

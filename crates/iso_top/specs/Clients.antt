@@ -6,7 +6,7 @@ use Rattle.iso_model.specs.{Between.ShowsLast, declared.access.Commit.Commit, Wo
 use Rattle.iso_disk.specs.Disk.{DiskState, IsBoundTo, SinceBind}
 use Rattle.iso_io.specs.{Sink.SinkState, Source.SourceState}
 use Rattle.script_model.specs.declared.script.Line.{Line}
-use Rattle.iso_shared.specs.{declared.entry.Entry.Entry, Ports.IsIsolatedAt, Standing.{ShowsSince, start_at}, States.{Start, State, state_at}}
+use Rattle.iso_shared.specs.{declared.entry.Entry.Entry, Ports.IsIsolatedAt, Standing.{HaveEnded, ShowsSince, start_at}, States.{Start, State, state_at}}
 use Rattle.par_lines.specs.Ends.{status_of}
 use Rattle.par_script.specs.Told.{Told}
 use Rattle.par_text.specs.{declared.part.Part.Part, Output.{IsFront, IsOutput}}
@@ -80,6 +80,11 @@ pub record HasRunClients {D : Type 0} (state : D → DiskState) (name : List ℕ
   -- image as given on
   pub exit : (image : List ℕ) → (state disk_new).now image → ShowsState (state_at (start_at world (state start)) entries) image
   pub since : SinceBind (state disk_new) (ShowsSince (start_at world (state start)) entries)
+  -- What was told is there: each turn of the list, in which a client was answered, has ended at its moment. Up to that moment no image
+  -- that a crash might have left shows a commit behind those of the list up to the turn, and from that moment on, until now, each one
+  -- shows all of these. Each caller of the shared device knows the moments of the turns that it has seen as soon as it has seen them.
+  pub moments : List ℕ
+  pub turns : HaveEnded state (start_at world (state start)) (state start) (state disk_new) entries moments
   pub bound : IsBoundTo name (state disk_new)
   pub once : WasBoundOnce (state disk_old) (state disk_new)
   -- without an entry nothing was written: a crash since the bind left the image as given

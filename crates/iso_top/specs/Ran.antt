@@ -5,7 +5,7 @@ use Rattle.iso_disk.specs.Disk.{DiskState}
 use Rattle.iso_io.specs.Sink.{SinkState}
 use Rattle.script_model.specs.declared.script.Line.{Line}
 use Rattle.iso_model.specs.World.{World}
-use Rattle.iso_shared.specs.{declared.entry.Entry.Entry, Legal.IsLegal, Ports.IsIsolatedAt, Standing.{Came, Holds, start_at}, States.{Start, state_at}}
+use Rattle.iso_shared.specs.{declared.entry.Entry.Entry, Legal.IsLegal, Ports.IsIsolatedAt, Standing.{Came, HaveEnded, Holds, start_at}, States.{Start, state_at}}
 use Rattle.par_lines.specs.{declared.par.ParEnd.ParEnd, Ends.HasEnded}
 use Rattle.iso_top.specs.{declared.opened.Opened.Opened, Founded.BeginsWith, Prints.{Printed, WasCut, WroteWhole}, Texts.{disk_fault_text, memory_text}}
 
@@ -19,6 +19,8 @@ pub record HasClosed {D : Type 0} (state : D → DiskState) (A : Start) (first :
   pub holds : Holds state core (state_at A entries)
   pub image_is : image ≡ disk_of core
   pub came : Came A first (state image) entries
+  pub moments : List ℕ
+  pub turns : HaveEnded state A first (state image) entries moments
 
 -- what was put of a run that ended with this status and this text
 pub record PutOf (ended : ℕ) (text : List ℕ) (status : ℕ) (old new : SinkState) : Type 0 where

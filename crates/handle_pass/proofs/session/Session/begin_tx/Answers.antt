@@ -1,4 +1,5 @@
-use Rattle.handle_pass.proofs.{Words.{ap, subst, sym, ◌∙◌, ℕ, Some, Checked, Begin, checked_of, own_of, Made}, Entering.{is_none, made_new, made_port, new_own}}
+use Rattle.iso_shared.specs.Ports.{IsTx}
+use Rattle.handle_pass.proofs.{Words.{ap, subst, sym, ◌∙◌, ◌≡◌, ℕ, IfSome, Some, Checked, Begin, IsPrefix, checked_of, own_of, port_view, prefix_self, tx_view, Made}, Entering.{is_none, made_new, made_port, new_own}}
 
 pub returns-in-Ok-clause-did : Rattle.handle_pass.proofs.session.Session.begin_tx.Goals.returns-in-Ok-clause-did
 returns-in-Ok-clause-did g c =
@@ -25,3 +26,14 @@ returns-in-Err-clause-did g c =
 
 pub returns-in-Ok-clause-checked : Rattle.handle_pass.proofs.session.Session.begin_tx.Goals.returns-in-Ok-clause-checked
 returns-in-Ok-clause-checked g c = ap checked_of c.attach.ensures ∙ ap (λ (k : Checked). k.upto) c.in-Ok.ensures.checked ∙ sym c.at-at.ensures
+
+pub returns-in-Ok-clause-session : Rattle.handle_pass.proofs.session.Session.begin_tx.Goals.returns-in-Ok-clause-session
+returns-in-Ok-clause-session g c =
+    let seen = (port_view c.begin.new.port).seen in
+    let t = c.in-Ok.tx in
+    let new = c.in-Ok.ensures.new in record {
+      image = c.requires.session.image;
+      port = c.begin.ensures.port;
+      tx = subst (λ o. IfSome o (λ t. IsTx c.args.self.now.shared.now g.O.Origin.start t × IsPrefix (tx_view t).seen seen)) (sym c.attach.ensures) (c.in-Ok.ensures.tx.0, subst (λ l. IsPrefix (tx_view t).seen l) new.0 (prefix_self _));
+      one = subst (λ o. IfSome o (λ t. (tx_view t).units ≡ 1)) (sym c.attach.ensures) new.2;
+    }

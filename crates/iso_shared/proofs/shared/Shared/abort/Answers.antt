@@ -1,4 +1,4 @@
-use Rattle.iso_shared.proofs.{Words.{inl, [], refl, ◌∙◌, prefix_trans, Abort}, Cores.did_abort, Giving.{asked, lends, live_lent, stands_call}, Mades.{both_by, held_same}}
+use Rattle.iso_shared.proofs.{Words.{view, inl, [], refl, ◌∙◌, prefix_trans, Abort}, Cores.did_abort, Giving.{asked, lends, live_lent, stands_call}, Mades.{both_by, held_same}}
 
 pub abort-requires : Rattle.iso_shared.proofs.shared.Shared.abort.Goals.abort-requires
 abort-requires g c =
@@ -14,7 +14,7 @@ give-requires-clause-value g c =
 
 pub returns-clause-made : Rattle.iso_shared.proofs.shared.Shared.abort.Goals.returns-clause-made
 returns-clause-made g c =
-    both_by g.O.Origin.start c.args.port.now.pass.me.0 c.tell.new.from.me.0 c.args.tx.pass.me.0 c.take-turn.new.pass.me.0 c.give.new.pass.me.0 c.spend.new.port.pass.me.0 _
+    both_by g.O.Origin.start (view c.args.port.now.pass) (view c.tell.new.from) (view c.args.tx.pass) (view c.take-turn.new.pass) (view c.give.new.pass) (view c.spend.new.port.pass) _
     c.tell.ensures.from.1
     (prefix_trans _ _ _ c.tell.ensures.told c.take-turn.ensures.seen)
     (prefix_trans _ _ _ c.tell.ensures.begins c.take-turn.ensures.seen)

@@ -1,4 +1,4 @@
-use Rattle.iso_shared.proofs.{Words.{inl, ◌≡◌, [], ◌∷◌, ◌++◌, ap, refl, sym, subst, arith, ◌∙◌, rules, None, ℕ, IsTrue, unwrap_or, Checked, Mode, is_block_size, held_first, View, Doing, Entry, IsLegal, IsAhead, IsOwn, faults_of, standing_of, opened, state_at, begin_entry}, Begins.{began_ahead, began_own, begun_mode, block_size}, Cores.did_begin, Follows.follows_all, Giving.{entry_may, lends, stands_answer}, Mades.held_same}
+use Rattle.iso_shared.proofs.{Words.{view, inl, ◌≡◌, [], ◌∷◌, ◌++◌, ap, refl, sym, subst, arith, ◌∙◌, rules, None, ℕ, IsTrue, unwrap_or, Checked, Mode, is_block_size, held_first, View, Doing, Entry, IsLegal, IsAhead, IsOwn, faults_of, standing_of, opened, state_at, begin_entry}, Begins.{began_ahead, began_own, begun_mode, block_size}, Cores.did_begin, Follows.follows_all, Giving.{entry_may, lends, stands_answer}, Mades.held_same}
 use Rattle.iso_shared.specs.declared.entry.Call.TheVariants as call
 use Rattle.iso_shared.specs.declared.entry.Entry.TheVariants as entry
 use Rattle.iso_shared.proofs.shared.Shared.begin.Goals as goal
@@ -19,7 +19,7 @@ split-pass-requires-clause-number g c = grind (arith, held_same, held_first)
 
 pub begin-requires : goal.begin-requires
 begin-requires g c =
-    let S = state_at g.O.Origin.start c.take-turn.new.pass.me.0.seen in
+    let S = state_at g.O.Origin.start (view c.take-turn.new.pass).seen in
     let h = (lends c.value-guarded.ensures.value c.take-turn.ensures.value c.take-turn.ensures.out).at.core in
     let geometry = c.geometry-geometry.ensures S.world (standing_of S.lost) h.world in
     subst (λ (k : ℕ). IsTrue (is_block_size k)) (sym (ap (λ v. v.block) geometry)) (block_size S.world h.world.kept_of.world)
@@ -28,7 +28,7 @@ pub returns-in-Ok-clause-tx : goal.returns-in-Ok-clause-tx
 returns-in-Ok-clause-tx g c =
     let d = g.D.Disk.state in
     let A = g.O.Origin.start in
-    let es = c.take-turn.new.pass.me.0.seen in
+    let es = (view c.take-turn.new.pass).seen in
     let b = c.in-Ok.begun in
     let work = c.begin.result in
     let S = state_at A es in
@@ -36,8 +36,8 @@ returns-in-Ok-clause-tx g c =
     let h = (lends c.value-guarded.ensures.value c.take-turn.ensures.value c.take-turn.ensures.out).at.core in
     let geometry = c.geometry-geometry.ensures S.world (standing_of S.lost) h.world in
     let given = c.split-pass.ensures.given in
-    let last : c.give.new.pass.me.0.seen ≡ es ++ entry.Begin b.tx b.at b.mode ∷ [] = c.give.ensures.seen ∙ ap (λ r. es ++ begin_entry (faults_of d c.of-before.result.value) (faults_of d c.begin-result.new.self) c.args.named r ∷ []) c.in-Ok.is in
-    let seen : c.split-pass.result.me.0.seen ≡ es ++ entry.Begin b.tx b.at b.mode ∷ [] = ap (λ (v : View Entry). v.seen) given ∙ last in
+    let last : (view c.give.new.pass).seen ≡ es ++ entry.Begin b.tx b.at b.mode ∷ [] = c.give.ensures.seen ∙ ap (λ r. es ++ begin_entry (faults_of d c.of-before.result.value) (faults_of d c.begin-result.new.self) c.args.named r ∷ []) c.in-Ok.is in
+    let seen : (view c.split-pass.result).seen ≡ es ++ entry.Begin b.tx b.at b.mode ∷ [] = ap (λ (v : View Entry). v.seen) given ∙ last in
     let legal = subst (IsLegal A) last c.give.ensures.legal in
     let is = c.begin.ensures in
     let mode = begun_mode d S c.value-guarded.result.now.core c.begin-result.new.self c.args.named c.begin-result.result b h c.begin-result.ensures.begun c.begin-result.ensures.down c.in-Ok.is in

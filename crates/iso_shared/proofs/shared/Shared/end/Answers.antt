@@ -1,13 +1,13 @@
-use Rattle.iso_shared.{proofs.Words.{CoreError, EndReply, Err, IfErr, Made, MadeBoth, Result, View, ap, longer, refl, sym, times, ℕ, ◌+◌, ◌≡◌, ◌≢◌, ◌∙◌, rules, subst, Doing, Entry, TookFew, end_entry, OfDisk}, specs.Ports.IsTx, proofs.Mades.{both_on, joined_seen, made_on, units_by}, proofs.shared.Shared.end.Goals.After-end_in_turn}
+use Rattle.iso_shared.{proofs.Words.{view, CoreError, EndReply, Err, IfErr, Made, MadeBoth, Result, View, ap, longer, refl, sym, times, ℕ, ◌+◌, ◌≡◌, ◌≢◌, ◌∙◌, rules, subst, Doing, Entry, TookFew, end_entry, OfDisk}, specs.Ports.IsTx, proofs.Mades.{both_on, joined_seen, made_on, units_by}, proofs.shared.Shared.end.Goals.After-end_in_turn}
 use Rattle.iso_shared.proofs.shared.Shared.end.Goals as goal
 
 -- what stands once the turn of the end is over
 module _ (g : Rattle.iso_shared.proofs.shared.Shared.end.Given.Over) (c : After-end_in_turn g) where
   abbrev t : View Entry
-  t = c.tell_tx.new.tx.pass.me.0
+  t = (view c.tell_tx.new.tx.pass)
 
   abbrev w : View Entry
-  w = c.end_in_turn.new.tx.pass.me.0
+  w = (view c.end_in_turn.new.tx.pass)
 
   -- its entry, told of the transaction that was handed in
   made : (r : Result EndReply CoreError) → c.end_in_turn.result ≡ r → Made g.O.Origin.start t t (end_entry c.end_in_turn.ensures.made.0 c.end_in_turn.ensures.made.1 c.args.tx.number c.args.tx.work.accesses r) w
@@ -17,39 +17,39 @@ module _ (g : Rattle.iso_shared.proofs.shared.Shared.end.Given.Over) (c : After-
       subst (λ (e : Entry). Made g.O.Origin.start t t e w) (λ i. end_entry m.0 m.1 (same.0.number i) ((same.1 i).accesses) (is i)) m.2
 
   -- a port into which the pass is then joined
-  module _ (x : View Entry) (joined : x.seen ≡ longer c.tell_tx.new.port.pass.me.0.seen w.seen) where
-    both : (e : Entry) → Made g.O.Origin.start t t e w → ((p : ℕ) → times p x.mine ≡ times p c.tell_tx.new.port.pass.me.0.mine + times p w.mine) → MadeBoth g.O.Origin.start c.args.port.now.pass.me.0 c.args.tx.pass.me.0 e x
+  module _ (x : View Entry) (joined : x.seen ≡ longer (view c.tell_tx.new.port.pass).seen w.seen) where
+    both : (e : Entry) → Made g.O.Origin.start t t e w → ((p : ℕ) → times p x.mine ≡ times p (view c.tell_tx.new.port.pass).mine + times p w.mine) → MadeBoth g.O.Origin.start (view c.args.port.now.pass) (view c.args.tx.pass) e x
     both e is places =
-        both_on g.O.Origin.start c.args.port.now.pass.me.0 c.tell_tx.new.port.pass.me.0 c.args.tx.pass.me.0 t w x e
+        both_on g.O.Origin.start (view c.args.port.now.pass) (view c.tell_tx.new.port.pass) (view c.args.tx.pass) t w x e
         c.tell_tx.ensures.port.1 c.tell_tx.ensures.told c.tell_tx.ensures.begins c.tell_tx.ensures.same.2.0 is joined places
 
     few : TookFew g.O.Origin.start x.seen c.args.tx.checked.upto c.args.steps.now c.end_in_turn.new.steps
     few =
-        let seen = joined_seen g.O.Origin.start c.args.port.now.pass.me.0 c.tell_tx.new.port.pass.me.0 t w x _ c.tell_tx.ensures.port.1 c.tell_tx.ensures.told c.end_in_turn.ensures.made.2 joined in
+        let seen = joined_seen g.O.Origin.start (view c.args.port.now.pass) (view c.tell_tx.new.port.pass) t w x _ c.tell_tx.ensures.port.1 c.tell_tx.ensures.told c.end_in_turn.ensures.made.2 joined in
         subst (λ l. TookFew g.O.Origin.start l c.args.tx.checked.upto c.args.steps.now c.end_in_turn.new.steps) (sym seen)
         (subst (λ k. TookFew g.O.Origin.start w.seen k.upto c.args.steps.now c.end_in_turn.new.steps) c.tell_tx.ensures.same.0.checked c.end_in_turn.ensures.steps)
 
-  units : (x : View Entry) → x.units ≡ c.tell_tx.new.port.pass.me.0.units + w.units → x.units ≡ c.args.port.now.pass.me.0.units + c.args.tx.pass.me.0.units
-  units x spent = units_by c.tell_tx.new.port.pass.me.0 c.args.port.now.pass.me.0 c.args.tx.pass.me.0 w x c.tell_tx.ensures.port.1 (c.end_in_turn.ensures.units ∙ c.tell_tx.ensures.same.2.2) spent
+  units : (x : View Entry) → x.units ≡ (view c.tell_tx.new.port.pass).units + w.units → x.units ≡ (view c.args.port.now.pass).units + (view c.args.tx.pass).units
+  units x spent = units_by (view c.tell_tx.new.port.pass) (view c.args.port.now.pass) (view c.args.tx.pass) w x c.tell_tx.ensures.port.1 (c.end_in_turn.ensures.units ∙ c.tell_tx.ensures.same.2.2) spent
 
 pub returns-in-Ok-clause-ok : goal.returns-in-Ok-clause-ok
 returns-in-Ok-clause-ok g c =
     let s = (goal.at.returns-in-Ok-clause-ok g c).After-end_in_turn in
-    let x = c.spend.new.port.pass.me.0 in
+    let x = (view c.spend.new.port.pass) in
     (both g s x c.spend.ensures.seen _ (made g s _ c.in-Ok.is) c.spend.ensures.places, units g s x c.spend.ensures.units)
 
 pub returns-in-Ok-clause-steps : goal.returns-in-Ok-clause-steps
-returns-in-Ok-clause-steps g c = few g (goal.at.returns-in-Ok-clause-steps g c).After-end_in_turn c.spend.new.port.pass.me.0 c.spend.ensures.seen
+returns-in-Ok-clause-steps g c = few g (goal.at.returns-in-Ok-clause-steps g c).After-end_in_turn (view c.spend.new.port.pass) c.spend.ensures.seen
 
 pub returns-in-Disk-clause-gone : goal.returns-in-Disk-clause-gone
 returns-in-Disk-clause-gone g c =
     let s = (goal.at.returns-in-Disk-clause-gone g c).After-end_in_turn in
-    let x = c.spend-in-Disk.new.port.pass.me.0 in
+    let x = (view c.spend-in-Disk.new.port.pass) in
     let m = c.end_in_turn.ensures.made in
     (refl, units g s x c.spend-in-Disk.ensures.units, (m.0, m.1, both g s x c.spend-in-Disk.ensures.seen _ (made g s _ (c.in-Err.is ∙ ap Err c.in-Disk.is)) c.spend-in-Disk.ensures.places))
 
 pub returns-in-Disk-clause-steps : goal.returns-in-Disk-clause-steps
-returns-in-Disk-clause-steps g c = few g (goal.at.returns-in-Disk-clause-steps g c).After-end_in_turn c.spend-in-Disk.new.port.pass.me.0 c.spend-in-Disk.ensures.seen
+returns-in-Disk-clause-steps g c = few g (goal.at.returns-in-Disk-clause-steps g c).After-end_in_turn (view c.spend-in-Disk.new.port.pass) c.spend-in-Disk.ensures.seen
 
 pub returns-in_default : goal.returns-in_default
 returns-in_default g c =
@@ -76,7 +76,7 @@ returns-in_default g c =
         (
           c.end_in_turn.ensures.made.0,
           c.end_in_turn.ensures.made.1,
-          made_on A c.args.port.now.pass.me.0 c.args.tx.pass.me.0 (t g s) (w g s) _ c.tell_tx.ensures.told c.tell_tx.ensures.begins same.2.0 (made g s _ c.in-Err.is),
+          made_on A (view c.args.port.now.pass) (view c.args.tx.pass) (t g s) (w g s) _ c.tell_tx.ensures.told c.tell_tx.ensures.begins same.2.0 (made g s _ c.in-Err.is),
         ),
       );
       steps = subst (λ k. TookFew A (w g s).seen k.upto c.args.steps.now c.end_in_turn.new.steps) same.0.checked c.end_in_turn.ensures.steps;

@@ -1,28 +1,28 @@
-use Rattle.iso_shared.proofs.{Words.{ap, refl, sym, ◌∙◌, subst, CoreError, List, Result, ℕ, AreHeld, numbers_handed, faults_of, group_entry, handed, held_after, returned, standing_of, State, state_at, txs_of, members_at, ends_at}, Ends.if_err_by, Giving.{Lends, entry_may, lends, refused_holds, stands_answer}, Groupings.{Groups, did_group, each_lent, group_args, group_only, held_again, moved_group}, Mades.made_by, shared.Shared.end_at_turn.Goals.After-end_group-result}
+use Rattle.iso_shared.proofs.{Words.{moments, view, ap, refl, sym, ◌∙◌, subst, CoreError, List, Result, ℕ, AreHeld, numbers_handed, faults_of, group_entry, handed, held_after, returned, standing_of, State, state_at, txs_of, members_at, ends_at}, Ends.if_err_by, Giving.{Lends, entry_may, lends, refused_holds, stands_answer}, Groupings.{Groups, did_group, each_lent, group_args, group_only, held_again, moved_group}, Mades.made_by, shared.Shared.end_at_turn.Goals.After-end_group-result}
 use Rattle.iso_shared.specs.declared.entry.Call.TheVariants as call
 use Rattle.iso_shared.specs.declared.entry.Entry.TheVariants as entry
 use Rattle.iso_shared.proofs.shared.Shared.end_at_turn.Goals as goal
 
 pub end_group-result-requires-clause-ready : goal.end_group-result-requires-clause-ready
 end_group-result-requires-clause-ready g c =
-    let S = state_at g.O.Origin.start c.take-turn.new.pass.me.0.seen in
+    let S = state_at g.O.Origin.start (view c.take-turn.new.pass).seen in
     let l = lends c.value-guarded.ensures.value c.take-turn.ensures.value c.take-turn.ensures.out in
-    (S.world, standing_of S.lost, txs_of S.world (members_at c.args.ends.now), l.at.core.world, each_lent l c.args.port.now.pass.me.0 _ c.take-turn.ensures.seen c.take-turn.ensures.same.1 c.requires.ends c.requires.held)
+    (S.world, standing_of S.lost, txs_of S.world (members_at c.args.ends.now), l.at.core.world, each_lent l (view c.args.port.now.pass) _ c.take-turn.ensures.seen c.take-turn.ensures.same.1 c.requires.ends c.requires.held)
 
 -- what the core's call says of what the turn lent
 module _ (g : Rattle.iso_shared.proofs.shared.Shared.end_at_turn.Given.Over) (c : After-end_group-result g) where
   abbrev S : State
-  S = state_at g.O.Origin.start c.take-turn.new.pass.me.0.seen
+  S = state_at g.O.Origin.start (view c.take-turn.new.pass).seen
 
-  l : Lends g.D.Disk.state g.O.Origin.start g.O.Origin.disk c.value-guarded.result.now.core c.value-guarded.result.now.rack c.take-turn.new.pass.me.0.seen c.take-turn.new.pass.me.0.holds
+  l : Lends g.D.Disk.state g.O.Origin.start g.O.Origin.disk c.value-guarded.result.now.core c.value-guarded.result.now.rack (view c.take-turn.new.pass).seen (moments c.take-turn.new.pass) (view c.take-turn.new.pass).holds
   l = lends c.value-guarded.ensures.value c.take-turn.ensures.value c.take-turn.ensures.out
 
-  held : AreHeld (numbers_handed c.args.ends.now) c.take-turn.new.pass.me.0.holds
+  held : AreHeld (numbers_handed c.args.ends.now) (view c.take-turn.new.pass).holds
   held = subst (λ (hs : List ℕ). AreHeld (numbers_handed c.args.ends.now) hs) (sym c.take-turn.ensures.same.1) c.requires.held.0
 
   so : Groups g.D.Disk.state S c.value-guarded.result.now.core c.end_group-result.new.self c.args.ends.now c.end_group-result.new.ends c.end_group-result.result
   so =
-      let each = each_lent l c.args.port.now.pass.me.0 c.args.ends.now c.take-turn.ensures.seen c.take-turn.ensures.same.1 c.requires.ends c.requires.held in
+      let each = each_lent l (view c.args.port.now.pass) c.args.ends.now c.take-turn.ensures.seen c.take-turn.ensures.same.1 c.requires.ends c.requires.held in
       let txs = txs_of S.world (members_at c.args.ends.now) in
       let said = c.end_group-result.ensures in
       record {
@@ -42,7 +42,7 @@ module _ (g : Rattle.iso_shared.proofs.shared.Shared.end_at_turn.Given.Over) (c 
 pub give-requires-clause-value : goal.give-requires-clause-value
 give-requires-clause-value g c =
     let d = g.D.Disk.state in
-    let es = c.take-turn.new.pass.me.0.seen in
+    let es = (view c.take-turn.new.pass).seen in
     let s = (goal.at.give-requires-clause-value g c).After-end_group-result in
     let at = (l g s).at in
     let ends = c.args.ends.now in
@@ -50,16 +50,16 @@ give-requires-clause-value g c =
     let new = c.end_group-result.new.self in
     let last = c.end_group-result.new.ends in
     let r = c.end_group-result.result in
-    let args = group_args g.O.Origin.start es c.args.port.now.pass.me.0.seen ends c.take-turn.ensures.seen c.requires.ends c.requires.some c.requires.most c.requires.held.1 in
+    let args = group_args g.O.Origin.start es (view c.args.port.now.pass).seen ends c.take-turn.ensures.seen c.requires.ends c.requires.some c.requires.most c.requires.held.1 in
     let did = did_group d (S g s) lent new ends last r at.core args (so g s) in
-    let again = held_again last ends c.take-turn.new.pass.me.0.holds c.end_group-result.ensures.members (held g s) in
+    let again = held_again last ends (view c.take-turn.new.pass).holds c.end_group-result.ensures.members (held g s) in
     stands_answer (l g s) c.of-before.result.value new (call.EndGroup (members_at last)) (λ done. entry.EndGroup (ends_at last)) r c.of-before.ensures (λ x. (tt, again.1)) again.0 (λ x T. refl)
     (moved_group d g.O.Origin.start es lent new ends last r (faults_of d lent) (faults_of d new) at.legal at.core.world.kept_of.world.history.first at.core did.0 (so g s))
     did
 
 pub give-requires-clause-held : goal.give-requires-clause-held
 give-requires-clause-held g c =
-    let holds = c.take-turn.new.pass.me.0.holds in
+    let holds = (view c.take-turn.new.pass).holds in
     let last = c.end_group-result.new.ends in
     let again = held_again last c.args.ends.now holds c.end_group-result.ensures.members (held g (goal.at.give-requires-clause-held g c).After-end_group-result) in
     entry_may _ _ (call.EndGroup (members_at last)) (λ done. entry.EndGroup (ends_at last)) holds (λ x. (tt, again.1)) again.0 c.end_group-result.result
@@ -68,7 +68,7 @@ pub returns-clause-holds : goal.returns-clause-holds
 returns-clause-holds g c =
     let d = g.D.Disk.state in
     let last = c.end_group-result.new.ends in
-    let holds = c.take-turn.new.pass.me.0.holds in
+    let holds = (view c.take-turn.new.pass).holds in
     if_err_by _ c.end_group-result.result (λ e is other.
     c.give.ensures.holds
     ∙ ap (λ (r : Result (Unit {0}) CoreError). held_after handed returned (group_entry (faults_of d c.of-before.result.value) (faults_of d c.end_group-result.new.self) last r) holds) is
@@ -83,8 +83,8 @@ returns-clause-only g c =
 pub returns-clause-made : goal.returns-clause-made
 returns-clause-made g c =
     let d = g.D.Disk.state in
-    let v = c.args.port.now.pass.me.0 in (
+    let v = (view c.args.port.now.pass) in (
       faults_of d c.of-before.result.value,
       faults_of d c.end_group-result.new.self,
-      made_by g.O.Origin.start v v c.take-turn.new.pass.me.0 c.give.new.pass.me.0 _ c.take-turn.ensures.seen c.take-turn.ensures.seen c.take-turn.ensures.same.0 c.give.ensures.seen c.give.ensures.mine c.give.ensures.legal,
+      made_by g.O.Origin.start v v (view c.take-turn.new.pass) (view c.give.new.pass) _ c.take-turn.ensures.seen c.take-turn.ensures.seen c.take-turn.ensures.same.0 c.give.ensures.seen c.give.ensures.mine c.give.ensures.legal,
     )

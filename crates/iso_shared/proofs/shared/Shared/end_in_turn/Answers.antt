@@ -1,4 +1,4 @@
-use Rattle.iso_shared.proofs.{Words.{inl, [], ◌∷◌, ◌++◌, ap, refl, sym, arith, ◌∙◌, rules, ◌≤◌, ◌+◌, subst, ◌≡◌, Doing, held_after, disk_of, handed, returned, most_steps, faults_of, standing_of, state_at, tx_of, end_entry}, Cores.{by_lost, is_tx}, Ends.{ahead_same, checked_of, did_end, if_err_by, init_same, moved_end, may_have, on_same, own_same, work_of}, Giving.{at_turn, entry_keeps, entry_may, lends, refused_holds, settled_turn, stands_call}, Mades.{ahead_on, held_same, made_by, one_more, own_on}}
+use Rattle.iso_shared.proofs.{Words.{view, inl, [], ◌∷◌, ◌++◌, ap, refl, sym, arith, ◌∙◌, rules, ◌≤◌, ◌+◌, subst, ◌≡◌, Doing, held_after, disk_of, handed, returned, most_steps, faults_of, standing_of, state_at, tx_of, end_entry}, Cores.{by_lost, is_tx}, Ends.{ahead_same, checked_of, did_end, if_err_by, init_same, moved_end, may_have, on_same, own_same, work_of}, Giving.{at_turn, entry_keeps, entry_may, lends, refused_holds, settled_turn, stands_call}, Mades.{ahead_on, held_same, made_by, one_more, own_on}}
 use Rattle.iso_shared.specs.declared.entry.Call.TheVariants as call
 use Rattle.iso_shared.specs.declared.entry.Entry.TheVariants as entry
 use Rattle.iso_shared.proofs.shared.Shared.end_in_turn.Goals as goal
@@ -6,7 +6,7 @@ use Rattle.iso_shared.proofs.shared.Shared.end_in_turn.Goals as goal
 pub end-result-requires : goal.end-result-requires
 end-result-requires g c =
     let n = c.args.tx.now.number in
-    let S = state_at g.O.Origin.start c.take-turn.new.pass.me.0.seen in
+    let S = state_at g.O.Origin.start (view c.take-turn.new.pass).seen in
     let work = c.settle.new.work in
     let l = lends c.value-guarded.ensures.value c.take-turn.ensures.value c.take-turn.ensures.out in
     let t = settled_turn (at_turn l c.args.tx.now c.requires.tx.1 c.take-turn.ensures.seen c.take-turn.ensures.same.1) work c.settle.ensures.work in (
@@ -24,7 +24,7 @@ give-requires-clause-value g c =
     let d = g.D.Disk.state in
     let A = g.O.Origin.start in
     let n = c.args.tx.now.number in
-    let es = c.take-turn.new.pass.me.0.seen in
+    let es = (view c.take-turn.new.pass).seen in
     let S = state_at A es in
     let work = c.settle.new.work in
     let l = lends c.value-guarded.ensures.value c.take-turn.ensures.value c.take-turn.ensures.out in
@@ -72,9 +72,9 @@ returns-clause-tx g c =
     let A = g.O.Origin.start in
     let n = c.args.tx.now.number in
     let last = c.end-result.new.work in
-    let holds = c.take-turn.new.pass.me.0.holds in
-    let begins = one_more c.args.tx.now.pass.me.0 c.take-turn.new.pass.me.0 c.give.new.pass.me.0 _ c.take-turn.ensures.seen c.give.ensures.seen in
-    let T = state_at A c.give.new.pass.me.0.seen in
+    let holds = (view c.take-turn.new.pass).holds in
+    let begins = one_more (view c.args.tx.now.pass) (view c.take-turn.new.pass) (view c.give.new.pass) _ c.take-turn.ensures.seen c.give.ensures.seen in
+    let T = state_at A (view c.give.new.pass).seen in
     let own = own_same T n _ last c.end-result.ensures.work (own_same T n c.args.tx.now.work _ c.settle.ensures.work (own_on A _ _ n _ begins c.requires.tx.1.own)) in
     let ahead = ahead_same T _ last _ c.end-result.ensures.work (ahead_same T c.args.tx.now.work _ c.args.tx.now.checked c.settle.ensures.work (ahead_on A _ _ _ _ begins c.requires.tx.1.ahead)) in
     if_err_by _ c.end-result.result (λ e is other. (
@@ -97,11 +97,11 @@ returns-clause-made g c =
     let A = g.O.Origin.start in
     let x = faults_of d c.of-before.result.value in
     let y = faults_of d c.end-result.new.self in
-    let es = c.take-turn.new.pass.me.0.seen in
+    let es = (view c.take-turn.new.pass).seen in
     let accesses = ap (λ (w : Doing). w.accesses) c.end-result.ensures.work ∙ ap (λ (w : Doing). w.accesses) c.settle.ensures.work in (
       x,
       y,
-      made_by A c.args.tx.now.pass.me.0 c.args.tx.now.pass.me.0 c.take-turn.new.pass.me.0 c.give.new.pass.me.0 _ c.take-turn.ensures.seen c.take-turn.ensures.seen c.take-turn.ensures.same.0
+      made_by A (view c.args.tx.now.pass) (view c.args.tx.now.pass) (view c.take-turn.new.pass) (view c.give.new.pass) _ c.take-turn.ensures.seen c.take-turn.ensures.seen c.take-turn.ensures.same.0
           (c.give.ensures.seen ∙ ap (λ a. es ++ end_entry x y c.args.tx.now.number a c.end-result.result ∷ []) accesses) c.give.ensures.mine c.give.ensures.legal,
     )
 
@@ -109,7 +109,7 @@ pub returns-clause-steps : goal.returns-clause-steps
 returns-clause-steps g c list e seen =
     let A = g.O.Origin.start in
     let n = c.args.tx.now.number in
-    let es = c.take-turn.new.pass.me.0.seen in
+    let es = (view c.take-turn.new.pass).seen in
     let S = state_at A es in
     let upto = c.args.tx.now.checked.upto in
     let work = c.settle.new.work in

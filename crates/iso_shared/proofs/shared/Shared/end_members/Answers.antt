@@ -1,4 +1,4 @@
-use Rattle.iso_shared.proofs.{Words.{ap, sym, refl, ◌∙◌, subst, arith, List, ℕ, AreDistinct, AreHeld, CoreError, ArePaired, IsBack, times, Entry, Made, answered, cause_of, members_in, numbers_in}, HandedBack.{back_all, back_are, joined_all, made_joined, made_seen, many_units, members_held, noted_numbers, noted_many, parts_many, same_numbers}}
+use Rattle.iso_shared.proofs.{Words.{view, ap, sym, refl, ◌∙◌, subst, arith, List, ℕ, AreDistinct, AreHeld, CoreError, ArePaired, IsBack, times, Entry, Made, answered, cause_of, members_in, numbers_in}, HandedBack.{back_all, back_are, joined_all, made_joined, made_seen, many_units, members_held, noted_numbers, noted_many, parts_many, same_numbers}}
 use Rattle.iso_model.specs.declared.core_error.CoreError.TheVariants as error
 use Rattle.iso_shared.specs.declared.entry.Call.TheVariants as call
 use Rattle.iso_shared.specs.declared.entry.Entry.TheVariants as entry
@@ -18,9 +18,9 @@ end_joined-requires-clause-held g c =
     let s = c.args.self.now in
     let A = g.O.Origin.start in
     let group = c.args.group.now in
-    let holds = c.join_members.new.port.pass.me.0.holds in
+    let holds = (view c.join_members.new.port.pass).holds in
     subst (λ (ns : List ℕ). AreHeld ns holds × AreDistinct ns) (sym (noted_numbers s A _ group c.join_members.new.group c.join_members.ensures.group))
-    (members_held s A group c.args.port.now.pass.me.0.holds holds c.requires.group c.requires.some c.join_members.ensures.holds c.join_members.ensures.alone)
+    (members_held s A group (view c.args.port.now.pass).holds holds c.requires.group c.requires.some c.join_members.ensures.holds c.join_members.ensures.alone)
 
 pub returns-in-Ok-clause-ok : goal.returns-in-Ok-clause-ok
 returns-in-Ok-clause-ok g c =
@@ -34,9 +34,9 @@ returns-in-Ok-clause-ok g c =
 
 pub returns-in-Disk-clause-err : goal.returns-in-Disk-clause-err
 returns-in-Disk-clause-err g c =
-    let m = c.join_members.new.port.pass.me.0 in
+    let m = (view c.join_members.new.port.pass) in
     let (before, now, made) = c.in-Err.ensures.err in
-    let disk = subst (λ (e : CoreError). Made g.O.Origin.start m m (entry.Refused (call.EndGroup (members_in c.join_members.new.group)) (cause_of before now e)) c.end_joined.new.port.pass.me.0) c.in-Disk.is made in (
+    let disk = subst (λ (e : CoreError). Made g.O.Origin.start m m (entry.Refused (call.EndGroup (members_in c.join_members.new.group)) (cause_of before now e)) (view c.end_joined.new.port.pass)) c.in-Disk.is made in (
       before,
       now,
       made_joined c.args.self.now g.O.Origin.start _ m _ _ c.args.group.now _ (λ ms. entry.Refused (call.EndGroup ms) (cause_of before now error.Disk)) c.join_members.ensures.seen c.join_members.ensures.group c.join_members.ensures.places disk refl (λ p. refl),
@@ -47,10 +47,10 @@ split_members-requires g c =
     let s = c.args.self.now in
     let A = g.O.Origin.start in
     let group = c.args.group.now in
-    let holds = c.join_members.new.port.pass.me.0.holds in
+    let holds = (view c.join_members.new.port.pass).holds in
     let noted = c.join_members.ensures.group in
     let numbers = same_numbers s A _ _ (c.in-Err.ensures.back c.in_default.not-Disk) ∙ noted_numbers s A _ group _ noted in
-    let held = members_held s A group c.args.port.now.pass.me.0.holds holds c.requires.group c.requires.some c.join_members.ensures.holds c.join_members.ensures.alone in
+    let held = members_held s A group (view c.args.port.now.pass).holds holds c.requires.group c.requires.some c.join_members.ensures.holds c.join_members.ensures.alone in
     let many = noted_many s A _ group _ noted in
     let units = many_units s A group c.requires.group in record {
       port = c.end_joined.ensures.port;
@@ -65,8 +65,8 @@ returns-in_default g c =
     let s = c.args.self.now in
     let A = g.O.Origin.start in
     let group = c.args.group.now in
-    let m = c.join_members.new.port.pass.me.0 in
-    let w = c.end_joined.new.port.pass.me.0 in
+    let m = (view c.join_members.new.port.pass) in
+    let w = (view c.end_joined.new.port.pass) in
     let noted = c.join_members.ensures.group in
     let parts = c.split_members.ensures.group in
     let many = noted_many s A _ group _ noted in

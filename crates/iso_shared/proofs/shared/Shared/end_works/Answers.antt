@@ -1,4 +1,4 @@
-use Rattle.iso_shared.proofs.{Words.{◌≡◌, ◌++◌, length, map, ap, sym, ◌∙◌, subst, arith, List, GroupReply, Member, MemberEnd, Made, answered, bare_end, cause_of, ends_at, members_at, replies_of}, Groupings.{members_many, same_members}, HandedBack.{answered_is, as_many, back_same, made_seen, same_many, taken_then}}
+use Rattle.iso_shared.proofs.{Words.{view, ◌≡◌, ◌++◌, length, map, ap, sym, ◌∙◌, subst, arith, List, GroupReply, Member, MemberEnd, Made, answered, bare_end, cause_of, ends_at, members_at, replies_of}, Groupings.{members_many, same_members}, HandedBack.{answered_is, as_many, back_same, made_seen, same_many, taken_then}}
 use Rattle.iso_shared.specs.declared.entry.Call.TheVariants as call
 use Rattle.iso_shared.specs.declared.entry.Entry.TheVariants as entry
 use Rattle.iso_shared.proofs.shared.Shared.end_works.Goals as goal
@@ -13,14 +13,14 @@ pub returns-in-Ok-clause-ok : goal.returns-in-Ok-clause-ok
 returns-in-Ok-clause-ok g c =
     let ends = c.args.ends.now in
     let last = c.end_at_turn.new.ends in
-    let v = c.args.port.now.pass.me.0 in
+    let v = (view c.args.port.now.pass) in
     let members : members_at last ≡ members_at ends = same_members last ends c.end_at_turn.ensures.members in
     let replies = c.put_replies.new.replies.items in
     let are : replies ≡ replies_of (ends_at last) = c.put_replies.ensures ∙ ap (λ (l : List GroupReply). l ++ replies_of (ends_at last)) c.requires.none in
     let entries : ends_at last ≡ answered (members_at ends) replies = sym (answered_is last) ∙ (λ i. answered (members i) (sym are i)) in
     let (before, now, made) = c.in-Ok.ensures.made in (
       ap (λ (l : List GroupReply). length l) are ∙ as_many last ∙ ap (λ (l : List Member). length l) members ∙ members_many ends,
-      subst (λ (es : List MemberEnd). Made g.O.Origin.start v v (entry.EndGroup es) c.end_at_turn.new.port.pass.me.0) entries made,
+      subst (λ (es : List MemberEnd). Made g.O.Origin.start v v (entry.EndGroup es) (view c.end_at_turn.new.port.pass)) entries made,
     )
 
 pub give_works-requires : goal.give_works-requires
@@ -31,11 +31,11 @@ returns-in-Err-clause-seen g c = let (before, now, made) = c.in-Err.ensures.made
 
 pub returns-in-Err-clause-err : goal.returns-in-Err-clause-err
 returns-in-Err-clause-err g c =
-    let v = c.args.port.now.pass.me.0 in
+    let v = (view c.args.port.now.pass) in
     let (before, now, made) = c.in-Err.ensures.made in (
       before,
       now,
-      subst (λ (ms : List Member). Made g.O.Origin.start v v (entry.Refused (call.EndGroup ms) (cause_of before now c.in-Err.error)) c.end_at_turn.new.port.pass.me.0) (same_members c.end_at_turn.new.ends c.args.ends.now c.end_at_turn.ensures.members) made,
+      subst (λ (ms : List Member). Made g.O.Origin.start v v (entry.Refused (call.EndGroup ms) (cause_of before now c.in-Err.error)) (view c.end_at_turn.new.port.pass)) (same_members c.end_at_turn.new.ends c.args.ends.now c.end_at_turn.ensures.members) made,
     )
 
 pub returns-in-Err-clause-taken : goal.returns-in-Err-clause-taken

@@ -1,4 +1,4 @@
-use Rattle.iso_shared.proofs.{Words.{◌≡◌, List, Entry, refl, sym, subst, arith, IsBack, prefix_self}, HandedBack.is_back}
+use Rattle.iso_shared.proofs.{Words.{view, ◌≡◌, List, Entry, refl, sym, subst, arith, IsBack, prefix_self}, HandedBack.is_back}
 use Rattle.iso_shared.proofs.shared.Shared.leave_places.Goals as goal
 
 pub returns-clause-tx : goal.returns-clause-tx
@@ -9,6 +9,6 @@ returns-clause-tx g c =
     let noted = c.join_member.ensures.tx in
     let u = c.join_member.new.tx in
     let x = c.split_member.new.tx in
-    let seen = c.join_member.new.port.pass.me.0.seen in
+    let seen = (view c.join_member.new.port.pass).seen in
     subst (λ (l : List Entry). IsBack s A l t x) (sym c.split_member.ensures.seen)
     (is_back s A seen seen t u u x (prefix_self seen) noted (record { number = refl; work = refl; checked = refl }) c.split_member.ensures.tx)

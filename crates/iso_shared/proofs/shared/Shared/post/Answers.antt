@@ -1,4 +1,4 @@
-use Rattle.iso_shared.proofs.{Words.{[], ◌∷◌, ◌++◌, ◌≡◌, ℕ, Ok, Err, ◌<◌, ap, refl, rules, subst, sym, ◌∙◌, IsErr, bytes_eq, lookup, prefix_trans, Doing, Entry, Posted, IsAhead, IsOwn, state_at, times, IsOn, StandsAt, post_entry}, Giving.lends, Mades.{ahead_on, both_by, held_same, made_by, one_more, own_on, units_by}, Racked.{free_by, none_by, post_holds, stands_post, stands_unposted, taken_by}}
+use Rattle.iso_shared.proofs.{Words.{clock_of, moments, view, [], ◌∷◌, ◌++◌, ◌≡◌, ℕ, Ok, Err, ◌<◌, ap, refl, rules, subst, sym, ◌∙◌, IsErr, bytes_eq, lookup, prefix_trans, Doing, Entry, Posted, IsAhead, IsOwn, state_at, times, IsOn, StandsAt, post_entry}, Giving.lends, Mades.{ahead_on, both_by, held_same, made_by, one_more, own_on, units_by}, Racked.{free_by, none_by, post_holds, stands_post, stands_unposted, taken_by}}
 
 settled_same : (old new : Doing) → new ≡ old → new ≡ record old { settled = new.settled }
 settled_same old new is = subst (λ (w : Doing). w ≡ record old { settled = w.settled }) (sym is) refl
@@ -6,12 +6,12 @@ settled_same old new is = subst (λ (w : Doing). w ≡ record old { settled = w.
 pub give-requires-clause-value : Rattle.iso_shared.proofs.shared.Shared.post.Goals.give-requires-clause-value
 give-requires-clause-value g c =
     let A = g.O.Origin.start in
-    let es = c.take-turn.new.pass.me.0.seen in
+    let es = (view c.take-turn.new.pass).seen in
     let tx = c.tell_tx.new.tx in
     let p : Posted = record { number = tx.number; work = tx.work } in
     let entry_is : post_entry c.of-name.result.value c.of-item.result.value (Ok tt) ≡ post_entry c.args.label p (Ok tt) = λ i. post_entry (c.of-name.ensures i) (c.of-item.ensures i) (Ok tt) in
     let kept = c.value-guarded.result.now.rack in
-    subst (λ (e : Entry). StandsAt g.D.Disk.state A g.O.Origin.disk c.value-guarded.result.now.core c.post.new.self (es ++ e ∷ [])) (sym entry_is)
+    subst (λ (e : Entry). StandsAt g.D.Disk.state A g.O.Origin.disk c.value-guarded.result.now.core c.post.new.self (es ++ e ∷ []) (moments c.take-turn.new.pass ++ clock_of g.D.Disk.state c.value-guarded.result.now.core ∷ [])) (sym entry_is)
     (stands_post (lends c.value-guarded.ensures.value c.take-turn.ensures.value c.take-turn.ensures.out) _ c.args.label p
     (held_same tx.number _ _ c.take-turn.ensures.same.1 c.tell_tx.ensures.tx.1.held)
     (own_on A _ es tx.number tx.work c.take-turn.ensures.seen c.tell_tx.ensures.tx.1.own)
@@ -27,7 +27,7 @@ give-requires-in-Err-clause-value g c =
     let e = c.in-Err.error in
     let entry_is : post_entry c.of-name.result.value c.of-item.result.value (Err e) ≡ post_entry c.args.label p (Err e) = λ i. post_entry (c.of-name.ensures i) (c.of-item.ensures i) (Err e) in
     let kept = c.value-guarded.result.now.rack in
-    subst (λ (x : Entry). StandsAt d A g.O.Origin.disk c.value-guarded.result.now.core c.post.new.self (c.take-turn.new.pass.me.0.seen ++ x ∷ [])) (sym entry_is)
+    subst (λ (x : Entry). StandsAt d A g.O.Origin.disk c.value-guarded.result.now.core c.post.new.self ((view c.take-turn.new.pass).seen ++ x ∷ []) (moments c.take-turn.new.pass ++ clock_of d c.value-guarded.result.now.core ∷ [])) (sym entry_is)
     (stands_unposted (lends c.value-guarded.ensures.value c.take-turn.ensures.value c.take-turn.ensures.out) _ c.args.label p e
     (held_same tx.number _ _ c.take-turn.ensures.same.1 c.tell_tx.ensures.tx.1.held)
     c.in-Err.ensures.err.0
@@ -37,17 +37,17 @@ give-requires-in-Err-clause-value g c =
 pub returns-in-Ok-clause-ok : Rattle.iso_shared.proofs.shared.Shared.post.Goals.returns-in-Ok-clause-ok
 returns-in-Ok-clause-ok g c =
     let A = g.O.Origin.start in
-    let es = c.take-turn.new.pass.me.0.seen in
+    let es = (view c.take-turn.new.pass).seen in
     let same = c.tell_tx.ensures.same in
     let entry_is : post_entry c.of-name.result.value c.of-item.result.value (Ok tt) ≡ post_entry c.args.label (record { number = c.args.tx.number; work = c.args.tx.work }) (Ok tt) =
     λ i. post_entry (c.of-name.ensures i) ((c.of-item.ensures ∙ (λ j. record { number = same.0.number j; work = same.1 j })) i) (Ok tt) in (
-      both_by A c.args.port.now.pass.me.0 c.tell_tx.new.port.pass.me.0 c.args.tx.pass.me.0 c.take-turn.new.pass.me.0 c.give.new.pass.me.0 c.take_back.new.port.pass.me.0 _
+      both_by A (view c.args.port.now.pass) (view c.tell_tx.new.port.pass) (view c.args.tx.pass) (view c.take-turn.new.pass) (view c.give.new.pass) (view c.take_back.new.port.pass) _
           c.tell_tx.ensures.port.1
           (prefix_trans _ _ _ c.tell_tx.ensures.told c.take-turn.ensures.seen)
           (prefix_trans _ _ _ c.tell_tx.ensures.begins c.take-turn.ensures.seen)
           (c.take-turn.ensures.same.0 ∙ same.2.0)
           (c.give.ensures.seen ∙ ap (λ (e : Entry). es ++ e ∷ []) entry_is) c.give.ensures.mine c.give.ensures.legal c.take_back.ensures.seen c.take_back.ensures.places,
-      units_by c.tell_tx.new.port.pass.me.0 c.args.port.now.pass.me.0 c.args.tx.pass.me.0 c.give.new.pass.me.0 c.take_back.new.port.pass.me.0 c.tell_tx.ensures.port.1 (c.give.ensures.units ∙ c.take-turn.ensures.same.2 ∙ same.2.2) c.take_back.ensures.units,
+      units_by (view c.tell_tx.new.port.pass) (view c.args.port.now.pass) (view c.args.tx.pass) (view c.give.new.pass) (view c.take_back.new.port.pass) c.tell_tx.ensures.port.1 (c.give.ensures.units ∙ c.take-turn.ensures.same.2 ∙ same.2.2) c.take_back.ensures.units,
     )
 
 pub returns-in-Err-clause-err : Rattle.iso_shared.proofs.shared.Shared.post.Goals.returns-in-Err-clause-err
@@ -59,10 +59,10 @@ returns-in-Err-clause-err g c =
     let number = ap (λ (v : Posted). v.number) back in
     let work = ap (λ (v : Posted). v.work) back in
     let e = c.in-Err.error in
-    let w = c.give-in-Err.new.pass.me.0 in
+    let w = (view c.give-in-Err.new.pass) in
     let entry_is : post_entry c.of-name.result.value c.of-item.result.value (Err e) ≡ post_entry c.args.label (record { number = c.args.tx.number; work = c.args.tx.work }) (Err e) =
     λ i. post_entry (c.of-name.ensures i) ((c.of-item.ensures ∙ (λ j. record { number = same.0.number j; work = same.1 j })) i) (Err e) in
-    let begins = one_more tx.pass.me.0 c.take-turn.new.pass.me.0 w _ c.take-turn.ensures.seen c.give-in-Err.ensures.seen in
+    let begins = one_more (view tx.pass) (view c.take-turn.new.pass) w _ c.take-turn.ensures.seen c.give-in-Err.ensures.seen in
     let held = held_same tx.number _ _ (c.give-in-Err.ensures.holds ∙ post_holds c.of-name.result.value c.of-item.result.value e _ ∙ c.take-turn.ensures.same.1) c.tell_tx.ensures.tx.1.held in
     let own = own_on A _ w.seen tx.number tx.work begins c.tell_tx.ensures.tx.1.own in
     let ahead = ahead_on A _ w.seen tx.work tx.checked begins c.tell_tx.ensures.tx.1.ahead in (
@@ -82,9 +82,9 @@ returns-in-Err-clause-err g c =
       },
       c.give-in-Err.ensures.units ∙ c.take-turn.ensures.same.2 ∙ same.2.2,
       c.tell_tx.ensures.port.1,
-      made_by A c.args.port.now.pass.me.0 c.args.tx.pass.me.0 c.take-turn.new.pass.me.0 w _
+      made_by A (view c.args.port.now.pass) (view c.args.tx.pass) (view c.take-turn.new.pass) w _
           (prefix_trans _ _ _ c.tell_tx.ensures.told c.take-turn.ensures.seen)
           (prefix_trans _ _ _ c.tell_tx.ensures.begins c.take-turn.ensures.seen)
           (c.take-turn.ensures.same.0 ∙ same.2.0)
-          (c.give-in-Err.ensures.seen ∙ ap (λ (x : Entry). c.take-turn.new.pass.me.0.seen ++ x ∷ []) entry_is) c.give-in-Err.ensures.mine c.give-in-Err.ensures.legal,
+          (c.give-in-Err.ensures.seen ∙ ap (λ (x : Entry). (view c.take-turn.new.pass).seen ++ x ∷ []) entry_is) c.give-in-Err.ensures.mine c.give-in-Err.ensures.legal,
     )

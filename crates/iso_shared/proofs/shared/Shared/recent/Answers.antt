@@ -1,4 +1,4 @@
-use Rattle.iso_shared.proofs.{Words.{arith, inl, [], ◌∷◌, ◌++◌, ◌≡◌, ap, refl, rules, subst, sym, ◌∙◌, IsRecent, State, faults_of, state_at, tx_of, recent_entry}, Begins.{Recounts, did_recent, if_ok_by, is_recent, recent_state}, Cores.is_tx, Giving.{AtTurn, Lends, asked, at_turn, entry_may, lends, recent_holds, stands_answer}, Mades.{held_same, made_by, one_more, tx_on}, shared.Shared.recent.Goals.After-recent-result}
+use Rattle.iso_shared.proofs.{Words.{moments, view, arith, inl, [], ◌∷◌, ◌++◌, ◌≡◌, ap, refl, rules, subst, sym, ◌∙◌, IsRecent, State, faults_of, state_at, tx_of, recent_entry}, Begins.{Recounts, did_recent, if_ok_by, is_recent, recent_state}, Cores.is_tx, Giving.{AtTurn, Lends, asked, at_turn, entry_may, lends, recent_holds, stands_answer}, Mades.{held_same, made_by, one_more, tx_on}, shared.Shared.recent.Goals.After-recent-result}
 use Rattle.iso_shared.specs.declared.entry.Call.TheVariants as call
 use Rattle.iso_shared.specs.declared.entry.Entry.TheVariants as entry
 use Rattle.iso_shared.proofs.shared.Shared.recent.Goals as goal
@@ -13,12 +13,12 @@ recent-result-requires g c =
 -- what the core's call says of what the turn lent
 module _ (g : Rattle.iso_shared.proofs.shared.Shared.recent.Given.Over) (c : After-recent-result g) where
   abbrev S : State
-  S = state_at g.O.Origin.start c.take-turn.new.pass.me.0.seen
+  S = state_at g.O.Origin.start (view c.take-turn.new.pass).seen
 
-  l : Lends g.D.Disk.state g.O.Origin.start g.O.Origin.disk c.value-guarded.result.now.core c.value-guarded.result.now.rack c.take-turn.new.pass.me.0.seen c.take-turn.new.pass.me.0.holds
+  l : Lends g.D.Disk.state g.O.Origin.start g.O.Origin.disk c.value-guarded.result.now.core c.value-guarded.result.now.rack (view c.take-turn.new.pass).seen (moments c.take-turn.new.pass) (view c.take-turn.new.pass).holds
   l = lends c.value-guarded.ensures.value c.take-turn.ensures.value c.take-turn.ensures.out
 
-  t : AtTurn g.O.Origin.start c.take-turn.new.pass.me.0.seen c.args.tx.now.number c.args.tx.now.work c.args.tx.now.checked
+  t : AtTurn g.O.Origin.start (view c.take-turn.new.pass).seen c.args.tx.now.number c.args.tx.now.work c.args.tx.now.checked
   t = at_turn l c.args.tx.now c.requires.tx.1 c.take-turn.ensures.seen c.take-turn.ensures.same.1
 
   so : Recounts g.D.Disk.state S c.value-guarded.result.now.core c.args.tx.now.number c.args.tx.now.checked.upto c.recent-result.result
@@ -42,14 +42,14 @@ give-requires-clause-held g c = grind (arith, held_same, entry_may)
 
 pub returns-clause-tx : goal.returns-clause-tx
 returns-clause-tx g c =
-    let begins = one_more c.args.tx.now.pass.me.0 c.take-turn.new.pass.me.0 c.give.new.pass.me.0 _ c.take-turn.ensures.seen c.give.ensures.seen in
+    let begins = one_more (view c.args.tx.now.pass) (view c.take-turn.new.pass) (view c.give.new.pass) _ c.take-turn.ensures.seen c.give.ensures.seen in
     (search rules, tx_on c.args.tx.now c.give.new.pass begins (c.give.ensures.holds ∙ recent_holds _ _ _ c.recent-result.result _ ∙ c.take-turn.ensures.same.1) c.requires.tx.1)
 
 pub returns-clause-made : goal.returns-clause-made
 returns-clause-made g c = (
   faults_of g.D.Disk.state c.of-before.result.value,
   faults_of g.D.Disk.state c.value-guarded.result.now.core,
-  made_by g.O.Origin.start c.args.tx.now.pass.me.0 c.args.tx.now.pass.me.0 c.take-turn.new.pass.me.0 c.give.new.pass.me.0 _ c.take-turn.ensures.seen c.take-turn.ensures.seen c.take-turn.ensures.same.0 c.give.ensures.seen c.give.ensures.mine c.give.ensures.legal,
+  made_by g.O.Origin.start (view c.args.tx.now.pass) (view c.args.tx.now.pass) (view c.take-turn.new.pass) (view c.give.new.pass) _ c.take-turn.ensures.seen c.take-turn.ensures.seen c.take-turn.ensures.same.0 c.give.ensures.seen c.give.ensures.mine c.give.ensures.legal,
 )
 
 pub returns-clause-recent : goal.returns-clause-recent
@@ -58,10 +58,10 @@ returns-clause-recent g c =
     let d = g.D.Disk.state in
     let A = g.O.Origin.start in
     let n = c.args.tx.now.number in
-    let es = c.take-turn.new.pass.me.0.seen in
+    let es = (view c.take-turn.new.pass).seen in
     let lent = c.value-guarded.result.now.core in
     let checked = c.args.tx.now.checked in
     if_ok_by _ c.recent-result.result (λ x is.
-    let seen : c.give.new.pass.me.0.seen ≡ es ++ entry.Recent n x.upto ∷ [] = c.give.ensures.seen ∙ ap (λ r. es ++ recent_entry (faults_of d c.of-before.result.value) (faults_of d lent) n r ∷ []) is in
+    let seen : (view c.give.new.pass).seen ≡ es ++ entry.Recent n x.upto ∷ [] = c.give.ensures.seen ∙ ap (λ r. es ++ recent_entry (faults_of d c.of-before.result.value) (faults_of d lent) n r ∷ []) is in
     subst (λ T. IsRecent T checked x) (sym (ap (state_at A) seen ∙ recent_state A es n x.upto))
     (is_recent d (S g s) lent n checked.upto c.recent-result.result x checked (l g s).at.core (so g s) is refl (t g s).ahead.to (t g s).ahead.first))

@@ -1,4 +1,4 @@
-use Rattle.iso_shared.proofs.{Words.{◌≡◌, ◌<◌, ◌≤◌, ℕ, true, ap, arith, refl, subst, sym, ◌∙◌, up_to, dropped_after, AreTouched, Read, Write, clash, History, Doing, state_at}, Begins.{some_size, up_to_twice}, Ends.{ahead_same, on_same, own_same}}
+use Rattle.iso_shared.proofs.{Words.{view, ◌≡◌, ◌<◌, ◌≤◌, ℕ, true, ap, arith, refl, subst, sym, ◌∙◌, up_to, dropped_after, AreTouched, Read, Write, clash, History, Doing, state_at}, Begins.{some_size, up_to_twice}, Ends.{ahead_same, on_same, own_same}}
 
 settled_so : (old new : Doing) → new ≡ record old { settled = true } → new ≡ record old { settled = new.settled }
 settled_so old new is = subst (λ (w : Doing). w ≡ record old { settled = w.settled }) (sym is) refl
@@ -6,7 +6,7 @@ settled_so old new is = subst (λ (w : Doing). w ≡ record old { settled = w.se
 pub returns-clause-tx : Rattle.iso_shared.proofs.tx.Tx.check.Goals.returns-clause-tx
 returns-clause-tx g c =
     let A = g.O.Origin.start in
-    let S = state_at A c.args.self.now.pass.me.0.seen in
+    let S = state_at A (view c.args.self.now.pass).seen in
     let H = S.world.history in
     let old = c.args.self.now.work in
     let work = c.settle.new.self in
