@@ -47,7 +47,7 @@ found_is texts W = found_same texts W W.live (whole W.live)
 
 -- WHO STAYS
 -- the transactions without any of these
-abbrev out : List Live → List Live → List Live
+abbrev pub out : List Live → List Live → List Live
 out [] live = live
 out (t ∷ members) live = out members (without t.number live)
 
@@ -115,12 +115,12 @@ decided_geometry : (members : List Live) (W : World) → (decided W members).1.g
 decided_geometry [] W = refl
 decided_geometry (t ∷ members) W = decided_geometry members (ahead W (made_by t (member_reply (end_step W t).0)))
 
-group_live : (V : World) (members : List Live) → (group V members).1.live ≡ out members V.live
+pub group_live : (V : World) (members : List Live) → (group V members).1.live ≡ out members V.live
 group_live V members =
     ap (λ (x : List GroupReply × World). x.1.live) (group_is V members) ∙ left_all_live members (decided V members).1
     ∙ ap (out members) (ap (λ (x : List GroupReply × World). x.1.live) (decided_live V V.live members))
 
-group_geometry : (V : World) (members : List Live) → (group V members).1.geometry ≡ V.geometry
+pub group_geometry : (V : World) (members : List Live) → (group V members).1.geometry ≡ V.geometry
 group_geometry V members =
     ap (λ (x : List GroupReply × World). x.1.geometry) (group_is V members) ∙ left_all_geometry members (decided V members).1 ∙ decided_geometry members V
 
@@ -181,11 +181,11 @@ found_all P (text ∷ texts) live all = go (λ l each. found_all P texts l each)
         (all_find P (λ u. is_under_label text u.place) live t all found, later (without t.number live) (all_filter P (λ u. not (u.number == t.number)) live all))
 
 -- no two have one number
-abbrev AreOther : List Live → Type 0
+abbrev pub AreOther : List Live → Type 0
 AreOther [] = Unit {0}
 AreOther (t ∷ members) = AllByRecursion (λ (u : Live). u.number ≢ t.number) members × AreOther members
 
-without_all : (n : ℕ) (live : List Live) → AllByRecursion (λ (u : Live). u.number ≢ n) (without n live)
+pub without_all : (n : ℕ) (live : List Live) → AllByRecursion (λ (u : Live). u.number ≢ n) (without n live)
 without_all n [] = tt
 without_all n (u ∷ live) =
     elim (cases_eq u.number n) [
@@ -201,7 +201,7 @@ found_other (text ∷ texts) live = go (λ l. found_other texts l) (under text l
     go later None = later live
     go later (Some t) = (found_all (λ u. u.number ≢ t.number) texts (without t.number live) (without_all t.number live), later (without t.number live))
 
-all_among : (live : List Live) → AllByRecursion (λ t. IsAmong t live) live
+pub all_among : (live : List Live) → AllByRecursion (λ t. IsAmong t live) live
 all_among [] = tt
 all_among (t ∷ live) = (inl refl, all_weaker (λ u. IsAmong u live) (λ u. IsAmong u (t ∷ live)) (λ u there. inr there) live (all_among live))
 

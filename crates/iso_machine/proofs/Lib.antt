@@ -2,6 +2,7 @@ pub mod Words
 pub mod Lists
 pub mod Besides
 pub mod Accesses
+pub mod Asked
 pub mod Quiet
 pub mod Machines
 pub mod Refusals

@@ -7,7 +7,7 @@ two_at t (a ∷ live) zero d all inside = all.0
 two_at t (a ∷ live) (suc i) d all inside = two_at t live i d all.1 (omega (arith, inside))
 
 -- transactions of other numbers stay
-with_others : (t u : Live) (live : List Live) → AllByRecursion (AreTwo t) live → u.number ≡ t.number → with u live ≡ live
+pub with_others : (t u : Live) (live : List Live) → AllByRecursion (AreTwo t) live → u.number ≡ t.number → with u live ≡ live
 with_others t u [] all same = refl
 with_others t u (v ∷ live) all same =
     rw (ne_eqb v.number u.number (λ e. all.0.numbers (sym same ∙ sym e))) (ap (λ (l : List Live). v ∷ l) (with_others t u live all.1 same))

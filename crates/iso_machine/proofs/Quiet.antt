@@ -43,7 +43,7 @@ pub answers_by : {goes_on : Stop → Type 0} {stands : World → Type 0} {old ne
 answers_by {goes_on = goes_on} {stands = stands} {old = old} {new = new} {W = W} {given = given} is answer = subst (Answers goes_on stands old new W given) (sym is) answer
 
 module _ {goes_on : Stop → Type 0} {stands : World → Type 0} {d : DiskState} (laws : IsLawful d) {W : World} (here : (c : List ℕ) → d.now c → Shows c W.geometry W.history (last W.history)) where
-  quiet : {given : Reply × World} {r : Reply} {V : World} → given ≡ (r, V) → stands V → Answers goes_on stands d d W given (Ok r)
+  pub quiet : {given : Reply × World} {r : Reply} {V : World} → given ≡ (r, V) → stands V → Answers goes_on stands d d W given (Ok r)
   quiet {r = r} is stands_for = answers_as (sym is) (record {
     reply = λ told. refl;
     but_shown = same_but_shown r r refl;
@@ -56,7 +56,7 @@ module _ {goes_on : Stop → Type 0} {stands : World → Type 0} {d : DiskState}
     stopped = tt;
   })
 
-  quiet_memory : {given : Reply × World} → (goes_on stop.Memory → stands W) → Answers goes_on stands d d W given (Err stop.Memory)
+  pub quiet_memory : {given : Reply × World} → (goes_on stop.Memory → stands W) → Answers goes_on stands d d W given (Err stop.Memory)
   quiet_memory still =
       no_reply (started laws (λ c image. inl (here c image))) (λ e. started laws here) (λ e. absurd (cc e)) (record { later = omega arith; failed = λ e. absurd (cc e); passed = tt; memory = λ e. refl }) still
 

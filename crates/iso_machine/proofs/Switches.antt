@@ -27,12 +27,12 @@ keeps_worn : (W : World) (test : Bool) (form : ℕ) (answer : CoreReply) → (Is
 keeps_worn W true form answer none = λ refusal. refl
 keeps_worn W false form answer none = λ refusal. absurd (none refusal)
 
-keeps_switch : (W : World) (form : ℕ) (answer : CoreReply) → (IsRefusal answer → ⊥) → KeepsRefused W (switch_step W form answer)
+pub keeps_switch : (W : World) (form : ℕ) (answer : CoreReply) → (IsRefusal answer → ⊥) → KeepsRefused W (switch_step W form answer)
 unfolding switch_step
 keeps_switch W form answer none = keeps_worn W (W.generation == LAST) form answer none
 
 -- an error that stands for a reply is no fault of the disk and no want of memory
-worn_still : {D : Type 0} (old new : D) (e : CoreError) → (e ≢ error.Disk → e ≢ error.Memory → new ≡ old) → IsSome (refusal_of e) → new ≡ old
+pub worn_still : {D : Type 0} (old new : D) (e : CoreError) → (e ≢ error.Disk → e ≢ error.Memory → new ≡ old) → IsSome (refusal_of e) → new ≡ old
 worn_still old new error.Down still some = absurd cc
 worn_still old new error.TooManyTx still some = still (λ e. cc e) (λ e. cc e)
 worn_still old new (error.LogFull need free) still some = still (λ e. cc e) (λ e. cc e)

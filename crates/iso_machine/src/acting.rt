@@ -26,7 +26,7 @@ fn or_stop(given: Result<Reply, Memory>) -> Result<Reply, Stop>
 }
 
 /// An access or a mark of a transaction; any other operation is refused.
-pub(crate) fn act<D: Disk>(
+pub fn act<D: Disk>(
     alloc: Global,
     core: &mut Core<D>,
     tx: u64,

@@ -13,7 +13,7 @@ use std::alloc::Global;
 use tx_table::Work;
 
 /// Memory for the work of one more transaction in blocks of this size: that of one that has left, where there is some.
-fn take_work(
+pub fn take_work(
     alloc: Global,
     spare: &mut Vec<Box<Work>>,
     geometry: &Geometry,

@@ -17,7 +17,7 @@ use step_count::Steps;
 use tx_table::Work;
 
 /// Ends a transaction of a core, of which nothing was checked ahead.
-fn end_whole<L: Ledger, D: Disk>(
+pub fn end_whole<L: Ledger, D: Disk>(
     blank: Blank,
     core: &mut Core<D>,
     tx: u64,
@@ -62,7 +62,7 @@ fn ended(reply: EndReply) -> Reply
 const MOST_SPARE: usize = MAX_GROUP;
 
 /// Keeps the memory of a transaction that has left for a later one, unless there is enough.
-pub(crate) fn keep_spare(spare: &mut Vec<Box<Work>>, work: Box<Work>) {
+pub fn keep_spare(spare: &mut Vec<Box<Work>>, work: Box<Work>) {
     if spare.len() < MOST_SPARE {
         // Without memory for the list it is let go.
         let _ = spare.push(work);

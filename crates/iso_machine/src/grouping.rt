@@ -37,7 +37,7 @@ fn nothing_taken(alloc: Global, labels: usize) -> Taken
 }
 
 /// Makes places for `count` members.
-fn make_places(
+pub fn make_places(
     alloc: Global,
     ends: &mut Vec<GroupEnd>,
     count: usize,
@@ -126,7 +126,7 @@ fn take_members(
 }
 
 /// Puts the members' replies in the place of the answers that stand for them.
-fn fill_answers(answers: &mut [Option<GroupReply>], ends: &[GroupEnd])
+pub fn fill_answers(answers: &mut [Option<GroupReply>], ends: &[GroupEnd])
     ensures { answers.new ≡ filled answers.old (map reply_in ends.now) }
 {
     let Some((answer, others)) = answers.split_first_mut() else {

@@ -17,4 +17,9 @@ mod reading;
 mod storing;
 mod switching;
 
+pub use acting::act;
+pub use begin::take_work;
+pub use ending::{end_whole, keep_spare};
+pub use grouping::{fill_answers, make_places};
 pub use machine::Machine;
+pub use storing::store;

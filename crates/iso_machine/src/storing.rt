@@ -93,7 +93,7 @@ fn call_on<D: Disk>(
 }
 
 /// An operation on a store by a transaction.
-pub(crate) fn store<D: Disk>(
+pub fn store<D: Disk>(
     alloc: Global,
     core: &mut Core<D>,
     tx: u64,

@@ -1,26 +1,6 @@
-use Rattle.iso_machine.proofs.{Words.{◌≡◌, ◌∙◌, ◌⊎◌, inl, inr, sym, refl, ap, subst, ℕ, List, Ok, Op, Reply, hash_delete_step, hash_get_step, hash_put_step, in_transaction, numbers, step, store_step, tree_put_step, tree_get_step, tree_delete_step, tree_scan_step, file_new_step, file_write_step, file_read_step, file_move_step, file_delete_step, World, attached, IsOp, disk_of, act_step, Always, GoesOn, store_act, IsPlain}, Quiet.{answers_as, stays_with}, Told.{never_plain, told_as, told_so}}
+use Rattle.iso_machine.proofs.{Words.{◌≡◌, ◌∙◌, ◌⊎◌, inl, inr, sym, refl, ap, subst, ℕ, List, Ok, Op, Reply, step, World, IsOp, disk_of, Always, GoesOn}, Asked.{access_is, same_compact, same_trim, same_upgrade, stat_is, store_so}, Quiet.{answers_as, stays_with}, Told.{never_plain, told_as, told_so}}
 use Rattle.script_model.specs.declared.script.Op.TheVariants as op
 use Rattle.iso_machine.proofs.machine.Machine.answer.Goals as goal
-
-trim_is : (W : World) (c : ℕ) → step W 1 op.Trim ≡ step W c op.Trim
-unfolding step
-trim_is W c = refl
-
-stat_is : (W : World) (c : ℕ) → step W c op.Stat ≡ (numbers W, W)
-unfolding step
-stat_is W c = refl
-
--- an access or a mark
-access_is : (W : World) (c : ℕ) (o : Op) → ((b : ℕ) × (f : ℕ) × (x : List ℕ) × (o ≡ op.Put b f x)) ⊎ ((b : ℕ) × (o ≡ op.Read b)) ⊎ ((b : ℕ) × (f : ℕ) × (n : ℕ) × (o ≡ op.Get b f n))
-    ⊎ ((b : ℕ) × (x : List ℕ) × (o ≡ op.Write b x)) ⊎ ((b : ℕ) × (x : List ℕ) × (o ≡ op.Fill b x)) ⊎ ((f : ℕ) × (n : ℕ) × (o ≡ op.Mark f n))
-    → in_transaction W (attached W c) (λ t. act_step W t o) ≡ step W c o
-unfolding step
-access_is W c o (inl (b, f, x, is)) = rw is refl
-access_is W c o (inr (inl (b, is))) = rw is refl
-access_is W c o (inr (inr (inl (b, f, n, is)))) = rw is refl
-access_is W c o (inr (inr (inr (inl (b, x, is))))) = rw is refl
-access_is W c o (inr (inr (inr (inr (inl (b, x, is)))))) = rw is refl
-access_is W c o (inr (inr (inr (inr (inr (f, n, is)))))) = rw is refl
 
 pub returns-in-Put : goal.returns-in-Put
 returns-in-Put g c W of isop =
@@ -28,7 +8,7 @@ returns-in-Put g c W of isop =
 
 pub returns-in-Trim : goal.returns-in-Trim
 returns-in-Trim g c W of isop =
-    told_so c.trim.result (λ why may. tt) (answers_as (trim_is W c.args.client ∙ sym (ap (λ (o : Op). step W c.args.client o) c.in-Trim.is)) (c.trim.ensures W of))
+    told_so c.trim.result (λ why may. tt) (answers_as (same_trim W 1 c.args.client ∙ sym (ap (λ (o : Op). step W c.args.client o) c.in-Trim.is)) (c.trim.ensures W of))
 
 pub returns-in-Stat : goal.returns-in-Stat
 returns-in-Stat g c W of isop =
@@ -36,21 +16,13 @@ returns-in-Stat g c W of isop =
     (stays_with (g.met.D.Disk.lawful (disk_of c.args.self.now.core)) of refl
     (ap (λ (o : Op). step W c.args.client o) c.in-Stat.is ∙ stat_is W c.args.client ∙ ap (λ (r : Reply). (r, W)) (sym (c.stat.ensures W of))) of)
 
-compact_is : (W : World) (c : ℕ) → step W 1 op.Compact ≡ step W c op.Compact
-unfolding step
-compact_is W c = refl
-
-upgrade_is : (W : World) (c : ℕ) → step W 1 op.Upgrade ≡ step W c op.Upgrade
-unfolding step
-upgrade_is W c = refl
-
 pub returns-in-Compact : goal.returns-in-Compact
 returns-in-Compact g c W of isop =
-    told_so c.compact.result (λ why may. subst (λ (o : Op). GoesOn o why) c.in-Compact.is may) (answers_as (compact_is W c.args.client ∙ sym (ap (λ (o : Op). step W c.args.client o) c.in-Compact.is)) (c.compact.ensures W of))
+    told_so c.compact.result (λ why may. subst (λ (o : Op). GoesOn o why) c.in-Compact.is may) (answers_as (same_compact W 1 c.args.client ∙ sym (ap (λ (o : Op). step W c.args.client o) c.in-Compact.is)) (c.compact.ensures W of))
 
 pub returns-in-Upgrade : goal.returns-in-Upgrade
 returns-in-Upgrade g c W of isop =
-    told_so c.upgrade.result (λ why may. subst (λ (o : Op). GoesOn o why) c.in-Upgrade.is may) (answers_as (upgrade_is W c.args.client ∙ sym (ap (λ (o : Op). step W c.args.client o) c.in-Upgrade.is)) (c.upgrade.ensures W of))
+    told_so c.upgrade.result (λ why may. subst (λ (o : Op). GoesOn o why) c.in-Upgrade.is may) (answers_as (same_upgrade W 1 c.args.client ∙ sym (ap (λ (o : Op). step W c.args.client o) c.in-Upgrade.is)) (c.upgrade.ensures W of))
 
 await_is : (W : World) (c : ℕ) (text : List ℕ) → step W c (op.Takeover text) ≡ step W c (op.Await text)
 unfolding step
@@ -79,30 +51,6 @@ returns-in-Begin g c W of isop =
 pub returns-in-Release : goal.returns-in-Release
 returns-in-Release g c W of isop =
     told_so c.release.result (λ why may. tt) (answers_as (sym (ap (λ (o : Op). step W c.args.client o) c.in-Release.is)) (c.release.ensures W of (subst IsOp c.in-Release.is isop)))
-
--- an operation on a store
-abbrev IsStoreOp : Op → Type 0
-IsStoreOp o =
-    ((k : List ℕ) × (v : List ℕ) × (o ≡ op.HashPut k v)) ⊎ ((k : List ℕ) × (o ≡ op.HashGet k)) ⊎ ((k : List ℕ) × (o ≡ op.HashDelete k))
-    ⊎ ((k : List ℕ) × (v : List ℕ) × (o ≡ op.TreePut k v)) ⊎ ((k : List ℕ) × (o ≡ op.TreeGet k)) ⊎ ((k : List ℕ) × (o ≡ op.TreeDelete k))
-    ⊎ ((f : List ℕ) × (u : List ℕ) × (m : ℕ) × (o ≡ op.TreeScan f u m))
-    ⊎ ((n : List ℕ) × (o ≡ op.FileNew n)) ⊎ ((n : List ℕ) × (f : ℕ) × (x : List ℕ) × (o ≡ op.FileWrite n f x)) ⊎ ((n : List ℕ) × (f : ℕ) × (l : ℕ) × (o ≡ op.FileRead n f l))
-    ⊎ ((f : List ℕ) × (u : List ℕ) × (o ≡ op.FileMove f u)) ⊎ ((n : List ℕ) × (o ≡ op.FileDelete n))
-
-store_so : (W : World) (c : ℕ) (o : Op) → IsStoreOp o → (in_transaction W (attached W c) (λ t. store_act W t o) ≡ step W c o) × (IsPlain o → ⊥)
-unfolding step hash_put_step hash_get_step hash_delete_step tree_put_step tree_get_step tree_delete_step tree_scan_step file_new_step file_write_step file_read_step file_move_step file_delete_step store_step
-store_so W c o (inl (k, v, is)) = rw is (refl, λ plain. plain)
-store_so W c o (inr (inl (k, is))) = rw is (refl, λ plain. plain)
-store_so W c o (inr (inr (inl (k, is)))) = rw is (refl, λ plain. plain)
-store_so W c o (inr (inr (inr (inl (k, v, is))))) = rw is (refl, λ plain. plain)
-store_so W c o (inr (inr (inr (inr (inl (k, is)))))) = rw is (refl, λ plain. plain)
-store_so W c o (inr (inr (inr (inr (inr (inl (k, is))))))) = rw is (refl, λ plain. plain)
-store_so W c o (inr (inr (inr (inr (inr (inr (inl (f, u, m, is)))))))) = rw is (refl, λ plain. plain)
-store_so W c o (inr (inr (inr (inr (inr (inr (inr (inl (n, is))))))))) = rw is (refl, λ plain. plain)
-store_so W c o (inr (inr (inr (inr (inr (inr (inr (inr (inl (n, f, x, is)))))))))) = rw is (refl, λ plain. plain)
-store_so W c o (inr (inr (inr (inr (inr (inr (inr (inr (inr (inl (n, f, l, is))))))))))) = rw is (refl, λ plain. plain)
-store_so W c o (inr (inr (inr (inr (inr (inr (inr (inr (inr (inr (inl (f, u, is)))))))))))) = rw is (refl, λ plain. plain)
-store_so W c o (inr (inr (inr (inr (inr (inr (inr (inr (inr (inr (inr (n, is)))))))))))) = rw is (refl, λ plain. plain)
 
 pub returns-in-HashPut : goal.returns-in-HashPut
 returns-in-HashPut g c W of isop =
