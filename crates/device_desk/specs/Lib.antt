@@ -1,0 +1,5 @@
+pub mod Seats
+pub mod Device
+pub mod Opened
+pub mod Status
+pub mod Numbers

@@ -1,0 +1,47 @@
+// Accesses of a transaction, and its calls of the stores.
+ghost use Rattle.iso_model.specs.World.{World, attached};
+ghost use Rattle.script_model.specs.{Operations.IsOp, Step.in_transaction};
+
+use crate::table::Table;
+use iso_disk::Disk;
+use iso_machine::{act, store};
+use script_model::{Op, Reply, Stop};
+
+impl<D: Disk> Table<D> {
+    ghost use Rattle.iso_core.specs.Core.{disk_of};
+    ghost use Rattle.iso_machine.specs.{Accessing.act_step, Answering.{Always, Answers, AnswersTold}, Storing.store_act};
+    ghost use Rattle.device_desk.specs.Seats.{IsTableOf};
+
+    /// An access or a mark of the transaction of this number.
+    pub(crate) fn access(&mut self, number: u64, op: &Op) -> Result<Reply, Stop>
+        requires { (W : World) × IsTableOf D.state self.old W }
+        ensures { (W : World) → IsTableOf D.state self.old W → IsOp op.now
+            → Answers Always (IsTableOf D.state self.new) (D.state (disk_of self.old.core)) (D.state (disk_of self.new.core)) W (in_transaction W (attached W number) (λ t. act_step W t op.now)) result }
+    {
+        let Some(i) = self.place_at(number) else {
+            return Ok(Reply::NotInTx);
+        };
+        let seat = &mut self.live[i];
+        act(
+            self.alloc,
+            &mut self.core,
+            seat.tx,
+            &mut *seat.work,
+            &mut self.buffer,
+            op,
+        )
+    }
+
+    /// An operation on a store by the transaction of this number.
+    pub(crate) fn stored(&mut self, number: u64, op: &Op) -> Result<Reply, Stop>
+        requires { (W : World) × IsTableOf D.state self.old W }
+        ensures { (W : World) → IsTableOf D.state self.old W
+            → AnswersTold Always (IsTableOf D.state self.new) (D.state (disk_of self.old.core)) (D.state (disk_of self.new.core)) W (in_transaction W (attached W number) (λ t. store_act W t op.now)) ⊥ result }
+    {
+        let Some(i) = self.place_at(number) else {
+            return Ok(Reply::NotInTx);
+        };
+        let seat = &mut self.live[i];
+        store(self.alloc, &mut self.core, seat.tx, &mut *seat.work, op)
+    }
+}

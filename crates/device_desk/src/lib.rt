@@ -1,0 +1,28 @@
+//! An open image whose transactions go by numbers, for callers of whom nothing is required: one call at a time, on one thread.
+//!
+//! While a desk is up each call is the model's step for the client of that number (`did`). A fault of the disk in an end or in upkeep,
+//! and each stop of a group, takes it down: it says so, and stays (`down`). `tape`, `hand_on` and `fail` are for whoever does its
+//! disk's calls to a file.
+#![tactic(auto)]
+
+mod access;
+mod asking;
+mod begin;
+mod calls;
+mod copies;
+mod desk;
+mod end;
+mod files;
+mod group;
+mod image;
+mod seat;
+mod status;
+mod stores;
+mod switch;
+mod table;
+mod taped;
+
+pub use desk::Desk;
+pub use image::{create, open};
+pub use status::{Status, status_of};
+pub use taped::{fail, hand_on, tape};
