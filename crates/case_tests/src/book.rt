@@ -140,9 +140,7 @@ impl Book {
             return self.stands_by_a_call();
         }
         self.settle(rt)?;
-        if self.begins(number, line, word, rest)?
-            || self.is_of_image(number, side, word, rest)?
-        {
+        if self.begins(number, line, word, rest)? || self.is_of_image(number, side, word, rest)? {
             return Ok(());
         }
         Err(Trouble::Said("no line of a case begins so"))
@@ -338,7 +336,8 @@ impl Book {
         if is_right {
             return Ok(());
         }
-        self.telling.tell(number, "the image that is left is not so")
+        self.telling
+            .tell(number, "the image that is left is not so")
     }
 
     /// Lays the rows that were read into the script to which they belong.
