@@ -27,6 +27,11 @@ three = puts ((97, 49) ∷ (98, 50) ∷ (99, 51) ∷ []) (zeros 256 4)
 abbrev four : Array
 four = puts ((100, 52) ∷ []) three
 
+-- the bucket of a key is its digest's first eight bytes, the high one first, modulo the number of buckets, which here is seven
+a_key_has_its_bucket : bucket_of (record { start = 0; blocks = 16; size = 256 }) (97 ∷ []) ≡ 4
+unfolding bucket_of sha256 digest_bytes hash_after compress rounds schedule first_words
+a_key_has_its_bucket = refl
+
 -- a new key: the head and the keys are read, and the key and its value are written
 a_new_key : shape (accesses_of (put_program area (97 ∷ []) (49 ∷ [])) (zeros 256 4)) ≡ (Read, 1, span 0 157 ∷ []) ∷ (Write, 1, span 64 31 ∷ span 157 33 ∷ []) ∷ []
 unfolding put_program walk bucket_of is_linked sha256 digest_bytes hash_after compress rounds schedule first_words put
