@@ -1,3 +1,10 @@
+pub mod SumWords
+pub mod Sums
+pub mod KeepingSums
+pub mod SoundWorlds
+pub mod Splits
+pub mod Walks
+pub mod Images
 pub mod Words
 pub mod Adding
 pub mod Committing

@@ -1,11 +1,11 @@
 -- What is promised of accounts on a device, from its first entry to its last.
 use Rattle.std.specs.Prelude.{◌≡◌, true, List}
-use Rattle.account_laws.specs.{Lists.{KeepsSumAt, KeepsSumIn, OpensWithSum}, Sums.Accounts}
+use Rattle.accounts.specs.{Lists.{KeepsSumAt, KeepsSumIn, OpensWithSum}, Sums.Accounts}
 use Rattle.iso_core.specs.{declared.core_itself.Core.Core, Core.disk_of}
 use Rattle.iso_disk.specs.Disk.{DiskState, LeavesOnly}
 use Rattle.iso_model.specs.History.{array_at, last}
 use Rattle.iso_shared.specs.{declared.entry.Entry.Entry, Legal.IsLegal, Standing.Holds, States.{Start, state_at}}
-use Rattle.store_entries.specs.InOrder.{StoresAreWell}
+use Rattle.par_calls.specs.EntriesInOrder.{StoresAreWell}
 use Rattle.store_scripts.specs.Stores.{image_tree}
 
 -- The run began with stores that are well formed, on a disk that tells its bytes, and with accounts that have their sum, or with none.

@@ -4,8 +4,7 @@ use Rattle.group_commit.specs.Groups.{found_in, units_all}
 use Rattle.handle_pass.specs.Sessions.{device, units}
 use Rattle.iso_core.specs.declared.group_end.TheConstants.{MAX_GROUP}
 use Rattle.iso_shared.specs.{declared.tx.Tx.Tx, Groups.units_of, Ports.{IsPort, port_view}, States.Start}
-use Rattle.account_laws.specs.Sums.{Accounts}
-use Rattle.accounts.specs.{declared.account.Plan.Plan, declared.half.Half.Half, declared.tellers.Ender.Ender, declared.tellers.Giver.Giver, declared.tellers.Mover.Mover, Kept.{AreGiven, HasStore, Hold, IsHalf, IsKept, Stays, half_units}, Made.opening_of}
+use Rattle.accounts.specs.{Kept.{AreGiven, HasStore, Hold, IsHalf, IsKept, Stays, half_units}, Made.opening_of, Sums.Accounts, declared.account.Plan.Plan, declared.half.Half.Half, declared.tellers.Ender.Ender, declared.tellers.Giver.Giver, declared.tellers.Mover.Mover}
 
 -- the accounts of a plan
 abbrev pub planned : Plan → Accounts

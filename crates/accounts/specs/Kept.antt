@@ -4,14 +4,13 @@ use mathlib.Core.List.{IsPrefix}
 use Rattle.iso_model.specs.{declared.access.Mode.TheVariants.Serial, History.array_at, Worlds.IsWorld}
 use Rattle.iso_shared.specs.{declared.entry.Entry.Entry, declared.shared.Port.Port, declared.shared.Shared.Shared, declared.tx.Tx.Tx, Legal.IsLegal, Ports.{IsTx, port_view, tx_view}, States.Start}
 use Rattle.iso_shared.specs.declared.entry.Entry.TheVariants as entry
-use Rattle.store_entries.specs.InOrder.{world_at}
+use Rattle.par_calls.specs.EntriesInOrder.{world_at}
 use Rattle.store_laws.specs.{Both.{AreMixed, firsts}, BothStores.StorePart, Calls.{KeyCall, StoreAnswer}, Parts.{accesses_in, answers_in, calls_in}}
 use Rattle.store_model.specs.declared.stores.Region.{Region}
 use Rattle.store_scripts.specs.Stores.{image_hash, image_tree}
 use Rattle.turn_lock.specs.Lists.{times}
 use Rattle.handle_pass.specs.{declared.session.Session.Session, Handles.tx_of, Sessions.{IsSession, Own, count, device, own, own_in, seen, units}}
-use Rattle.account_laws.specs.{Lists.IsOfAccountsAt, Sums.Accounts, Transactions.IsOfAccounts}
-use Rattle.accounts.specs.{declared.half.Half.Half, Made.IsTakenFor}
+use Rattle.accounts.specs.{Lists.IsOfAccountsAt, Made.IsTakenFor, Sums.Accounts, Transactions.IsOfAccounts, declared.half.Half.Half}
 
 -- a list that begins on a sound world without a transaction
 pub record IsReady (A : Start) : Type 0 where

@@ -1,3 +1,6 @@
+pub mod Sums
+pub mod Transactions
+pub mod Lists
 pub mod Made
 pub mod Kept
 pub mod Jobs

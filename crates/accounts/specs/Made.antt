@@ -1,12 +1,11 @@
 -- What calls of the hash store add to a transaction over blocks.
 use Rattle.std.specs.{Prelude.{◌≡◌, ◌≢◌, ℕ, ◌+◌, ◌<◌, List, [], ◌∷◌, ◌++◌, Some, map}, Int.{to_be_bytes, w64}}
-use Rattle.account_laws.specs.{Sums.{Accounts, amount}, Transactions.IsOfAccounts}
+use Rattle.accounts.specs.{Sums.{Accounts, amount}, Transactions.IsOfAccounts, declared.account.Account.Account, declared.account.Step.Step}
 use Rattle.iso_model.specs.{declared.access.Geometry.Geometry, Array.Array}
 use Rattle.store_laws.specs.{Both.firsts, BothStores.StorePart, Calls.{Get, Got, KeyCall, Put, StoreAnswer, WasPut}, Growing.IsMadeOfBoth, Parts.{answers_in, calls_in}}
 use Rattle.store_model.specs.{declared.stores.Area.Area, Areas.hash_area}
 use Rattle.store_scripts.specs.Stores.{image_hash, image_tree}
 use Rattle.tx_blocks.specs.Tx.{Tx}
-use Rattle.accounts.specs.{declared.account.Account.Account, declared.account.Step.Step}
 use Rattle.accounts.specs.declared.account.Step.TheVariants as step
 
 -- the transaction is on the same blocks

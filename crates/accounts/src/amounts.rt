@@ -1,10 +1,9 @@
 // One account in the hash store, by any transaction over blocks.
 ghost use Rattle.std.specs.{Prelude.{◌≡◌, ◌+◌, ◌<◌, ◌≤◌, [], ◌∷◌, List, ℕ, IfOk, IfSome, None, OnOk, Some}, Int.{to_be_bytes, w64}};
-ghost use Rattle.account_laws.specs.Sums.{amount};
+ghost use Rattle.accounts.specs.{Made.{Adds, SameBlocks}, Sums.amount};
 ghost use Rattle.store_laws.specs.Calls.{Get, Got, Put, WasPut};
 ghost use Rattle.store_model.specs.HashRegion.{IsHashArea};
 ghost use Rattle.tx_blocks.specs.Runs.{area_of};
-ghost use Rattle.accounts.specs.Made.{Adds, SameBlocks};
 
 use crate::account::AccountError;
 use iso_hash::{get, put};

@@ -1,5 +1,9 @@
-//! An example: accounts in the hash store of a shared device. Threads move amounts between them, in transactions of their own, in a
-//! group, and half by half, and their sum stays (`run`). That all transfers are made, or that a thread gets its turn, is no clause.
+//! Accounts in the hash store of a shared device: threads move amounts between them, in transactions of their own, in a group, and
+//! half by half.
+//!
+//! Where the list began well formed on a known disk, the sum stays after each commit, also one that a fault left open, and in each
+//! image that opens (`run`, `SumStays`); laws say it of legal lists (`history`, `images`). Without memory the core is handed back
+//! (`unrun`). How many transfers commit is no clause.
 #![tactic(auto)]
 
 mod account;
@@ -8,6 +12,7 @@ mod call;
 mod gathered;
 mod half;
 mod jobs;
+pub mod laws;
 mod moving;
 mod run;
 mod sessions;

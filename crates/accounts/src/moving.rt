@@ -1,9 +1,8 @@
 // Accounts by any transaction over blocks: an amount is moved, and accounts are opened.
 ghost use Rattle.std.specs.Prelude.{◌+◌, ◌≤◌, [], ◌∷◌, IfOk, OnOk};
-ghost use Rattle.account_laws.specs.Transactions.{IsOpening, IsTransfer};
+ghost use Rattle.accounts.specs.{Made.{Does, IsTaken, SameBlocks, calls_of, opening_of}, Transactions.{IsOpening, IsTransfer}};
 ghost use Rattle.store_model.specs.HashRegion.{IsHashArea};
 ghost use Rattle.tx_blocks.specs.Runs.{area_of};
-ghost use Rattle.accounts.specs.Made.{Does, IsTaken, SameBlocks, calls_of, opening_of};
 
 use crate::account::{Account, AccountError, Step, Transfer, Work};
 use crate::amounts::{Place, amount_at, is_free, set_amount};

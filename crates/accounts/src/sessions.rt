@@ -1,8 +1,7 @@
 // Transactions of accounts by a session: each is serial, and one of its own is tried again after a conflict.
 ghost use Rattle.std.specs.Prelude.{◌≡◌, ◌+◌, ◌<◌, ◌≤◌, IfOk, IfSome, OnErr};
-ghost use Rattle.account_laws.specs.Transactions.{IsOfAccounts};
+ghost use Rattle.accounts.specs.{Kept.{HasStore, IsHalf, IsHeld, IsKept, IsReady, IsWhole, Stays, given_units, half_units}, Made.{calls_of, opening_of}, Transactions.IsOfAccounts};
 ghost use Rattle.handle_pass.specs.Sessions.{device, units};
-ghost use Rattle.accounts.specs.{Kept.{HasStore, IsHalf, IsHeld, IsKept, IsReady, IsWhole, Stays, given_units, half_units}, Made.{calls_of, opening_of}};
 
 use crate::account::{Account, AccountError, Step, Transfer, Work};
 use crate::call::AccountCall;

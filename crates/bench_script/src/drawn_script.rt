@@ -1,6 +1,6 @@
 // The script of a bench, as a source.
 ghost use Rattle.std.specs.Prelude.{◌≡◌, ◌≤◌, ◌<◌, ◌++◌, false, [], drop, length, min, take, IfOk, IsOk, OnErr};
-ghost use Rattle.fault_count.specs.Count.{HasCause};
+ghost use Rattle.counts.specs.Count.{HasCause};
 ghost use Rattle.iso_io.specs.Source.{GivesUpToEnd, Took, ended_after};
 ghost use Rattle.script_model.specs.Bench.{bench_text};
 ghost use Rattle.bench_script.specs.Ends.{drawn_state};

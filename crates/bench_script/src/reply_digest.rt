@@ -1,6 +1,6 @@
 // The replies of a bench as they come: their digest, and what they tell.
 ghost use Rattle.std.specs.Prelude.{◌≡◌, ◌≤◌, ℕ, List, [], filter, length, take, IfOk, OnErr};
-ghost use Rattle.fault_count.specs.Count.{HasCause, faults_after};
+ghost use Rattle.counts.specs.Count.{HasCause, faults_after};
 ghost use Rattle.iso_io.specs.Sink.{Wrote, refusals_after};
 ghost use Rattle.script_model.specs.{declared.script.Line.Line, declared.script.Reply.Reply, Bench.{is_committed, is_conflict}};
 ghost use Rattle.script_runner.specs.Replies.{text_of};
@@ -9,7 +9,7 @@ ghost use Rattle.bench_script.specs.Ends.{digested_state};
 
 use crate::taken::{Piece, Taken};
 use crate::tally::{Tally, count_lines};
-use fault_count::raise;
+use counts::raise;
 use iso_io::{Sink, SinkFault};
 use sha2::{Digest, Sha256};
 use std::alloc::Global;

@@ -1,7 +1,7 @@
 // Each call makes the device calls that its docs name, and no other.
 ghost use Rattle.std.specs.{Prelude.{◌≡◌, ◌+◌, ◌<◌, ◌≤◌, ◌↔◌, [], ◌∷◌, ℕ, List, length, slice_index, false, IsTrue, OnOk, OnErr, IfOk}, Option.ForSome};
 ghost use Rattle.iso_disk.specs.Disk.{Splices, TornFrom, TellsTorn, IsSettled, LeavesOnly, WritesNothing};
-ghost use Rattle.fault_count.specs.Count.{HasCause};
+ghost use Rattle.counts.specs.Count.{HasCause};
 ghost use Rattle.commit_gate.specs.Gate.{IsOpen, IsClosed, HasBody};
 
 use iso_disk::{Disk, DiskFault};

@@ -6,8 +6,8 @@ ghost use Rattle.conflict_rule.specs.{Notes.above, Decision.{guarded_bytes, IsAs
 
 use crate::Notes;
 use byte_marks::Touched;
+use counts::{Ledger, Steps};
 use iso_model::{Clash, Mode};
-use step_count::{Ledger, Steps};
 
 /// What is known already: the commits up to a number, and the least clash with one of them.
 #[derive(Clone, Copy, Debug, PartialEq, Eq)]

@@ -5,10 +5,10 @@ ghost use Rattle.conflict_rule.specs.Notes.{above, note_of, RisesFrom};
 
 use crate::rest::Rest;
 use byte_marks::Touched;
+use counts::{Ledger, Steps};
 use iso_model::Memory;
 use std::alloc::Global;
 use std::marker::Model;
-use step_count::{Ledger, Steps};
 
 /// The bytes that each commit above some number wrote, the numbers rising.
 #[derive(Drop)]

@@ -2,6 +2,7 @@
 ghost use Rattle.std.specs.Prelude.{◌≡◌, ◌<◌, ℕ};
 ghost use Rattle.handle_pass.specs.{Calls.HasEnded, Sessions.IsSession};
 
+use counts::Steps;
 use handle_pass::{EndError, Session};
 use iso_disk::Disk;
 use iso_model::EndReply;
@@ -9,7 +10,6 @@ use iso_shared::Origin;
 use std::marker::Brand;
 use std::sync::Wait;
 use std::sync::ledger::{Blank, Ledger};
-use step_count::Steps;
 
 // The same with the ledger of a blank.
 fn end_with<'a, L: Ledger, D: Disk + Drop, O: Origin, R: Wait>(

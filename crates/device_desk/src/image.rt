@@ -1,9 +1,9 @@
 // A desk over an image that is made or opened.
 ghost use Rattle.std.specs.{Prelude.{◌≡◌, ◌≤◌, ℕ, List, replicate, Some, IfErr, IfOk, IsTrue}, Option.ForSome};
-ghost use Rattle.fault_count.specs.Count.{Rose};
+ghost use Rattle.counts.specs.Count.{Rose};
 ghost use Rattle.iso_disk.specs.Disk.{LeavesOnly, StaysTold, WritesNothing};
 ghost use Rattle.iso_model.specs.{declared.access.Geometry.Geometry, Geometry.{image_size, is_valid}, History.History, Image.Shows, World.{empty_history, fresh}};
-ghost use Rattle.iso_refusal.specs.Refusal.{refusal};
+ghost use Rattle.iso_image.specs.Refusal.{refusal};
 ghost use Rattle.iso_recover.specs.{Cause.{IsBlamed, IsTest}, Made.IsUnmadeOrEmpty, Shape.IsShaped};
 ghost use Rattle.device_desk.specs.{Device.{StandsAt, state_at}, Opened.{IsOpenedAs, IsReopenedAs}};
 

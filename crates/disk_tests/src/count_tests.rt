@@ -1,11 +1,10 @@
 // Counts of faults, and steps that contracts count.
 ghost use Rattle.std.specs.Prelude.{◌≡◌, ◌+◌, ◌<◌};
 
-use fault_count::{count_call, raise};
+use counts::{Blank, Ledger, Steps, count_call, raise};
 use std::fmt::Debug;
 use std::marker::Brand;
 use std::process::Abort;
-use step_count::{Blank, Ledger, Steps};
 
 // Two values that are to be the same. Each test that compared them itself would prove what is printed where they differ.
 pub(crate) fn same<T: PartialEq + Debug + Drop>(rt: &impl Abort, found: T, wanted: T) {

@@ -1,11 +1,11 @@
 // The device calls that each call makes, over eight bytes that count them. Of its bytes the disk tells nothing.
 ghost use Rattle.std.{specs.Prelude.None, proofs.Common.lit<};
-ghost use Rattle.fault_count.specs.Count.{HasCause};
+ghost use Rattle.counts.specs.Count.{HasCause};
 ghost use Rattle.iso_disk.specs.Untold.{untold, untold_is_lawful};
 
 use crate::count_tests::same;
 use commit_gate::{open_gate, put_body, shut_gate, stands_closed};
-use fault_count::raise;
+use counts::raise;
 use iso_disk::{Disk, DiskFault};
 use std::test::Fail;
 

@@ -1,4 +1,4 @@
-//! The tests of `fault_count`, `step_count`, `iso_disk`, `iso_io`, `iso_memdisk`, `commit_gate`, `kept_disk`, `file_disk` and `queued_disk`.
+//! The tests of `counts`, `iso_disk`, `iso_io`, `iso_memdisk`, `commit_gate`, `kept_disk`, `file_disk` and `queued_disk`.
 #![tactic(auto)]
 
 #[cfg(test)]

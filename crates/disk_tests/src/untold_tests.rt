@@ -1,9 +1,9 @@
 // A disk that tells nothing, as a real file: the trait asks of it only sizes, counts and causes.
 ghost use Rattle.std.specs.{Prelude.{◌≡◌, ◌^◌, ◌<◌}, Option.option_map};
-ghost use Rattle.fault_count.specs.Count.{HasCause};
+ghost use Rattle.counts.specs.Count.{HasCause};
 ghost use Rattle.iso_disk.specs.Untold.{untold, untold_is_lawful};
 
-use fault_count::raise;
+use counts::raise;
 use iso_disk::{Disk, DiskFault, Image};
 use std::alloc::Global;
 use std::test::Fail;

@@ -1,11 +1,11 @@
 // The disk over a real file. It tells no contents, so its clauses are on sizes, counts, causes and what is bound: what
 // the file holds is trusted.
 ghost use Rattle.std.specs.{Prelude.{◌≡◌, ◌^◌, ◌<◌, ◌≤◌, None}, Option.option_map};
-ghost use Rattle.fault_count.specs.Count.{HasCause, Rose};
+ghost use Rattle.counts.specs.Count.{HasCause, Rose};
 ghost use Rattle.iso_disk.specs.Untold.{untold, untold_is_lawful};
 
 use crate::files::{new_file, open_file, read_all, write_all};
-use fault_count::raise;
+use counts::raise;
 use iso_disk::{Disk, DiskFault, Image};
 use std::alloc::Global;
 use std::fs::File;

@@ -2,7 +2,7 @@
 ghost use Rattle.std.specs.Prelude.{◌≡◌, ◌+◌, ◌*◌, ◌-◌, ◌<◌, ◌≤◌, ℕ, List, length, IsTrue, OnOk, OnErr, IfOk, IsErrOf};
 ghost use Rattle.iso_model.specs.{declared.access.Geometry.Geometry, Geometry.{half_size, image_size, is_valid}};
 ghost use Rattle.iso_disk.specs.Disk.{IsSettled, LeavesOnly, StaysTold, TellsTorn, TornFrom};
-ghost use Rattle.fault_count.specs.Count.{HasCause, Rose};
+ghost use Rattle.counts.specs.Count.{HasCause, Rose};
 ghost use Rattle.commit_gate.specs.Gate.{IsClosed};
 ghost use Rattle.iso_image.specs.Half.{Half, IsFilled, IsHeld};
 ghost use Rattle.half_switch.specs.{Plan.{AreHalves, Copies, IsFrom, IsReady, refilled}, Put.IsLaidOut};

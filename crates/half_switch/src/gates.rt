@@ -2,7 +2,7 @@
 ghost use Rattle.std.specs.{Prelude.{◌≡◌, ◌⊎◌, ◌+◌, ◌<◌, ◌∷◌, [], ℕ, List, OnOk, OnErr}, Option.ForSome};
 ghost use Rattle.iso_model.specs.{declared.access.Geometry.Geometry, Geometry.header_place};
 ghost use Rattle.iso_disk.specs.Disk.{IsSettled, LeavesOnly, Splices, StaysTold, TellsTorn, TornFrom, WritesNothing};
-ghost use Rattle.fault_count.specs.Count.{HasCause};
+ghost use Rattle.counts.specs.Count.{HasCause};
 ghost use Rattle.commit_gate.specs.Gate.{IsClosed};
 ghost use Rattle.iso_image.specs.Half.{Half, IsHeld, in_form};
 ghost use Rattle.half_switch.specs.Plan.{IsReady};

@@ -1,7 +1,7 @@
 // The bytes of a half, written behind its gate.
 ghost use Rattle.std.specs.Prelude.{◌≡◌, ◌+◌, ◌≤◌, ℕ, List, length, OnOk, OnErr};
 ghost use Rattle.iso_disk.specs.Disk.{IsSettled, LeavesOnly, StaysTold, TellsTorn, TornFrom};
-ghost use Rattle.fault_count.specs.Count.{HasCause};
+ghost use Rattle.counts.specs.Count.{HasCause};
 ghost use Rattle.half_switch.specs.Put.{IsPut};
 
 use iso_disk::{Disk, DiskFault};

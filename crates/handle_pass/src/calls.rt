@@ -4,11 +4,11 @@ ghost use Rattle.handle_pass.specs.{Calls.{HasAborted, HasBegun, HasChecked, Has
 
 use crate::errors::{BeginError, EndError};
 use crate::session::{Session, attach};
+use counts::{Ledger, Steps};
 use iso_disk::Disk;
 use iso_model::{CoreError, EndReply, Mode, NotInTx};
 use iso_shared::Origin;
 use std::sync::Wait;
-use step_count::{Ledger, Steps};
 
 impl<'a, D: Disk + Drop, O: Origin> Session<'a, D, O> {
     /// Begins a transaction in the mode that is named, or else in the image's, and answers its begin.

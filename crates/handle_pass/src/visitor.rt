@@ -5,7 +5,7 @@ ghost use Rattle.handle_pass.specs.Looks.{Looked, Marked, Unlooked, Wrote, down_
 
 use crate::session::Session;
 use crate::visit::Visit;
-use fault_count::raise;
+use counts::raise;
 use iso_disk::Disk;
 use iso_shared::Origin;
 use std::marker::{Model, PhantomData};

@@ -18,7 +18,7 @@ use std::marker::Brand;
 use std::sync::Wait;
 use std::test::Fail;
 use std::thread::{Threads, join_mut};
-use test_images::with_long_logs;
+use test_cores::with_long_logs;
 use tx_blocks::TxBlocks;
 
 /// A transaction that has written a block.

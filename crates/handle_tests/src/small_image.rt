@@ -9,8 +9,7 @@ use iso_core::Core;
 use iso_memdisk::MemDisk;
 use iso_model::Memory;
 use std::alloc::Global;
-use test_cores::core_on;
-use test_images::{blank, with_long_logs};
+use test_cores::{blank, core_on, with_long_logs};
 
 /// A core over a new image, whose disk fails after `calls` calls.
 pub(crate) fn core_failing(alloc: Global, calls: u64) -> Result<Core<MemDisk>, Memory>

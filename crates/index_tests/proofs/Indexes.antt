@@ -3,7 +3,7 @@ use Rattle.std.{proofs.Common.{◌≡◌, sym, ℕ, ◌+◌, ◌*◌, ◌^◌, �
 use Rattle.iso_model.specs.{declared.access.Run.Run, Image.AreRuns}
 use Rattle.mv_index.specs.Versions.{AreAtMost, BlockVersions, count_of, versions_in}
 use Rattle.version_read.{specs.declared.part_span.PartSpan.PartSpan, specs.Parts.{IsPart, MayTake, part_of, parts_length}, proofs.Lying.runs_all, proofs.Taking.parts_all}
-use Rattle.test_images.specs.Small.{small}
+use Rattle.test_cores.specs.Small.{small}
 
 short : (n : ℕ) (parts : List PartSpan) → AllByRecursion (IsPart n) parts → parts_length parts ≤ length parts * 4104
 short n [] all = omega arith

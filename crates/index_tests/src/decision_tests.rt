@@ -3,12 +3,12 @@ ghost use Rattle.std.specs.Prelude.{◌≡◌, ◌<◌};
 use crate::marks_tests::{same, touched};
 use byte_marks::Touched;
 use conflict_rule::{Checked, Notes, decide};
+use counts::{Ledger, Steps};
 use iso_model::{Clash, Mode};
 use std::alloc::Global;
 use std::marker::Brand;
 use std::sync::ledger::Blank;
 use std::test::Fail;
-use step_count::{Ledger, Steps};
 
 // Commit 3 writes the first bytes of block 5, commit 4 some of the blocks 2 and 5, and commit 5 all of block 9.
 fn three_commits(alloc: Global) -> Result<Notes, Fail> {

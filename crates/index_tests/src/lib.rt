@@ -1,7 +1,9 @@
-//! The tests of the byte sets, patches, decisions, tables and versions that a core stands on: of `byte_marks`, `merge_write`,
-//! `conflict_rule`, `tx_table`, `mv_index`, `version_trim` and `version_read`.
+//! The tests of `iso_model` and of what a core rests on: `byte_marks`, `merge_write`, `conflict_rule`, `tx_table`, `mv_index`,
+//! `version_trim` and `version_read`.
 #![tactic(auto)]
 
+#[cfg(test)]
+mod data_tests;
 #[cfg(test)]
 mod decision_tests;
 #[cfg(test)]

@@ -4,7 +4,7 @@ ghost use Rattle.std.specs.Prelude.{◌≡◌, ◌^◌, ◌<◌, true, length, I
 ghost use Rattle.iso_model.specs.Image.{AreRuns};
 ghost use Rattle.iso_memdisk.specs.MemDisk.{state_of};
 ghost use Rattle.mv_index.specs.Shown.{AllLie};
-ghost use Rattle.test_images.specs.Small.{small};
+ghost use Rattle.test_cores.specs.Small.{small};
 
 use crate::marks_tests::same;
 use iso_disk::DiskFault;
@@ -14,7 +14,7 @@ use iso_model::Memory;
 use mv_index::{MvIndex, Version};
 use std::alloc::{AllocError, Global};
 use std::test::Fail;
-use test_images::small;
+use test_cores::small;
 use version_read::{read_block, read_pieces, take_parts};
 
 fn numbers(alloc: Global) -> Result<Vec<u8>, AllocError>

@@ -2,6 +2,7 @@ ghost use Rattle.std.specs.Prelude.{◌≡◌, ◌<◌, ℕ, IfOk, length};
 ghost use Rattle.mv_index.specs.{Moves.AreSplit, Shown.AllLie, Versions.{AreAtMost, versions_in}};
 
 use crate::marks_tests::same;
+use counts::Steps;
 use iso_model::Memory;
 use mv_index::{MvIndex, Version};
 use std::alloc::Global;
@@ -9,7 +10,6 @@ use std::marker::Brand;
 use std::process::Abort;
 use std::sync::ledger::{Blank, Ledger};
 use std::test::Fail;
-use step_count::Steps;
 
 /// An index of one block of 64 bytes, and the last number in it.
 #[derive(Drop)]

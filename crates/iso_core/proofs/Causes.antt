@@ -1,6 +1,6 @@
 -- The cause of a call's answer, as a core tells it.
 use Rattle.iso_core.proofs.Words.{◌≡◌, ◌⊎◌, ℕ, Result, Ok, Err, IsErrOf, ap, inl, inr}
-use Rattle.fault_count.specs.Count.{HasCause}
+use Rattle.counts.specs.Count.{HasCause}
 use Rattle.iso_log.specs.{Cause.BlamesDisk, declared.log_error.LogError.LogError, declared.log_error.LogError.TheVariants.{Disk, LogFull}}
 
 -- an append that was done

@@ -1,6 +1,6 @@
 -- The words of a core's calls: whose they are, and what they answer.
 use Rattle.std.specs.Prelude.{◌≡◌, ◌≢◌, ◌⊎◌, ℕ, ◌≤◌, List, [], ◌∷◌, Option, Some, None, Result, Ok, Err, OnOk, IfErr, IsErrOf}
-use Rattle.fault_count.specs.Count.{Rose}
+use Rattle.counts.specs.Count.{Rose}
 use Rattle.conflict_rule.specs.{declared.decision.Checked.Checked, Decision.up_to}
 use Rattle.iso_model.specs.{declared.access.EndReply.EndReply, declared.core_error.CoreError.CoreError, declared.core_reply.CoreReply.CoreReply, Conflict.clash, History.last, World.{World, Live}}
 use Rattle.iso_model.specs.declared.access.EndReply.TheVariants as ended

@@ -1,6 +1,6 @@
 // Records of commits, appended to the log.
 ghost use Rattle.std.specs.Prelude.{◌≡◌, ◌⊎◌, ◌+◌, ◌≤◌, ◌<◌, ◌++◌, [], ◌∷◌, ℕ, List, OnOk, OnErr, IfOk, length};
-ghost use Rattle.fault_count.specs.Count.{HasCause};
+ghost use Rattle.counts.specs.Count.{HasCause};
 ghost use Rattle.iso_disk.specs.Disk.{IsSettled, LeavesOnly, StaysTold};
 ghost use Rattle.iso_image.specs.Half.{IsHeld, half_of_world, next_gate, with_records};
 ghost use Rattle.iso_log.specs.Extent.{extent_of};

@@ -18,10 +18,10 @@ use crate::plan::Plan;
 use crate::switching::switch_half;
 use crate::trim::trim;
 use conflict_rule::Checked;
+use counts::{Ledger, Steps};
 use iso_disk::Disk;
 use iso_model::{CoreError, EndReply, Geometry, GroupReply, Mode};
 use std::alloc::Global;
-use step_count::{Ledger, Steps};
 use tx_table::Work;
 
 /// An open image with its live transactions. A core stands for a world of the model.

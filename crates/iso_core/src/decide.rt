@@ -5,8 +5,8 @@ ghost use Rattle.iso_core.specs.{Calls.{IsCheckedOf, IsTx, IsWorkOf}, Kept.IsOf,
 
 use crate::kept::Kept;
 use conflict_rule::{Checked, decide};
+use counts::{Ledger, Steps};
 use iso_model::{Clash, Memory};
-use step_count::{Ledger, Steps};
 use tx_table::Work;
 
 /// Settles a transaction, and decides whether it conflicts with a commit after its begin. It looks at the commits after

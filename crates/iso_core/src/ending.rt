@@ -11,9 +11,9 @@ use crate::decide::decide_end;
 use crate::kept::Kept;
 use crate::leave::leave;
 use conflict_rule::Checked;
+use counts::{Ledger, Steps};
 use iso_disk::Disk;
 use iso_model::{CoreError, EndReply};
-use step_count::{Ledger, Steps};
 use tx_table::Work;
 
 /// Ends a transaction, while the core is up.

@@ -1,6 +1,6 @@
 // Bytes of a block as a transaction is shown them.
 ghost use Rattle.std.specs.{Prelude.{◌≡◌, ◌⊎◌, ◌+◌, ◌*◌, ◌<◌, ◌≤◌, ℕ, OnOk, drop, length, take}, List.AllByRecursion, Option.ForSome};
-ghost use Rattle.fault_count.specs.Count.{HasCause};
+ghost use Rattle.counts.specs.Count.{HasCause};
 ghost use Rattle.iso_disk.specs.Disk.{WritesNothing};
 ghost use Rattle.iso_model.specs.{History.{array_at, last}, Premises.block_at, World.{World, Live}};
 ghost use Rattle.mv_index.specs.{Shown.{AllLie, Lies, ShowTheSameIn}, Versions.{upto, versions_in}};
@@ -8,12 +8,12 @@ ghost use Rattle.version_read.specs.Blocks.{IsOverIn};
 ghost use Rattle.iso_core.specs.{Calls.IsTx, Core.AreOf, Standing.up};
 
 use crate::kept::Kept;
+use counts::{Ledger, Steps};
 use iso_disk::{Disk, DiskFault};
 use iso_image::half_place;
 use mv_index::{MvIndex, Version};
 use std::marker::Brand;
 use std::sync::ledger::Blank;
-use step_count::{Ledger, Steps};
 use version_read::{read_block, read_pieces};
 
 /// The versions of a block up to a number.

@@ -11,12 +11,12 @@ use crate::kept::Kept;
 use crate::plan::{Plan, Staged};
 use crate::spelling::spell;
 use conflict_rule::{Checked, Notes, decide};
+use counts::Steps;
 use iso_format::RecordBuffer;
 use iso_image::kind_of;
 use iso_model::{Clash, GroupReply, LAST, Memory};
 use std::marker::Brand;
 use std::sync::ledger::{Blank, Ledger};
-use step_count::Steps;
 use tx_table::Work;
 use version_read::PartSpan;
 

@@ -1,6 +1,6 @@
 -- The cause of a failure, over a run of calls.
 use Rattle.std.proofs.Common.{◌≡◌, ℕ, Ok, Err, arith, refl, subst}
-use Rattle.fault_count.specs.Count.{HasCause, Rose}
+use Rattle.counts.specs.Count.{HasCause, Rose}
 
 -- calls that passed
 pub all_passed : {T E : Type 0} {before now : ℕ} {x : T} → now ≡ before → HasCause {T = T} {E = E} before now (Ok x)

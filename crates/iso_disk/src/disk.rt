@@ -1,7 +1,7 @@
 // The contract between those who keep bytes and those who use them.
 ghost use Rattle.std.specs.{Prelude.{◌≡◌, ◌+◌, ◌^◌, ◌<◌, ◌≤◌, ℕ, List, Option, length, replicate, OnOk, OnErr, IfNone, IfSome, IsSome, Some, None}, List.slice_range, Option.ForSome};
 ghost use Rattle.iso_disk.specs.Disk.{DiskState, IsLawful, TornFrom, Splices, TellsTorn, IsSettled, Elapses};
-ghost use Rattle.fault_count.specs.Count.{one_more, HasCause};
+ghost use Rattle.counts.specs.Count.{one_more, HasCause};
 
 /// The disk has failed in this call.
 #[derive(Clone, Copy, Debug, PartialEq, Eq)]

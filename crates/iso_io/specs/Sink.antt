@@ -1,6 +1,6 @@
 -- What a sink is at a moment, and what a put does to it.
 use Rattle.std.specs.{Prelude.{◌≡◌, ◌≤◌, ◌<◌, ℕ, Bool, List, IsTrue, Option, length, take, nat_lt, ◌==◌, ◌&&◌, if◌then◌else◌, Result, Ok, Err}, Io.KnownBytes.append_known}
-use Rattle.fault_count.specs.Count.{one_more}
+use Rattle.counts.specs.Count.{one_more}
 
 -- a sink at a moment, as its callers see it
 pub record SinkState : Type 0 where

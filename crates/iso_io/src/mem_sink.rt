@@ -1,10 +1,10 @@
 // A sink that keeps its bytes in memory.
 ghost use Rattle.std.specs.Prelude.{◌≡◌, ◌≤◌, ◌↔◌, ◌⊎◌, ◌^◌, ◌-◌, ◌||◌, [], false, true, is_err, min, length, take, IfOk, IsErr, OnErr, OnOk};
-ghost use Rattle.fault_count.specs.Count.{FailsNext, HasCause, faults_after, one_more};
+ghost use Rattle.counts.specs.Count.{FailsNext, HasCause, faults_after, one_more};
 ghost use Rattle.iso_io.specs.{Sink.{Broke, Wrote, refusals_after}, Memory.sink_state};
 
 use crate::{Sink, SinkFault};
-use fault_count::{count_call, raise};
+use counts::{count_call, raise};
 use std::alloc::Global;
 use std::marker::Model;
 

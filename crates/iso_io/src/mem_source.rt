@@ -1,10 +1,10 @@
 // A source over bytes in memory.
 ghost use Rattle.std.specs.Prelude.{◌≡◌, ◌≤◌, ◌<◌, ◌↔◌, ◌^◌, ◌-◌, false, min, length, take, IfOk, IsErr, OnErr};
-ghost use Rattle.fault_count.specs.Count.{FailsNext, HasCause, faults_after, one_more};
+ghost use Rattle.counts.specs.Count.{FailsNext, HasCause, faults_after, one_more};
 ghost use Rattle.iso_io.specs.{Source.{GivesUpToEnd, Took, ended_after}, Memory.source_state};
 
 use crate::{Source, SourceFault};
-use fault_count::{count_call, raise};
+use counts::{count_call, raise};
 use std::marker::Model;
 
 /// A source over bytes in memory, some of whose calls are to fail.

@@ -1,6 +1,6 @@
 // Where bytes go.
 ghost use Rattle.std.specs.Prelude.{◌≤◌, ◌≡◌, true, length, take, IfOk, IsErr, OnErr, OnOk, IsErrOf};
-ghost use Rattle.fault_count.specs.Count.{HasCause, Rose};
+ghost use Rattle.counts.specs.Count.{HasCause, Rose};
 ghost use Rattle.iso_io.specs.Sink.{SinkState, Broke, CountsStand, NoCountFell, Wrote, WroteFront, refusals_after};
 
 /// A sink has failed.

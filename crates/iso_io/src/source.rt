@@ -1,6 +1,6 @@
 // Where bytes come from.
 ghost use Rattle.std.specs.Prelude.{◌≡◌, ◌<◌, ◌≤◌, ◌==◌, ◌++◌, length, take, vec_len, IfOk, OnErr, OnOk, IsErrOf};
-ghost use Rattle.fault_count.specs.Count.{HasCause, Rose};
+ghost use Rattle.counts.specs.Count.{HasCause, Rose};
 ghost use Rattle.iso_io.specs.{Source.{SourceState, GivesUpToEnd, MetEnd, Took, TookAtMost, ended_after}, declared.source.TakeError.TheVariants.{Failed, Memory}};
 
 use std::alloc::{AllocError, Global};

@@ -1,10 +1,10 @@
 // A sink over a writer of std.
 ghost use Rattle.std.specs.{Prelude.{◌≡◌, ◌≤◌, false, true, length, IfOk, IsErr, OnErr, OnOk}, Io.KnownBytes.WriteAppends};
-ghost use Rattle.fault_count.specs.Count.{HasCause, faults_after};
+ghost use Rattle.counts.specs.Count.{HasCause, faults_after};
 ghost use Rattle.iso_io.specs.{Sink.{Broke, refusals_after}, Standard.sink_state};
 
 use crate::{Sink, SinkFault};
-use fault_count::raise;
+use counts::raise;
 use std::io::Write;
 use std::marker::Model;
 

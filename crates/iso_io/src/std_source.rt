@@ -1,10 +1,10 @@
 // A source over a reader of std.
 ghost use Rattle.std.specs.{Prelude.{◌≡◌, ◌≤◌, false, length, IfOk}, Io.KnownBytes.ReadConsumes};
-ghost use Rattle.fault_count.specs.Count.{HasCause, faults_after};
+ghost use Rattle.counts.specs.Count.{HasCause, faults_after};
 ghost use Rattle.iso_io.specs.{Source.ended_after, Standard.source_state};
 
 use crate::{Source, SourceFault};
-use fault_count::raise;
+use counts::raise;
 use std::io::Read;
 use std::marker::Model;
 

@@ -1,6 +1,6 @@
 -- The record at a gate, as it is found in bytes that were read.
 use Rattle.iso_log.proofs.{Words.{◌≡◌, ◌<◌, ◌≤◌, ◌+◌, ◌-◌, ◌^◌, ℕ, List, [], ◌∷◌, Some, Result, Ok, Err, IsErrOf, length, take, drop, get_or, sym, ◌∙◌, ap, arith, length-append, length-drop, get_or-take, get_or-drop, length-take-le, take-take, nil_from_length, Geometry, kind_of, spell, FormatError, Short, offset_of, test_number, BeginsWith, fault_of, record_window, recorded, window_front, fault_front, short_head, short_body, OpenError, damaged, told_first, kind_again, form_1, LogError, LogFull, Disk, Memory, Damaged, Extent, next_place, IsDamaged, IsFound, IsNextRecord, IsTaken, IsTestBefore, StandAt}, Counts.{spell_gate, window_is}, Offsets.{fault_below, test_among}}
-use Rattle.iso_refusal.specs.declared.open_error.OpenError.TheVariants as refused
+use Rattle.iso_image.specs.declared.open_error.OpenError.TheVariants as refused
 
 -- ---- bytes that stand in an image
 

@@ -1,6 +1,6 @@
 -- What a call of the disk, or of a log, hands on at an exit.
 use Rattle.iso_log.proofs.Words.{◌≡◌, ℕ, Ok, Err, IsErrOf, refl, arith, LogError, Damaged, Disk, LogFull, Memory}
-use Rattle.fault_count.specs.Count.{HasCause}
+use Rattle.counts.specs.Count.{HasCause}
 use Rattle.iso_log.specs.Cause.{BlamesDisk}
 
 -- ---- causes

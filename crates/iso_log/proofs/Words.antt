@@ -4,8 +4,7 @@ pub use Rattle.commit_gate.specs.Gate.{HasBody, IsClosed}
 pub use Rattle.iso_disk.{proofs.Bytes.torn_same, proofs.Images.{length-contents, length-image}, proofs.Moments.{at_end, joined, joined_unwritten, started, weakened}, specs.Disk.{DiskState, IsLawful, LeavesOnly, TornFrom, spliced}}
 pub use Rattle.iso_format.{proofs.PartLaws.good, proofs.Parts.length-spell, proofs.Windows.{fault_front, short_body, short_head, window_front}, specs.Faults.{offset_of, test_number}, specs.Reading.number_at, specs.Records.{BeginsWith, Recorded, body_of, follows, head_fault, is_kind, lies_in, number_fault, part_end, part_fault, part_size, record_window, recorded}, specs.declared.format_error.FormatError.FormatError, specs.declared.format_error.FormatError.TheVariants.{Count, Kind, Length, NotZero, Number, Order, Range, Short}}
 unfoldable pub use Rattle.iso_format.specs.Records.{fault_of, parts_fault}
-pub use Rattle.iso_image.{proofs.Adds.{added, adding}, proofs.Appends.{appending_body, appending_gate}, proofs.Logs.{log_gate, log_step, log_whole, records-append, take-plus}, specs.Changes.Appending, specs.Half.{Half, HasLog, IsHeld, MayFollow, last_told, told_bytes, with_records}}
+pub use Rattle.iso_image.{proofs.Adds.{added, adding}, proofs.Appends.{appending_body, appending_gate}, proofs.LogLaws.{form_1, kind_again}, proofs.Logs.{log_gate, log_step, log_whole, records-append, take-plus}, specs.Changes.Appending, specs.Half.{Half, HasLog, IsHeld, MayFollow, last_told, told_bytes, with_records}, specs.Refusal.{damaged, told_first}, specs.declared.open_error.OpenError.OpenError}
 pub use Rattle.iso_model.specs.{Effect.or_else, Image.{Written, body_length, kind_of, records}, Premises.AreBytes, declared.access.Geometry.Geometry, declared.access.Run.Run}
 unfoldable pub use Rattle.iso_model.specs.Image.{spell}
-pub use Rattle.iso_refusal.{proofs.LogLaws.{form_1, kind_again}, specs.Refusal.{damaged, told_first}, specs.declared.open_error.OpenError.OpenError}
 pub use Rattle.iso_log.specs.{Extent.{Extent, extent_of, next_place}, Log.{AppendedTo, AppendingFrom, HasTold, IsNext}, Scan.{IsDamaged, IsFound, IsNextRecord, IsTaken, IsTestBefore, StandAt}, declared.log_error.LogError.LogError, declared.log_error.LogError.TheVariants.{Damaged, Disk, LogFull, Memory}}

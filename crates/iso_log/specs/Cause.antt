@@ -1,6 +1,6 @@
 -- When a call of a log may blame the disk.
 use Rattle.std.specs.Prelude.{◌≡◌, ◌≢◌, ℕ, ◌≤◌, Result, OnOk, IfErr, IsErrOf}
-use Rattle.fault_count.specs.Count.{Rose}
+use Rattle.counts.specs.Count.{Rose}
 use Rattle.iso_log.specs.{declared.log_error.LogError.LogError, declared.log_error.LogError.TheVariants.Disk}
 
 -- the count of the disk's faults did not fall, a call that blames the disk raised it, and after any other answer it stands where it stood

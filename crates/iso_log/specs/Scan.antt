@@ -3,7 +3,7 @@ use Rattle.std.specs.Prelude.{◌≡◌, ℕ, ◌+◌, ◌-◌, ◌<◌, ◌≤�
 use Rattle.iso_model.specs.{declared.access.Geometry.Geometry, declared.limits.TheConstants.LAST, Image.{IsRecord, kind_of, spell}}
 use Rattle.commit_gate.specs.Gate.{IsOpen}
 use Rattle.iso_format.specs.{declared.format_error.FormatError.FormatError, Records.fault_of}
-use Rattle.iso_refusal.specs.{declared.open_error.OpenError.TheVariants.Damaged, Refusal.{damaged, told_first}}
+use Rattle.iso_image.specs.{declared.open_error.OpenError.TheVariants.Damaged, Refusal.{damaged, told_first}}
 use Rattle.iso_log.specs.Extent.{Extent}
 
 -- The bytes are the record with this number, and one gate behind it.

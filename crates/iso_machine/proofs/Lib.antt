@@ -1,9 +1,13 @@
+pub mod BlockWords
+pub mod Guests
+pub mod Arrays
 pub mod Words
 pub mod Lists
 pub mod Besides
 pub mod Accesses
 pub mod Asked
 pub mod Quiet
+pub mod Whereabouts
 pub mod Machines
 pub mod Refusals
 pub mod Begins
@@ -15,5 +19,4 @@ pub mod Calls
 pub mod Groups
 pub mod Taking
 pub mod Ended
-pub mod Whereabouts
 pub mod Ranges

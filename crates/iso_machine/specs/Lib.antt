@@ -1,3 +1,6 @@
+pub mod Origins
+pub mod Guests
+pub mod ShownArrays
 pub mod Standing
 pub mod Accessing
 pub mod Answering

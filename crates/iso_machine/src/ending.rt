@@ -7,13 +7,13 @@ ghost use Rattle.iso_core.specs.{Calls.{BlamesDisk, IsTx, IsWorkOf, Refuses, Wri
 
 use crate::machine::Machine;
 use conflict_rule::Checked;
+use counts::Steps;
 use iso_core::{Core, MAX_GROUP};
 use iso_disk::Disk;
 use iso_model::{CoreError, EndReply};
 use script_model::{Reply, Stop, refused};
 use std::marker::Brand;
 use std::sync::ledger::{Blank, Ledger};
-use step_count::Steps;
 use tx_table::Work;
 
 /// Ends a transaction of a core, of which nothing was checked ahead.

@@ -1,5 +1,8 @@
-//! Clients and labels over a core, on one thread. Each operation is the model's step: its reply (`reply`), the world after it
-//! (`world`), and at each moment of the call what an image shows (`moments`). Lines and texts are not its matter.
+//! Clients and labels over a core, on one thread. A `Machine` meets `ScriptMachine`: each operation is the model's step (`reply`,
+//! `world`), at each moment an image shows the world before or after it (`moments`), and a stop has its cause (`cause`); want of
+//! memory has made nothing (`unmade`). After a fault in an end no clause holds of it.
+//!
+//! `CoreBlocks` is a live transaction as a store sees it; `leave` gives the core back, nothing written (`IsGuest`).
 #![tactic(auto)]
 
 mod accessing;
@@ -7,19 +10,25 @@ mod acting;
 mod answer;
 mod attached;
 mod begin;
+mod core_blocks;
 mod ending;
 mod finder;
 mod grouping;
+mod guest;
 mod handles;
 mod leaving;
 mod machine;
+mod origin;
 mod reading;
 mod storing;
 mod switching;
 
 pub use acting::act;
 pub use begin::take_work;
+pub use core_blocks::{CoreBlocks, Lent};
 pub use ending::{end_whole, keep_spare};
 pub use grouping::{fill_answers, make_places};
+pub use guest::Guest;
 pub use machine::Machine;
+pub use origin::Origin;
 pub use storing::store;

@@ -1,6 +1,6 @@
 // Reads of one transaction.
 ghost use Rattle.std.specs.Prelude.{◌≡◌, ◌∷◌, ◌++◌, [], ◌+◌, ◌<◌, ◌≤◌, Some, None, false, IfOk, IsErrOf, OnErr, OnOk, drop, length, take};
-ghost use Rattle.fault_count.specs.Count.{HasCause};
+ghost use Rattle.counts.specs.Count.{HasCause};
 ghost use Rattle.iso_disk.specs.Disk.{WritesNothing};
 ghost use Rattle.script_model.specs.Step.{get_step, read_step};
 ghost use Rattle.iso_model.specs.{Step.{read_access, shown_to}, World.{World, Live}};

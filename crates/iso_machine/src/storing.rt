@@ -3,14 +3,14 @@ ghost use Rattle.std.specs.Prelude.{◌≡◌, ◌+◌, ◌≤◌, ℕ, IfOk, Is
 ghost use Rattle.iso_disk.specs.Disk.{WritesNothing};
 ghost use Rattle.iso_model.specs.World.{Live, World};
 ghost use Rattle.iso_core.specs.{Calls.{IsTx, IsWorkOf}, Core.{StandsFor, disk_of}, Standing.up};
-ghost use Rattle.core_blocks.specs.{Guests.{IsGuest, IsSameWork, tx_of}, Shown.array_told};
+ghost use Rattle.iso_machine.specs.{Accessing.IsActive, Guests.{IsGuest, IsSameWork, tx_of}, ShownArrays.array_told, Storing.{IsStored, store_act}};
 ghost use Rattle.iso_fs.specs.Ends.{areas_of};
 ghost use Rattle.tx_table.specs.Work.{AreWithin};
 ghost use Rattle.script_runner.specs.Counts.{BlamesDisk};
-ghost use Rattle.iso_machine.specs.{Accessing.IsActive, Storing.{IsStored, store_act}};
 ghost use Rattle.store_calls.specs.Calls.{AreStoreAreas, HasCalled, is_empty_scan, store_ended};
 
-use core_blocks::{CoreBlocks, Lent, Origin};
+use crate::core_blocks::{CoreBlocks, Lent};
+use crate::origin::Origin;
 use iso_core::Core;
 use iso_disk::Disk;
 use iso_model::Mode;

@@ -1,6 +1,6 @@
 -- Which call the plan of a disk's failures names, and what a call counts.
 use Rattle.std.specs.{Prelude.{◌≡◌, ◌⊎◌, ◌-◌, ℕ, Some, None}, Option.option_map}
-use Rattle.fault_count.specs.Count.{one_more}
+use Rattle.counts.specs.Count.{one_more}
 use Rattle.iso_memdisk.specs.{declared.failures.CallKind.CallKind, declared.failures.CallKind.TheVariants.{Read, Write, Sync, Bind}, declared.failures.Failures.Failures, declared.failures.KindPlan.KindPlan}
 
 -- which of the next calls of this kind is to fail

@@ -1,7 +1,7 @@
 -- A memory disk as the trait sees it: its first bytes and the record of its calls are replayed for every question.
 use Rattle.std.specs.{Prelude.{◌≡◌, ◌⊎◌, ℕ, List, [], ◌∷◌, ◌++◌, length, Option, Some, Result, IsErr, OnOk}, Option.option_map}
 use Rattle.iso_memdisk.specs.{declared.disk.MemDisk.MemDisk, declared.record.Call.Call, declared.failures.CallKind.CallKind, declared.failures.Failures.Failures, Failures.{IsNamed, counted}, Record.{written, synced}, Replayed.{images, replayed}}
-use Rattle.fault_count.specs.Count.{one_more, faults_after}
+use Rattle.counts.specs.Count.{one_more, faults_after}
 use Rattle.iso_disk.specs.Disk.{DiskState}
 
 -- what a read gives

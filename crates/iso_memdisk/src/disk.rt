@@ -1,7 +1,7 @@
 // The disk itself.
 ghost use Rattle.std.specs.{Prelude.{◌≡◌, ◌+◌, ◌^◌, ◌<◌, ◌≤◌, ◌↔◌, ℕ, List, Some, None, length, replicate, slice_index, OnOk, OnErr, IfOk, IfNone, IfSome, IsErr}, List.slice_range, Option.ForSome};
 ghost use Rattle.iso_disk.specs.Disk.{TornFrom, Splices, TellsTorn, IsSettled, Elapses};
-ghost use Rattle.fault_count.specs.Count.{one_more, HasCause};
+ghost use Rattle.counts.specs.Count.{one_more, HasCause};
 ghost use Rattle.iso_memdisk.specs.{Record.{written, AllFit}, Held.held};
 
 use crate::failures::{CallKind, Failures};

@@ -1,8 +1,8 @@
 // Which calls are to fail, and how often calls were made, failed, and found no memory.
 ghost use Rattle.std.specs.Prelude.{◌≡◌, ◌≤◌, ◌↔◌, None, IsErr, IsTrue};
-ghost use Rattle.fault_count.specs.Count.{one_more, faults_after, Rose, HasCause};
+ghost use Rattle.counts.specs.Count.{one_more, faults_after, Rose, HasCause};
 
-use fault_count::raise;
+use counts::raise;
 use iso_disk::DiskFault;
 
 /// A kind of call of a disk.

@@ -1,7 +1,7 @@
 -- When a call that opens an image may blame the disk.
 use Rattle.std.specs.Prelude.{◌≡◌, ◌≢◌, ℕ, ◌≤◌, Result, OnOk, IfErr, IsErrOf}
-use Rattle.fault_count.specs.Count.{Rose}
-use Rattle.iso_refusal.specs.{declared.open_error.OpenError.OpenError, declared.open_error.OpenError.TheVariants.{Damaged, Disk, Memory}}
+use Rattle.counts.specs.Count.{Rose}
+use Rattle.iso_image.specs.{declared.open_error.OpenError.OpenError, declared.open_error.OpenError.TheVariants.{Damaged, Disk, Memory}}
 use Rattle.iso_log.specs.declared.log_error.LogError.{LogError}
 use Rattle.iso_log.specs.declared.log_error.LogError.TheVariants as log
 

@@ -3,8 +3,7 @@ use Rattle.std.specs.Prelude.{◌≡◌, ℕ, zero, suc, ◌+◌, ◌≤◌, ◌
 use Rattle.iso_model.specs.{declared.access.Geometry.Geometry, declared.limits.TheConstants.LAST, Geometry.{header_place, image_size, is_valid, log_place}, Image.{chosen_half, current_half, half_header, superblock}}
 use Rattle.iso_format.specs.{declared.superblock.SuperError.SuperError, Reading.half_of}
 use Rattle.iso_format.specs.declared.superblock.SuperError.TheVariants as super
-use Rattle.iso_image.specs.Half.{in_form}
-use Rattle.iso_refusal.specs.{declared.open_error.OpenError.OpenError, declared.open_error.OpenError.TheVariants.{NotIsotope, BadGeometry, WrongSize, NoHalf}, Refusal.{header_refusal, log_at, log_refusal, refusal}}
+use Rattle.iso_image.specs.{Half.in_form, Refusal.{header_refusal, log_at, log_refusal, refusal}, declared.open_error.OpenError.OpenError, declared.open_error.OpenError.TheVariants.{NotIsotope, BadGeometry, WrongSize, NoHalf}}
 use Rattle.iso_recover.specs.declared.front.Front.{Front}
 
 -- the first test that an image of this size fails up to its halves, by what its superblock says

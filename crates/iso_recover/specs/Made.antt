@@ -1,8 +1,7 @@
 -- What the making of an image leaves of a blank disk.
 use Rattle.std.specs.Prelude.{◌≡◌, ◌⊎◌, ℕ, ◌+◌, ◌-◌, ◌*◌, List, [], ◌∷◌, ◌++◌, Some, length, replicate}
 use Rattle.iso_model.specs.{declared.access.Geometry.Geometry, Geometry.image_size, Image.{Written, half_header, records, superblock}, World.empty_history}
-use Rattle.iso_image.specs.Half.{IsHeld, half_of}
-use Rattle.iso_refusal.specs.{declared.open_error.OpenError.TheVariants.NotIsotope, Refusal.refusal}
+use Rattle.iso_image.specs.{Half.{IsHeld, half_of}, Refusal.refusal, declared.open_error.OpenError.TheVariants.NotIsotope}
 
 -- `size` bytes: 63 of a superblock, its gate, the header of the first half, and zeros
 abbrev pub fronted : (gate : ℕ) → (front header : List ℕ) → (size : ℕ) → List ℕ

@@ -5,7 +5,7 @@ use Rattle.iso_core.specs.{declared.core_itself.Core.Core, declared.opening.Open
 use Rattle.iso_disk.specs.Disk.{DiskState}
 use Rattle.iso_format.specs.Spelled.{Spelled}
 use Rattle.iso_log.specs.Extent.{Extent}
-use Rattle.iso_refusal.specs.Refusal.{opened}
+use Rattle.iso_image.specs.Refusal.{opened}
 use Rattle.iso_recover.specs.declared.front.Front.{Front}
 use Rattle.mv_index.specs.Versions.{BlockVersions, versions_in}
 

@@ -4,7 +4,7 @@ use Rattle.iso_model.specs.{declared.access.Geometry.Geometry, declared.limits.T
 use Rattle.commit_gate.specs.Gate.{IsOpen}
 use Rattle.iso_format.specs.{declared.format_error.FormatError.FormatError, Records.fault_of}
 use Rattle.iso_log.specs.Extent.{Extent}
-use Rattle.iso_refusal.specs.{declared.open_error.OpenError.OpenError, Refusal.{damaged, log_at, log_refusal}}
+use Rattle.iso_image.specs.{declared.open_error.OpenError.OpenError, Refusal.{damaged, log_at, log_refusal}}
 use Rattle.iso_recover.specs.declared.front.Front.{Front}
 use Rattle.mv_index.specs.{Placed.IsIndexOf, Versions.BlockVersions}
 

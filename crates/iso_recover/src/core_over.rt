@@ -2,17 +2,17 @@
 ghost use Rattle.std.specs.{Prelude.{◌≡◌, ◌≤◌, ℕ, List, replicate, Some, IfErr, IfOk, IsTrue}, Option.ForSome};
 ghost use Rattle.iso_model.specs.{Geometry.{image_size, is_valid}, declared.access.Geometry.Geometry, History.History, Image.Shows, World.{empty_history, fresh}};
 ghost use Rattle.iso_disk.specs.Disk.{LeavesOnly, StaysTold, WritesNothing};
-ghost use Rattle.fault_count.specs.Count.{Rose};
+ghost use Rattle.counts.specs.Count.{Rose};
 ghost use Rattle.iso_core.specs.{Core.{StandsFor, disk_of}, Standing.up};
-ghost use Rattle.iso_refusal.specs.Refusal.{refusal};
+ghost use Rattle.iso_image.specs.Refusal.{refusal};
 ghost use Rattle.iso_recover.specs.{Cause.{IsBlamed, IsTest}, Made.IsUnmadeOrEmpty, Opened.{HasOpened, HasReopened}, Shape.IsShaped};
 
 use crate::image::read_image;
 use crate::make::{MakeError, make_image};
 use iso_core::Core;
 use iso_disk::Disk;
+use iso_image::OpenError;
 use iso_model::Geometry;
-use iso_refusal::OpenError;
 use std::alloc::Global;
 
 /// Makes an image of the geometry's form on which nothing was committed of a blank disk, by five calls of the disk, and a

@@ -2,7 +2,7 @@
 ghost use Rattle.std.specs.Prelude.{◌≡◌, ◌≤◌, ℕ, List, length, replicate, IsTrue, OnOk};
 ghost use Rattle.iso_model.specs.Geometry.{image_size, is_valid};
 ghost use Rattle.iso_disk.specs.Disk.{IsSettled, LeavesOnly, StaysTold};
-ghost use Rattle.fault_count.specs.Count.{HasCause};
+ghost use Rattle.counts.specs.Count.{HasCause};
 ghost use Rattle.commit_gate.specs.Gate.{IsClosed};
 ghost use Rattle.iso_recover.specs.Made.{HoldsNothing, IsUnmadeOrEmpty, staged};
 

@@ -1,15 +1,14 @@
 // The front of an image: its geometry, and what its current half says.
 ghost use Rattle.std.specs.{Prelude.{◌≡◌, ◌≢◌, ◌⊎◌, Some, IfErr, IfOk, IsErrOf}, Option.ForSome};
 ghost use Rattle.iso_disk.specs.Disk.{IsSettled, WritesNothing};
-ghost use Rattle.iso_refusal.specs.Refusal.{refusal};
+ghost use Rattle.iso_image.specs.Refusal.{refusal};
 ghost use Rattle.iso_recover.specs.{Cause.{BlamesDisk, IsTest}, Front.{HasFront, IsFront}, Shape.IsShaped};
 
 use crate::halves::current_front;
 use crate::superblock::{read_bytes, read_geometry};
 use iso_disk::Disk;
-use iso_image::half_size;
+use iso_image::{OpenError, half_size};
 use iso_model::Geometry;
-use iso_refusal::OpenError;
 
 /// What the front of an image says: its geometry, with the form of its current half; which half that is, 0 or 1; the
 /// generation of this half, the number of its base, and where its log begins.

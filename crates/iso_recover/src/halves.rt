@@ -2,15 +2,14 @@
 ghost use Rattle.std.specs.Prelude.{◌≡◌, ◌+◌, ◌^◌, ◌<◌, ◌≤◌, ◌==◌, None, Some, length, IfErr, IfOk, IsTrue};
 ghost use Rattle.iso_model.specs.Geometry.{header_place, is_valid};
 ghost use Rattle.iso_format.specs.Reading.{half_of};
-ghost use Rattle.iso_refusal.specs.Refusal.{header_refusal};
+ghost use Rattle.iso_image.specs.Refusal.{header_refusal};
 ghost use Rattle.iso_recover.specs.Front.{IsFrontOf, IsSaid, chosen_by, halves_refusal};
 
 use crate::front::Front;
 use half_switch::choose_half;
 use iso_format::{read_half, unclean_place};
-use iso_image::half_place;
+use iso_image::{OpenError, half_place};
 use iso_model::{Geometry, LAST};
-use iso_refusal::OpenError;
 
 // The first test that the header of a half fails, which stands at this place of the image.
 fn header_refusal(place: u64, header: &[u8]) -> Option<OpenError>

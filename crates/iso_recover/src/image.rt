@@ -2,7 +2,7 @@
 ghost use Rattle.std.specs.{Prelude.{◌≡◌, ◌⊎◌, Some, IfErr, IfOk, IsErrOf}, Option.ForSome};
 ghost use Rattle.iso_model.specs.History.{History};
 ghost use Rattle.iso_disk.specs.Disk.{IsSettled, WritesNothing};
-ghost use Rattle.iso_refusal.specs.Refusal.{refusal};
+ghost use Rattle.iso_image.specs.Refusal.{refusal};
 ghost use Rattle.iso_recover.specs.{Cause.{BlamesDisk, IsTest}, Opened.IsOpened, Shape.IsShaped};
 
 use crate::front::read_front;
@@ -10,7 +10,7 @@ use crate::log::read_log;
 use iso_core::Opened;
 use iso_disk::Disk;
 use iso_format::RecordBuffer;
-use iso_refusal::OpenError;
+use iso_image::OpenError;
 use std::alloc::Global;
 
 /// Reads an image that is opened, or finds the first test that it fails. It begins with a sync, writes nothing, and reads the

@@ -18,5 +18,5 @@ mod superblock;
 
 pub use core_over::{format_image, open_image};
 pub use image::read_image;
-pub use iso_refusal::OpenError;
+pub use iso_image::OpenError;
 pub use make::MakeError;

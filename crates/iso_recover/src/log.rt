@@ -2,15 +2,14 @@
 ghost use Rattle.std.specs.{Prelude.{◌≡◌, ◌+◌, ◌<◌, List, Some, IfErr, IfOk}, Option.ForSome};
 ghost use Rattle.iso_model.specs.Image.{Written};
 ghost use Rattle.iso_disk.specs.Disk.{WritesNothing};
-ghost use Rattle.iso_image.specs.Half.{HasLog};
-ghost use Rattle.iso_refusal.specs.Refusal.{log_at, log_refusal};
+ghost use Rattle.iso_image.specs.{Half.HasLog, Refusal.{log_at, log_refusal}};
 ghost use Rattle.iso_recover.specs.{Cause.{BlamesDisk, IsTest}, Front.IsFront, Scanned.HasRead, Shape.IsShaped};
 
 use crate::front::Front;
 use crate::scan::find_on;
 use iso_disk::Disk;
+use iso_image::OpenError;
 use iso_log::{Log, ReadAhead};
-use iso_refusal::OpenError;
 use mv_index::MvIndex;
 use std::alloc::Global;
 use version_read::take_parts;

@@ -2,7 +2,7 @@
 ghost use Rattle.std.specs.Prelude.{◌≡◌, ◌≤◌, ℕ, List, replicate, IfOk, IsErrOf, IsTrue, OnOk};
 ghost use Rattle.iso_model.specs.{Geometry.{image_size, is_valid}, World.empty_history};
 ghost use Rattle.iso_disk.specs.Disk.{LeavesOnly, StaysTold};
-ghost use Rattle.fault_count.specs.Count.{Rose};
+ghost use Rattle.counts.specs.Count.{Rose};
 ghost use Rattle.iso_recover.specs.{Made.IsUnmadeOrEmpty, Opened.{IsNew, IsOpened}};
 
 use crate::format::put_front;

@@ -7,9 +7,9 @@ ghost use Rattle.iso_log.specs.{Extent.next_place, Scan.{IsFirst, IsFound, Stand
 ghost use Rattle.iso_recover.specs.{Cause.{BlamesDisk, IsTest, opening}, Scanned.IsDamagedBy, Shape.IsShaped};
 
 use iso_disk::Disk;
+use iso_image::OpenError;
 use iso_log::{Log, LogError, ReadAhead};
 use iso_model::{Geometry, LAST};
-use iso_refusal::OpenError;
 
 fn opening(error: LogError) -> OpenError
     ensures { result ≡ opening error }

@@ -3,14 +3,13 @@ ghost use Rattle.std.specs.{Prelude.{◌≡◌, ◌≢◌, ◌+◌, ◌≤◌, O
 ghost use Rattle.iso_model.specs.{Geometry.{image_size, is_valid}, Image.superblock};
 ghost use Rattle.iso_disk.specs.Disk.{WritesNothing};
 ghost use Rattle.iso_format.specs.Reading.{super_of};
-ghost use Rattle.iso_refusal.specs.Refusal.{refusal};
+ghost use Rattle.iso_image.specs.Refusal.{refusal};
 ghost use Rattle.iso_recover.specs.{Cause.{BlamesDisk, IsTest}, Front.super_refusal, Shape.IsShaped};
 
 use iso_disk::Disk;
 use iso_format::{SuperError, read_super};
-use iso_image::image_size;
+use iso_image::{OpenError, image_size};
 use iso_model::Geometry;
-use iso_refusal::OpenError;
 
 /// Reads bytes of the image from a place on.
 pub fn read_bytes<D: Disk>(disk: &mut D, at: u64, into: &mut [u8]) -> Result<(), OpenError>

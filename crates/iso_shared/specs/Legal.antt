@@ -1,6 +1,6 @@
 -- Which lists of entries a shared device may stand for: each entry is the answer that the rules of one thread give at its place.
 use Rattle.std.specs.{Prelude.{◌≡◌, ℕ, ◌+◌, ◌<◌, ◌≤◌, true, List, [], ◌∷◌, Option, Some, None, IsSome, bytes_eq, length, is_some, option_map, slice_get}, Map.lookup, List.AllByRecursion}
-use Rattle.fault_count.specs.Count.{Rose}
+use Rattle.counts.specs.Count.{Rose}
 use Rattle.iso_model.specs.{declared.access.Access.Access, declared.access.EndReply.EndReply, declared.access.EndReply.TheVariants.{Committed, ReadOnly, Conflict}, declared.access.Mode.Mode, declared.limits.TheConstants.MAX_ACCESSES, declared.core_reply.CoreReply.CoreReply, Group.numbers_told, History.{array_at, last}, Premises.{AreAccesses, block_at}, Step.{begin_step, end_step, mode_named, switch_step}, Versions.versions, World.{World, floor, unattached, used}}
 use Rattle.iso_core.specs.declared.group_end.TheConstants.{MAX_GROUP}
 use Rattle.iso_model.specs.declared.core_reply.CoreReply.TheVariants as reply

@@ -10,6 +10,7 @@ use crate::shared::Shared;
 use crate::told::Told;
 use crate::tx::Tx;
 use conflict_rule::{Checked, Notes, decide};
+use counts::{Ledger, Steps};
 use iso_core::Recent;
 use iso_disk::Disk;
 use iso_model::{Clash, CoreError};
@@ -17,7 +18,6 @@ use std::marker::Brand;
 use std::snapshot::Snapshot;
 use std::sync::Wait;
 use std::sync::ledger::Blank;
-use step_count::{Ledger, Steps};
 use tx_table::Work;
 
 impl<D: Disk + Drop, O: Origin> Shared<D, O> {

@@ -10,11 +10,11 @@ use crate::guarded::Origin;
 use crate::shared::{Port, Shared};
 use crate::told::Told;
 use crate::tx::Tx;
+use counts::{Ledger, Steps};
 use iso_disk::Disk;
 use iso_model::{CoreError, EndReply};
 use std::snapshot::Snapshot;
 use std::sync::Wait;
-use step_count::{Ledger, Steps};
 use tx_table::Work;
 
 // Settles the work ahead of the turn. Where memory is wanting, the end tells so.

@@ -1,8 +1,8 @@
 -- What the status of a call on an image has for its cause.
 use Rattle.iso_top.proofs.Words.{◌≡◌, ◌≢◌, ◌⊎◌, inl, inr, ⊎_elim, ℕ, List, Option, Some, None, IfSome, refl, sym, ap, subst, ForSome, Task, New, Run, Par, Recover, Bench, made_geometry, Rose, DiskState, SinkState, SourceState, Geometry, BadLine, Line, bench_output, bench_world, recover_output, Script, script, OpenError, refusal, start_at, Part, RunEnd, AreLinesOf, HasRun, HasAnswered, HasBenched, HasMet, HasNotBegun, HasRecovered, IsAccepted, IsGoodInput, IsStatus, PrintedBench, PrintedDigest, PrintedResult, ScriptError, HasRunClients, HasRunNone, PrintedClients, WereRun, SinkFailed, TellsNamed, end_status, error_status, script_error_status}
-use Rattle.iso_refusal.specs.declared.open_error.OpenError.TheVariants as error
+use Rattle.iso_image.specs.declared.open_error.OpenError.TheVariants as error
 use Rattle.script_runner.specs.declared.run_end.RunEnd.TheVariants as end
-use Rattle.whole_script.specs.declared.lines.ScriptError.TheVariants as lines
+use Rattle.script_runner.specs.declared.lines.ScriptError.TheVariants as lines
 
 -- what a status tells of the counts
 pub record HasCauses (status : ℕ) (disk_old disk_new : DiskState) (input_old input_new : SourceState) (output_old output_new : SinkState) : Type 0 where

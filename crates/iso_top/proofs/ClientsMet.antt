@@ -1,6 +1,6 @@
 -- A run of clients on an image that was opened, as the whole call has done it.
 use Rattle.iso_top.proofs.{Words.{same_Some, ◌≡◌, ◌⊎◌, inl, inr, ⊎_elim, ◌≤◌, ℕ, List, Option, None, refl, sym, ◌∙◌, ap, subst, arith, Rose, Core, StandsFor, disk_of, up, DiskState, IsBoundTo, IsLawful, LeavesOnly, joined, lasts, since_bind, still_bound, weakened, SinkState, SourceState, Geometry, Line, World, start_at, whole, between_grown, grows_all, ShowsBetween, Start, State, state_at, OpenError, ParEnd, files_answer_at, lines_tell, script_lines, AreLines, Script, stores_answer_at, ScriptError, HasNoLines, HasRead, Opened, HasCore, HasNoCore, HasRunClients, HasRunNone, BeginsWith, HasNotBegun, Printed, HasClosed, HasRunLines, PutOf, OpensTo, error_text, script_error_status, script_error_text}, RunsOfClients.{failed_run, images_shown, were_run}}
-use Rattle.whole_script.specs.declared.lines.ScriptError.TheVariants as error
+use Rattle.script_runner.specs.declared.lines.ScriptError.TheVariants as error
 
 -- nothing was begun
 pub none_begun : {D : Type 0} (state : D → DiskState) (made : Option Geometry) (name : List ℕ) (e : OpenError) (given left image : D) (input : SourceState) (output_old output_new : SinkState)

@@ -1,3 +1,6 @@
+pub mod DigestWords
+mod Blocks
+mod Begun
 pub mod Words
 mod Beginnings
 mod Runs

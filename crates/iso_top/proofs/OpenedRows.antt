@@ -1,7 +1,7 @@
 -- What scripts begin with on images that were opened: computed from the bytes.
 use Rattle.iso_top.proofs.Words.{option_map, codes, fresh, super_of, half_of, fault_of, parts_fault, put, blank, one_commit, with_piece, answers, text, operation_of, other_operation, step, begin_step, words_of, number_of, reply_text, digits, numbers, versions, get_step, runs}
 use Rattle.std.specs.Prelude.{◌≡◌, [], ◌∷◌, ℕ, List, Some, refl}
-use Rattle.iso_refusal.proofs.Words.{Opened, opened, refusal}
+use Rattle.iso_image.proofs.RefusalWords.{Opened, opened, refusal}
 
 -- a half with commit 5 as its base and commit 6 behind it, which writes 01 at byte 6 of block 2
 abbrev later_half : List ℕ

@@ -1,6 +1,6 @@
 -- The laws that say what the promise means, from its records.
 use Rattle.iso_top.proofs.Words.{◌≡◌, ◌⊎◌, inl, inr, ⊎_elim, ℕ, ◌≤◌, List, Option, Some, None, IfSome, IsSome, refl, sym, ◌∙◌, ap, subst, arith, New, Run, Recover, DiskState, SinceBind, SinkState, Wrote, SourceState, Geometry, ShowsBetween, last, World, empty_history, fresh, OpenError, image_opens, Line, answers_to, recover_output, IsOp, Script, after, replies, script, RunEnd, AreSameButShown, TellsCommit, text_of, Acknowledges, AreLinesOf, ArePlain, told_kept, plain_same, all_first, HasRunClients, HasAnswered, HasMet, PrintedDigest, OpensFrom, PrintsButShown, PrintsButShownOf, PrintsDigestOf, PrintsReplies, PrintsRepliesOf, MayBeUnmade, OpensTo, TellsNamed, end_status, error_status}
-use Rattle.iso_refusal.specs.declared.open_error.OpenError.TheVariants as error
+use Rattle.iso_image.specs.declared.open_error.OpenError.TheVariants as error
 use Rattle.script_runner.specs.declared.run_end.RunEnd.TheVariants as end
 
 zero_is_done : (e : RunEnd) → 0 ≡ end_status e → e ≡ end.Done

@@ -1,6 +1,6 @@
 -- What is put of a digest.
 use Rattle.iso_top.proofs.Words.{◌≡◌, ◌⊎◌, inl, inr, ℕ, ◌-◌, List, Option, Some, None, IsSome, Result, Ok, Err, IfOk, IsErrOf, refl, ForSome, sha256, DigestError, DiskState, SinkState, array_bytes, History, array_at, last, PrintedDigest, Printed, WasCut, WroteWhole, disk_fault_text, memory_text, recover_text}
-use Rattle.array_digest.specs.declared.digest.DigestError.TheVariants as error
+use Rattle.iso_top.specs.declared.digest.DigestError.TheVariants as error
 
 pub some_of : (o : Option (List ℕ)) → IsSome o → (c : List ℕ) × (o ≡ Some c)
 some_of (Some c) is = (c, refl)

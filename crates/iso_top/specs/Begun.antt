@@ -4,7 +4,7 @@ use Rattle.iso_disk.specs.Disk.{DiskState, LeavesOnly}
 use Rattle.iso_model.specs.{declared.access.Geometry.Geometry, declared.limits.TheConstants.LAST, World.World, Between.ShowsBetween}
 use Rattle.iso_core.specs.{declared.core_itself.Core.Core, Core.{StandsFor, disk_of}, Standing.up}
 use Rattle.iso_recover.specs.Cause.{IsBlamed, IsTest}
-use Rattle.iso_refusal.specs.{declared.open_error.OpenError.OpenError, Refusal.refusal}
+use Rattle.iso_image.specs.{declared.open_error.OpenError.OpenError, Refusal.refusal}
 use Rattle.iso_top.specs.Starts.{GoesOnTelling, IsUnbegun, IsUntouched, MayBeUnmade, StartsFrom, WasBoundOnce}
 
 -- The core is up and stands for the world that the call begins with, which has no live transaction. Its disk was bound to the

@@ -1,6 +1,6 @@
 -- What clients that ran concurrently on an image have done.
 use Rattle.std.specs.Prelude.{◌≡◌, ◌⊎◌, ℕ, List, [], ◌++◌, Option, Some, None}
-use Rattle.fault_count.specs.Count.{Rose}
+use Rattle.counts.specs.Count.{Rose}
 use Rattle.iso_core.specs.Standing.{ShowsWith}
 use Rattle.iso_model.specs.{Between.ShowsLast, declared.access.Commit.Commit, World.World}
 use Rattle.iso_disk.specs.Disk.{DiskState, IsBoundTo, SinceBind}
@@ -8,11 +8,9 @@ use Rattle.iso_io.specs.{Sink.SinkState, Source.SourceState}
 use Rattle.script_model.specs.declared.script.Line.{Line}
 use Rattle.iso_shared.specs.{declared.entry.Entry.Entry, Ports.IsIsolatedAt, Standing.{HaveEnded, ShowsSince, start_at}, States.{Start, State, state_at}}
 use Rattle.par_lines.specs.Ends.{status_of}
-use Rattle.par_script.specs.Told.{Told}
-use Rattle.par_text.specs.{declared.part.Part.Part, Output.{IsFront, IsOutput}}
-use Rattle.par_calls.specs.InOrder.{LinesTellCalls}
-use Rattle.store_entries.specs.InOrder.{FilesAnswerAt, StoresAnswerAt}
-use Rattle.whole_script.specs.{declared.lines.ScriptError.ScriptError, Read.{HasNoLines, HasRead}}
+use Rattle.par_script.specs.{Output.{IsFront, IsOutput}, Told.Told, declared.part.Part.Part}
+use Rattle.par_calls.specs.{EntriesInOrder.{FilesAnswerAt, StoresAnswerAt}, InOrder.LinesTellCalls}
+use Rattle.script_runner.specs.{declared.lines.ScriptError.ScriptError, Read.{HasNoLines, HasRead}}
 use Rattle.iso_top.specs.{Prints.{Printed, WasCut, WroteWhole}, Starts.{GoesOnTelling, IsUntouched, OpensTo, WasBoundOnce}, Texts.{disk_fault_text, memory_text, script_error_text}}
 
 -- The image was opened, and no line of the script was run, for this reason: it has a bad line, its source failed, or memory was

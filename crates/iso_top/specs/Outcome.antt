@@ -1,18 +1,17 @@
 -- What a call on an image has done.
 use Rattle.std.specs.{Prelude.{◌≡◌, ◌≢◌, ◌⊎◌, ℕ, List, [], ◌++◌, Option, Some, None, filter, length}, Option.ForSome}
 use Rattle.command_line.specs.{declared.task.Task.Task, declared.task.Task.TheVariants.{New, Run, Par, Recover, Bench}, Requests.made_geometry}
-use Rattle.fault_count.specs.Count.{Rose}
+use Rattle.counts.specs.Count.{Rose}
 use Rattle.iso_disk.specs.Disk.{DiskState, IsBoundTo, SinceBind}
 use Rattle.iso_io.specs.{Source.SourceState, Sink.SinkState}
 use Rattle.iso_model.specs.{declared.access.Geometry.Geometry, History.History, World.World, Worlds.IsWorld, Between.ShowsBetween}
 use Rattle.script_model.specs.{declared.script.Line.Line, declared.script.Reply.Reply, Bench.{bench_geometry, bench_output, bench_text, bench_world, is_committed, is_conflict, recover_output}, Script.{after, script}}
 use Rattle.iso_recover.specs.Cause.{IsBlamed, IsTest}
-use Rattle.iso_refusal.specs.{declared.open_error.OpenError.OpenError, Refusal.refusal}
-use Rattle.script_runner.specs.{declared.run_end.RunEnd.RunEnd, Replies.text_of, Run.HasRun}
+use Rattle.iso_image.specs.{declared.open_error.OpenError.OpenError, Refusal.refusal}
+use Rattle.script_runner.specs.{Replies.text_of, Run.HasRun, declared.lines.ScriptError.ScriptError, declared.run_end.RunEnd.RunEnd}
 use Rattle.script_runner.specs.declared.run_end.RunEnd.TheVariants as end
 use Rattle.sha2.specs.Sha256.{sha256}
 use Rattle.store_scripts.specs.InOrder.{FilesAnswer, StoresAnswer}
-use Rattle.whole_script.specs.declared.lines.ScriptError.{ScriptError}
 use Rattle.iso_top.specs.{Clients.{HasRunClients, HasRunNone}, Prints.{Printed, WasCut, WroteWhole}, Starts.{GoesOnTelling, IsUnbegun, IsUntouched, MayBeUnmade, OpensTo, StartsFrom, TellsNamed, WasBoundOnce}, Texts.{bench_text_of, disk_fault_text, end_status, end_text, error_status, error_text, memory_text, script_error_status, usage_text}}
 
 -- one of the statuses of the program

@@ -3,7 +3,7 @@ use Rattle.std.specs.Prelude.{◌≡◌, ℕ, ◌-◌, ◌*◌, ◌≤◌, List,
 use Rattle.bench_script.specs.Rounds.{one_places}
 use Rattle.iso_io.specs.Sink.{SinkState, Wrote}
 use Rattle.iso_model.specs.{declared.access.Geometry.Geometry, History.{History, last}, Image.IsImage, World.{World, fresh}}
-use Rattle.iso_refusal.specs.Refusal.{opened, refusal}
+use Rattle.iso_image.specs.Refusal.{opened, refusal}
 use Rattle.script_model.specs.{declared.script.Reply.Reply, Bench.{answers_to, recover_output}, Script.{replies, script}}
 use Rattle.script_runner.specs.Replies.{AreSameButShown, text_of}
 use Rattle.iso_top.specs.{Starts.OpensTo, Texts.bench_text_of}

@@ -1,6 +1,6 @@
 -- What the sink has of a text that was put to it.
 use Rattle.std.specs.Prelude.{◌⊎◌, ℕ, List}
-use Rattle.fault_count.specs.Count.{Rose}
+use Rattle.counts.specs.Count.{Rose}
 use Rattle.iso_io.specs.Sink.{SinkState, CountsStand, Wrote, WroteFront}
 
 -- the sink failed in the call, or it took nothing of a piece that is not empty

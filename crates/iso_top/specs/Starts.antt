@@ -1,11 +1,11 @@
 -- What a call begins with.
 use Rattle.std.specs.{Prelude.{◌≡◌, ◌⊎◌, ℕ, List, Option, Some, None, IsSome}, Option.ForSome}
-use Rattle.fault_count.specs.Count.{one_more}
+use Rattle.counts.specs.Count.{one_more}
 use Rattle.iso_disk.specs.Disk.{DiskState, IsBoundTo, SinceBind}
 use Rattle.iso_model.specs.{declared.access.Geometry.Geometry, History.History, World.{World, empty_history, fresh}}
 use Rattle.iso_recover.specs.{Made.{IsUnmade, IsUnmadeOrEmpty}, Opened.TellsImage}
-use Rattle.iso_refusal.specs.declared.open_error.OpenError.{OpenError}
-use Rattle.iso_refusal.specs.declared.open_error.OpenError.TheVariants as error
+use Rattle.iso_image.specs.declared.open_error.OpenError.{OpenError}
+use Rattle.iso_image.specs.declared.open_error.OpenError.TheVariants as error
 
 -- The disk tells what the name names, before it is bound.
 abbrev pub TellsNamed : List ℕ → DiskState → Type 0

@@ -1,12 +1,11 @@
 -- The last lines that the program prints.
 use Rattle.std.specs.Prelude.{ℕ, List, [], ◌∷◌, ◌++◌, codes, decimal, flat_map}
 use Rattle.script_model.specs.{declared.script.BadLine.BadLine, Text.hex_text}
-use Rattle.iso_refusal.specs.declared.open_error.OpenError.{OpenError}
-use Rattle.iso_refusal.specs.declared.open_error.OpenError.TheVariants as error
-use Rattle.script_runner.specs.declared.run_end.RunEnd.{RunEnd}
+use Rattle.iso_image.specs.declared.open_error.OpenError.{OpenError}
+use Rattle.iso_image.specs.declared.open_error.OpenError.TheVariants as error
+use Rattle.script_runner.specs.{declared.lines.ScriptError.ScriptError, declared.run_end.RunEnd.RunEnd}
 use Rattle.script_runner.specs.declared.run_end.RunEnd.TheVariants as end
-use Rattle.whole_script.specs.declared.lines.ScriptError.{ScriptError}
-use Rattle.whole_script.specs.declared.lines.ScriptError.TheVariants as script
+use Rattle.script_runner.specs.declared.lines.ScriptError.TheVariants as script
 
 -- a text and its line feed
 abbrev pub line : List ℕ → List ℕ

@@ -19,12 +19,12 @@ use iso_shared::{Origin, Shared};
 use par_lines::{ParEnd, par_lines};
 use par_runner::Gate;
 use script_model::Line;
+use script_runner::read_script;
 use std::alloc::Global;
 use std::marker::Brand;
 use std::snapshot::Snapshot;
 use std::sync::Wait;
 use std::thread::Threads;
-use whole_script::read_script;
 
 /// Runs clients over a core, in threads, and hands the image back. Without memory nothing is run.
 fn run_over<I: Image + Drop + Send, O: Origin + Send + Sync, G: Gate, R: Threads + Wait + Sync>(

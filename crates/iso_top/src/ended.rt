@@ -3,10 +3,9 @@ ghost use Rattle.std.specs.Prelude.{◌≡◌};
 ghost use Rattle.iso_top.specs.{Prints.Printed, Texts.{end_status, error_status, error_text, script_error_status}};
 
 use crate::last_line::{error_line, put_last};
+use iso_image::OpenError;
 use iso_io::Sink;
-use iso_refusal::OpenError;
-use script_runner::RunEnd;
-use whole_script::ScriptError;
+use script_runner::{RunEnd, ScriptError};
 
 /// What the top call ends with: the status of the program, and the image.
 #[derive(Drop)]

@@ -4,11 +4,11 @@ ghost use Rattle.arrayvec.specs.ArrayVec.{array_vec_len};
 ghost use Rattle.iso_top.specs.{Prints.Printed, Texts.{bad_line_text, error_text, script_error_text, usage_text}};
 
 use arrayvec::ArrayVec;
+use iso_image::OpenError;
 use iso_io::{Sink, put_all};
-use iso_refusal::OpenError;
 use itoa::Buffer;
 use script_model::BadLine;
-use whole_script::ScriptError;
+use script_runner::ScriptError;
 
 /// How many bytes a last line may have.
 const ROOM: usize = 128;

@@ -1,12 +1,14 @@
 //! The call that the program makes: it makes an image or opens one, and answers a script on it, or runs its clients in threads.
 //!
-//! `isotope` does what the words ask for (`met`, in plain words in `laws`), each status has its cause (`words`, `disk`, `input`,
-//! `output`), and the status is 0 where nothing fails (`complete`), but for want of memory, which no clause excludes.
+//! `met` has the promises of replies, order, crashes and stores, by the task; `complete`, `status`, `words`, `disk`, `input`,
+//! `output` the causes of statuses. `laws` says `met` in words of images and texts. `digest_of` is the digest of the last array
+//! (`digest`), and writes nothing (`unwritten`). `docs/promises.md` has all, and what is not promised.
 #![tactic(auto)]
 
 mod beginning;
 mod bench;
 mod clients;
+mod digest;
 mod ended;
 mod engine;
 mod last_line;
@@ -17,5 +19,6 @@ mod result_line;
 mod script;
 mod top;
 
+pub use digest::{DigestError, digest_of};
 pub use ended::Ended;
 pub use top::{alone, isotope};

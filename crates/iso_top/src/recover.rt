@@ -1,15 +1,15 @@
 // What an image holds.
 ghost use Rattle.std.specs.Prelude.{◌≡◌, ◌≢◌, ◌⊎◌, ◌+◌, ◌≤◌, [], IfOk, IsErrOf, IsSome};
-ghost use Rattle.fault_count.specs.Count.{Rose};
+ghost use Rattle.counts.specs.Count.{Rose};
 ghost use Rattle.iso_core.specs.{Core.{StandsFor, disk_of}, Standing.up};
 ghost use Rattle.iso_disk.specs.Disk.{WritesNothing};
 ghost use Rattle.iso_model.specs.{declared.limits.TheConstants.LAST, World.World};
 ghost use Rattle.iso_top.specs.{Outcome.PrintedDigest, Prints.{Printed, WasCut, WroteWhole}, Texts.{disk_fault_text, memory_text, recover_text}};
 
+use crate::digest::{DigestError, digest_of};
 use crate::ended::Ended;
 use crate::last_line::put_last;
 use crate::result_line::{put_result, recover_line};
-use array_digest::{DigestError, digest_of};
 use iso_core::Core;
 use iso_disk::Image;
 use iso_io::Sink;

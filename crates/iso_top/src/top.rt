@@ -1,7 +1,7 @@
 // The top call.
 ghost use Rattle.std.specs.{Prelude.{◌≡◌, ◌≢◌, ◌⊎◌, IfSome, IsNone}, Option.ForSome};
 ghost use Rattle.command_line.specs.{declared.task.Task.TheVariants.Par, Grammar.texts, Requests.{made_geometry, request_of, KeepsLimits}};
-ghost use Rattle.fault_count.specs.Count.{Rose};
+ghost use Rattle.counts.specs.Count.{Rose};
 ghost use Rattle.iso_top.specs.{Outcome.{HasMet, HasNoWords, HasRefusedWords, IsAccepted, IsGoodInput, IsStatus}, Prints.{Printed, SinkFailed}, Texts.{memory_text, usage_text}};
 
 use crate::bench::answer_drawn;

@@ -1,7 +1,7 @@
 // The disk whose pages are kept.
 ghost use Rattle.std.specs.{Prelude.{◌≡◌, ◌+◌, ◌≤◌, ℕ, List, Some, None, length, replicate, OnOk, OnErr, IfNone, IfSome, IsSome, IsOk}, List.slice_range, Option.ForSome};
 ghost use Rattle.iso_disk.specs.Disk.{TornFrom, Splices, TellsTorn, IsSettled, Elapses};
-ghost use Rattle.fault_count.specs.Count.{one_more, HasCause};
+ghost use Rattle.counts.specs.Count.{one_more, HasCause};
 ghost use Rattle.kept_disk.specs.Pages.{HoldsNone, HoldsRange, Stand};
 
 use crate::pages::Pages;

@@ -1,7 +1,7 @@
 // Pages: bytes of a disk that are kept in memory, and which of its pages these are.
 ghost use Rattle.std.specs.{Prelude.{◌≡◌, ◌+◌, ◌*◌, ◌/◌, ◌%◌, ◌<◌, ◌≤◌, ◌++◌, ◌↔◌, ℕ, List, Some, None, length, set, take, drop, IsTrue, IfOk, IsOk, OnOk, slice_get, slice_index, vec_capacity}, Option.ForSome};
 ghost use Rattle.iso_disk.specs.Disk.{Elapses, Torn, spliced};
-ghost use Rattle.fault_count.specs.Count.{HasCause};
+ghost use Rattle.counts.specs.Count.{HasCause};
 ghost use Rattle.kept_disk.specs.Pages.{AreLaid, Covers, HoldsNone, IsHeld, Stand, from_of};
 
 use iso_disk::{Disk, DiskFault};

@@ -1,7 +1,7 @@
 // Reads and writes, one page at a time.
 ghost use Rattle.std.specs.{Prelude.{◌≡◌, ◌+◌, ◌/◌, ◌%◌, ◌^◌, ◌<◌, ◌≤◌, ℕ, List, length, take, drop, OnOk, IsOk, slice_get, true}, Option.ForSome};
 ghost use Rattle.iso_disk.specs.Disk.{Elapses, spliced};
-ghost use Rattle.fault_count.specs.Count.{HasCause};
+ghost use Rattle.counts.specs.Count.{HasCause};
 ghost use Rattle.kept_disk.specs.Pages.{HoldsRange, IsHeld, Stand};
 
 use crate::pages::{PAGE, Pages};

@@ -1,6 +1,6 @@
 -- What an adopt makes of the side that it chose, and of the other one.
 use Rattle.std.specs.{Prelude.{◌≡◌, ◌≢◌, ◌⊎◌, ℕ, ◌<◌, ◌≤◌, List, Some, None}, Option.ForSome}
-use Rattle.fault_count.specs.Count.{Rose}
+use Rattle.counts.specs.Count.{Rose}
 use Rattle.iso_disk.specs.Disk.{DiskState, IsSettled, WritesNothing}
 use Rattle.mirror_disk.specs.{declared.slot.Slot.Slot, Header.{IsHeader, body, chosen, epoch, last_epoch}, Pairs.ChosenOf, Raised.HasEpoch}
 

@@ -1,7 +1,7 @@
 -- Why a call of a mirror may fail, by the counts of its sides.
 use Rattle.std.specs.Prelude.{◌≡◌, ◌≢◌, ◌⊎◌, ℕ, ◌≤◌, Bool, true, false}
 use Rattle.iso_disk.specs.Disk.{DiskState, IsSettled}
-use Rattle.fault_count.specs.Count.{Rose}
+use Rattle.counts.specs.Count.{Rose}
 use Rattle.mirror_disk.specs.{declared.used.Used.Used, declared.used.Used.TheVariants.{Plain, Both, OnlyFirst, OnlySecond, Broken, Unbound}, Raised.KeepsBody, Header.last_epoch}
 
 -- each side in use has failed; these are the counts of the first side before and after the call, and those of the second one

@@ -1,7 +1,7 @@
 // Taking two sides that hold a mirror.
 ghost use Rattle.std.specs.{Prelude.{◌≡◌, ◌≢◌, ◌↔◌, ◌⊎◌, ◌+◌, ◌<◌, ◌≤◌, [], ℕ, List, None, Err, Some, IfErr, IfOk, IfSome, OnOk, OnErr}, Option.ForSome};
 ghost use Rattle.iso_disk.specs.Disk.{IsSettled, WritesNothing};
-ghost use Rattle.fault_count.specs.Count.{Rose};
+ghost use Rattle.counts.specs.Count.{Rose};
 ghost use Rattle.mirror_disk.specs.{Adopting.{AdoptFails, AdoptRefuses, AdoptsFrom, LeavesAlike}, declared.adopt.MirrorError.TheVariants.{Disk, NotMirror, SizesDiffer}, Header.{IsHeader, body, chosen, last_epoch}, Pairs.{ChosenOf, chosen_told, mirrored}, declared.used.Used.TheVariants.{Both, Broken, OnlyFirst, OnlySecond}, Raised.HasEpoch, Standing.{IsPair, StandsBy}};
 
 use crate::header::read_header;

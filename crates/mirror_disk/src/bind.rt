@@ -1,7 +1,7 @@
 // Binding a mirror to a name.
 ghost use Rattle.std.specs.{Prelude.{◌≡◌, ◌≢◌, ◌⊎◌, ◌+◌, ◌-◌, ◌^◌, ◌<◌, ◌≤◌, [], ℕ, List, Some, None, true, false, length, replicate, IfOk, OnOk, OnErr, IfNone, IfSome, IsSome}, Option.ForSome};
 ghost use Rattle.iso_disk.specs.Disk.{IsSettled};
-ghost use Rattle.fault_count.specs.Count.{HasCause, Rose, one_more};
+ghost use Rattle.counts.specs.Count.{HasCause, Rose, one_more};
 ghost use Rattle.mirror_disk.specs.{Adopting.{AdoptRefuses, WasBound}, declared.used.Used.TheVariants.{Both, Broken, OnlyFirst, OnlySecond, Plain, Unbound}, Pairs.{chosen_told, first_name, mirrored, names_mirror, second_name}, Standing.{IsPair, StandsBy, state_by}};
 
 use crate::adopt::adopt_sides;
@@ -13,7 +13,7 @@ use crate::parts::count;
 use crate::past::Past;
 use crate::sides::HEADER;
 use crate::used::Used;
-use fault_count::raise;
+use counts::raise;
 use iso_disk::{Disk, DiskFault, Image};
 
 /// The largest size of a mirror.

@@ -1,7 +1,7 @@
 // A mirror as a disk.
 ghost use Rattle.std.specs.{Prelude.{◌≡◌, ◌≢◌, ◌⊎◌, ◌+◌, ◌≤◌, false, length, OnOk, OnErr}, List.slice_range, Option.ForSome};
 ghost use Rattle.iso_disk.specs.Disk.{Elapses, IsSettled, Splices, TellsTorn, TornFrom};
-ghost use Rattle.fault_count.specs.Count.{HasCause, Rose};
+ghost use Rattle.counts.specs.Count.{HasCause, Rose};
 ghost use Rattle.mirror_disk.specs.{declared.used.Used.TheVariants.{Both, Broken, Unbound}, Failing.{AllFailed, CannotLeave, LeavesFailed}, Standing.sides_in};
 
 use crate::mirror::Mirror;

@@ -1,7 +1,7 @@
 // The first 64 bytes of a side.
 ghost use Rattle.std.specs.{Prelude.{◌≡◌, ◌≢◌, ◌+◌, ◌≤◌, ℕ, List, length, take, drop, replicate, true, false, IfOk, IfSome, IfNone, OnOk, None}, Option.ForSome};
 ghost use Rattle.iso_disk.specs.Disk.{IsSettled, Splices, WritesNothing};
-ghost use Rattle.fault_count.specs.Count.{HasCause};
+ghost use Rattle.counts.specs.Count.{HasCause};
 ghost use Rattle.mirror_disk.specs.{Header.{IsHeader, IsSlot, blank_header, last_epoch, slot_epoch, word}, Raised.HasEpoch};
 
 use crate::raise::ZEROS;

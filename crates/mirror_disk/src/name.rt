@@ -1,7 +1,7 @@
 // The names of a mirror and of its sides.
 ghost use Rattle.std.specs.{Prelude.{◌≡◌, ◌+◌, ◌<◌, ◌≤◌, [], ◌∷◌, ◌++◌, ℕ, List, Some, None, length, take, replicate, OnOk, IfNone, IfSome, IsSome}, Option.ForSome};
 ghost use Rattle.iso_disk.specs.Disk.{IsSettled};
-ghost use Rattle.fault_count.specs.Count.{HasCause};
+ghost use Rattle.counts.specs.Count.{HasCause};
 ghost use Rattle.mirror_disk.specs.Pairs.{names_mirror};
 
 use iso_disk::{DiskFault, Image};

@@ -1,14 +1,14 @@
 // The calls of a mirror, over its parts: which sides are asked, and what is known of them afterwards.
 ghost use Rattle.std.specs.{Prelude.{◌≡◌, ◌≢◌, ◌⊎◌, ◌+◌, ◌≤◌, ℕ, length, true, false, OnOk, OnErr}, List.slice_range, Option.ForSome};
 ghost use Rattle.iso_disk.specs.Disk.{Elapses, IsSettled, Splices, TellsTorn, TornFrom};
-ghost use Rattle.fault_count.specs.Count.{HasCause, Rose};
+ghost use Rattle.counts.specs.Count.{HasCause, Rose};
 ghost use Rattle.mirror_disk.specs.{declared.used.Used.TheVariants.{Both, Broken, Unbound}, Failing.{AllFailed, CannotLeave, LeavesFailed}, Standing.{StandsBy, sides_in, state_by}};
 
 use crate::marks::Marks;
 use crate::past::Past;
 use crate::sides::{read_sides, sync_sides, write_sides};
 use crate::used::Used;
-use fault_count::raise;
+use counts::raise;
 use iso_disk::{Disk, DiskFault};
 
 /// Counts a fault where a call was not done.

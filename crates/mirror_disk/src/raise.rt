@@ -2,7 +2,7 @@
 ghost use Rattle.std.specs.Prelude.{◌≡◌, ◌<◌, ◌≤◌, ℕ, List, OnOk};
 ghost use Rattle.iso_disk.specs.Disk.{IsSettled, LeavesOnly};
 ghost use Rattle.commit_gate.specs.Gate.{IsClosed};
-ghost use Rattle.fault_count.specs.Count.{HasCause};
+ghost use Rattle.counts.specs.Count.{HasCause};
 ghost use Rattle.mirror_disk.specs.{Slots.{other, place}, Header.{last_epoch, slot_body}, Raised.{HasEpoch, HoldsEpoch, IsMarked, KeepsBody, Raising, Still}};
 
 use crate::slot::Slot;

@@ -1,7 +1,7 @@
 // Calls on the two sides of a mirror.
 ghost use Rattle.std.specs.{Prelude.{◌≡◌, ◌≢◌, ◌⊎◌, ◌∷◌, ◌+◌, ◌≤◌, ℕ, List, length, true, false}, List.slice_range, Option.{ForSome, option_map}};
 ghost use Rattle.iso_disk.specs.Disk.{IsSettled, LeavesOnly, Torn, spliced};
-ghost use Rattle.fault_count.specs.Count.{Rose};
+ghost use Rattle.counts.specs.Count.{Rose};
 ghost use Rattle.mirror_disk.specs.{Ended.{BothAsked, HasEnded}, Raised.{HasEpoch, IsMarked, KeepsBody, Raising}, declared.slot.Slot.Slot, declared.used.Used.TheVariants.{Both, Broken}, Header.last_epoch, Becoming.MirrorBecomes, Failing.{AllFailed, CannotLeave, HasLeft, LeavesFailed}, Pairs.{chosen_told, mirrored}, Slots.other, Standing.{ArePair, AreBoth, IsPair, Stands, sides_in}};
 
 use crate::raise::raise_epoch;

@@ -1,7 +1,7 @@
 // Making the other side as the one that was chosen.
 ghost use Rattle.std.specs.Prelude.{◌≡◌, ◌⊎◌, ◌+◌, ◌≤◌, ℕ, List, None, Some, IfOk, IfSome, OnOk, OnErr};
 ghost use Rattle.iso_disk.specs.Disk.{IsSettled, LeavesOnly, WritesNothing};
-ghost use Rattle.fault_count.specs.Count.{HasCause, Rose};
+ghost use Rattle.counts.specs.Count.{HasCause, Rose};
 ghost use Rattle.mirror_disk.specs.{Adopting.{AreAlike, OfChosen, OfOther, TellsOn}, Header.{body, last_epoch}, Raised.{HasEpoch, KeepsBody}, Slots.other};
 
 use crate::copy::copy_body;

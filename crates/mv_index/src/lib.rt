@@ -17,7 +17,7 @@ mod trim;
 mod version;
 mod weight;
 
+pub use counts::{Blank, Ledger, Steps};
 pub use index::MvIndex;
 pub use mask::see;
-pub use step_count::{Blank, Ledger, Steps};
 pub use version::Version;

@@ -1,3 +1,9 @@
+pub mod EntryWords
+pub mod Since
+pub mod Numbers
+pub mod Members
+pub mod Listed
+mod Traps
 pub mod Words
 pub mod Events
 pub mod Agree

@@ -5,11 +5,10 @@ use Rattle.iso_model.specs.declared.access.GroupReply.TheVariants as member
 use Rattle.script_model.specs.declared.script.Line.{Line}
 use Rattle.iso_shared.specs.{declared.entry.Entry.Entry, declared.entry.MemberEnd.MemberEnd, States.Start}
 use Rattle.iso_shared.specs.declared.entry.Entry.TheVariants as entry
-use Rattle.par_text.specs.declared.part.Part.{Part}
-use Rattle.store_entries.specs.InOrder.{begin_array, world_at}
+use Rattle.par_script.specs.declared.part.Part.{Part}
+use Rattle.par_calls.specs.{EntriesInOrder.{begin_array, world_at}, Notes.{Notes, no_notes, notes_after}, Trace.{Event, IsTrace, Made, entries_in}}
 use Rattle.store_laws.specs.Both.{BothWellFormed}
 use Rattle.store_scripts.specs.{Kept.{ToldByMap, ToldInOrder}, Stores.{SecondStore, image_hash, second_store, the_files, the_tree}, Told.Told}
-use Rattle.par_calls.specs.{Notes.{Notes, no_notes, notes_after}, Trace.{Event, IsTrace, Made, entries_in}}
 
 -- where a member is told that it is a commit, with its number
 abbrev pub WhereCommitted : (ℕ → Type 0) → GroupReply → Type 0

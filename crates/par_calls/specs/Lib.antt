@@ -1,3 +1,4 @@
+pub mod EntriesInOrder
 pub mod Trace
 pub mod Notes
 pub mod InOrder

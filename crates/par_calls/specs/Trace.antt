@@ -4,8 +4,7 @@ use Rattle.iso_model.specs.declared.access.Geometry.{Geometry}
 use Rattle.script_model.specs.{declared.script.Line.Line, declared.script.Reply.Reply}
 use Rattle.iso_shared.specs.{declared.entry.Entry.Entry, States.{Start, members_of}}
 use Rattle.iso_shared.specs.declared.entry.Entry.TheVariants as entry
-use Rattle.par_text.specs.declared.part.Part.{Part}
-use Rattle.par_script.specs.{Lines.{Did, Own, members_for}, Told.{FoundSome, lines_run}}
+use Rattle.par_script.specs.{Lines.{Did, Own, members_for}, Told.{FoundSome, lines_run}, declared.part.Part.Part}
 
 -- a line that was answered, with the transaction of its client before it and after it
 pub record Step : Type 0 where

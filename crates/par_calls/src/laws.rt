@@ -3,8 +3,7 @@ ghost use Rattle.std.specs.Prelude.{◌≡◌, ℕ, [], List};
 ghost use Rattle.iso_model.specs.Worlds.{IsWorld};
 ghost use Rattle.script_model.specs.{declared.script.Line.Line, Operations.AreLines};
 ghost use Rattle.iso_shared.specs.{declared.entry.Entry.Entry, Ports.IsIsolatedAt, States.Start};
-ghost use Rattle.par_text.specs.declared.part.Part.{Part};
-ghost use Rattle.par_script.specs.Told.{Told};
+ghost use Rattle.par_script.specs.{Told.Told, declared.part.Part.Part};
 ghost use Rattle.par_calls.specs.InOrder.{LinesTellCalls};
 
 /// Where clients that run concurrently were told their replies by one list, their lines and entries have one order, along which the

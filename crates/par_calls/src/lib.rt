@@ -1,7 +1,11 @@
-//! The store theorem by what the lines of concurrent clients say: the calls of a transaction, whoever had it, answer in order
-//! (`LinesTellCalls`, `lines_of_clients_tell_their_calls`). It says nothing of lines on an opaque disk.
+//! The store promise for clients in threads.
+//!
+//! `StoresAnswerAt` says it of the list of a shared device, by the accesses of its entries; a member of a group commits as an end
+//! does. `FilesAnswerAt` is for the hash store and the files. `LinesTellCalls` says it by the clients' lines: one order of lines and
+//! entries, and the calls of a transaction, whoever had it. A transaction that wrote and is live is covered by accesses alone.
 #![tactic(auto)]
 
+pub mod entry_laws;
 mod laws;
 
 pub use laws::lines_of_clients_tell_their_calls;

@@ -6,8 +6,7 @@ pub use Rattle.handle_pass.{proofs.Logs.{log_count, log_more, log_none, log_seen
 pub use Rattle.iso_core.specs.declared.answers.Stat.{Stat}
 pub use Rattle.iso_model.{proofs.Bounds.limits, proofs.Marked.marked_last, specs.Array.Array, specs.Geometry.{is_serial, is_valid}, specs.History.{all_own, array_at}, specs.Marks.{is_outside, mark_fault, marked, marks_fault}, specs.Premises.block_at, specs.Reserved.WithRoom, specs.Step.{get_access, put_access, read_access, write_access}, specs.World.{Live, World}, specs.declared.access.Access.Access, specs.declared.access.Commit.Commit, specs.declared.access.EndReply.EndReply, specs.declared.access.Geometry.Geometry, specs.declared.access.GroupReply.GroupReply, specs.declared.access.MarkError.MarkError, specs.declared.access.Mode.Mode, specs.declared.access.Mode.TheVariants.{Serial, Snapshot}, specs.declared.core_error.CoreError.CoreError, specs.declared.limits.TheConstants.{LAST, MAX_ACCESSES}, specs.declared.memory.InTx.InTx, specs.declared.memory.NotInTx.NotInTx}
 pub use Rattle.par_runner.specs.{Runs.{Halted, JobRan, Went}, declared.job.Flow.TheVariants.{Go, Halt}, declared.job.Job.Job}
-pub use Rattle.par_script.{proofs.Owners.{AreRising, Dealt, ReadsAt, clients_rise, dealt_entries, dealt_times, length-owners, owned_by, owners_of}, specs.Lines.{AnswersOn, CallsStore, ClientLines, Did, Does, EndsThen, Fetches, GroupEnds, GroupWants, Groups, InStore, LooksFor, Own, Ran, Says, StopsAtLast, StopsBy, Walk, Where, WhereShown, alone, answer, blocks_read, found_ones, last_abort, live_of, members_for, own_after, own_among, replies_to, with_block}, specs.Told.{FoundSome, Told, clients_in, entries_of, has_line, lines_of, lines_run}, specs.declared.TheConstants.MAX_LOOKS}
-pub use Rattle.par_text.specs.declared.part.Part.{Part}
+pub use Rattle.par_script.{proofs.Owners.{AreRising, Dealt, ReadsAt, clients_rise, dealt_entries, dealt_times, length-owners, owned_by, owners_of}, specs.Lines.{AnswersOn, CallsStore, ClientLines, Did, Does, EndsThen, Fetches, GroupEnds, GroupWants, Groups, InStore, LooksFor, Own, Ran, Says, StopsAtLast, StopsBy, Walk, Where, WhereShown, alone, answer, blocks_read, found_ones, last_abort, live_of, members_for, own_after, own_among, replies_to, with_block}, specs.Told.{FoundSome, Told, clients_in, entries_of, has_line, lines_of, lines_run}, specs.declared.TheConstants.MAX_LOOKS, specs.declared.part.Part.Part}
 pub use Rattle.script_model.specs.{CoreReplies.as_reply, Step.{access_step, array_of, in_store, mark_refused, marked_step}, declared.script.Line.Line, declared.script.Op.Op, declared.script.Op.TheVariants.{Abort, Begin, Compact, End, Fill, Get, Group, Mark, Put, Read, Release, Takeover, Trim, Upgrade, Write}, declared.script.Reply.Reply, declared.stop.Stop.Stop}
 unfoldable pub use Rattle.script_model.specs.Step.{file_delete_step, file_move_step, file_new_step, file_read_step, file_write_step, fill_step, get_step, hash_delete_step, hash_get_step, hash_put_step, mark_step, put_step, read_step, step, store_step, tree_delete_step, tree_get_step, tree_put_step, tree_scan_step, write_step}
 pub use Rattle.store_calls.{proofs.Areas.{store_areas_are, store_areas_fit}, specs.Calls.{AreStoreAreas, HasCalled, Stops, is_empty_scan, placed, store_areas, store_blocks, store_ended}}

@@ -3,8 +3,7 @@ use Rattle.std.specs.{Prelude.{◌≡◌, ◌⊎◌, ℕ, List, [], Option, Some
 use Rattle.script_model.specs.{declared.script.Line.Line, declared.stop.Stop.Stop}
 use Rattle.iso_shared.specs.{declared.entry.Entry.Entry, States.Start}
 use Rattle.script_model.specs.declared.stop.Stop.TheVariants as stop
-use Rattle.par_text.specs.{declared.part.Part.Part, Output.{IsFront, IsOutput}}
-use Rattle.par_script.specs.Told.{Told}
+use Rattle.par_script.specs.{Output.{IsFront, IsOutput}, Told.Told, declared.part.Part.Part}
 use Rattle.par_lines.specs.declared.par.ParEnd.{ParEnd}
 
 -- whether a client stopped for want of memory

@@ -4,10 +4,9 @@ use Rattle.script_model.specs.declared.script.Line.{Line}
 use Rattle.iso_shared.specs.{declared.entry.Entry.Entry, declared.shared.Shared.Shared, States.Start}
 use Rattle.turn_lock.specs.{declared.view.View.View, Lists.places}
 use Rattle.par_runner.specs.declared.job.Job.{Job}
-use Rattle.par_text.specs.declared.part.Part.{Part}
+use Rattle.par_script.specs.{Lines.{ClientLines, Ran}, Told.{FoundSome, lines_of, lines_run}, declared.part.Part.Part}
 use Rattle.handle_pass.specs.{Logs.Log, Sessions.{count, device, own, seen}}
 use Rattle.handle_pass.specs.Sessions as handle
-use Rattle.par_script.specs.{Lines.{ClientLines, Ran}, Told.{FoundSome, lines_of, lines_run}}
 use Rattle.par_lines.specs.{declared.client.ParClient.ParClient, Clients.IsClient}
 
 module _ {D O : Type 0} where

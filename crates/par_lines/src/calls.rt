@@ -5,13 +5,13 @@ ghost use Rattle.handle_pass.specs.Sessions.{IsSession};
 ghost use Rattle.par_lines.specs.Answers.{Answered};
 
 use crate::replies::{ended, not_ended};
+use counts::Steps;
 use handle_pass::Session;
 use iso_disk::Disk;
 use iso_shared::Origin;
 use script_model::{Reply, Stop};
 use std::sync::Wait;
 use std::sync::ledger::{Blank, Ledger};
-use step_count::Steps;
 
 /// Asks for the later commits and compares, and then ends the transaction, with a count of its steps that nobody asks for.
 pub(crate) fn end<'a, L: Ledger, D: Disk + Drop, O: Origin, R: Wait>(

@@ -14,7 +14,7 @@ use iso_disk::Disk;
 use iso_model::{Bytes, LAST, Memory, Reserved};
 use iso_shared::{Origin, Port, Shared};
 use par_runner::{Gate, Job};
-use par_text::{Part, par_text};
+use par_script::{Part, par_text};
 use script_model::{Line, Stop};
 use std::alloc::Global;
 use std::snapshot::Snapshot;

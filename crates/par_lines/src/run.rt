@@ -10,7 +10,7 @@ use iso_disk::Disk;
 use iso_model::{Items, LAST, Reserved};
 use iso_shared::{Origin, Port, Shared};
 use par_runner::{Gate, Job, run_all};
-use par_text::Part;
+use par_script::Part;
 use script_model::Line;
 use std::snapshot::Snapshot;
 use std::sync::Wait;

@@ -1,10 +1,8 @@
 -- Two clients who hand a transaction to each other under labels: one list that they may leave, with what each is told.
-use Rattle.par_script.proofs.Words.{◌≡◌, ℕ, ◌<◌, zero, suc, true, List, [], ◌∷◌, ◌++◌, Some, None, ap, inl, inr, length, replicate, refl, sym, arith, Ok, Err, slice_index, Access, Committed, ReadOnly, Geometry, Serial, Snapshot, Line, Op, Reply, put, clash, runs, AreBytes, IsAccess, get_access, put_access, begin_step, commit_step, end_step, get_step, put_step, read_step, step, empty_history, fresh, get_is_access, put_is_access, no_bytes, Entry, Start, IsLegal, MAX_LOOKS, Own, Does, Did, Walk, last_abort, Told, clients_in, entries_of, lines_of}
+use Rattle.par_script.{proofs.Words.{◌≡◌, ℕ, ◌<◌, zero, suc, true, List, [], ◌∷◌, ◌++◌, Some, None, ap, inl, inr, length, replicate, refl, sym, arith, Ok, Err, slice_index, Access, Committed, ReadOnly, Geometry, Serial, Snapshot, Line, Op, Reply, put, clash, runs, AreBytes, IsAccess, get_access, put_access, begin_step, commit_step, end_step, get_step, put_step, read_step, step, empty_history, fresh, get_is_access, put_is_access, no_bytes, Entry, Start, IsLegal, MAX_LOOKS, Own, Does, Did, Walk, last_abort, Told, clients_in, entries_of, lines_of}, specs.Lines.{ClientLines, StopsAtLast}, specs.Told.FoundSome, specs.declared.part.Part.Part}
 use Rattle.std.specs.{Prelude.{Bool, false, Option, ◌==◌, map}, List.{AllByRecursion, list_any}}
 use Rattle.iso_shared.specs.declared.entry.Numbers.{Numbers}
 use Rattle.script_model.specs.declared.stop.Stop.{Stop}
-use Rattle.par_text.specs.declared.part.Part.{Part}
-use Rattle.par_script.specs.{Lines.{ClientLines, StopsAtLast}, Told.FoundSome}
 use Rattle.script_model.specs.declared.script.Op.TheVariants as op
 use Rattle.script_model.specs.declared.script.Reply.TheVariants as reply
 use Rattle.iso_shared.specs.declared.entry.Call.TheVariants as call

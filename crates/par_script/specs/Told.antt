@@ -3,8 +3,7 @@ use Rattle.std.specs.{Prelude.{◌≡◌, ℕ, ◌+◌, ◌==◌, true, Bool, co
 use Rattle.script_model.specs.declared.script.Line.{Line}
 use Rattle.iso_shared.specs.{declared.entry.Entry.Entry, Legal.IsLegal, States.Start}
 use Rattle.iso_shared.specs.declared.entry.Entry.TheVariants as entry
-use Rattle.par_text.specs.declared.part.Part.{Part}
-use Rattle.par_script.specs.Lines.{ClientLines}
+use Rattle.par_script.specs.{Lines.ClientLines, declared.part.Part.Part}
 
 -- the lines of a client, in their order
 abbrev pub lines_of : (client : ℕ) → List (ℕ × Line) → List (ℕ × Line)

@@ -1,13 +1,13 @@
 // The disk itself.
 ghost use Rattle.std.specs.{Prelude.{◌≡◌, ◌+◌, ◌^◌, ◌<◌, ◌≤◌, ℕ, List, Vec, [], ◌++◌, true, false, length, slice_index, take, OnOk, OnErr, IsOk, IsErr, Some}, List.slice_range, Option.ForSome, declared.alloc.Global.Global};
-ghost use Rattle.fault_count.specs.Count.{one_more, Rose, HasCause};
+ghost use Rattle.counts.specs.Count.{one_more, Rose, HasCause};
 ghost use Rattle.iso_disk.specs.Disk.{Elapses, IsSettled, Splices, TellsTorn, TornFrom, WritesNothing};
 ghost use Rattle.iso_memdisk.specs.{declared.record.Call.TheVariants.{Write, Sync}, Record.{AllFit, written}};
 ghost use Rattle.queued_disk.specs.Past.{in_order};
 ghost use native.Mathlib.Omega.{arith};
 
 use crate::past::Past;
-use fault_count::raise;
+use counts::raise;
 use iso_disk::{Disk, DiskFault};
 use iso_memdisk::{Call, lay};
 use std::alloc::{AllocError, Global};

@@ -1,2 +1,5 @@
 pub mod Groups
 pub mod Standing
+mod Disks
+mod Parts
+mod Puts

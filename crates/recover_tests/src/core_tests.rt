@@ -11,8 +11,7 @@ use iso_memdisk::{CallKind, MemDisk};
 use iso_model::{CoreError, EndReply};
 use std::alloc::Global;
 use std::test::Fail;
-use test_cores::{ended_on, formatted, opened};
-use test_images::{change, small};
+use test_cores::{change, ended_on, formatted, opened, small};
 
 /// The answer to a compaction, or to one with an upgrade. The core is down where it is a fault of the disk.
 pub(crate) fn switch(core: &mut Core<MemDisk>, upgrade: bool) -> Result<u64, CoreError>

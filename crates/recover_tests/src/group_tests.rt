@@ -11,8 +11,7 @@ use iso_memdisk::MemDisk;
 use iso_model::{Clash, CoreError, Geometry, GroupReply, Memory};
 use std::alloc::Global;
 use std::test::Fail;
-use test_cores::{filling, formatted, opened};
-use test_images::small;
+use test_cores::{filling, formatted, opened, small};
 use tx_table::Work;
 
 /// The work of a transaction that reads block 0 and then fills block 1 with nines.

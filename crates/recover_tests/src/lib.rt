@@ -1,4 +1,5 @@
-//! The tests of `iso_recover`, and of `iso_core` over the images that it makes and opens.
+//! The tests of `iso_format`, `iso_image`, `iso_log` and `half_switch` over a disk in memory, of `iso_recover`, and of `iso_core`
+//! over the images that it makes and opens.
 #![tactic(auto)]
 
 #[cfg(test)]
@@ -6,6 +7,14 @@ mod core_tests;
 #[cfg(test)]
 mod fault_tests;
 #[cfg(test)]
+mod form_tests;
+#[cfg(test)]
 mod group_tests;
+#[cfg(test)]
+mod log_tests;
+#[cfg(test)]
+mod place_tests;
+#[cfg(test)]
+mod switch_tests;
 #[cfg(test)]
 mod tests;

@@ -11,3 +11,7 @@ pub mod Answering
 pub mod Endings
 pub mod Rehearsals
 mod ReplyRows
+pub mod ScriptWords
+mod LastPieces
+mod WholeScripts
+mod Reading

@@ -1,7 +1,7 @@
 -- The words that the proofs of this crate cite from elsewhere.
 pub use Rattle.std.{proofs.Common.{Bool, Err, IfErr, IfOk, IfSome, List, None, Ok, OnOk, Option, Result, Some, ap, append-nil, append_assoc, arith, cond, drop, eqb, false, get_or, inl, inr, length, length-append, length-take, map, nat_eq, nat_le, nat_lt, not, refl, replicate, slice_index, subst, sym, take, true, vec_len, w8, ℕ, [], ⊎_elim, ◌%◌, ◌&&◌, ◌++◌, ◌+◌, ◌-◌, ◌<◌, ◌==◌, ◌^◌, ◌∙◌, ◌∷◌, ◌≡◌, ◌≢◌, ◌≤◌, ◌⊎◌}, proofs.Math.Seq.take-append-add, proofs.lemmas.Bool.{and_parts, eqb-false, eqb-true, false≢true, le-leb, leb-true, lt-leb, lt-ltb, ltb-false}, proofs.lemmas.Bool.Decides.eqb_tells, proofs.lemmas.List.take_all, proofs.lemmas.List.Elements.{Contains-append_cases, Contains-append_right}, proofs.lemmas.Option.same_Some, proofs.lemmas.Simd.{bitmask_splat, length-chunk, none_from_empty_mask, run_in_chunk_fails, run_in_chunk_le, run_in_chunk_stops, trailing_mask_l}, specs.Io.KnownBytes.{append_known, prepend_known}, specs.List.{AllByRecursion, list_all, prefix_len}, specs.Prelude.{Contains, IsSome, IsTrue, codes, is_some}}
 unfoldable pub use Rattle.std.specs.Fmt.{digits}
-pub use Rattle.fault_count.specs.Count.{Rose}
+pub use Rattle.counts.specs.Count.{Rose}
 pub use Rattle.iso_disk.{proofs.Moments.{at_end, joined, started, weakened}, specs.Disk.{DiskState, IsLawful, LeavesOnly}}
 pub use Rattle.iso_io.{proofs.Told.{append_known-append, append_known-nil, prepend_known-append, prepend_known-nil}, specs.Sink.{Broke, CountsStand, SinkState, Wrote, WroteFront}, specs.Source.{MetEnd, SourceState, Took}, specs.declared.sink.PutError.TheVariants.{Failed, TookNothing}}
 pub use Rattle.iso_model.{proofs.Groups.{consecutive, group_is}, proofs.Held.{shows_any_form, shows_longer}, proofs.Worlds.{leads_on, longer}, specs.Between.{ShowsBetween, ShowsEither, ShowsLast}, specs.Effect.has_write, specs.Geometry.same_mode, specs.Group.{Follow, ahead, decided, found_ones, group, label_replies, leave_all, looks, made_by, member_reply, numbers_told}, specs.History.{History, last}, specs.Image.Shows, specs.Marks.mark_fault, specs.Step.{after_commit, after_leaving, mode_named, need, read_access, shown_to}, specs.World.{Live, Place, World, attached, client, floor, held, used}, specs.Worlds.{Extends, IsWorld, KeepsGeometry, LeadsTo}, specs.declared.access.Access.Access, specs.declared.access.Clash.Clash, specs.declared.access.Geometry.Geometry, specs.declared.access.GroupReply.GroupReply, specs.declared.access.MarkError.MarkError, specs.declared.access.Mode.Mode, specs.declared.access.Span.Span, specs.declared.core_reply.CoreReply.CoreReply, specs.declared.limits.TheConstants.{LAST, MAX_ACCESSES, MAX_INPUT, MAX_LINE, MAX_LIVE}}

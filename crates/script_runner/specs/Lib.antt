@@ -5,3 +5,5 @@ pub mod Run
 pub mod Lines
 pub mod Rehearsal
 pub mod Stopped
+pub mod Parts
+pub mod Read

@@ -1,11 +1,19 @@
-//! The tests of `iso_shared`.
+//! The tests of `turn_lock` and `iso_shared`.
 #![tactic(auto)]
 
 #[cfg(test)]
 mod answer_tests;
 #[cfg(test)]
+mod crowd_tests;
+#[cfg(test)]
+mod gate_tests;
+#[cfg(test)]
 mod group_tests;
+#[cfg(test)]
+mod long_tests;
 #[cfg(test)]
 mod refusal_tests;
 #[cfg(test)]
 mod tests;
+#[cfg(test)]
+mod turn_tests;

@@ -7,6 +7,7 @@ ghost use Rattle.iso_memdisk.specs.MemDisk.{state_of};
 ghost use Rattle.iso_shared.specs.{Ports.{IsPort, IsTx, port_view, tx_view}, TestImage.{small, MayStart}};
 ghost use Rattle.shared_tests.specs.Starts.{IsNew};
 
+use counts::Steps;
 use iso_core::{Core, Stat};
 use iso_memdisk::{CallKind, MemDisk};
 use iso_model::{CoreError, EndReply};
@@ -19,9 +20,7 @@ use std::sync::Wait;
 use std::sync::ledger::{Blank, Ledger};
 use std::test::Fail;
 use std::thread::{Threads, join};
-use step_count::Steps;
-use test_cores::core_on;
-use test_images::{blank, with_long_logs};
+use test_cores::{blank, core_on, with_long_logs};
 
 // Two values that are to be the same. Each test that compared them itself would prove what is printed where they differ.
 pub(crate) fn same<T: PartialEq + Debug + Drop>(rt: &impl Abort, found: T, wanted: T) {

@@ -1,6 +1,6 @@
 -- What a call of a store on a transaction does, and what it is answered.
 use Rattle.std.specs.{Prelude.{◌≡◌, ℕ, ◌&&◌, ◌==◌, Bool, false, IsTrue, List, [], Option, Result, Ok, Err, IfOk, IsErrOf, OnErr, take}, Option.ForSome}
-use Rattle.fault_count.specs.Count.{Rose}
+use Rattle.counts.specs.Count.{Rose}
 use Rattle.iso_model.specs.{declared.access.Access.Access, declared.access.Geometry.Geometry, Array.Array, Effect.own}
 use Rattle.script_model.specs.{declared.script.Op.Op, declared.script.Op.TheVariants.{HashPut, HashGet, HashDelete, TreePut, TreeGet, TreeDelete, TreeScan, FileNew, FileWrite, FileRead, FileMove, FileDelete}, declared.script.Reply.Reply, FilesArea.files_area, Step.{file_refusal, found_reply, pairs_reply, removed_reply, store_refusal, store_reply}, declared.stop.Stop.Stop}
 use Rattle.script_model.specs.declared.script.Reply.TheVariants as reply

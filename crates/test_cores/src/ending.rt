@@ -5,13 +5,13 @@ ghost use Rattle.test_cores.specs.Cores.{HasDone, IsIdle};
 
 use crate::making::opened;
 use conflict_rule::Checked;
+use counts::Steps;
 use iso_core::Core;
 use iso_memdisk::MemDisk;
 use iso_model::{CoreError, EndReply, Geometry, Memory};
 use std::alloc::Global;
 use std::marker::Brand;
 use std::sync::ledger::{Blank, Ledger};
-use step_count::Steps;
 use tx_table::Work;
 
 /// The work of a transaction that fills a block with one byte.

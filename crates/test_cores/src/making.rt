@@ -5,12 +5,12 @@ ghost use Rattle.iso_memdisk.specs.MemDisk.{state_of, Starts};
 ghost use Rattle.iso_model.specs.{Geometry.{image_size, is_valid}, World.{empty_history, fresh}};
 ghost use Rattle.test_cores.specs.Cores.{IsIdle};
 
+use crate::images::blank;
 use iso_core::Core;
 use iso_memdisk::MemDisk;
 use iso_model::{Geometry, Memory};
 use iso_recover::{format_image, open_image};
 use std::alloc::Global;
-use test_images::blank;
 
 /// A core over a new image of a blank disk, of which calls may have been set to fail.
 pub fn core_on(alloc: Global, disk: MemDisk, geometry: &Geometry) -> Result<Core<MemDisk>, Memory>

@@ -1,6 +1,6 @@
 -- How a store's call that follows a program ends.
 use Rattle.std.specs.{Prelude.{◌≡◌, ◌≢◌, ◌⊎◌, ℕ, ◌+◌, ◌<◌, ◌≤◌, true, false, IsTrue, List, [], ◌∷◌, Option, Some, None, Result, Ok, Err, IfErr, OnOk, OnErr, length, take}, Option.ForSome}
-use Rattle.fault_count.specs.Count.{Rose}
+use Rattle.counts.specs.Count.{Rose}
 use Rattle.iso_model.specs.{declared.access.Access.Access, Array.Array, Effect.own, Premises.block_at}
 use Rattle.store_model.specs.{declared.stores.Area.Area, declared.stores.Region.Region, declared.stores.StoreError.StoreError, declared.stores.TxError.TxError, Stores.{Program, accesses_of, outcome, AreReads, IsLocal}}
 use Rattle.store_model.specs.declared.stores.StoreError.TheVariants as store

@@ -1,6 +1,6 @@
 -- What contracts see of a transaction over blocks, and when its calls are refused.
 use Rattle.std.specs.{Prelude.{◌≡◌, ℕ, ◌-◌, ◌<◌, ◌≤◌, Bool, not, if◌then◌else◌, IsTrue, List, ◌++◌, Option, Some, None, Result, Err, IfErr, nat_le, length, drop, option_map}, Option.ForSome}
-use Rattle.fault_count.specs.Count.{Rose}
+use Rattle.counts.specs.Count.{Rose}
 use Rattle.iso_model.specs.{declared.access.Access.Access, declared.access.MarkError.MarkError, Array.Array, Marks.mark_fault, Premises.block_at}
 use Rattle.iso_model.specs.declared.access.MarkError.TheVariants as mark
 use Rattle.store_model.specs.declared.stores.TxError.{TxError}

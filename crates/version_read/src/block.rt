@@ -1,7 +1,7 @@
 // A block, read by its versions.
 ghost use Rattle.std.specs.{Prelude.{◌≡◌, ◌+◌, ◌-◌, ◌<◌, ◌≤◌, ◌++◌, ◌||◌, ℕ, IfOk, OnOk, [], ◌∷◌, count_by, drop, length, not, slice_index_or, take, true}, List.{range_with_len, slice_range}, Option.ForSome};
 ghost use Rattle.iso_disk.specs.Disk.{WritesNothing};
-ghost use Rattle.fault_count.specs.Count.{HasCause};
+ghost use Rattle.counts.specs.Count.{HasCause};
 ghost use Rattle.mv_index.specs.{Masks.is_seen, Shown.{AllLie, Lies}, Versions.{in_bytes, no_version}};
 ghost use Rattle.version_read.specs.{Blocks.{IsLaidIn, IsOver, IsOverIn}, Fills.IsFilled};
 

@@ -1,5 +1,5 @@
 use Rattle.half_switch.proofs.{Words.{ℕ, [], ◌∷◌, arith, refl, subst, on_err_weaker, on_ok_weaker, all_passed, failed_behind, told_same, told_written, Torn, joined, runs_inside, stays_settled, weakened, at_end, IsOpen, beside_shut}, Tells.{inside_still, tells_more, tells_same}}
-use Rattle.fault_count.specs.Count.{HasCause}
+use Rattle.counts.specs.Count.{HasCause}
 use Rattle.half_switch.proofs.gates.close_half.Goals as goal
 
 pub returns-in_default-clause-held : goal.returns-in_default-clause-held

@@ -1,5 +1,5 @@
 use Rattle.iso_top.proofs.{Words.refl, Beginnings.{made_core, made_not}}
-use Rattle.iso_refusal.specs.declared.open_error.OpenError.TheVariants as error
+use Rattle.iso_image.specs.declared.open_error.OpenError.TheVariants as error
 
 pub returns-in-Ok-clause-begun : Rattle.iso_top.proofs.engine.make_core.Goals.returns-in-Ok-clause-begun
 returns-in-Ok-clause-begun g c =

@@ -1,4 +1,4 @@
-use Rattle.test_images.proofs.Disks.{blank_size, is_blank}
+use Rattle.test_cores.proofs.Disks.{blank_size, is_blank}
 
 pub format_image-requires-clause-size : Rattle.test_cores.proofs.making.core_on.Goals.format_image-requires-clause-size
 format_image-requires-clause-size c = blank_size _ c.args.disk c.requires.blank

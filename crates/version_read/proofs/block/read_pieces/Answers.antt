@@ -1,6 +1,6 @@
 -- The versions are laid over the base, or have the whole range.
 use Rattle.version_read.proofs.{Words.{◌∙◌, ℕ, arith, refl, subst, on_ok_weaker, length-contents, failed_behind, joined_unwritten}, Layings.{laid_over, laid_whole}}
-use Rattle.fault_count.specs.Count.{HasCause}
+use Rattle.counts.specs.Count.{HasCause}
 use Rattle.version_read.proofs.block.read_pieces.Goals as goal
 
 pub returns-then-is_whole-clause-bytes : goal.returns-then-is_whole-clause-bytes

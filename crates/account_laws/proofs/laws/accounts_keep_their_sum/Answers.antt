@@ -1,7 +1,0 @@
-use Rattle.account_laws.proofs.{Images.opens_with_sum, Walks.sum_kept}
-
-pub returns-clause-history : Rattle.account_laws.proofs.laws.accounts_keep_their_sum.Goals.returns-clause-history
-returns-clause-history _ = sum_kept
-
-pub returns-clause-images : Rattle.account_laws.proofs.laws.accounts_keep_their_sum.Goals.returns-clause-images
-returns-clause-images _ = opens_with_sum

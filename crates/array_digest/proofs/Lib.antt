@@ -1,3 +1,0 @@
-pub mod Words
-mod Blocks
-mod Begun

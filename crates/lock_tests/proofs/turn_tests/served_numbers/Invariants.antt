@@ -1,4 +1,0 @@
-use Rattle.std.proofs.Common.{None}
-
-abbrev pub ghosts-take_back : Rattle.lock_tests.proofs.turn_tests.served_numbers.Given.ghosts-take_back
-ghosts-take_back g a = record { entry = record { out = None; back = a.numbers.now } }

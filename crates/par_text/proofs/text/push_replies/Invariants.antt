@@ -1,4 +1,0 @@
-use Rattle.par_text.proofs.Words.{◌≡◌, ◌++◌, map, take, concat, reply_line}
-
-abbrev pub invariant-loop-reply : Rattle.par_text.proofs.text.push_replies.Given.invariant-loop-reply
-invariant-loop-reply l = l.out.items ≡ l.initial.out.items ++ concat (take l.reply-index (map (λ t. reply_line l.client t.1) l.told))

@@ -1,3 +1,0 @@
-mod Disks
-mod Parts
-mod Puts

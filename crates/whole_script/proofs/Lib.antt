@@ -1,4 +1,0 @@
-pub mod Words
-mod LastPieces
-mod WholeScripts
-mod Reading
