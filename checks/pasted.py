@@ -4,7 +4,8 @@
     checks/pasted.py [PROGRAM]   PROGRAM is the built program: crates/isotope/out/isotope, which rt ci leaves, or build/isotope
 
 Run are: in a block, each command after `$ `, with what follows as its output; a block that is one `./isotope` command with its input, with
-the next block as its output; and a block of Python, which has to end well.
+the next block as its output; a block of Python, which has to end well; and a block of C with a `main`, which is compiled over
+c/out/libisotope.a, and has to end well. Where c/out is not built, these two are passed over, with a line that says so.
 """
 import os
 import re
@@ -15,6 +16,9 @@ import tempfile
 from pathlib import Path
 
 TOP = Path(__file__).resolve().parent.parent
+
+# compiles and runs a program
+OVER_C = f'printf %s "$1" > pasted.c && cc pasted.c -I {TOP}/c {TOP}/c/out/libisotope.a -pthread -o pasted && ./pasted'
 
 
 def program():
@@ -61,6 +65,8 @@ def steps(page):
     for at, (number, language, lines) in enumerate(all_blocks):
         if language == 'python':
             yield number, [sys.executable, '-c', '\n'.join(lines)], None
+        elif language == 'c' and any(line.startswith('int main') for line in lines):
+            yield number, ['bash', '-c', OVER_C, 'bash', '\n'.join(lines)], None
         elif lines and lines[0].startswith('$ '):
             for command, output in commands(lines):
                 yield number, ['bash', '-c', command], output
@@ -79,11 +85,15 @@ def main():
         tools = Path(folder, 'bin')
         tools.mkdir()
         shutil.copy(isotope, tools / 'isotope')
-        environment = dict(os.environ, PATH=f'{tools}:{os.environ["PATH"]}')
+        environment = dict(os.environ, PATH=f'{tools}:{os.environ["PATH"]}', PYTHONPATH=str(TOP / 'python'))
+        library = TOP / 'c/out/libisotope.so'
         for page in ['README.md', 'docs/guide.md']:
             work = Path(folder, page.replace('/', '-'))
             work.mkdir()
             for number, words, output in steps(page):
+                if not library.exists() and ('import isotope' in words[2] or words[2] == OVER_C):
+                    print(f'{page}:{number}: passed over, c/out is not built')
+                    continue
                 count += 1
                 run = subprocess.run(words, cwd=work, env=environment, capture_output=True, text=True, timeout=60)
                 found = run.stdout.rstrip('\n').split('\n') if run.stdout else []
