@@ -20,4 +20,5 @@ pub mod Refusals
 pub mod Commits
 pub mod Images
 mod Rows
+mod AnswerRows
 pub mod Whole
