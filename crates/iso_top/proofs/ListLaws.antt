@@ -1,5 +1,5 @@
 -- What a run of clients says of images, of its history and of stores, from its record.
-use Rattle.iso_top.proofs.Words.{inl, inr, ℕ, ◌<◌, List, [], Option, Some, None, refl, sym, subst, arith, AllByRecursion, DiskState, SinkState, SourceState, Commit, last, with_commits, Shows, ShowsBetween, World, Entry, Start, State, start_at, state_at, whole, with_lost, ShowsFrom, Grows, behind_it, between_grown, histories_grow, last_longer, told_shown, CommitsUpTo, image_opens, Part, Told, SecondStore, BeginsWell, CallsAnswer, Event, IsTrace, the_tree, the_files, HasRunClients, ShowsBehind, WereRun, AnswerInOneOrder, GoesOnIsolated, HasCommitsOf, OpensFrom, TellsNamed, shows_last}
+use Rattle.iso_top.proofs.Words.{inl, inr, ℕ, ◌<◌, List, [], ◌++◌, Option, Some, None, refl, sym, subst, arith, AllByRecursion, DiskState, SinkState, SourceState, Commit, last, with_commits, Shows, ShowsBetween, World, Entry, Start, State, start_at, state_at, whole, with_lost, ShowsFrom, Grows, behind_it, between_grown, histories_grow, last_longer, told_shown, CommitsUpTo, image_opens, Part, Told, SecondStore, BeginsWell, CallsAnswer, Event, IsTrace, the_tree, the_files, HasRunClients, PrintedClients, ShowsBehind, WereRun, AnswerInOneOrder, GoesOnIsolated, HasCommitsOf, OpensFrom, PrintsClients, PrintsClientsFront, disk_fault_text, TellsNamed, shows_last, Line, IsOutput, Printed, WasCut, ◌≡◌}
 use Rattle.iso_top.proofs.Results.{some_of}
 
 -- an image that shows a history at a commit opens to it there
@@ -64,3 +64,36 @@ module _ {D : Type 0} (state : D → DiskState) (name : List ℕ) (status : ℕ)
 
   pub file_calls : (parts : List Part) → Told A r.lines parts r.entries → TellsNamed name (state old) → BeginsWell the_files r.world → AnswerInOneOrder the_files A r.lines parts r.entries
   file_calls parts told tells begins = let calls = r.calls parts told in answer_so the_files parts calls.events calls.trace (calls.files calls.events calls.trace) tells begins
+
+-- ---- what was put, by the status
+
+failed_text : (n : ℕ) (parts : List Part) (old new : SinkState) → n ≡ 5 → PrintedClients n parts old new → (text : List ℕ) × IsOutput parts text × Printed old new (text ++ disk_fault_text)
+failed_text n parts old new five (text, inl (is, none, output, put)) = absurd (omega (arith, is, five))
+failed_text n parts old new five (text, inr (inl (is, none, output, put))) = absurd (omega (arith, is, five))
+failed_text n parts old new five (text, inr (inr (inl (is, stop, output, put)))) = (text, output, put)
+failed_text n parts old new five (text, inr (inr (inr (is, all, put)))) = absurd (omega (arith, is, five))
+
+cut_text : (n : ℕ) (parts : List Part) (old new : SinkState) → n ≡ 7 → PrintedClients n parts old new → (text : List ℕ) × IsOutput parts text × WasCut old new text
+cut_text n parts old new seven (text, inl (is, none, output, put)) = absurd (omega (arith, is, seven))
+cut_text n parts old new seven (text, inr (inl (is, none, output, cut))) = (text, output, cut)
+cut_text n parts old new seven (text, inr (inr (inl (is, stop, output, put)))) = absurd (omega (arith, is, seven))
+cut_text n parts old new seven (text, inr (inr (inr (is, all, put)))) = absurd (omega (arith, is, seven))
+
+failed_so : (A : Start) (lines : List (ℕ × Line)) (entries : List Entry) (n : ℕ) (old new : SinkState) → n ≡ 5 → WereRun A lines entries n old new → PrintsClients A lines entries disk_fault_text old new
+failed_so A lines entries n old new five (inl (parts, told, printed)) =
+    let (text, output, put) = failed_text n parts old new five printed in
+    record { parts = parts; told = told; text = text; whole = output; prints = put }
+failed_so A lines entries n old new five (inr (none, is, printed)) = absurd (omega (arith, is, five))
+
+cut_so : (A : Start) (lines : List (ℕ × Line)) (entries : List Entry) (n : ℕ) (old new : SinkState) → n ≡ 7 → WereRun A lines entries n old new → PrintsClientsFront A lines entries old new
+cut_so A lines entries n old new seven (inl (parts, told, printed)) =
+    let (text, output, cut) = cut_text n parts old new seven printed in
+    record { parts = parts; told = told; text = text; whole = output; cut = cut }
+cut_so A lines entries n old new seven (inr (none, is, printed)) = absurd (omega (arith, is, seven))
+
+module _ {D : Type 0} (state : D → DiskState) (name : List ℕ) (old new : D) (input_old input_new : SourceState) (output_old output_new : SinkState) where
+  pub clients_failed : (r : HasRunClients state name 5 old new input_old input_new output_old output_new) → PrintsClients (start_at r.world (state r.start)) r.lines r.entries disk_fault_text output_old output_new
+  clients_failed r = failed_so (start_at r.world (state r.start)) r.lines r.entries 5 output_old output_new refl r.ran
+
+  pub clients_cut : (r : HasRunClients state name 7 old new input_old input_new output_old output_new) → PrintsClientsFront (start_at r.world (state r.start)) r.lines r.entries output_old output_new
+  clients_cut r = cut_so (start_at r.world (state r.start)) r.lines r.entries 7 output_old output_new refl r.ran

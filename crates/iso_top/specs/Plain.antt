@@ -7,11 +7,11 @@ use Rattle.iso_model.specs.{declared.access.Geometry.Geometry, History.{History,
 use Rattle.iso_image.specs.{declared.open_error.OpenError.OpenError, Refusal.{opened, refusal}}
 use Rattle.iso_shared.specs.{declared.entry.Entry.Entry, Plain.CommitsUpTo, States.Start}
 use Rattle.par_calls.specs.{InOrder.{AreInOrder, CommitsKeep}, Trace.{Event, IsTrace}}
-use Rattle.par_script.specs.declared.part.Part.{Part}
+use Rattle.par_script.specs.{Output.IsOutput, Told.Told, declared.part.Part.Part}
 use Rattle.script_model.specs.{declared.script.BadLine.BadLine, declared.script.Line.Line, declared.script.Reply.Reply, Bench.{answers_to, recover_output}, Script.{replies, script}}
 use Rattle.script_runner.specs.{Replies.{AreSameButShown, text_of}, Run.AreWholeLines}
 use Rattle.store_scripts.specs.Stores.{SecondStore}
-use Rattle.iso_top.specs.{Prints.{Printed, SinkFailed}, Starts.OpensTo, Texts.{bad_line_text, bench_text_of, error_text, input_fault_text}}
+use Rattle.iso_top.specs.{Prints.{Printed, SinkFailed, WasCut}, Starts.OpensTo, Texts.{bad_line_text, bench_text_of, error_text, input_fault_text}}
 
 -- the script has no bad line, and what was put is the replies of this world to its lines
 abbrev pub PrintsReplies : World → (script_text : List ℕ) → SinkState → SinkState → Type 0
@@ -108,6 +108,23 @@ pub record PrintsFront (W : World) (script_text : List ℕ) (old new : SinkState
   pub behind : List ℕ
   pub split : replies W (script script_text).lines ≡ front ++ behind
   pub put : Wrote old new front
+
+-- What was put is the whole text of what the clients were told by this list, and then this line; or, only where the sink failed, a
+-- front of that.
+pub record PrintsClients (A : Start) (lines : List (ℕ × Line)) (entries : List Entry) (line : List ℕ) (old new : SinkState) : Type 0 where
+  pub parts : List Part
+  pub told : Told A lines parts entries
+  pub text : List ℕ
+  pub whole : IsOutput parts text
+  pub prints : Printed old new (text ++ line)
+
+-- the sink failed, and what it took is a front of the text of what the clients were told by this list
+pub record PrintsClientsFront (A : Start) (lines : List (ℕ × Line)) (entries : List Entry) (old new : SinkState) : Type 0 where
+  pub parts : List Part
+  pub told : Told A lines parts entries
+  pub text : List ℕ
+  pub whole : IsOutput parts text
+  pub cut : WasCut old new text
 
 -- each test accepts the image, and it opens to a history that has each commit that one of these entries tells of, by an end or in a group
 pub record HasCommitsOf (entries : List Entry) (image : List ℕ) : Type 0 where

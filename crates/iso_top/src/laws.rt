@@ -1,4 +1,5 @@
 // What `met` of the top call means in plain words: each function does nothing, and its contract is the law.
+// Where the line of a cause was put, a sink that failed as well may have a front of the text alone.
 ghost use Rattle.std.specs.Prelude.{◌≡◌, ◌⊎◌, ◌≤◌, ℕ, List, [], None, Option, Some};
 ghost use Rattle.command_line.specs.declared.task.Task.{Task};
 ghost use Rattle.command_line.specs.declared.task.Task.TheVariants.{Bench, New, Par, Run, Recover};
@@ -10,7 +11,7 @@ ghost use Rattle.iso_recover.specs.Made.{IsUnmadeOrEmpty};
 ghost use Rattle.iso_shared.specs.{Standing.start_at, States.state_at};
 ghost use Rattle.par_script.specs.{Told.Told, declared.part.Part.Part};
 ghost use Rattle.store_scripts.specs.{Kept.BeginsWell, Stores.{the_files, the_tree}};
-ghost use Rattle.iso_top.specs.{Clients.HasRunClients, Outcome.{HasAnswered, HasMet, HasNotBegun}, Plain.{AnswerInOneOrder, GoesOnIsolated, HasCommitsOf, NamesBadLine, NamesRefusal, OfItsWorld, OpensFrom, PrintsButShown, PrintsButShownOf, PrintsCounts, PrintsDigestOf, PrintsFirst, PrintsFront, PrintsReplies, PrintsRepliesOf, PrintsWholeLines}, Prints.Printed, Starts.{MayBeUnmade, TellsNamed}, Texts.{disk_fault_text, input_fault_text, memory_text}};
+ghost use Rattle.iso_top.specs.{Clients.HasRunClients, Outcome.{HasAnswered, HasMet, HasNotBegun}, Plain.{AnswerInOneOrder, GoesOnIsolated, HasCommitsOf, NamesBadLine, NamesRefusal, OfItsWorld, OpensFrom, PrintsButShown, PrintsButShownOf, PrintsClients, PrintsClientsFront, PrintsCounts, PrintsDigestOf, PrintsFirst, PrintsFront, PrintsReplies, PrintsRepliesOf, PrintsWholeLines}, Prints.Printed, Starts.{MayBeUnmade, TellsNamed}, Texts.{disk_fault_text, input_fault_text, memory_text}};
 ghost use Rattle.script_runner.specs.{declared.run_end.RunEnd.RunEnd, Replies.TellsCommit, Run.Acknowledges, Told.ArePlain};
 ghost use Rattle.script_model.specs.Script.{replies, script};
 
@@ -114,7 +115,8 @@ pub fn the_refusal_was_named<I: Image>(_image: &I)
 {}
 
 /// Status 5 of `new` and `run`, where what the name names is known, and the bytes of the source: what was put is the replies to some
-/// first lines of the script and then the line that tells of the fault. Of an image that was not opened no line was answered.
+/// first lines of the script and then the line that tells of the fault. Of an image that was not opened no line was answered. Of
+/// clients that were run, on any disk: the whole text of what they were told, and then that line.
 pub fn the_disk_fault_was_told<I: Image>(_image: &I)
     ensures made { (g : Geometry) (name all : List ℕ) (old new : I) (input_old input_new : SourceState) (output_old output_new : SinkState)
         → HasMet I.state (New g) name 5 old new input_old input_new output_old output_new → TellsNamed name (I.state old) → input_old.rest ≡ Some all
@@ -122,6 +124,9 @@ pub fn the_disk_fault_was_told<I: Image>(_image: &I)
     ensures given { (name all image : List ℕ) (old new : I) (input_old input_new : SourceState) (output_old output_new : SinkState)
         → HasMet I.state Run name 5 old new input_old input_new output_old output_new → (I.state old).named name ≡ Some image → input_old.rest ≡ Some all
         → Printed output_old output_new disk_fault_text ⊎ OfItsWorld image (λ W. PrintsFirst W all disk_fault_text output_old output_new) }
+    ensures clients { (name : List ℕ) (old new : I) (input_old input_new : SourceState) (output_old output_new : SinkState)
+        → (r : HasRunClients I.state name 5 old new input_old input_new output_old output_new)
+        → PrintsClients (start_at r.world (I.state r.start)) r.lines r.entries disk_fault_text output_old output_new }
 {}
 
 /// Status 6, where what the name names is known: the source gave some bytes and failed. Of `new` and `run` what was put is the replies to
@@ -139,7 +144,7 @@ pub fn the_input_fault_was_told<I: Image>(_image: &I)
 {}
 
 /// Status 7 of `new` and `run`, where what the name names is known, and the bytes of the source: the sink failed, and what it took is a
-/// front of the replies to the lines of the script.
+/// front of the replies to the lines of the script. Of clients that were run, on any disk: a front of the text of what they were told.
 pub fn the_replies_were_cut<I: Image>(_image: &I)
     ensures made { (g : Geometry) (name all : List ℕ) (old new : I) (input_old input_new : SourceState) (output_old output_new : SinkState)
         → HasMet I.state (New g) name 7 old new input_old input_new output_old output_new → TellsNamed name (I.state old) → input_old.rest ≡ Some all
@@ -147,6 +152,9 @@ pub fn the_replies_were_cut<I: Image>(_image: &I)
     ensures given { (name all image : List ℕ) (old new : I) (input_old input_new : SourceState) (output_old output_new : SinkState)
         → HasMet I.state Run name 7 old new input_old input_new output_old output_new → (I.state old).named name ≡ Some image → input_old.rest ≡ Some all
         → OfItsWorld image (λ W. PrintsFront W all output_old output_new) }
+    ensures clients { (name : List ℕ) (old new : I) (input_old input_new : SourceState) (output_old output_new : SinkState)
+        → (r : HasRunClients I.state name 7 old new input_old input_new output_old output_new)
+        → PrintsClientsFront (start_at r.world (I.state r.start)) r.lines r.entries output_old output_new }
 {}
 
 /// Status 8 of `new` and `run`, where what the name names is known, and the bytes of the source: what was put is the replies to some
