@@ -21,4 +21,5 @@ pub mod Commits
 pub mod Images
 mod Rows
 mod AnswerRows
+mod Traps
 pub mod Whole
