@@ -15,5 +15,7 @@ mod Behind
 mod RunsOfClients
 mod ClientsMet
 mod Plainly
+mod Statuses
+mod ListLaws
 mod Counted
 mod OpenedRows

@@ -24,7 +24,7 @@ opens_later m n c le o =
     let high = o.last in
     record { geometry = o.geometry; generation = o.generation; history = o.history; holds = o.holds; accepted = o.accepted; opens = o.opens; last = omega arith }
 
-some_named : (o : Option (List ℕ)) (c : List ℕ) → o ≡ Some c → IsSome o
+pub some_named : (o : Option (List ℕ)) (c : List ℕ) → o ≡ Some c → IsSome o
 some_named o c is = subst IsSome (sym is) refl
 
 module _ {D : Type 0} (state : D → DiskState) (name : List ℕ) (old new : D) (input_old input_new : SourceState) (output_old output_new : SinkState) where

@@ -1,12 +1,19 @@
 // What `met` of the top call means in plain words: each function does nothing, and its contract is the law.
-ghost use Rattle.std.specs.Prelude.{◌≡◌, ◌⊎◌, ◌≤◌, ℕ, List, Option, Some};
-ghost use Rattle.command_line.specs.declared.task.Task.TheVariants.{Bench, New, Run, Recover};
+// Where the line of a cause was put, a sink that failed as well may have a front of the text alone.
+ghost use Rattle.std.specs.Prelude.{◌≡◌, ◌⊎◌, ◌≤◌, ℕ, List, [], None, Option, Some};
+ghost use Rattle.command_line.specs.declared.task.Task.{Task};
+ghost use Rattle.command_line.specs.declared.task.Task.TheVariants.{Bench, New, Par, Run, Recover};
 ghost use Rattle.iso_disk.specs.Disk.{SinceBind};
+ghost use Rattle.iso_image.specs.declared.open_error.OpenError.{OpenError};
 ghost use Rattle.iso_io.specs.{Sink.SinkState, Source.SourceState};
 ghost use Rattle.iso_model.specs.{declared.access.Geometry.Geometry, History.last, World.{empty_history, fresh}};
-ghost use Rattle.iso_top.specs.{Clients.HasRunClients, Outcome.{HasAnswered, HasMet}, Plain.{OpensFrom, PrintsButShown, PrintsButShownOf, PrintsCounts, PrintsDigestOf, PrintsReplies, PrintsRepliesOf}, Starts.{MayBeUnmade, TellsNamed}};
+ghost use Rattle.iso_recover.specs.Made.{IsUnmadeOrEmpty};
+ghost use Rattle.iso_shared.specs.{Standing.start_at, States.state_at};
+ghost use Rattle.par_script.specs.{Told.Told, declared.part.Part.Part};
+ghost use Rattle.store_scripts.specs.{Kept.BeginsWell, Stores.{the_files, the_tree}};
+ghost use Rattle.iso_top.specs.{Clients.HasRunClients, Outcome.{HasAnswered, HasMet, HasNotBegun}, Plain.{AnswerInOneOrder, GoesOnIsolated, HasCommitsOf, NamesBadLine, NamesRefusal, OfItsWorld, OpensFrom, PrintsButShown, PrintsButShownOf, PrintsClients, PrintsClientsFront, PrintsCounts, PrintsDigestOf, PrintsFirst, PrintsFront, PrintsReplies, PrintsRepliesOf, PrintsWholeLines}, Prints.Printed, Starts.{MayBeUnmade, TellsNamed}, Texts.{disk_fault_text, input_fault_text, memory_text}};
 ghost use Rattle.script_runner.specs.{declared.run_end.RunEnd.RunEnd, Replies.TellsCommit, Run.Acknowledges, Told.ArePlain};
-ghost use Rattle.script_model.specs.Script.{script};
+ghost use Rattle.script_model.specs.Script.{replies, script};
 
 use bench_script::laws::{
     commits_are_twice_the_rounds_less_the_conflicts, drawn_scripts_are_good,
@@ -75,3 +82,114 @@ pub fn the_counts_were_printed<I: Image>(_image: &I)
     commits_are_twice_the_rounds_less_the_conflicts();
     shown_bytes_are_not_counted();
 }
+
+/// A call that was not begun. Of an image that was to be opened, no image that a crash might have left since the bind is another one than
+/// the image as given; of one that was to be made, each is none of this project, or is one on which nothing was committed.
+pub fn nothing_was_begun<I: Image>(_image: &I)
+    ensures given { (e : OpenError) (name image : List ℕ) (old new : I) (input_old input_new : SourceState) (output_old output_new : SinkState)
+        → HasNotBegun None name e (I.state old) (I.state new) input_old input_new output_old output_new → (I.state old).named name ≡ Some image → SinceBind (I.state new) (λ c. c ≡ image) }
+    ensures made { (g : Geometry) (e : OpenError) (name : List ℕ) (old new : I) (input_old input_new : SourceState) (output_old output_new : SinkState)
+        → HasNotBegun (Some g) name e (I.state old) (I.state new) input_old input_new output_old output_new → SinceBind (I.state new) (IsUnmadeOrEmpty g) }
+{}
+
+/// Status 3, where what the name names is known, and the bytes of the source: the script has a bad line. Of `new` and `run` what was put
+/// is the replies to the lines before it and then the line that names it; of `par` that line alone, and nothing was written.
+pub fn the_bad_line_was_named<I: Image>(_image: &I)
+    ensures made { (g : Geometry) (name all : List ℕ) (old new : I) (input_old input_new : SourceState) (output_old output_new : SinkState)
+        → HasMet I.state (New g) name 3 old new input_old input_new output_old output_new → TellsNamed name (I.state old) → input_old.rest ≡ Some all
+        → NamesBadLine (replies (fresh g 1 (empty_history g)) (script all).lines) all output_old output_new }
+    ensures given { (name all image : List ℕ) (old new : I) (input_old input_new : SourceState) (output_old output_new : SinkState)
+        → HasMet I.state Run name 3 old new input_old input_new output_old output_new → (I.state old).named name ≡ Some image → input_old.rest ≡ Some all
+        → OfItsWorld image (λ W. NamesBadLine (replies W (script all).lines) all output_old output_new) }
+    ensures clients { (name all image : List ℕ) (old new : I) (input_old input_new : SourceState) (output_old output_new : SinkState)
+        → HasMet I.state Par name 3 old new input_old input_new output_old output_new → (I.state old).named name ≡ Some image → input_old.rest ≡ Some all
+        → NamesBadLine [] all output_old output_new × SinceBind (I.state new) (λ c. c ≡ image) }
+{}
+
+/// Status 4, where what the name names is known: the image as given fails a test, and the line that names the test was put. The input
+/// was not read, and no image that a crash might have left since the bind is another one.
+pub fn the_refusal_was_named<I: Image>(_image: &I)
+    ensures { (task : Task) (name image : List ℕ) (old new : I) (input_old input_new : SourceState) (output_old output_new : SinkState)
+        → HasMet I.state task name 4 old new input_old input_new output_old output_new → (I.state old).named name ≡ Some image
+        → NamesRefusal name image (I.state new) input_old input_new output_old output_new }
+{}
+
+/// Status 5 of `new` and `run`, where what the name names is known, and the bytes of the source: what was put is the replies to some
+/// first lines of the script and then the line that tells of the fault. Of an image that was not opened no line was answered. Of
+/// clients that were run, on any disk: the whole text of what they were told, and then that line.
+pub fn the_disk_fault_was_told<I: Image>(_image: &I)
+    ensures made { (g : Geometry) (name all : List ℕ) (old new : I) (input_old input_new : SourceState) (output_old output_new : SinkState)
+        → HasMet I.state (New g) name 5 old new input_old input_new output_old output_new → TellsNamed name (I.state old) → input_old.rest ≡ Some all
+        → PrintsFirst (fresh g 1 (empty_history g)) all disk_fault_text output_old output_new }
+    ensures given { (name all image : List ℕ) (old new : I) (input_old input_new : SourceState) (output_old output_new : SinkState)
+        → HasMet I.state Run name 5 old new input_old input_new output_old output_new → (I.state old).named name ≡ Some image → input_old.rest ≡ Some all
+        → Printed output_old output_new disk_fault_text ⊎ OfItsWorld image (λ W. PrintsFirst W all disk_fault_text output_old output_new) }
+    ensures clients { (name : List ℕ) (old new : I) (input_old input_new : SourceState) (output_old output_new : SinkState)
+        → (r : HasRunClients I.state name 5 old new input_old input_new output_old output_new)
+        → PrintsClients (start_at r.world (I.state r.start)) r.lines r.entries disk_fault_text output_old output_new }
+{}
+
+/// Status 6, where what the name names is known: the source gave some bytes and failed. Of `new` and `run` what was put is the replies to
+/// the whole lines among these bytes and then the line that tells of the fault; of `par` that line alone, and nothing was written.
+pub fn the_input_fault_was_told<I: Image>(_image: &I)
+    ensures made { (g : Geometry) (name : List ℕ) (old new : I) (input_old input_new : SourceState) (output_old output_new : SinkState)
+        → HasMet I.state (New g) name 6 old new input_old input_new output_old output_new → TellsNamed name (I.state old)
+        → PrintsWholeLines (fresh g 1 (empty_history g)) input_old input_new output_old output_new }
+    ensures given { (name image : List ℕ) (old new : I) (input_old input_new : SourceState) (output_old output_new : SinkState)
+        → HasMet I.state Run name 6 old new input_old input_new output_old output_new → (I.state old).named name ≡ Some image
+        → OfItsWorld image (λ W. PrintsWholeLines W input_old input_new output_old output_new) }
+    ensures clients { (name image : List ℕ) (old new : I) (input_old input_new : SourceState) (output_old output_new : SinkState)
+        → HasMet I.state Par name 6 old new input_old input_new output_old output_new → (I.state old).named name ≡ Some image
+        → Printed output_old output_new input_fault_text × SinceBind (I.state new) (λ c. c ≡ image) }
+{}
+
+/// Status 7 of `new` and `run`, where what the name names is known, and the bytes of the source: the sink failed, and what it took is a
+/// front of the replies to the lines of the script. Of clients that were run, on any disk: a front of the text of what they were told.
+pub fn the_replies_were_cut<I: Image>(_image: &I)
+    ensures made { (g : Geometry) (name all : List ℕ) (old new : I) (input_old input_new : SourceState) (output_old output_new : SinkState)
+        → HasMet I.state (New g) name 7 old new input_old input_new output_old output_new → TellsNamed name (I.state old) → input_old.rest ≡ Some all
+        → PrintsFront (fresh g 1 (empty_history g)) all output_old output_new }
+    ensures given { (name all image : List ℕ) (old new : I) (input_old input_new : SourceState) (output_old output_new : SinkState)
+        → HasMet I.state Run name 7 old new input_old input_new output_old output_new → (I.state old).named name ≡ Some image → input_old.rest ≡ Some all
+        → OfItsWorld image (λ W. PrintsFront W all output_old output_new) }
+    ensures clients { (name : List ℕ) (old new : I) (input_old input_new : SourceState) (output_old output_new : SinkState)
+        → (r : HasRunClients I.state name 7 old new input_old input_new output_old output_new)
+        → PrintsClientsFront (start_at r.world (I.state r.start)) r.lines r.entries output_old output_new }
+{}
+
+/// Status 8 of `new` and `run`, where what the name names is known, and the bytes of the source: what was put is the replies to some
+/// first lines of the script and then the line that tells of want of memory. Of an image that was not opened no line was answered.
+pub fn the_want_of_memory_was_told<I: Image>(_image: &I)
+    ensures made { (g : Geometry) (name all : List ℕ) (old new : I) (input_old input_new : SourceState) (output_old output_new : SinkState)
+        → HasMet I.state (New g) name 8 old new input_old input_new output_old output_new → TellsNamed name (I.state old) → input_old.rest ≡ Some all
+        → PrintsFirst (fresh g 1 (empty_history g)) all memory_text output_old output_new }
+    ensures given { (name all image : List ℕ) (old new : I) (input_old input_new : SourceState) (output_old output_new : SinkState)
+        → HasMet I.state Run name 8 old new input_old input_new output_old output_new → (I.state old).named name ≡ Some image → input_old.rest ≡ Some all
+        → Printed output_old output_new memory_text ⊎ OfItsWorld image (λ W. PrintsFirst W all memory_text output_old output_new) }
+{}
+
+/// What clients that ran concurrently have made: each image that a crash leaves when `par` has ended, where it told what its name names,
+/// opens to a history that has each commit that an entry of the list tells of (`exit`). The history of the list begins with the one of
+/// the image as given, and each of its commits is serial or snapshot at its number, by its own mode (`order`).
+pub fn commits_of_clients_are_there<I: Image>(_image: &I)
+    ensures exit { (name : List ℕ) (status : ℕ) (old new : I) (input_old input_new : SourceState) (output_old output_new : SinkState)
+        → (r : HasRunClients I.state name status old new input_old input_new output_old output_new) → TellsNamed name (I.state old)
+        → (image : List ℕ) → (I.state new).now image → HasCommitsOf r.entries image }
+    ensures order { (name : List ℕ) (status : ℕ) (old new : I) (input_old input_new : SourceState) (output_old output_new : SinkState)
+        → (r : HasRunClients I.state name status old new input_old input_new output_old output_new)
+        → GoesOnIsolated r.world (state_at (start_at r.world (I.state r.start)) r.entries).world }
+{}
+
+/// The lines of clients that ran concurrently have one order, along which the calls of the hash store and the tree store (`tree`), or of
+/// the hash store and the files (`files`), answer as one thread's: where what the name names is known, the stores begin well formed,
+/// and each commit keeps to them.
+pub fn calls_of_clients_answer_in_one_order<I: Image>(_image: &I)
+    ensures tree { (name : List ℕ) (status : ℕ) (parts : List Part) (old new : I) (input_old input_new : SourceState) (output_old output_new : SinkState)
+        → (r : HasRunClients I.state name status old new input_old input_new output_old output_new)
+        → let A = start_at r.world (I.state r.start) in Told A r.lines parts r.entries → TellsNamed name (I.state old) → BeginsWell the_tree r.world
+        → AnswerInOneOrder the_tree A r.lines parts r.entries }
+    ensures files { (name : List ℕ) (status : ℕ) (parts : List Part) (old new : I) (input_old input_new : SourceState) (output_old output_new : SinkState)
+        → (r : HasRunClients I.state name status old new input_old input_new output_old output_new)
+        → let A = start_at r.world (I.state r.start) in Told A r.lines parts r.entries → TellsNamed name (I.state old) → BeginsWell the_files r.world
+        → AnswerInOneOrder the_files A r.lines parts r.entries }
+{}

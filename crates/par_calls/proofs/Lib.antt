@@ -23,3 +23,4 @@ pub mod Clients
 pub mod Merging
 pub mod Tracing
 mod Rows
+mod TraceRows

@@ -1,5 +1,5 @@
 -- Two clients whose calls of the tree store are told along one order: the one hands its transaction to the other.
-use Rattle.par_calls.{proofs.Words.{◌≡◌, refl, ℕ, true, false, List, [], ◌∷◌, ◌++◌, Option, Some, None, Geometry, Serial, Op, Reply, look_access, store_access, Own, Get, Got, Put, WasPut, OnKey, the_tree, nothing_told, no_notes, notes_after, Event, Made, entries_in, events_of, EachCommit, MemberEnd}, specs.Trace.Done}
+use Rattle.par_calls.{proofs.Words.{◌≡◌, refl, ℕ, true, false, List, [], ◌∷◌, ◌++◌, take, Option, Some, None, Geometry, Serial, Op, Reply, look_access, store_access, Own, Get, Got, Put, WasPut, OnKey, the_tree, nothing_told, no_notes, notes_after, Event, Made, entries_in, events_of, EachCommit, MemberEnd}, specs.Trace.Done}
 use Rattle.script_model.specs.declared.script.Op.TheVariants as op
 use Rattle.script_model.specs.declared.script.Reply.TheVariants as reply
 use Rattle.iso_shared.specs.declared.entry.Entry.TheVariants as entry
@@ -63,6 +63,13 @@ first_was_told = refl
 
 none_posted : (notes_after the_tree stores (no_notes the_tree) handed).posted ≡ []
 none_posted = refl
+
+-- what its looks found is there until its line is answered, and not for the next one
+found_first : (notes_after the_tree stores (no_notes the_tree) (take 6 handed)).found 2 ≡ record (nothing_told the_tree) { second = record { calls = OnKey (Put key value) ∷ []; answers = WasPut ∷ [] }; over = 2 } ∷ []
+found_first = refl
+
+spent_by_its_line : (notes_after the_tree stores (no_notes the_tree) handed).found 2 ≡ []
+spent_by_its_line = refl
 
 -- a plain write of a block of the tree store is one that does not keep to the stores
 not_kept : ((notes_after the_tree stores (no_notes the_tree) (handed ++ line 6 2 (op.Put 1 0 []) reply.Done (Some got_out) (Some written) ∷ [])).of 2).kept ≡ false

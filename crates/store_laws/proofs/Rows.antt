@@ -1,5 +1,5 @@
 -- Counters in the first bytes of blocks, as stores: what the laws say of additions, and what they refuse.
-use Rattle.store_laws.proofs.{Words.{◌≡◌, ◌∙◌, sym, refl, ap, ℕ, zero, suc, ◌+◌, ◌==◌, true, false, List, [], ◌∷◌, length, replicate, slice_get, arith, eq-eqb, get_or, Access, Commit, Serial, Span, Array, byte_at, put, zeros, IsSerialAt, own, History, array_at, block_at, IsLocal, depends, look_access, store_access, length-block_put, put_here, if_some_from, AnswerInOrder, AreMade, Called, Part, accesses_in, run, IsOfItsBlocks, SpareRegion, MapStore, BothInOrder, First, MixedParts, Second, firsts}, TwoStores.both_live}
+use Rattle.store_laws.proofs.{Words.{◌≡◌, ◌∙◌, ◌<◌, ◌≤◌, ◌-◌, inr, sym, refl, ap, ℕ, zero, suc, ◌+◌, ◌==◌, true, false, List, [], ◌∷◌, length, replicate, slice_get, IfSome, arith, eq-eqb, get_or, Access, Commit, Serial, Span, Array, byte_at, put, zeros, HasSeen, IsIsolated, IsSerialAt, own, History, array_at, block_at, IsLocal, depends, look_access, store_access, length-block_put, put_here, if_some_from, small, AnswerInOrder, AreMade, Called, Part, accesses_in, run, IsOfItsBlocks, SpareRegion, MapStore, IsByCalls, IsOfCalls, IsOfBoth, BothByMap, BothInOrder, LooksAnswer, First, MixedParts, Second, firsts}, TwoStores.both_live}
 
 -- a counter in the first byte of a block: a call adds a number, and answers what was there
 abbrev counter_in : ℕ → MapStore
@@ -121,3 +121,86 @@ other_lengths b = grind arith
 pub unread_is_not_local : IsLocal counter.IsWellFormed counter.map_of (counter.act 2) (zeros 64 4) (store_access 0 first_byte (2 ∷ replicate 63 0) ∷ []) 0 → ⊥
 unread_is_not_local local =
     some_number 0 (sym (local.answers other_array (record { blocks = refl; bytes = other_lengths }) refl (λ b p has. absurd (none_read b p has))))
+
+-- ---- histories by calls: those of the two additions, from their begin and from their end on, and one of both counters
+
+of_two : (P : ℕ → Type 0) → P 1 → P 2 → (k : ℕ) → 0 < k → k ≤ 2 → P k
+of_two P one two zero low high = absurd (omega (arith, low))
+of_two P one two (suc zero) low high = one
+of_two P one two (suc (suc zero)) low high = two
+of_two P one two (suc (suc (suc k))) low high = absurd (omega (arith, high))
+
+first_began_before_itself : IsSerialAt in_turn 1
+first_began_before_itself = λ i p. if_some_from _ (slice_get (adding 0 5) i) (λ a is covered. refl)
+
+in_turn_is_isolated : IsIsolated small in_turn
+in_turn_is_isolated k low high =
+    of_two (λ n. IfSome (slice_get in_turn.commits (n - 1)) (HasSeen small in_turn n))
+    (record { since = omega arith; before = omega arith; isolated = first_began_before_itself })
+    (record { since = omega arith; before = omega arith; isolated = each_began_before_itself }) k (omega (arith, low)) (omega (arith, high))
+
+one_addition : (begin shown n : ℕ) → byte_at (array_at in_turn begin) 0 0 ≡ shown → IsOfCalls counter in_turn (added_from begin shown n)
+one_addition begin shown n is = record { parts = one_call shown n; are = refl; made = (adding_is_local 0 (array_at in_turn begin) shown n is, tt); mode = inr refl }
+
+pub in_turn_is_by_calls : IsByCalls counter small in_turn 0
+unfolding put
+in_turn_is_by_calls = record {
+  first = omega arith;
+  since = omega arith;
+  within = omega arith;
+  isolated = in_turn_is_isolated;
+  calls = λ k low high. of_two (λ n. IfSome (slice_get in_turn.commits (n - 1)) (IsOfCalls counter in_turn)) (one_addition 0 0 5 refl) (one_addition 1 5 2 refl) k (omega (arith, low)) (omega (arith, high));
+  begins = refl;
+}
+
+pub by_calls_from_its_end : IsByCalls counter small in_turn 2
+unfolding put
+by_calls_from_its_end = record { first = omega arith; since = omega arith; within = omega arith; isolated = in_turn_is_isolated; calls = λ k low high. absurd (omega (arith, low, high)); begins = refl }
+
+abbrev both_at_once : Commit
+both_at_once = record { begin = 0; mode = Serial; accesses = accesses_in (firsts both_counters) }
+
+pub commit_of_both : IsOfBoth (counter_in 0) (counter_in 1) (history (both_at_once ∷ [])) both_at_once
+unfolding put
+commit_of_both = record {
+  parts = both_counters;
+  are = refl;
+  made = (
+    adding_is_local 0 (zeros 64 4) 0 5 refl,
+    (λ write. refl, (λ write. refl, tt)),
+    (
+      adding_is_local 1 (own (zeros 64 4) (adding_in 0 0 5)) 0 9 refl,
+      (λ write. refl, (λ write. refl, tt)),
+      (adding_is_local 0 (own (own (zeros 64 4) (adding_in 0 0 5)) (adding_in 1 0 9)) 5 2 refl, (λ write. refl, (λ write. refl, tt)), tt),
+    ),
+  );
+  mode = inr refl;
+}
+
+-- ---- what is no answer by one map
+
+abbrev answered_so : (first second : ℕ) → MixedParts (counter_in 0) (counter_in 1)
+answered_so first second = First 5 (adding_in 0 0 5) first ∷ Second 9 (adding_in 1 0 9) second ∷ []
+
+first_by_another_map : BothByMap (counter_in 0) (counter_in 1) (answered_so 7 0) (zeros 64 4) → ⊥
+unfolding head_of
+first_by_another_map by = some_number 6 (sym (ap head_of by.first))
+
+second_by_another_map : BothByMap (counter_in 0) (counter_in 1) (answered_so 0 7) (zeros 64 4) → ⊥
+unfolding head_of
+second_by_another_map by = some_number 6 (sym (ap head_of by.second))
+
+each_by_its_map : BothByMap (counter_in 0) (counter_in 1) (answered_so 0 0) (zeros 64 4)
+each_by_its_map = record { first = refl; second = refl }
+
+-- A look into a counter answers by what the transaction wrote before it, whoever's call that was.
+abbrev looked : (answer : ℕ) → MixedParts counter counter
+looked answer = First 5 (adding 0 5) 0 ∷ Second 0 (look_access 0 first_byte ∷ []) answer ∷ []
+
+look_answers_five : LooksAnswer counter counter (zeros 64 4) (looked 5)
+unfolding put
+look_answers_five = (refl, tt)
+
+look_answers_no_older_map : LooksAnswer counter counter (zeros 64 4) (looked 0) → ⊥
+unfolding put
+look_answers_no_older_map answers = some_number 4 (sym answers.0)

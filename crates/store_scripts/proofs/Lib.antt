@@ -20,4 +20,6 @@ pub mod Refusals
 pub mod Commits
 pub mod Images
 mod Rows
+mod AnswerRows
+mod Traps
 pub mod Whole

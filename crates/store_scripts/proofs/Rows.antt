@@ -1,5 +1,5 @@
 -- Worked examples: what lines and their replies tell of the calls of a tree store, and of those on files.
-use Rattle.store_scripts.proofs.Words.{codes, digits, Geometry, Serial, begin_step, commit_step, end_step, End, Committed, put, clash, runs, after, operation_of, other_operation, store_operation, tree_operation, fill_step, get_step, mark_step, step, store_step, tree_get_step, tree_put_step, tree_delete_step, hex_of, number_of, words_of, is_node, lines_of, made, Del, Got, WasPut, WasThere, OnKey, Told, no_notes, notes_after, group_step, the_files, the_tree, is_file, file_operation, file_move_step, file_new_step, file_read_step, create_program, read_program, rename_program, FileMade, WasRead, FileThere, MakeFile, ReadFile, RenameFile}
+use Rattle.store_scripts.proofs.Words.{codes, digits, Geometry, Serial, begin_step, commit_step, end_step, End, Committed, put, clash, runs, after, operation_of, other_operation, store_operation, tree_operation, fill_step, get_step, mark_step, read_step, step, store_step, tree_get_step, tree_put_step, tree_delete_step, hex_of, number_of, words_of, is_node, lines_of, made, Del, Got, WasPut, WasThere, OnKey, Told, no_notes, notes_after, group_step, the_files, the_tree, is_file, file_operation, file_move_step, file_new_step, file_read_step, create_program, read_program, rename_program, FileMade, WasRead, FileThere, MakeFile, ReadFile, RenameFile}
 use Rattle.std.specs.Prelude.{◌≡◌, ℕ, true, false, List, [], ◌∷◌, Some, None, refl}
 use Rattle.iso_model.specs.declared.access.GroupReply.TheVariants as member
 use Rattle.store_model.specs.TreeCalls as tree
@@ -54,6 +54,25 @@ marks_break_calls = refl
 pub marks_keep_other_accesses : (told (codes "1 begin" ∷ codes "1 tget 61" ∷ codes "1 get 4 0 8" ∷ codes "1 mark 9 1" ∷ [])).kept ≡ true
 unfolding put operation_of other_operation store_operation tree_operation step begin_step get_step mark_step store_step tree_get_step tree.get_program words_of number_of hex_of digits
 marks_keep_other_accesses = refl
+
+-- A mark that is refused puts nothing on an access of a call.
+pub refused_marks_keep : (told (codes "1 begin" ∷ codes "1 tget 61" ∷ codes "1 mark 0 0" ∷ [])).kept ≡ true
+unfolding put operation_of other_operation store_operation tree_operation step begin_step mark_step store_step tree_get_step tree.get_program words_of number_of hex_of digits
+refused_marks_keep = refl
+
+-- A plain read inside of the stores keeps to them, and so does a plain write outside behind a call that writes.
+pub plain_reads_keep_inside : (told (codes "1 begin" ∷ codes "1 tget 61" ∷ codes "1 read 1" ∷ [])).kept ≡ true
+unfolding put operation_of other_operation store_operation tree_operation step begin_step read_step store_step tree_get_step tree.get_program words_of number_of hex_of digits
+plain_reads_keep_inside = refl
+
+pub plain_writes_keep_behind_a_put : (told (codes "1 begin" ∷ codes "1 tput 61 31" ∷ codes "1 fill 3 ff" ∷ [])).kept ≡ true
+unfolding put operation_of other_operation store_operation tree_operation step begin_step fill_step store_step tree_put_step tree.get_program tree.put_program is_node words_of number_of hex_of digits
+plain_writes_keep_behind_a_put = refl
+
+-- What broke them once does not keep again.
+pub what_is_broken_stays_so : (told (codes "1 begin" ∷ codes "1 fill 2 ff" ∷ codes "1 fill 3 ff" ∷ [])).kept ≡ false
+unfolding put operation_of other_operation step begin_step fill_step words_of number_of hex_of digits
+what_is_broken_stays_so = refl
 
 -- What is told of it commits.
 pub told_calls_commit : (step (after (made trees) (lines_of (codes "1 begin" ∷ codes "1 tput 61 31" ∷ codes "1 tget 61" ∷ []))) 1 End).0 ≡ Committed 1

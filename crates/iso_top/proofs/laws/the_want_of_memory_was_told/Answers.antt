@@ -1,0 +1,7 @@
+use Rattle.iso_top.proofs.Statuses.{memory_of_new, memory_of_run}
+
+pub returns-clause-made : Rattle.iso_top.proofs.laws.the_want_of_memory_was_told.Goals.returns-clause-made
+returns-clause-made g c = λ geometry name all old new input_old input_new output_old output_new. memory_of_new g.I.Disk.state name old new input_old input_new output_old output_new geometry all
+
+pub returns-clause-given : Rattle.iso_top.proofs.laws.the_want_of_memory_was_told.Goals.returns-clause-given
+returns-clause-given g c = λ name all image old new input_old input_new output_old output_new. memory_of_run g.I.Disk.state name old new input_old input_new output_old output_new all image
