@@ -3,3 +3,5 @@ pub mod Device
 pub mod Opened
 pub mod Status
 pub mod Numbers
+pub mod Oldest
+pub mod Peeked

@@ -5,6 +5,7 @@
 //! disk's calls to a file.
 #![tactic(auto)]
 
+mod about;
 mod access;
 mod asking;
 mod begin;
@@ -15,6 +16,7 @@ mod end;
 mod files;
 mod group;
 mod image;
+mod peek;
 mod seat;
 mod status;
 mod stores;
