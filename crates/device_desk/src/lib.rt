@@ -26,5 +26,5 @@ mod taped;
 
 pub use desk::Desk;
 pub use image::{create, open};
-pub use status::{Status, status_of};
+pub use status::{Status, status_of, status_of_reply};
 pub use taped::{fail, hand_on, tape};
