@@ -16,3 +16,14 @@ pub no_refusal : (e : OpenError) → (IsTest e → ⊥) → (code_of_open e ≡ 
 no_refusal image.Disk sound = (λ is. grind arith, λ is. grind arith)
 no_refusal image.Memory sound = (λ is. grind arith, λ is. grind arith)
 no_refusal e sound = absurd (sound tt)
+
+-- no error has the status of an image that is open
+pub never_done : (e : OpenError) → code_of_open e ≡ pos 0 → ⊥
+never_done image.NotIsotope is = grind arith
+never_done (image.BadGeometry field) is = grind arith
+never_done (image.WrongSize want have) is = grind arith
+never_done image.NoHalf is = grind arith
+never_done (image.Damaged at cause) is = grind arith
+never_done (image.UnknownForm form) is = grind arith
+never_done image.Disk is = grind arith
+never_done image.Memory is = grind arith

@@ -4,7 +4,7 @@ use Rattle.iso_model.specs.World.{World}
 use Rattle.script_model.specs.{declared.script.Op.Op, declared.script.Reply.Reply, declared.stop.Stop.Stop}
 use Rattle.script_model.specs.declared.stop.Stop.TheVariants as stop
 use Rattle.queued_disk.specs.{declared.queued.QueuedDisk.QueuedDisk, Queued.state_of}
-use Rattle.device_desk.specs.Device.{Answered, Device, IsRefusedDown, StandsAt, state_at}
+use Rattle.device_desk.specs.{Device.{Answered, Device, IsRefusedDown, StandsAt, state_at}}
 use Rattle.iso_machine.specs.Answering.{Answers as AnswersAs}
 use Rattle.isotope_c.specs.{declared.instance.Instance.Instance, declared.slot.Slot.Slot, Instances.desk_in, Exports.{Serves, Steps, device_in}}
 use Rattle.isotope_c.specs.declared.instance.Instance.TheVariants.{Open}

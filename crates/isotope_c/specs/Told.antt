@@ -1,14 +1,14 @@
 -- What C is told of an answer, in the numbers and slices that it hands in.
-use Rattle.std.specs.Prelude.{◌≡◌, ◌⊎◌, ℕ, ℤ, pos, ◌+◌, Bool, ◌==◌, if◌then◌else◌, List, [], ◌∷◌, ◌++◌, Option, None, Some, Result, Ok, Err, drop, length, map, min, nat_le}
+use Rattle.std.specs.Prelude.{◌≡◌, ◌⊎◌, ℕ, ℤ, pos, ◌-◌, ◌==◌, if◌then◌else◌, List, [], ◌∷◌, ◌++◌, Option, None, Some, Result, Ok, Err, drop, length, map, min, nat_le, option_map}
 use Rattle.iso_memdisk.specs.declared.record.Call.{Call}
 use Rattle.iso_memdisk.specs.declared.record.Call.TheVariants.{Write, Sync}
 use Rattle.iso_image.specs.declared.open_error.OpenError.{OpenError}
 use Rattle.iso_image.specs.declared.open_error.OpenError.TheVariants as image
-use Rattle.iso_model.specs.{declared.access.Geometry.Geometry, declared.access.GroupReply.GroupReply, declared.access.Mode.Mode, declared.access.Mode.TheVariants.{Serial, Snapshot}, Geometry.is_valid, History.last, Versions.versions, World.{World, used}}
+use Rattle.iso_model.specs.{declared.access.Geometry.Geometry, declared.access.GroupReply.GroupReply, declared.access.Mode.Mode, declared.access.Mode.TheVariants.{Serial, Snapshot}, Geometry.is_valid, History.last, Versions.versions, World.{Live, World, used}, declared.limits.TheConstants.MAX_ACCESSES}
 use Rattle.iso_model.specs.declared.access.GroupReply.TheVariants as member
 use Rattle.script_model.specs.{declared.script.Reply.Reply, declared.stop.Stop.Stop}
 use Rattle.script_model.specs.declared.script.Reply.TheVariants as reply
-use Rattle.device_desk.specs.Status.{status_of}
+use Rattle.device_desk.specs.{Oldest.oldest_of, Status.status_of}
 use Rattle.isotope_c.specs.{declared.records.Ended.Ended, declared.records.NewImage.NewImage, declared.records.Numbers.Numbers, declared.records.Refusal.Refusal, Codes.code_of}
 
 -- the number of an answer's status
@@ -80,6 +80,10 @@ member_ended (Some (member.Conflict clash)) = record (ended_so (pos 1)) { met = 
 member_ended (Some (member.Full need free)) = record (ended_so (pos 4)) { need = need; room = free }
 member_ended (Some member.Worn) = ended_so (pos 19)
 
+-- how an end was answered that had this reply
+abbrev pub reply_ended : Reply → Ended
+reply_ended r = ended_of (Ok r)
+
 -- these in the places of as many, as far as there are places
 abbrev pub over : {T : Type 0} → List T → List T → List T
 over [] places = places
@@ -90,6 +94,11 @@ over (x ∷ xs) (place ∷ places) = x ∷ over xs places
 abbrev pub group_told : List Ended → Result Reply Stop → ℤ × List Ended
 group_told places (Ok (reply.Grouped answers)) = (pos 0, over (map member_ended answers) places)
 group_told places answer = (code answer, places)
+
+-- the status, and how many accesses the transaction may still make, where there is one
+abbrev pub room_told : (accesses : ℕ) → Option Live → ℤ × ℕ
+room_told accesses None = (pos 23, accesses)
+room_told accesses (Some t) = (pos 0, MAX_ACCESSES - length t.accesses)
 
 -- a call of the tape: 0 a write, 1 a sync, 2 none
 abbrev pub call_told : Option Call → (at : ℕ) (into : List ℕ) (len : ℕ) → ℤ × (ℕ × (List ℕ × ℕ))
@@ -127,6 +136,11 @@ abbrev pub geometry_status : Option Geometry → ℤ
 geometry_status None = pos 29
 geometry_status (Some g) = if is_valid g then pos 0 else pos 27
 
+-- the number of a transaction, 0 for none
+abbrev pub number_in : Option ℕ → ℕ
+number_in None = 0
+number_in (Some n) = n
+
 -- the counts of a world
 abbrev pub counts : World → Numbers
 counts W = record {
@@ -134,7 +148,7 @@ counts W = record {
   base = W.base;
   trim = W.trim;
   versions = versions W;
-  oldest = 0;
+  oldest = number_in (option_map (λ t. t.number) (oldest_of W));
   live = length W.live;
   used = used W;
   log = W.geometry.log;

@@ -1,7 +1,9 @@
 // What transactions read and write.
-ghost use Rattle.std.specs.Prelude.{◌≡◌};
+ghost use Rattle.std.specs.Prelude.{◌≡◌, None, pos};
 ghost use Rattle.script_model.specs.declared.script.Op.TheVariants.{Fill, Get, Mark, Put, Read, Write};
-ghost use Rattle.isotope_c.specs.Exports.{Says, Serves};
+ghost use Rattle.iso_machine.specs.Answering.{Always};
+ghost use Rattle.device_desk.specs.Peeked.{peeked};
+ghost use Rattle.isotope_c.specs.Exports.{Says, Serves, Steps, device_in};
 ghost use Rattle.isotope_c.specs.Told.{length_asked, shown};
 
 use crate::code::{CLOSED, code_of};
@@ -53,6 +55,32 @@ pub extern "C" fn isotope_c_get(
     };
     let len = length_asked(into);
     let answer = desk.get(tx, block, off, len);
+    put(slot, instance);
+    show(&answer, into)
+}
+
+/// Reads as many bytes of a block as the slice has, from `off` on, as the transaction is shown them. It is no access: no conflict
+/// comes of it, and it has no limit.
+#[unsafe(no_mangle)]
+pub extern "C" fn isotope_c_peek(
+    slot: &mut Slot,
+    tx: u64,
+    block: u32,
+    off: u32,
+    into: &mut [u8],
+) -> i32
+    ensures closed { device_in slot.old ≡ None → (result ≡ pos 24) × (slot.new ≡ slot.old) }
+    ensures peeks { Steps slot.old slot.new Always (λ W. peeked W tx block off (length_asked into.old)) (λ W answer. (result, into.new) ≡ shown into.old answer) }
+{
+    if !is_open(slot) {
+        return CLOSED;
+    }
+    let mut instance = take_open(slot);
+    let Instance::Open(desk) = &mut *instance else {
+        unreachable!()
+    };
+    let len = length_asked(into);
+    let answer = desk.peek(tx, block, off, len);
     put(slot, instance);
     show(&answer, into)
 }

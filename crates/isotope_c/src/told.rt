@@ -1,9 +1,10 @@
 // What C is told of an answer.
 ghost use Rattle.std.specs.Prelude.{◌≡◌, ◌++◌, IfOk, OnOk, map, pos};
-ghost use Rattle.isotope_c.specs.Told.{IsScanned, begun, ended_of, ended_so, fitted, found, group_told, laid, member_ended, over, pairs_text, part_text, scanned, shown};
+ghost use Rattle.isotope_c.specs.Told.{IsScanned, begun, ended_of, ended_so, fitted, found, group_told, laid, member_ended, over, pairs_text, part_text, reply_ended, scanned, shown};
 
-use crate::code::{MEMORY, NO_TRANSACTION, TOO_SMALL, code_of};
+use crate::code::{MEMORY, NO_TRANSACTION, TOO_SMALL, code, code_of};
 use crate::records::Ended;
+use device_desk::status_of_reply;
 use iso_model::{Bytes, Clash, GroupReply};
 use script_model::{Reply, Stop};
 use std::alloc::{AllocError, Global};
@@ -146,15 +147,24 @@ fn full(need: u64, room: u64) -> Ended
     ended
 }
 
+fn reply_ended(reply: &Reply) -> Ended
+    ensures { result ≡ reply_ended reply.now }
+{
+    match reply {
+        Reply::Committed(commit) => committed(*commit),
+        Reply::Conflict(clash) => met(clash),
+        Reply::LogFull { need, free } => full(*need, *free),
+        _ => ended_so(code(status_of_reply(reply))),
+    }
+}
+
 /// How a transaction ended.
 pub(crate) fn ended_of(answer: &Result<Reply, Stop>) -> Ended
     ensures { result ≡ ended_of answer.now }
 {
     match answer {
-        Ok(Reply::Committed(commit)) => committed(*commit),
-        Ok(Reply::Conflict(clash)) => met(clash),
-        Ok(Reply::LogFull { need, free }) => full(*need, *free),
-        _ => ended_so(code_of(answer)),
+        Ok(reply) => reply_ended(reply),
+        Err(_) => ended_so(code_of(answer)),
     }
 }
 
