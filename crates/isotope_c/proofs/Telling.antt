@@ -37,7 +37,7 @@ no_room was (Some t) same = absurd (cc same)
 no_room was None same = refl
 
 -- the counts that a reply has, with the log's size, the form and who holds the floor, are those of the world
-pub counts_told : (W : World) {n base trim live used versions : ℕ} {g : Geometry} {first : Option ℕ} → Ok (reply.Numbers n base trim live used versions) ≡ Ok (numbers W) → g ≡ W.geometry
+pub counts_told : (W : World) {n base trim live used versions : ℕ} {g : Geometry} {first : Option ℕ} → reply.Numbers n base trim live used versions ≡ numbers W → g ≡ W.geometry
     → first ≡ option_map (λ t. t.number) (oldest_of W)
     → record { last = n; base = base; trim = trim; versions = versions; oldest = number_in first; live = live; used = used; log = g.log; form = g.form } ≡ counts W
 unfolding numbers

@@ -25,24 +25,23 @@ fn number_in(number: Option<u64>) -> u64
     }
 }
 
-// Tells the counts that an answer has, with those that it has not.
-fn count(answer: &Result<Reply, Stop>, geometry: &Geometry, oldest: Option<u64>, counts: &mut Numbers)
-    ensures { (W : World) → answer.now ≡ Ok (numbers W) → geometry.now ≡ W.geometry → oldest ≡ option_map (λ t. t.number) (oldest_of W) → counts.new ≡ counts W }
+// Tells the counts that a reply has, with those that it has not.
+#[tactic(auto, unfolding(script_model::specs::Step::numbers))]
+fn count_reply(reply: &Reply, geometry: &Geometry, oldest: Option<u64>, into: &mut Numbers)
+    ensures { (W : World) → reply.now ≡ numbers W → geometry.now ≡ W.geometry → oldest ≡ option_map (λ t. t.number) (oldest_of W) → into.new ≡ counts W }
 {
-    let Ok(
-        Reply::Numbers {
-            last,
-            base,
-            trim,
-            live,
-            used,
-            versions,
-        },
-    ) = answer
+    let Reply::Numbers {
+        last,
+        base,
+        trim,
+        live,
+        used,
+        versions,
+    } = reply
     else {
         return;
     };
-    *counts = Numbers {
+    *into = Numbers {
         last: *last,
         base: *base,
         trim: *trim,
@@ -53,6 +52,16 @@ fn count(answer: &Result<Reply, Stop>, geometry: &Geometry, oldest: Option<u64>,
         log: geometry.log,
         form: u32::from(geometry.form),
     };
+}
+
+// So of an answer, where it is a reply.
+fn count(answer: &Result<Reply, Stop>, geometry: &Geometry, oldest: Option<u64>, into: &mut Numbers)
+    ensures { (W : World) → answer.now ≡ Ok (numbers W) → geometry.now ≡ W.geometry → oldest ≡ option_map (λ t. t.number) (oldest_of W) → into.new ≡ counts W }
+{
+    match answer {
+        Ok(reply) => count_reply(reply, geometry, oldest, into),
+        Err(_) => {}
+    }
 }
 
 /// The counts of the image.
