@@ -1,12 +1,12 @@
 -- A device that is taken out of its slot, asked, and put back.
-use Rattle.std.proofs.Common.{◌≡◌, ◌∙◌, sym, ap, refl, subst, ℕ, ℤ, pos, Option, None, Some, Result, Ok, Err, false, SFits, w32, to_z, of_z, to_z-of_z}
+use Rattle.std.proofs.Common.{◌≡◌, ◌∙◌, sym, ap, refl, subst, ℕ, ℤ, pos, List, [], Option, None, Some, Result, Ok, Err, false, SFits, w32, to_z, of_z, to_z-of_z}
 use Rattle.iso_model.specs.World.{World}
 use Rattle.script_model.specs.{declared.script.Op.Op, declared.script.Reply.Reply, declared.stop.Stop.Stop}
 use Rattle.script_model.specs.declared.stop.Stop.TheVariants as stop
 use Rattle.queued_disk.specs.{declared.queued.QueuedDisk.QueuedDisk, Queued.state_of}
-use Rattle.device_desk.specs.{Device.{Answered, Device, IsRefusedDown, StandsAt, state_at}}
+use Rattle.device_desk.specs.{Device.{Answered, Device, IsRefusedDown, StandsAt, state_at}, Waiting.Waits}
 use Rattle.iso_machine.specs.Answering.{Answers as AnswersAs}
-use Rattle.isotope_c.specs.{declared.instance.Instance.Instance, declared.slot.Slot.Slot, Instances.desk_in, Exports.{Serves, Steps, device_in}}
+use Rattle.isotope_c.specs.{declared.instance.Instance.Instance, declared.slot.Slot.Slot, Instances.desk_in, Exports.{EndsWaiting, Serves, Steps, device_in}}
 use Rattle.isotope_c.specs.declared.instance.Instance.TheVariants.{Open}
 
 -- the slot's device is the one that was taken out
@@ -66,5 +66,27 @@ module _ (old new : Slot) {boxed held : Instance} {taken now : Device QueuedDisk
           answer = answer;
           did = subst (λ (e : Device QueuedDisk). AnswersAs goes_on (StandsAt state_of now) (state_at state_of e) (state_at state_of now) W (given W) answer) same (did W stood);
           told = told W stood;
+        };
+  }
+
+  -- and of ends that waited for one another
+  pub waited : {numbers : List ℕ} {IsTold : List Reply → Option Stop → Type 0} {replies : List Reply} {why : Option Stop}
+      → ((W : World) → StandsAt state_of taken W → Waits (StandsAt state_of now) (state_at state_of taken) (state_at state_of now) W numbers replies why)
+      → (taken.up ≡ false → (replies ≡ []) × (why ≡ Some stop.Down) × (now ≡ taken)) → IsTold replies why → EndsWaiting old new numbers IsTold
+  waited {numbers = numbers} {IsTold = IsTold} {replies = replies} {why = why} did refused told = record {
+    down = λ d was off.
+        let same : taken ≡ d = held_is was in
+        let refusal = refused (ap (λ (e : Device QueuedDisk). e.up) same ∙ off) in
+        (subst (λ (s : Option Stop). IsTold [] s) refusal.1 (subst (λ (rs : List Reply). IsTold rs why) refusal.0 told), holds ∙ ap Some (refusal.2 ∙ same));
+    answer = λ d W was stands.
+        let same : taken ≡ d = held_is was in
+        let stood : StandsAt state_of taken W = subst (λ (e : Device QueuedDisk). StandsAt state_of e W) (sym same) stands in
+        record {
+          now = now;
+          there = holds;
+          answers = replies;
+          why = why;
+          did = subst (λ (e : Device QueuedDisk). Waits (StandsAt state_of now) (state_at state_of e) (state_at state_of now) W numbers replies why) same (did W stood);
+          told = told;
         };
   }

@@ -8,7 +8,7 @@ use Rattle.iso_machine.specs.Answering.{Answers as AnswersAs}
 use Rattle.script_model.specs.{declared.script.Op.Op, declared.script.Reply.Reply, declared.stop.Stop.Stop}
 use Rattle.script_model.specs.declared.stop.Stop.TheVariants as stop
 use Rattle.queued_disk.specs.{declared.queued.QueuedDisk.QueuedDisk, Queued.{calls_of, given, handed_on, is_failed, state_of, tape_of}}
-use Rattle.device_desk.specs.{Device.{Answered, Device, StandsAt, disk_under, state_at}, Opened.{IsOpenedAs, IsReopenedAs}}
+use Rattle.device_desk.specs.{Device.{Answered, Device, StandsAt, disk_under, state_at}, Opened.{IsOpenedAs, IsReopenedAs}, Waiting.Waits}
 use Rattle.isotope_c.specs.{declared.records.Refusal.Refusal, declared.instance.Instance.Instance, declared.slot.Slot.Slot, Codes.code_of_open, Instances.{desk_in, laid_in}, Told.{code, refusal_of}}
 
 -- the open device in a slot, and the bytes of an image that is being laid
@@ -56,6 +56,20 @@ pub record HasStepped (old : Device QueuedDisk) (new : Slot) (goes_on : Stop →
 pub record Steps (old new : Slot) (goes_on : Stop → Type 0) (given : World → Reply × World) (IsTold : World → Result Reply Stop → Type 0) : Type 0 where
   pub down : (d : Device QueuedDisk) (W : World) → device_in old ≡ Some d → d.up ≡ false → IsTold W (Err stop.Down) × (device_in new ≡ Some d)
   pub answer : (d : Device QueuedDisk) (W : World) → device_in old ≡ Some d → StandsAt state_of d W → HasStepped d new goes_on W (given W) (IsTold W)
+
+-- The device is in the slot again, and has ended transactions of these numbers one after the other from the world W. Of that C is told this.
+pub record HasWaited (old : Device QueuedDisk) (new : Slot) (W : World) (numbers : List ℕ) (IsTold : List Reply → Option Stop → Type 0) : Type 0 where
+  pub now : Device QueuedDisk
+  pub there : device_in new ≡ Some now
+  pub answers : List Reply
+  pub why : Option Stop
+  pub did : Waits (StandsAt state_of now) (state_at state_of old) (state_at state_of now) W numbers answers why
+  pub told : IsTold answers why
+
+-- so of an open device: none are ended where it is down
+pub record EndsWaiting (old new : Slot) (numbers : List ℕ) (IsTold : List Reply → Option Stop → Type 0) : Type 0 where
+  pub down : (d : Device QueuedDisk) → device_in old ≡ Some d → d.up ≡ false → IsTold [] (Some stop.Down) × (device_in new ≡ Some d)
+  pub answer : (d : Device QueuedDisk) (W : World) → device_in old ≡ Some d → StandsAt state_of d W → HasWaited d new W numbers IsTold
 
 -- A new image: the device stands for the empty history, and at each moment its blank disk held an image of that history, or one that
 -- is refused as none of this project.

@@ -84,6 +84,20 @@ member_ended (Some member.Worn) = ended_so (pos 19)
 abbrev pub reply_ended : Reply → Ended
 reply_ended r = ended_of (Ok r)
 
+-- ends that have replies in the first places, and in the others the status of those that have none
+abbrev pub filled : List Reply → (status : ℤ) → (places : List Ended) → List Ended
+filled replies status [] = []
+filled [] status (place ∷ places) = ended_so status ∷ filled [] status places
+filled (r ∷ replies) status (place ∷ places) = reply_ended r ∷ filled replies status places
+
+-- the status of ends that have no reply, 0 where each has one
+abbrev pub stop_code : Option Stop → ℤ
+stop_code None = pos 0
+stop_code (Some why) = code (Err why)
+
+abbrev pub waited_told : (places : List Ended) → List Reply → Option Stop → ℤ × List Ended
+waited_told places replies stop = (stop_code stop, filled replies (stop_code stop) places)
+
 -- these in the places of as many, as far as there are places
 abbrev pub over : {T : Type 0} → List T → List T → List T
 over [] places = places

@@ -6,6 +6,9 @@ use device_desk::{Status, status_of};
 use iso_image::OpenError;
 use script_model::{Reply, Stop};
 
+/// More transactions than may be live.
+pub(crate) const TOO_MANY: i32 = 5;
+
 /// Beyond the image.
 pub(crate) const BAD_RANGE: i32 = 8;
 

@@ -8,7 +8,9 @@ use std::alloc::Global;
 use std::mem;
 
 const EMPTY: u64 = 0;
+
 const OPEN: u64 = 1;
+
 const LAID: u64 = 2;
 
 /// An open device, an image that is being laid, or nothing. C makes it of zeros, and writes to it no more.

@@ -12,6 +12,7 @@ use device_desk::{fail, hand_on, tape};
 use queued_disk::Call;
 
 const SYNC: i32 = 1;
+
 const NO_CALL: i32 = 2;
 
 fn show_call(tape: &[Call], index: u64, at: &mut u64, into: &mut [u8], len: &mut u64) -> i32

@@ -1,10 +1,10 @@
 // What C is told of an answer.
 ghost use Rattle.std.specs.Prelude.{◌≡◌, ◌++◌, IfOk, OnOk, map, pos};
-ghost use Rattle.isotope_c.specs.Told.{IsScanned, begun, ended_of, ended_so, fitted, found, group_told, laid, member_ended, over, pairs_text, part_text, reply_ended, scanned, shown};
+ghost use Rattle.isotope_c.specs.Told.{IsScanned, begun, ended_of, ended_so, filled, fitted, found, group_told, laid, member_ended, over, pairs_text, part_text, reply_ended, scanned, shown, stop_code, waited_told};
 
 use crate::code::{MEMORY, NO_TRANSACTION, TOO_SMALL, code, code_of};
 use crate::records::Ended;
-use device_desk::status_of_reply;
+use device_desk::{Waited, status_of_reply};
 use iso_model::{Bytes, Clash, GroupReply};
 use script_model::{Reply, Stop};
 use std::alloc::{AllocError, Global};
@@ -206,4 +206,38 @@ pub(crate) fn group_told(answer: &Result<Reply, Stop>, places: &mut [Ended]) -> 
         }
         _ => code_of(answer),
     }
+}
+
+// Puts the ends that have replies into the first places, and the status of those that have none into the others.
+fn fill_ends(replies: &[Reply], status: i32, places: &mut [Ended])
+    ensures { places.new ≡ filled replies.now status places.old }
+{
+    let Some((place, rest)) = places.split_first_mut() else {
+        return;
+    };
+    let Some((reply, others)) = replies.split_first() else {
+        *place = ended_so(status);
+        return fill_ends(replies, status, rest);
+    };
+    *place = reply_ended(reply);
+    fill_ends(others, status, rest)
+}
+
+// The status of ends that have no reply.
+fn stop_code(stop: Option<Stop>) -> i32
+    ensures { result ≡ stop_code stop }
+{
+    match stop {
+        None => 0,
+        Some(why) => code_of(&Err(why)),
+    }
+}
+
+/// Puts into the places what ends are answered that were asked for together.
+pub(crate) fn waited_told(waited: &Waited, places: &mut [Ended]) -> i32
+    ensures { (result, places.new) ≡ waited_told places.old waited.now.replies.items waited.now.stop }
+{
+    let status = stop_code(waited.stop);
+    fill_ends(&waited.replies, status, places);
+    status
 }
