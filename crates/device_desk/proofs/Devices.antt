@@ -1,6 +1,6 @@
 -- What a table answers is what its desk answers.
-use Rattle.iso_machine.proofs.Words.{◌≡◌, ◌∙◌, sym, ap, subst, refl, false, Result, Ok, Err, DiskState, World, Reply, Op, Stop, Answers, AnswersTold, IsLawful, started, shows, disk_of, Always, Never, Bool, true, inl, arith, ℕ}
-use Rattle.device_desk.specs.{declared.table.Table.Table, Device.{Answered, Device, StandsAt, state_at}, Seats.IsTableOf}
+use Rattle.iso_machine.proofs.Words.{◌≡◌, ◌∙◌, sym, ap, subst, refl, false, Result, Ok, Err, DiskState, World, Reply, Op, Stop, Answers, AnswersTold, IsLawful, started, shows, disk_of, Always, Never, Bool, true, inl, arith, ℕ, ◌≢◌, List, Option, Some}
+use Rattle.device_desk.specs.{declared.table.Table.Table, Device.{Answered, Device, StandsAt, state_at}, Seats.IsTableOf, Waiting.Waits}
 use Rattle.script_model.specs.declared.stop.Stop.TheVariants as stop
 
 -- of a group that had no reply nothing more is said
@@ -131,3 +131,27 @@ module _ {D : Type 0} {state : D → DiskState} where
     cause = record { later = omega arith; failed = λ e. absurd (cc e); passed = tt; memory = λ e. refl };
     stopped = λ may. record { world = W; is = stands; same = record { live = refl; rest = refl }; whole = λ call. refl };
   }
+
+module _ {D : Type 0} {state : D → DiskState} where
+  -- ends leave the desk up where the disk did not fail
+  pub waits_up : {table : Table D} {up : Bool} {old new : DiskState} {W : World} {numbers : List ℕ} {answers : List Reply} {why : Option Stop} → (why ≢ Some stop.Disk → up ≡ true) → Waits (IsTableOf state table) old new W numbers answers why
+      → Waits (StandsAt state (record { table = table; up = up })) old new W numbers answers why
+  waits_up on is = record {
+    replies = is.replies;
+    all = is.all;
+    world = λ other. record { is_up = on other; table = is.world other };
+    moments = is.moments;
+    stable = is.stable;
+    told = is.told;
+    up = is.up;
+    later = is.later;
+    failed = is.failed;
+    passed = is.passed;
+  }
+
+  -- what clauses see of the desk before
+  pub waits_from : {table : Table D} {up : Bool} {d new : Device D} {numbers : List ℕ} {answers : List Reply} {why : Option Stop} → record { table = table; up = up } ≡ d
+      → ((W : World) → StandsAt state (record { table = table; up = up }) W → Waits (StandsAt state new) (state_at state (record { table = table; up = up })) (state_at state new) W numbers answers why)
+      → (W : World) → StandsAt state d W → Waits (StandsAt state new) (state_at state d) (state_at state new) W numbers answers why
+  waits_from {new = new} {numbers = numbers} {answers = answers} {why = why} view did =
+      subst (λ (e : Device D). (W : World) → StandsAt state e W → Waits (StandsAt state new) (state_at state e) (state_at state new) W numbers answers why) view did

@@ -2,6 +2,11 @@ pub mod Lists
 pub mod Begins
 pub mod Own
 pub mod Peeks
+pub mod Needs
+pub mod Lendings
+pub mod Fitting
 pub mod Tables
 pub mod Members
+pub mod Gathered
+pub mod Waitings
 pub mod Devices

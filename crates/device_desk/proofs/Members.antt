@@ -52,7 +52,7 @@ nothing_taken [] live answers ends none = record {
 }
 
 -- those that stay are different ones
-without_distinct : (live : List Live) (o : Option Live) → AreDistinct live → AreDistinct (without_found live o)
+pub without_distinct : (live : List Live) (o : Option Live) → AreDistinct live → AreDistinct (without_found live o)
 without_distinct live None distinct = distinct
 without_distinct live (Some t) distinct = distinct_filter (λ u. not (u.number == t.number)) live distinct
 
@@ -126,7 +126,7 @@ found_other (number ∷ numbers) live = go (λ l. found_other numbers l) (of_num
     go later None = later live
     go later (Some t) = (found_all (λ u. u.number ≢ t.number) numbers (without t.number live) (without_all t.number live), later (without t.number live))
 
-each_of : (V : World) (gone : List Seat) → AllByRecursion (IsSized V.geometry) gone → AllByRecursion (λ t. IsAmong t V.live) (map live_of gone) → AreOther (map live_of gone)
+pub each_of : (V : World) (gone : List Seat) → AllByRecursion (IsSized V.geometry) gone → AllByRecursion (λ t. IsAmong t V.live) (map live_of gone) → AreOther (map live_of gone)
     → AreEach (IsMember V) (map member_of gone) (map live_of gone)
 each_of V [] sized among other = tt
 each_of V (a ∷ gone) sized among other = (

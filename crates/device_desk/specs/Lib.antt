@@ -5,3 +5,5 @@ pub mod Status
 pub mod Numbers
 pub mod Oldest
 pub mod Peeked
+pub mod Lent
+pub mod Waiting

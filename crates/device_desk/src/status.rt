@@ -55,7 +55,8 @@ pub fn status_of(answer: &Result<Reply, Stop>) -> Status
     }
 }
 
-fn status_of_reply(reply: &Reply) -> Status
+/// What a reply comes to.
+pub fn status_of_reply(reply: &Reply) -> Status
     ensures { result ≡ status_of (Ok reply.now) }
 {
     match reply {

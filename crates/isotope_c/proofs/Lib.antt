@@ -1,0 +1,4 @@
+pub mod AsBox
+pub mod Serving
+pub mod Telling
+pub mod Made

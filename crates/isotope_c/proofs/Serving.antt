@@ -1,0 +1,92 @@
+-- A device that is taken out of its slot, asked, and put back.
+use Rattle.std.proofs.Common.{◌≡◌, ◌∙◌, sym, ap, refl, subst, ℕ, ℤ, pos, List, [], Option, None, Some, Result, Ok, Err, false, SFits, w32, to_z, of_z, to_z-of_z}
+use Rattle.iso_model.specs.World.{World}
+use Rattle.script_model.specs.{declared.script.Op.Op, declared.script.Reply.Reply, declared.stop.Stop.Stop}
+use Rattle.script_model.specs.declared.stop.Stop.TheVariants as stop
+use Rattle.queued_disk.specs.{declared.queued.QueuedDisk.QueuedDisk, Queued.state_of}
+use Rattle.device_desk.specs.{Device.{Answered, Device, IsRefusedDown, StandsAt, state_at}, Waiting.Waits}
+use Rattle.iso_machine.specs.Answering.{Answers as AnswersAs}
+use Rattle.isotope_c.specs.{declared.instance.Instance.Instance, declared.slot.Slot.Slot, Instances.desk_in, Exports.{EndsWaiting, Serves, Steps, device_in}}
+use Rattle.isotope_c.specs.declared.instance.Instance.TheVariants.{Open}
+
+-- the slot's device is the one that was taken out
+pub taken_is : (s : Slot) {held : Instance} {taken d : Device QueuedDisk} → s.inner.instance ≡ Some held → held ≡ Open taken → device_in s ≡ Some d → taken ≡ d
+taken_is s {held = held} {taken = taken} {d = d} there is holds =
+    let same : Some taken ≡ Some d = sym (ap (λ (i : Instance). desk_in (Some i)) is) ∙ (sym (ap desk_in there) ∙ holds) in
+    cc same
+
+-- Of what was taken out (`there`) the open device (`value`, `is`) was asked, and what it became was put back (`put`).
+module _ (old new : Slot) {boxed held : Instance} {taken now : Device QueuedDisk} (there : old.inner.instance ≡ Some boxed) (value : held ≡ boxed) (is : held ≡ Open taken) (put : new.inner.instance ≡ Some (Open now)) where
+  pub holds : device_in new ≡ Some now
+  holds = ap desk_in put
+
+  pub held_is : {d : Device QueuedDisk} → device_in old ≡ Some d → taken ≡ d
+  held_is was = taken_is old there (sym value ∙ is) was
+
+  no_device : {P : Type 0} → device_in old ≡ None → P
+  no_device none = absurd (cc (sym (ap (λ (i : Instance). desk_in (Some i)) (sym value ∙ is)) ∙ (sym (ap desk_in there) ∙ none)))
+
+  -- the device has answered, and C is told so by a status that comes back from memory
+  pub served : {status : ℤ} → SFits w32 status → (number : ℕ) (op : Op) (IsTold : ℤ → Result Reply Stop → Type 0) {answer : Result Reply Stop}
+      → ((W : World) → StandsAt state_of taken W → Answered state_of taken now W number op answer) → (taken.up ≡ false → IsRefusedDown taken now answer) → IsTold status answer
+      → Serves old new (to_z w32 (of_z w32 status)) number op (IsTold (to_z w32 (of_z w32 status)))
+  served {status = status} fits number op IsTold {answer = answer} did refused told = subst (λ (s : ℤ). Serves old new s number op (IsTold s)) (sym (to_z-of_z fits)) (record {
+    closed = no_device;
+    down = λ d was off.
+        let same : taken ≡ d = held_is was in
+        let refusal : IsRefusedDown taken now answer = refused (ap (λ (e : Device QueuedDisk). e.up) same ∙ off) in
+        (subst (IsTold status) refusal.answer told, holds ∙ ap Some (refusal.same ∙ same));
+    answer = λ d W was stands.
+        let same : taken ≡ d = held_is was in
+        record {
+          now = now;
+          there = holds;
+          answer = answer;
+          did = subst (λ (e : Device QueuedDisk). (V : World) → StandsAt state_of e V → Answered state_of e now V number op answer) same did W stands;
+          told = told;
+        };
+  })
+
+  -- so too of a call that is more than an operation of one transaction
+  pub stepped : {goes_on : Stop → Type 0} {given : World → Reply × World} {IsTold : World → Result Reply Stop → Type 0} {answer : Result Reply Stop}
+      → ((W : World) → StandsAt state_of taken W → AnswersAs goes_on (StandsAt state_of now) (state_at state_of taken) (state_at state_of now) W (given W) answer)
+      → (taken.up ≡ false → IsRefusedDown taken now answer) → ((W : World) → StandsAt state_of taken W → IsTold W answer) → ((W : World) → answer ≡ Err stop.Down → IsTold W answer)
+      → Steps old new goes_on given IsTold
+  stepped {goes_on = goes_on} {given = given} {IsTold = IsTold} {answer = answer} did refused told told_down = record {
+    down = λ d W was off.
+        let same : taken ≡ d = held_is was in
+        let refusal : IsRefusedDown taken now answer = refused (ap (λ (e : Device QueuedDisk). e.up) same ∙ off) in
+        (subst (IsTold W) refusal.answer (told_down W refusal.answer), holds ∙ ap Some (refusal.same ∙ same));
+    answer = λ d W was stands.
+        let same : taken ≡ d = held_is was in
+        let stood : StandsAt state_of taken W = subst (λ (e : Device QueuedDisk). StandsAt state_of e W) (sym same) stands in
+        record {
+          now = now;
+          there = holds;
+          answer = answer;
+          did = subst (λ (e : Device QueuedDisk). AnswersAs goes_on (StandsAt state_of now) (state_at state_of e) (state_at state_of now) W (given W) answer) same (did W stood);
+          told = told W stood;
+        };
+  }
+
+  -- and of ends that waited for one another
+  pub waited : {numbers : List ℕ} {IsTold : List Reply → Option Stop → Type 0} {replies : List Reply} {why : Option Stop}
+      → ((W : World) → StandsAt state_of taken W → Waits (StandsAt state_of now) (state_at state_of taken) (state_at state_of now) W numbers replies why)
+      → (taken.up ≡ false → (replies ≡ []) × (why ≡ Some stop.Down) × (now ≡ taken)) → IsTold replies why → EndsWaiting old new numbers IsTold
+  waited {numbers = numbers} {IsTold = IsTold} {replies = replies} {why = why} did refused told = record {
+    down = λ d was off.
+        let same : taken ≡ d = held_is was in
+        let refusal = refused (ap (λ (e : Device QueuedDisk). e.up) same ∙ off) in
+        (subst (λ (s : Option Stop). IsTold [] s) refusal.1 (subst (λ (rs : List Reply). IsTold rs why) refusal.0 told), holds ∙ ap Some (refusal.2 ∙ same));
+    answer = λ d W was stands.
+        let same : taken ≡ d = held_is was in
+        let stood : StandsAt state_of taken W = subst (λ (e : Device QueuedDisk). StandsAt state_of e W) (sym same) stands in
+        record {
+          now = now;
+          there = holds;
+          answers = replies;
+          why = why;
+          did = subst (λ (e : Device QueuedDisk). Waits (StandsAt state_of now) (state_at state_of e) (state_at state_of now) W numbers replies why) same (did W stood);
+          told = told;
+        };
+  }
