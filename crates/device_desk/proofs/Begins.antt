@@ -1,5 +1,5 @@
 -- The first of those with the least begin.
-use Rattle.std.proofs.{Common.{◌≡◌, ◌∙◌, refl, sym, ap, subst, ℕ, ◌<◌, ◌≤◌, ◌==◌, Bool, true, false, cond, List, [], ◌∷◌, find, nat_lt, arith, inl, inr, Option, Some, None, option_map}, lemmas.Bool.Decides.nat_tests, lemmas.Bool.cases_eq}
+use Rattle.std.proofs.{Common.{◌≡◌, refl, sym, subst, ℕ, ◌<◌, ◌≤◌, ◌==◌, Bool, true, false, cond, List, [], ◌∷◌, find, nat_lt, arith, Some, option_map}, lemmas.Bool.Decides.nat_tests}
 use Rattle.std.specs.Prelude.{min}
 use Rattle.iso_model.specs.World.{Live, least_begin}
 

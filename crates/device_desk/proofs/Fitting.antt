@@ -1,12 +1,12 @@
 -- Ends that all have room are answered one after the other as in one group.
-use Rattle.iso_machine.proofs.{Words.{◌≡◌, ◌≢◌, ◌∙◌, sym, refl, ap, subst, ℕ, zero, suc, ◌+◌, ◌-◌, ◌≤◌, ◌<◌, ◌==◌, not, Bool, true, false, cond, List, [], ◌∷◌, ◌++◌, length, map, find, filter, take, drop, get_or, arith, eq-eqb, ne_eqb, eqb-true, nat_lt, nat_tests, Option, Some, None, AllByRecursion, all_filter, all_find, same_Some, Access, Clash, Geometry, GroupReply, LAST, CoreReply, Reply, as_reply, as_step, World, Live, attached, client, is_at_client, used, without, IsWorld, AreDistinct, after_commit, after_leaving, last, has_write, clash, need, commit_step, end_step, step, step_leads, group, Doing, without_found}, Endings.end_is, Groups.{AreOther, out}}
+use Rattle.iso_machine.proofs.{Words.{◌≡◌, ◌≢◌, ◌∙◌, sym, refl, ap, subst, ℕ, ◌+◌, ◌-◌, ◌≤◌, ◌<◌, ◌==◌, not, Bool, true, false, cond, List, [], ◌∷◌, ◌++◌, length, map, take, drop, get_or, arith, ne_eqb, eqb-true, nat_lt, nat_tests, Option, Some, None, AllByRecursion, all_filter, all_find, same_Some, Clash, Geometry, LAST, CoreReply, Reply, as_reply, as_step, World, Live, client, is_at_client, used, without, IsWorld, AreDistinct, after_commit, after_leaving, last, has_write, clash, need, commit_step, end_step, step, step_leads, group, Doing, without_found}, Endings.end_is, Groups.{AreOther, out}}
 use Rattle.std.proofs.lemmas.List.{get_or-map, length-map, length_push}
 use Rattle.std.proofs.lemmas.List.Sums.{sum_by-cons}
 use Rattle.iso_model.proofs.Worlds.{used_more}
 use Rattle.iso_model.specs.{Effect.{record_length, runs}, Group.{after_member, member_reply}, Step.commit_from}
 use Rattle.script_model.specs.declared.script.Op.TheVariants as op
 use Rattle.iso_model.specs.declared.core_reply.CoreReply.TheVariants as core
-use Rattle.device_desk.specs.{declared.seat.Seat.Seat, Lent.{ArePlaces, StandAt, doing_of, items_at}, Numbers.{left_of, member_of, of_number}, Seats.{IsSized, live_of}, Waiting.{Fit, after_ends, end_replies, needs, told_of}}
+use Rattle.device_desk.specs.{declared.seat.Seat.Seat, Lent.{ArePlaces, StandAt, doing_of, items_at}, Numbers.{left_of, of_number}, Seats.{live_of}, Waiting.{Fit, after_ends, end_replies, needs, told_of}}
 use Rattle.device_desk.proofs.{Lendings.{item_live, pick}, Lists.found_at}
 
 -- each is at the client of its number
@@ -69,9 +69,12 @@ stand_same [] (i ∷ places) live now same stand = absurd stand
 stand_same (n ∷ numbers) [] live now same stand = absurd stand
 stand_same (n ∷ numbers) (i ∷ places) live now same stand =
     let long : length now ≡ length live = omega (arith, ap length same, length-map now doing_of, length-map live doing_of) in
-    let inside : i < length now = omega (arith, long, stand.0) in
-    (inside, (λ d. ap (λ (x : ℕ × Doing). x.0) (sym (get_or-map doing_of now i d (doing_of d) inside) ∙ ap (λ (l : List (ℕ × Doing)). get_or l i (doing_of d)) same ∙ get_or-map doing_of live i d (doing_of d) stand.0) ∙ stand.1 d),
-      stand.2, stand_same numbers places live now same stand.3)
+    let inside : i < length now = omega (arith, long, stand.0) in (
+      inside,
+      (λ d. ap (λ (x : ℕ × Doing). x.0) (sym (get_or-map doing_of now i d (doing_of d) inside) ∙ ap (λ (l : List (ℕ × Doing)). get_or l i (doing_of d)) same ∙ get_or-map doing_of live i d (doing_of d) stand.0) ∙ stand.1 d),
+      stand.2,
+      stand_same numbers places live now same stand.3,
+    )
 
 -- who is found by a number has it
 pub found_number : (n : ℕ) (live : List Live) (t : Live) → ArePlaced live → of_number n live ≡ Some t → t.number ≡ n
@@ -202,8 +205,7 @@ as_ends (n ∷ numbers) (t ∷ members) W is placed are fit =
     let same_needs : needs V.geometry members ≡ needs W.geometry members = ap (λ (g : Geometry). needs g members) well.geometry in
     let same_log : V.geometry.log ≡ W.geometry.log = ap (λ (g : Geometry). g.log) well.geometry in
     let room : needs V.geometry members + used V + 1 ≤ V.geometry.log = omega (arith, fit.room, sum, well.used_most, same_needs, same_log) in
-    let later = as_ends numbers members V sound still others (record { room = room; numbers = omega (arith, fit.numbers, well.last_most) }) in
-    (
+    let later = as_ends numbers members V sound still others (record { room = room; numbers = omega (arith, fit.numbers, well.last_most) }) in (
       (λ i. well.told i ∷ map told_of (group (well.after i) members).0) ∙ (λ i. as_reply (end_step W t).0 ∷ later.0 i) ∙ ap (λ (given : Reply × World). given.0 ∷ end_replies given.1 numbers) (sym says),
       ap (λ (U : World). (group U members).1) well.after ∙ later.1 ∙ ap (λ (given : Reply × World). after_ends given.1 numbers) (sym says),
     )

@@ -1,5 +1,5 @@
 -- Works that are lent to a group and given back.
-use Rattle.iso_machine.proofs.Words.{◌≡◌, ◌≢◌, ◌∙◌, sym, refl, ap, subst, ℕ, zero, suc, ◌+◌, ◌<◌, List, [], ◌∷◌, ◌++◌, length, get_or, set, map, take, drop, arith, append_assoc, append-nil, false, Some, Result, Ok, Err, OnOk, map-append, set-get_or, AllByRecursion, DiskState, CoreError, Geometry, Live, World, Core, GroupEnd, reply_in, Doing, Bool, true}
+use Rattle.iso_machine.proofs.Words.{◌≡◌, ◌≢◌, ◌∙◌, sym, refl, ap, subst, ℕ, zero, suc, ◌+◌, ◌<◌, List, [], ◌∷◌, ◌++◌, length, get_or, set, map, take, drop, arith, append_assoc, append-nil, false, Result, Ok, Err, OnOk, map-append, set-get_or, AllByRecursion, DiskState, CoreError, Geometry, Live, World, Core, GroupEnd, reply_in, Doing, Bool, true}
 use Rattle.std.proofs.lemmas.List.{get_or-map, get_or-set_same, length-map, length-set, map-set, map_more}
 use Rattle.std.proofs.lemmas.List.Sums.{sum_by-cons}
 use Rattle.std.specs.Bool.{OnTrue}

@@ -1,5 +1,5 @@
 -- The bytes of runs.
-use Rattle.std.proofs.{Common.{◌≡◌, ◌∙◌, refl, sym, ap, ℕ, ◌+◌, List, [], ◌∷◌, ◌++◌, length, map, arith, Option}, lemmas.List.Sums.{sum_by-append, sum_by-cons}}
+use Rattle.std.proofs.{Common.{◌≡◌, ◌∙◌, refl, ap, ℕ, ◌+◌, List, [], ◌∷◌, length, map, arith, Option}, lemmas.List.Sums.{sum_by-cons}}
 use Rattle.std.specs.List.{sum_by}
 use Rattle.iso_model.specs.{declared.access.Run.Run, declared.access.Span.Span, Effect.runs_from}
 use Rattle.merge_write.{specs.Patch.piece, proofs.Effects.pieces_of_any_block}

@@ -1,5 +1,5 @@
 -- What a transaction wrote of a block, in the patches that are left.
-use Rattle.std.proofs.{Common.{◌≡◌, ◌∙◌, refl, sym, ap, ℕ, List, [], ◌∷◌, Option, None, length, replicate, arith, eq-eqb}}
+use Rattle.std.proofs.{Common.{◌≡◌, ◌∙◌, refl, sym, ap, ℕ, List, [], ◌∷◌, Option, None, length, replicate, eq-eqb}}
 use Rattle.std.specs.List.{AllByRecursion}
 use Rattle.iso_model.specs.{declared.access.Access.Access, Array.Array, Effect.{effects_from, own}, Premises.{HasBytes, block_at}}
 use Rattle.merge_write.{specs.Patch.laid, proofs.Growth.effects_shown}

@@ -1,5 +1,5 @@
 -- Ends that are made one after the other, and as one group.
-use Rattle.iso_machine.proofs.{Words.{◌≡◌, ◌≢◌, ◌∙◌, inl, inr, sym, refl, ap, subst, ℕ, suc, ◌+◌, ◌≤◌, ◌⊎◌, Bool, true, false, List, [], ◌∷◌, ◌++◌, length, take, arith, Option, Some, None, Result, Ok, Err, IsSome, DiskState, IsLawful, LeavesOnly, StaysTold, WritesNothing, started, weakened, World, CoreReply, Reply, Stop, ShowsEither, ShowsLast, SameButShown, Answers, Wanting, as_reply, end_step, attached, in_transaction, as_step, step, Live}, Endings.end_is}
+use Rattle.iso_machine.proofs.{Words.{◌≡◌, ◌≢◌, ◌∙◌, inl, inr, sym, refl, ap, subst, ℕ, suc, true, false, List, [], ◌∷◌, ◌++◌, length, take, arith, Option, Some, None, Ok, Err, IsSome, DiskState, IsLawful, started, weakened, World, CoreReply, Reply, Stop, ShowsEither, ShowsLast, SameButShown, Answers, Wanting, as_reply, end_step, attached, as_step, step, Live}, Endings.end_is}
 use Rattle.std.proofs.lemmas.List.{take_all}
 use Rattle.counts.specs.Count.{Rose}
 use Rattle.iso_disk.proofs.Moments.{at_end, joined}

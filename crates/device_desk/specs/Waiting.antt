@@ -19,10 +19,6 @@ abbrev pub after_ends : World → List ℕ → World
 after_ends W [] = W
 after_ends W (number ∷ numbers) = after_ends (step W number End).1 numbers
 
--- both
-abbrev pub ends_of : World → List ℕ → List Reply × World
-ends_of W numbers = (end_replies W numbers, after_ends W numbers)
-
 -- the image shows the world after a whole number of these ends, which is no less than that
 pub record ShowsFrom (least : ℕ) (W : World) (numbers : List ℕ) (bytes : List ℕ) : Type 0 where
   pub count : ℕ

@@ -52,7 +52,11 @@ fn take_back_at(live: &mut [Seat], i: usize, ends: &mut [GroupEnd], count: usize
 }
 
 /// Ends the first members as a group.
-fn end_first<D: Disk>(core: &mut Core<D>, ends: &mut [GroupEnd], count: usize) -> Result<(), CoreError>
+fn end_first<D: Disk>(
+    core: &mut Core<D>,
+    ends: &mut [GroupEnd],
+    count: usize,
+) -> Result<(), CoreError>
     requires ready { (W : World) × (members : List Live) × StandsFor D.state core.old W up × AreEach (IsMember W) (take count ends.old) members }
     requires some { 0 < count }
     requires within { count ≤ length ends.old }

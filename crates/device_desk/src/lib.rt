@@ -1,8 +1,8 @@
-//! An open image whose transactions go by numbers, for callers of whom nothing is required: one call at a time, on one thread.
+//! An open image whose transactions go by numbers. Nothing is required of callers: one call at a time.
 //!
-//! While a desk is up each call is the model's step for the client of that number (`did`). A fault of the disk in an end or in upkeep,
-//! and each stop of a group, takes it down: it says so, and stays (`down`). `tape`, `hand_on` and `fail` are for whoever does its
-//! disk's calls to a file.
+//! While a desk is up each call is the model's step for the client of that number (`did`), `end_waiting` many of them, `peek` a get that
+//! is no access. A fault of the disk in an end or in upkeep, and each stop of `end_group`, takes it down (`down`). `tape`, `hand_on`,
+//! `fail` serve who does its disk's calls to a file.
 #![tactic(auto)]
 
 mod about;

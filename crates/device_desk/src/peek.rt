@@ -116,7 +116,13 @@ impl<D: Disk> Table<D> {
     ghost use Rattle.device_desk.specs.Seats.{IsTableOf};
 
     /// Reads in the transaction of this number, and records no access.
-    pub(crate) fn peek(&mut self, number: u64, block: u32, off: u32, len: u32) -> Result<Reply, Stop>
+    pub(crate) fn peek(
+        &mut self,
+        number: u64,
+        block: u32,
+        off: u32,
+        len: u32,
+    ) -> Result<Reply, Stop>
         requires { (W : World) × IsTableOf D.state self.old W }
         ensures answer { (W : World) → IsTableOf D.state self.old W
             → Answers Always (IsTableOf D.state self.new) (D.state (disk_of self.old.core)) (D.state (disk_of self.new.core)) W (peeked W number block off len) result }

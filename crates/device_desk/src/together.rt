@@ -146,7 +146,11 @@ impl<D: Disk> Table<D> {
 
     /// Ends the transactions of these numbers as one group, if they may and each has room, and puts their replies behind the
     /// others. Else, and without memory, nothing is made.
-    pub(crate) fn end_together(&mut self, numbers: &[u64], replies: &mut Vec<Reply>) -> Result<bool, Stop>
+    pub(crate) fn end_together(
+        &mut self,
+        numbers: &[u64],
+        replies: &mut Vec<Reply>,
+    ) -> Result<bool, Stop>
         requires stands { (W : World) × IsTableOf D.state self.old W }
         requires room { vec_len replies.old + length numbers.now ≤ vec_capacity replies.old }
         ensures tried { (W : World) → IsTableOf D.state self.old W

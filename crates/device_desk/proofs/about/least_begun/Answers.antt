@@ -1,4 +1,4 @@
-use Rattle.std.proofs.{Common.{◌≡◌, ◌∙◌, ◌==◌, ◌∷◌, ℕ, List, Some, ap, arith, drop, find, map, option_map, subst, sym}, lemmas.List.drop_all}
+use Rattle.std.proofs.{Common.{◌≡◌, ◌∙◌, ◌==◌, ◌∷◌, ℕ, List, Some, ap, arith, find, map, option_map, subst, sym}, lemmas.List.drop_all}
 use Rattle.iso_model.specs.World.{Live, least_begin}
 use Rattle.device_desk.specs.{declared.seat.Seat.Seat, Seats.live_of}
 use Rattle.device_desk.proofs.Begins.{first_is, first_least}

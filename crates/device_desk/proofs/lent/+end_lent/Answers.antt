@@ -1,4 +1,4 @@
-use Rattle.iso_machine.proofs.Words.{◌≡◌, ◌∙◌, ◌+◌, ◌<◌, ◌∷◌, ℕ, List, ap, arith, get_or, length, map, subst, sym, take, up, AreEach, GroupEnd, IsMember, World}
+use Rattle.iso_machine.proofs.Words.{◌≡◌, ◌∙◌, ◌+◌, ◌<◌, ◌∷◌, ℕ, List, ap, arith, get_or, length, map, subst, sym, take, AreEach, GroupEnd, IsMember}
 use Rattle.std.proofs.{Common.rules, lemmas.List.take-map}
 use Rattle.iso_core.specs.Planned.{bare_end, reply_in}
 use Rattle.device_desk.specs.{declared.seat.Seat.Seat, Lent.{ArePlaces, HasEnded}, Numbers.member_of}
@@ -22,8 +22,7 @@ end_lent-ended-requires g t c κs within =
     let (W, members, of, ready) = c.requires.ready in
     let cases = c.in-Some.ensures.cases in
     let same =
-    same_members (take c.args.count c.args.ends.now) (take (c.args.count + 1) c.lend_at.new.ends) c.args.places.now c.in-Some.others.now c.args.live.now c.lend_at.new.live c.in-Some.first.now cases.0 c.requires.places c.lend_at.ensures.live c.lend_at.ensures.ends in
-    (
+    same_members (take c.args.count c.args.ends.now) (take (c.args.count + 1) c.lend_at.new.ends) c.args.places.now c.in-Some.others.now c.args.live.now c.lend_at.new.live c.in-Some.first.now cases.0 c.requires.places c.lend_at.ensures.live c.lend_at.ensures.ends in (
       omega (arith, cases.1, c.decreases),
       (
         search rules,

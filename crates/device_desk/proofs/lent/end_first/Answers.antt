@@ -1,4 +1,4 @@
-use Rattle.iso_machine.proofs.Words.{◌≡◌, ◌∙◌, ◌++◌, ℕ, List, arith, drop, length, subst, sym, take, take-append_seam}
+use Rattle.iso_machine.proofs.Words.{◌≡◌, ◌++◌, ℕ, List, arith, drop, length, subst, sym, take, take-append_seam}
 use Rattle.std.proofs.lemmas.List.{length-take-le}
 use Rattle.iso_core.specs.declared.group_end.GroupEnd.{GroupEnd}
 use Rattle.device_desk.specs.Lent.{HasEnded}

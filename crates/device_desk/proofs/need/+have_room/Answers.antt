@@ -1,5 +1,5 @@
-use Rattle.iso_machine.proofs.Words.{◌<◌, AllByRecursion, ap, arith, length, List, map, subst, ℕ}
-use Rattle.device_desk.specs.{declared.seat.Seat.Seat, Lent.items_at, Seats.live_of, Waiting.needs}
+use Rattle.iso_machine.proofs.Words.{◌<◌, AllByRecursion, ap, arith, length, List, subst, ℕ}
+use Rattle.device_desk.specs.{declared.seat.Seat.Seat, Lent.items_at, Waiting.needs}
 use Rattle.iso_model.specs.World.{Live}
 use Rattle.device_desk.proofs.Lendings.{needs_first, on_true, pick, same_live, same_sized}
 

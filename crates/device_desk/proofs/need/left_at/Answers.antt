@@ -1,4 +1,4 @@
-use Rattle.iso_machine.proofs.{Words.{◌≡◌, ◌+◌, ◌∙◌, ℕ, IfSome, ap, false, get_or, get_or_default, subst, sym, true, Doing}, Lists.all_at}
+use Rattle.iso_machine.proofs.{Words.{◌≡◌, ◌+◌, ◌∙◌, IfSome, ap, false, get_or, get_or_default, subst, sym, true, Doing}, Lists.all_at}
 use Rattle.std.proofs.Math.Seq.{map-set_same}
 use Rattle.iso_model.specs.Effect.{record_length, runs}
 use Rattle.device_desk.specs.{declared.seat.Seat.Seat, Lent.doing_of, Seats.IsSized}

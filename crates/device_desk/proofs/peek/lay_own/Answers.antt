@@ -1,4 +1,4 @@
-use Rattle.std.proofs.Common.{◌≡◌, ◌∙◌, List, Option, ℕ, ap, length, sym}
+use Rattle.std.proofs.Common.{◌∙◌, List, Option, ℕ, ap, length, sym}
 use Rattle.iso_model.{specs.Effect.effects_from, proofs.Lookups.length-effects}
 use Rattle.merge_write.specs.Patch.{laid}
 use Rattle.device_desk.proofs.Own.{held_here, laid_is, none_held, nothing_laid}

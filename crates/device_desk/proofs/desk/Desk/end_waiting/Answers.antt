@@ -1,4 +1,4 @@
-use Rattle.iso_machine.proofs.Words.{length, refl, take}
+use Rattle.iso_machine.proofs.Words.{length, take}
 use Rattle.device_desk.specs.Waiting.{after_ends}
 use Rattle.device_desk.proofs.Devices.{never_down, never_up, waits_from, waits_up}
 use Rattle.device_desk.proofs.desk.Desk.end_waiting.Goals as goal

@@ -1,4 +1,4 @@
-use Rattle.iso_machine.proofs.Words.{◌≡◌, ◌<◌, ◌∙◌, AllByRecursion, Geometry, List, Stat, ap, last, length, map, refl, subst, sym, up, used}
+use Rattle.iso_machine.proofs.Words.{◌<◌, ◌∙◌, AllByRecursion, Geometry, List, Stat, ap, length, map, refl, subst, sym, up}
 use Rattle.device_desk.specs.{declared.seat.Seat.Seat, Seats.{IsSized, live_of}}
 use Rattle.device_desk.proofs.{Gathered.all_have_room, Lendings.on_true}
 

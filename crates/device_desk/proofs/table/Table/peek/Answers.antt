@@ -21,8 +21,7 @@ pub peek_at-requires-clause-stands : goal.peek_at-requires-clause-stands
 peek_at-requires-clause-stands g c =
     let (W, of) = c.requires in
     let d = c.index_mut-seat.result.now in
-    let (h, active) = at_place W c.args.number c.args.self.now.live.items c.in-Some.i (c.in-Some.ensures.here W of) c.index_mut-seat.ensures.value c.deref_mut.ensures.value in
-    (
+    let (h, active) = at_place W c.args.number c.args.self.now.live.items c.in-Some.i (c.in-Some.ensures.here W of) c.index_mut-seat.ensures.value c.deref_mut.ensures.value in (
       W,
       live_of d,
       of.core_of,
