@@ -9,6 +9,7 @@
 #include <string.h>
 #include <sys/file.h>
 #include <sys/stat.h>
+#include <time.h>
 #include <unistd.h>
 
 /* ---- Devices ---- */
@@ -18,10 +19,12 @@ static device devices[DEVICES] = {
     [0 ... DEVICES - 1] = {.lock = PTHREAD_MUTEX_INITIALIZER, .fd = -1, .queue = PTHREAD_MUTEX_INITIALIZER}
 };
 static _Atomic isotope_device last_number;
+static pthread_condattr_t monotonic;
+static const uint64_t SECOND = 1000000000;
 
-/* Whether the first end should wait no longer: enough are there, nobody else comes who might be followed by one, or it was patient. */
+/* Whether ends that wait should wait no longer: enough are there, or nobody is on the way who may end soon, or they were patient. */
 static int is_ripe(device *d) {
-    return d->waiting >= ISOTOPE_MOST_GROUP || d->coming == 0 || d->passed >= MOST_PASSED;
+    return d->waiting >= ISOTOPE_MOST_GROUP || d->passed >= MOST_PASSED || (d->coming == 0 && d->returning == 0);
 }
 
 /* Under the lock of the queue: lets the first end go on, where it is to. */
@@ -74,7 +77,11 @@ static void forget_all(void) {
     }
 }
 
-static void watch_forks(void) { pthread_atfork(NULL, NULL, forget_all); }
+static void begin_once(void) {
+    pthread_condattr_init(&monotonic);
+    pthread_condattr_setclock(&monotonic, CLOCK_MONOTONIC);
+    pthread_atfork(NULL, NULL, forget_all);
+}
 
 /* Room for so many bytes. */
 static int make_room(device *d, uint64_t n) {
@@ -116,7 +123,7 @@ static int let_go(device *d, int status) {
 /* A free place, locked, with a number that no device had, and room to read and write. */
 static int take_place(device **place) {
     static pthread_once_t once = PTHREAD_ONCE_INIT;
-    pthread_once(&once, watch_forks);
+    pthread_once(&once, begin_once);
     for (int tries = 0; tries < DEVICES; tries++) {
         isotope_device next = ++last_number;
         device *d = &devices[next % DEVICES];
@@ -241,6 +248,12 @@ static void end_all(device *d, waiter **group, size_t n) {
     }
 }
 
+static uint64_t now(void) {
+    struct timespec time;
+    clock_gettime(CLOCK_MONOTONIC, &time);
+    return (uint64_t)time.tv_sec * SECOND + (uint64_t)time.tv_nsec;
+}
+
 /* Under the lock of the queue, which is let go meanwhile: makes a group of those that wait once the device is free. Who makes it may not
  * be in it, where many were there before. */
 static void lead(device *d) {
@@ -251,15 +264,26 @@ static void lead(device *d) {
     pthread_mutex_lock(&d->queue);
     size_t n = take_group(d, group);
     pthread_mutex_unlock(&d->queue);
+    uint64_t from = now();
     end_all(d, group, n);
+    uint64_t to = now();
     pthread_mutex_unlock(&d->lock);
     pthread_mutex_lock(&d->queue);
     for (size_t i = 0; i < n; i++) {
         group[i]->is_answered = 1;
         pthread_cond_signal(&group[i]->turn); /* who leaves waits for the lock of the queue, so the end is still there */
     }
+    d->returning = (int)n;
+    d->until = to + (to - from) / 2;
     d->has_leader = 0;
-    wake_first(d);
+    if (d->first) pthread_cond_signal(&d->first->turn);
+}
+
+/* Under the lock of the queue: waits until somebody wakes the end, or the members of the last group were waited for long enough. */
+static void wait_for_turn(device *d, waiter *own) {
+    struct timespec until = {(time_t)(d->until / SECOND), (long)(d->until % SECOND)};
+    if (d->has_leader || d->returning == 0) pthread_cond_wait(&own->turn, &d->queue);
+    else if (pthread_cond_timedwait(&own->turn, &d->queue, &until) == ETIMEDOUT) d->returning = 0;
 }
 
 /* Stands in the queue until the end is answered, and leads where nobody does. */
@@ -270,15 +294,21 @@ static void wait_for_end(device *d, waiter *own) {
     d->waiting++;
     while (!own->is_answered) {
         if (!d->has_leader && is_ripe(d)) lead(d);
-        else pthread_cond_wait(&own->turn, &d->queue);
+        else wait_for_turn(d, own);
     }
+    if (d->returning > 0) d->returning--;
+    wake_first(d);
     pthread_mutex_unlock(&d->queue);
 }
 
 int isotope_end(isotope_device number, isotope_transaction tx, isotope_ended *ended) {
-    waiter own = {.turn = PTHREAD_COND_INITIALIZER, .device = number, .tx = tx, .ended = {.status = ISOTOPE_CLOSED}};
+    waiter own = {.device = number, .tx = tx, .ended = {.status = ISOTOPE_CLOSED}};
     device *d = find(number);
-    if (d) wait_for_end(d, &own);
+    if (d) {
+        pthread_cond_init(&own.turn, &monotonic);
+        wait_for_end(d, &own);
+        pthread_cond_destroy(&own.turn);
+    }
     if (ended) *ended = own.ended;
     return own.ended.status;
 }

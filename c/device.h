@@ -33,8 +33,10 @@ typedef struct {
     pthread_mutex_t queue;
     waiter *first, *last;
     atomic_int waiting;                 /* how many ends are in the queue */
-    int passed;                         /* calls that were made since an end began to wait */
     int has_leader;                     /* one of them makes a group */
+    int passed;                         /* calls that were made since the last group */
+    int returning;                      /* members of the last group that have not yet seen their answer */
+    uint64_t until;                     /* when the next group waits for them no longer, in nanoseconds */
 } device;
 
 /* The device of this number, locked, or NULL where none is open. */
