@@ -1,5 +1,5 @@
-/* The rounds of `isotope bench IMAGE SEED COUNT`, by the calls of isotope.h: two clients read and write two blocks crosswise. The image is the
- * same to the byte, and so are the sums that it prints.     bench IMAGE SEED COUNT */
+/* The rounds of `isotope bench IMAGE SEED COUNT`, by the calls of isotope.h: two clients read and write two blocks crosswise. The image is
+ * the same to the byte, and so are the sums that it prints.     bench IMAGE SEED COUNT */
 #include "isotope.h"
 #include <stdio.h>
 #include <stdlib.h>

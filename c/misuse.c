@@ -49,12 +49,13 @@ static void on_transaction(const char *what, isotope_device device, isotope_tran
         isotope_read(device, tx, 20, b, 256), isotope_write(device, tx, 20, b, 256), isotope_get(device, tx, 20, 0, b, 1),
         isotope_put(device, tx, 20, 0, b, 1), isotope_peek(device, tx, 20, 0, b, 1), isotope_put_ranges(device, tx, 20, b, 256, &range, 1),
         isotope_fill(device, tx, 20, 1), isotope_mark(device, tx, 0, 1), isotope_room(device, tx, &room),
-        isotope_hash_put(device, tx, "k", 1, "v", 1), isotope_hash_get(device, tx, "k", 1, b, 32, &n), isotope_hash_delete(device, tx, "k", 1),
-        isotope_tree_put(device, tx, "k", 1, "v", 1), isotope_tree_get(device, tx, "k", 1, b, 32, &n), isotope_tree_delete(device, tx, "k", 1),
+        isotope_hash_put(device, tx, "k", 1, "v", 1), isotope_hash_get(device, tx, "k", 1, b, 32, &n),
+        isotope_hash_delete(device, tx, "k", 1), isotope_tree_put(device, tx, "k", 1, "v", 1),
+        isotope_tree_get(device, tx, "k", 1, b, 32, &n), isotope_tree_delete(device, tx, "k", 1),
         isotope_tree_scan(device, tx, "a", 1, "z", 1, 1, b, 256, &n), isotope_file_create(device, tx, "f"),
-        isotope_file_write(device, tx, "f", 0, b, 1), isotope_file_read(device, tx, "f", 0, b, 1, &n), isotope_file_size(device, tx, "f", &n),
-        isotope_file_rename(device, tx, "f", "g"), isotope_file_remove(device, tx, "f"), isotope_end(device, tx, &ended),
-        isotope_end(device, tx, NULL), isotope_abort(device, tx),
+        isotope_file_write(device, tx, "f", 0, b, 1), isotope_file_read(device, tx, "f", 0, b, 1, &n),
+        isotope_file_size(device, tx, "f", &n), isotope_file_rename(device, tx, "f", "g"), isotope_file_remove(device, tx, "f"),
+        isotope_end(device, tx, &ended), isotope_end(device, tx, NULL), isotope_abort(device, tx),
     };
     int count = sizeof answers / sizeof *answers, bad = 0;
     for (int i = 0; i < count; i++) {
@@ -225,7 +226,8 @@ static void files_that_are_no_image(void) {
     damaged("a file that was not made whole", 63, "\0", 1, -1, ISOTOPE_NO_IMAGE, "not an Isotope image");
     damaged("a version that is none", 11, "\2", 1, -1, ISOTOPE_DAMAGED, "bad geometry field 1");
     damaged("a file that is cut", 0, "", 0, 1000, ISOTOPE_DAMAGED, "wrong size want 24704 have 1000");
-    damaged("a file that is longer than any image", 0, "", 0, INT64_C(1) << 40, ISOTOPE_DAMAGED, "wrong size want 24704 have 1099511627776");
+    damaged("a file that is longer than any image", 0, "", 0, INT64_C(1) << 40, ISOTOPE_DAMAGED,
+            "wrong size want 24704 have 1099511627776");
     damaged("no half that counts", 64, "\0", 1, -1, ISOTOPE_DAMAGED, "no open half");
     damaged("a form that is none", 65, "\3", 1, -1, ISOTOPE_DAMAGED, "unknown form 3");
     damaged("a zero of the header", 66, "\1", 1, -1, ISOTOPE_DAMAGED, "damaged at 66 cause 3");

@@ -2,8 +2,8 @@
  *     stops IMAGE [PROGRAM]      PROGRAM is `isotope`, which has to open each image to the same commit
  *
  * The file has a cache here that a crash loses: what is written gets to it with the next sync. At a stop each write since the last sync
- * is lost, or there, or half of it, or the last one alone. Opened again the image has to show the last commit that was told, or the commits of the
- * step that was under way, all of them, and just the bytes and pairs that the steps up to there leave. */
+ * is lost, or there, or half of it, or the last one alone. Opened again the image has to show the last commit that was told, or the
+ * commits of the step that was under way, all of them, and just the bytes and pairs that the steps up to there leave. */
 #include "isotope.h"
 #include <errno.h>
 #include <stdio.h>
@@ -246,7 +246,8 @@ static int round_ends(const char *path, const char *program, int *bad) {
     const char *why = status == 0 || status == 9 ? test(path, program, done) : "what was told in it is wrong";
     wrong_call = failing;
     if (why) {
-        printf("call %ld, %s, writes that were not synced %d: after %d steps: %s\n", wrong_call, what == STOPS ? "a stop" : "a failure", left, done, why);
+        printf("call %ld, %s, writes that were not synced %d: after %d steps: %s\n", wrong_call, what == STOPS ? "a stop" : "a failure",
+               left, done, why);
         ++*bad;
     }
     return status == 9;
