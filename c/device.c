@@ -14,7 +14,7 @@
 
 /* ---- Devices ---- */
 
-enum { DEVICES = ISOTOPE_MOST_DEVICES, FIRST_ROOM = 65536, MOST_KEPT = 1 << 20, MOST_PASSED = 256 };
+enum { DEVICES = ISOTOPE_MOST_DEVICES, FIRST_ROOM = 65536, MOST_KEPT = 1 << 20, MOST_PASSED = 256, NOT_ANSWERED = -1 };
 static device devices[DEVICES] = {
     [0 ... DEVICES - 1] = {.lock = PTHREAD_MUTEX_INITIALIZER, .fd = -1, .queue = PTHREAD_MUTEX_INITIALIZER}
 };
@@ -230,11 +230,12 @@ static size_t take_group(device *d, waiter **group) {
 static void end_all(device *d, waiter **group, size_t n) {
     waiter *members[ISOTOPE_MOST_GROUP];
     uint64_t numbers[ISOTOPE_MOST_GROUP];
-    isotope_ended ended[ISOTOPE_MOST_GROUP] = {{0}};
+    isotope_ended ended[ISOTOPE_MOST_GROUP];
     size_t count = 0;
     for (size_t i = 0; i < n; i++) {
         group[i]->ended.status = ISOTOPE_CLOSED;
         if (group[i]->device != d->number) continue; /* it was closed meanwhile */
+        ended[count] = (isotope_ended){.status = NOT_ANSWERED};
         members[count] = group[i];
         numbers[count++] = isotope_device_inside(d, group[i]->tx);
     }
@@ -242,7 +243,7 @@ static void end_all(device *d, waiter **group, size_t n) {
     int status = isotope_c_end_waiting(&d->slot, numbers, count, ended, count);
     int settled = settle(d, ISOTOPE_OK);
     for (size_t i = 0; i < count; i++) {
-        if (status != ISOTOPE_OK && ended[i].status == ISOTOPE_OK) ended[i].status = status;
+        if (ended[i].status == NOT_ANSWERED) ended[i].status = status;
         if (settled != ISOTOPE_OK) take_back(&ended[i]);
         members[i]->ended = ended[i];
     }
@@ -321,8 +322,10 @@ int isotope_end_group(isotope_device number, const isotope_transaction *txs, siz
     for (size_t i = 0; i < n; i++) numbers[i] = isotope_device_inside(d, txs[i]);
     int status = n == 0 ? ISOTOPE_OK : isotope_c_end_group(&d->slot, numbers, n, ended, n);
     int settled = settle(d, status);
-    if (settled == ISOTOPE_DISK && status == ISOTOPE_OK)
-        for (size_t i = 0; i < n; i++) take_back(&ended[i]);
+    for (size_t i = 0; i < n && settled != ISOTOPE_OK; i++) {
+        if (status == ISOTOPE_OK) take_back(&ended[i]);
+        else ended[i] = (isotope_ended){.status = settled};
+    }
     return leave(d, settled);
 }
 
@@ -394,6 +397,7 @@ int isotope_create(const char *path, const isotope_geometry *geometry, isotope_d
     uint64_t size = 0;
     device *d = NULL;
     int status = isotope_c_size(geometry, &size);
+    *number = 0;
     if (status == ISOTOPE_OK && access(path, F_OK) == 0) status = ISOTOPE_NAME_TAKEN;
     if (status == ISOTOPE_OK) status = take_place(&d);
     if (status != ISOTOPE_OK) return status;
@@ -447,6 +451,7 @@ int isotope_open(const char *path, isotope_device *number, isotope_refusal *refu
     isotope_refusal why = {0, 0, 0, 0};
     device *d = NULL;
     int status = take_place(&d);
+    *number = 0;
     if (status == ISOTOPE_OK) {
         status = open_image(d, path, &why);
         status = status == ISOTOPE_OK ? show(d, number) : let_go(d, status);

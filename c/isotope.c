@@ -34,6 +34,7 @@ int isotope_stat(isotope_device number, isotope_numbers *numbers) {
 int isotope_begin(isotope_device number, int mode, isotope_transaction *tx, uint64_t *at) {
     uint64_t begun = 0, shown = 0;
     device *d = isotope_device_enter(number);
+    *tx = 0;
     if (!d) return ISOTOPE_CLOSED;
     int status = isotope_c_begin(&d->slot, (uint32_t)mode, &begun, &shown);
     if (status == ISOTOPE_OK && begun >> INSIDE != 0) {
@@ -119,8 +120,25 @@ int isotope_file_read(isotope_device number, isotope_transaction tx, const char 
     uint32_t most = room < ISOTOPE_MOST_FILE_BYTES ? (uint32_t)room : ISOTOPE_MOST_FILE_BYTES;
     ON(number, isotope_c_file_read(TX, TEXT(name), off, most, OUT(into, room), LENGTH(n)));
 }
+
+/* The library tells no sizes: it is where a read finds fewer bytes than it asked for, in a piece that is found by halving. */
+static int find_size(device *d, isotope_transaction tx, const char *name, uint64_t *n) {
+    enum { PIECE = ISOTOPE_MOST_FILE_BYTES, PIECES = ISOTOPE_MOST_BLOCK_SIZE / 4 };
+    uint8_t bytes[PIECE];
+    uint32_t whole = 0, beyond = PIECES;
+    for (uint32_t piece = 0; whole + 1 < beyond; piece = (whole + beyond) / 2) {
+        int status = isotope_c_file_read(TX, TEXT(name), piece * PIECE, PIECE, bytes, PIECE, n);
+        *n += (uint64_t)piece * PIECE;
+        if (status == ISOTOPE_BAD_RANGE) beyond = piece;
+        else if (status != ISOTOPE_OK || *n < (uint64_t)(piece + 1) * PIECE) return status;
+        else whole = piece;
+    }
+    return ISOTOPE_BROKEN;
+}
+
 int isotope_file_size(isotope_device number, isotope_transaction tx, const char *name, uint64_t *n) {
-    ON(number, isotope_c_file_size(TX, TEXT(name), n));
+    *n = 0;
+    ON(number, find_size(d, tx, name, n));
 }
 int isotope_file_rename(isotope_device number, isotope_transaction tx, const char *from, const char *to) {
     ON(number, isotope_c_file_move(TX, TEXT(from), TEXT(to)));

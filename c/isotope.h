@@ -25,8 +25,8 @@
  *
  * NUMBERS. A device and a transaction are numbers, which the library looks up at each call. A device's number that was never given out,
  * or whose device is closed, is answered ISOTOPE_CLOSED; a transaction's that was never given out, or is over, or is another device's or
- * an earlier opening's, ISOTOPE_NO_TRANSACTION; nothing else happens then. 0 is neither a device nor a transaction. A device's number is
- * not given out twice in a process, a transaction's not before 16,777,216 more openings.
+ * an earlier opening's, ISOTOPE_NO_TRANSACTION; nothing else happens then. 0 is neither a device nor a transaction, and what a call that
+ * fails puts in place of one. A device's number is not given out twice in a process, a transaction's not before 16,777,216 more openings.
  *
  * POINTERS. A pointer leads to as many bytes as the call says, for the length of the call, and what one call is given does not overlap.
  * NULL may stand where that is said, and for bytes where their count is 0. Else a pointer that is NULL or leads elsewhere is undefined.
@@ -233,6 +233,7 @@ int isotope_file_write(isotope_device device, isotope_transaction tx, const char
 /* The bytes from `off` on, which is up to the file's size: as many as there are and `room` has, at most ISOTOPE_MOST_FILE_BYTES. *n says
  * how many, 0 at the end; `n` may be NULL. BAD_RANGE. */
 int isotope_file_read(isotope_device device, isotope_transaction tx, const char *name, uint32_t off, void *into, size_t room, uint64_t *n);
+/* It reads where the file ends, and of a long file some pieces before. */
 int isotope_file_size(isotope_device device, isotope_transaction tx, const char *name, uint64_t *n);
 /* EXISTS: `to` has a file, also where it is `from`. */
 int isotope_file_rename(isotope_device device, isotope_transaction tx, const char *from, const char *to);

@@ -13,17 +13,19 @@
 
 static const isotope_geometry small = {256, 32, 4096, ISOTOPE_SERIAL, 8, 8};
 static long calls, fails_at;            /* calls of a file, and the one that fails; 0: none */
+static char order[32];                  /* the first of them: w a write, d a sync of what is written, f of the file or folder whole */
 
-static int fails(void) {
+static int fails(char kind) {
+    if (calls < (long)sizeof order - 1) order[calls] = kind;
     errno = EIO;
     return ++calls == fails_at;
 }
 ssize_t __real_pwrite(int fd, const void *bytes, size_t n, off_t at);
-ssize_t __wrap_pwrite(int fd, const void *bytes, size_t n, off_t at) { return fails() ? -1 : __real_pwrite(fd, bytes, n, at); }
+ssize_t __wrap_pwrite(int fd, const void *bytes, size_t n, off_t at) { return fails('w') ? -1 : __real_pwrite(fd, bytes, n, at); }
 int __real_fdatasync(int fd);
-int __wrap_fdatasync(int fd) { return fails() ? -1 : __real_fdatasync(fd); }
+int __wrap_fdatasync(int fd) { return fails('d') ? -1 : __real_fdatasync(fd); }
 int __real_fsync(int fd);
-int __wrap_fsync(int fd) { return fails() ? -1 : __real_fsync(fd); }
+int __wrap_fsync(int fd) { return fails('f') ? -1 : __real_fsync(fd); }
 
 static isotope_device made(const char *path) {
     isotope_device device = 0;
@@ -73,7 +75,8 @@ static void on_device(const char *what, isotope_device device, isotope_transacti
     isotope_numbers numbers;
     isotope_ended ended;
     on_transaction(what, device, tx, wanted);
-    expect_that("begin", isotope_begin(device, ISOTOPE_IMAGE_MODE, &other, NULL) == wanted);
+    other = 1;
+    expect_that("begin", isotope_begin(device, ISOTOPE_IMAGE_MODE, &other, NULL) == wanted && other == 0);
     expect_that("end of a group", isotope_end_group(device, &tx, 1, &ended) == wanted);
     expect_that("compact", isotope_compact(device) == wanted);
     expect_that("upgrade", isotope_upgrade(device) == wanted);
@@ -128,6 +131,39 @@ static void numbers_of_transactions(void) {
     expect("then one may begin", isotope_begin(device, ISOTOPE_IMAGE_MODE, &more, NULL), ISOTOPE_OK);
     expect("close with all of them", isotope_close(device), ISOTOPE_OK);
     isotope_close(other);
+}
+
+static void calls_are(const char *what, const char *wanted) {
+    printf("the calls of %s:%s%s\n", what, *order ? " " : "", order);
+    expect_that(wanted, strcmp(order, wanted) == 0);
+    memset(order, 0, sizeof order);
+    calls = 0;
+}
+
+/* What is called of the file, in which order: docs/image.md has why. */
+static void order_of_calls(void) {
+    isotope_transaction txs[3];
+    isotope_ended ended[3];
+    memset(order, 0, sizeof order);
+    calls = 0;
+    isotope_device device = made("a.img");
+    calls_are("a creation: zeros, the image, its gate, its folder", "wfwwdwdf");
+    expect_that("close", isotope_close(device) == ISOTOPE_OK);
+    calls_are("a closing", "");
+    expect_that("open", isotope_open("a.img", &device, NULL) == ISOTOPE_OK);
+    calls_are("an opening, before it reads, and once it is read", "fd");
+    for (int i = 0; i < 3; i++) {
+        txs[i] = begun(device);
+        expect_that("put", isotope_put(device, txs[i], 20, (uint32_t)i, "x", 1) == ISOTOPE_OK);
+    }
+    calls_are("what ends nothing", "");
+    expect_that("end", isotope_end(device, txs[0], NULL) == ISOTOPE_OK);
+    calls_are("a commit: its record, its gate", "wdwd");
+    expect_that("end of a group", isotope_end_group(device, txs + 1, 2, ended) == ISOTOPE_OK);
+    calls_are("two in a group", "wdwd");
+    expect_that("end", isotope_end(device, begun(device), NULL) == ISOTOPE_OK);
+    calls_are("an end of what wrote nothing", "");
+    isotope_close(device);
 }
 
 /* A call of the file fails in an end, and in a compaction: down, and the file is not called any more. */
@@ -235,6 +271,7 @@ static void files_that_are_no_image(void) {
     expect("open of nothing", isotope_open("none.img", &device, &refusal), ISOTOPE_ABSENT);
     expect_that("which is no refusal", refusal.why == 0 && strcmp(isotope_refusal_text(&refusal, text, 3), "no") == 0);
     expect("open of a folder", isotope_open("empty", &device, NULL), ISOTOPE_FILE);
+    expect_that("the device is 0 then", device == 0);
 }
 
 static void many_devices(void) {
@@ -348,6 +385,7 @@ int main(int argc, char **argv) {
     if (argc != 2 || chdir(argv[1]) != 0) return 2;
     numbers_of_devices();
     numbers_of_transactions();
+    order_of_calls();
     files_that_fail();
     creations_that_fail();
     files_that_are_no_image();

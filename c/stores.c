@@ -1,4 +1,4 @@
-/* The stores and files of an image from C, and what they refuse.     stores IMAGE: no such file may be there */
+/* The stores and files of an image from C, and what they refuse.     stores IMAGE: no such file may be there, nor IMAGE-long */
 #include "expect.h"
 #include <string.h>
 
@@ -93,6 +93,29 @@ static void files(void) {
     end();
 }
 
+/* Sizes of a file that grows to many reads' length, on an image of its own. */
+static void sizes(const char *path) {
+    const isotope_geometry geometry = {4096, 40, 524288, ISOTOPE_SERIAL, 0, 4};
+    const uint32_t lengths[] = {1, 4095, 4096, 4097, 8192, 8193, 12288, 20000, 40960, 65535, 100000};
+    char name[4096];
+    uint32_t size = 0;
+    snprintf(name, sizeof name, "%s-long", path);
+    expect("create", isotope_create(name, &geometry, &device), ISOTOPE_OK);
+    begin();
+    expect("file create", isotope_file_create(device, tx, "long"), ISOTOPE_OK);
+    for (size_t i = 0; i < sizeof lengths / sizeof *lengths; i++) {
+        while (size < lengths[i]) {
+            uint32_t more = lengths[i] - size < sizeof bytes ? lengths[i] - size : (uint32_t)sizeof bytes;
+            if (isotope_file_write(device, tx, "long", size, bytes, more) != ISOTOPE_OK) break;
+            size += more;
+        }
+        expect("its size", isotope_file_size(device, tx, "long", &n), ISOTOPE_OK);
+        expect_that("is what was written", n == lengths[i]);
+    }
+    end();
+    expect("close", isotope_close(device), ISOTOPE_OK);
+}
+
 static void refusals(void) {
     begin();
     expect("a key of no bytes", isotope_hash_put(device, tx, NULL, 0, "value", 5), ISOTOPE_BAD_KEY);
@@ -114,12 +137,14 @@ static void refusals(void) {
 
 int main(int argc, char **argv) {
     const isotope_geometry geometry = {256, 64, 262144, ISOTOPE_SERIAL, 16, 32};
-    expect("create", isotope_create(argc > 1 ? argv[1] : "stores.img", &geometry, &device), ISOTOPE_OK);
+    const char *path = argc > 1 ? argv[1] : "stores.img";
+    expect("create", isotope_create(path, &geometry, &device), ISOTOPE_OK);
     if (wrong) return told();
     hash();
     tree();
     files();
     refusals();
     expect("close", isotope_close(device), ISOTOPE_OK);
+    sizes(path);
     return told();
 }

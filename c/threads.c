@@ -11,12 +11,13 @@
 #include <time.h>
 #include <unistd.h>
 
-enum { MOST_THREADS = 64 };
+enum { MOST_THREADS = 64, MOST_COMMITS = 1000000 };
 static isotope_device device;
 static int rounds, is_shared;
 static long sync_takes;
 static atomic_int wrong;
 static atomic_long syncs, conflicts;
+static atomic_char given[MOST_COMMITS + 1]; /* how often a number of a commit was told */
 
 int __real_fdatasync(int fd);
 int __wrap_fdatasync(int fd) {
@@ -30,6 +31,7 @@ int __wrap_fdatasync(int fd) {
 static int add(uint32_t own) {
     isotope_transaction tx;
     uint64_t all, mine;
+    isotope_ended ended;
     int status = isotope_begin(device, ISOTOPE_IMAGE_MODE, &tx, NULL);
     if (status != ISOTOPE_OK) return status;
     status = isotope_get(device, tx, 1 + own, 0, &mine, 8);
@@ -38,7 +40,9 @@ static int add(uint32_t own) {
     if (status == ISOTOPE_OK && is_shared) status = isotope_get(device, tx, 0, 0, &all, 8);
     all++;
     if (status == ISOTOPE_OK && is_shared) status = isotope_put(device, tx, 0, 0, &all, 8);
-    return status == ISOTOPE_OK ? isotope_end(device, tx, NULL) : status;
+    if (status == ISOTOPE_OK) status = isotope_end(device, tx, &ended);
+    if (status == ISOTOPE_OK && (ended.commit == 0 || ended.commit > MOST_COMMITS || given[ended.commit]++ != 0)) wrong++;
+    return status;
 }
 
 static void *work(void *argument) {
@@ -75,6 +79,7 @@ static double run(const char *path, uint32_t threads) {
     unlink(path);
     if (isotope_create(path, &geometry, &device) != ISOTOPE_OK) { perror(path); exit(2); }
     syncs = conflicts = 0;
+    for (int i = 0; i <= MOST_COMMITS; i++) given[i] = 0;
     clock_gettime(CLOCK_MONOTONIC, &from);
     for (uint32_t i = 0; i < threads; i++) {
         own[i] = i;
