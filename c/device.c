@@ -20,9 +20,10 @@ static device devices[DEVICES] = {
 };
 static _Atomic isotope_device last_number;
 static pthread_condattr_t monotonic;
-static const uint64_t SECOND = 1000000000;
+static const uint64_t SECOND = 1000000000, MOST_WAIT = 10000000; /* in nanoseconds */
 
-/* Whether ends that wait should wait no longer: enough are there, or nobody is on the way who may end soon, or they were patient. */
+/* Whether ends that wait should wait no longer: as many as a group has are there, or they let many calls go first, or nobody is on the way
+ * who may end soon, neither a call that waits for the device nor a member of the last group. */
 static int is_ripe(device *d) {
     return d->waiting >= ISOTOPE_MOST_GROUP || d->passed >= MOST_PASSED || (d->coming == 0 && d->returning == 0);
 }
@@ -275,7 +276,7 @@ static void lead(device *d) {
         pthread_cond_signal(&group[i]->turn); /* who leaves waits for the lock of the queue, so the end is still there */
     }
     d->returning = (int)n;
-    d->until = to + (to - from) / 2;
+    d->until = to + ((to - from) / 2 < MOST_WAIT ? (to - from) / 2 : MOST_WAIT);
     d->has_leader = 0;
     if (d->first) pthread_cond_signal(&d->first->turn);
 }
