@@ -141,9 +141,12 @@ sanitized() {
 }
 
 races() {
-  watched races -fsanitize=thread -Wl,--wrap=fdatasync threads
+  local wrap=-Wl,--wrap=pwrite,--wrap=fdatasync,--wrap=fsync
+  watched races -fsanitize=thread -Wl,--wrap=fdatasync threads && watched races -fsanitize=thread "$wrap" misuse
   case $? in 1) return 1 ;; 2) return 0 ;; esac
-  passes races-count ./races-threads races.img count 2 20000 && passes races-rates ./races-threads races.img rates 200 200
+  mkdir races-folder
+  passes races-count ./races-threads races.img count 2 20000 && passes races-rates ./races-threads races.img rates 200 200 \
+    && passes races-misuse ./races-misuse races-folder
 }
 
 valgrinded() {
