@@ -48,12 +48,15 @@ prints() {
   return 1
 }
 
+# The program's replies, without the numbers that isotope.h does not tell.
+told_of() { sed -E 's/ (no-blocks|broken) .*/ \1/'; }
+
 # An image of these numbers on which the program and the C library answer one script: the same replies, and the same bytes.
 answers_alike() {
   local name=$1 script=$2 size=$3 blocks=$4 log=$5 hash=$6 tree=$7
   local words=(--block-size "$size" --blocks "$blocks" --log "$log" --hash "$hash" --tree "$tree")
   rm -f "$name.img" "$name-c.img"
-  "$program" new "$name.img" "${words[@]}" < "$script" > "$name.replies"
+  "$program" new "$name.img" "${words[@]}" < "$script" | told_of > "$name.replies"
   "$out/script" new "$name-c.img" "$size" "$blocks" "$log" 1 "$hash" "$tree" < "$script" > "$name-c.replies"
   cmp "$name.replies" "$name-c.replies" && cmp "$name.img" "$name-c.img" && return 0
   echo "c: $name: the program and the library are apart"
@@ -91,7 +94,7 @@ END
       awk -v seed="$((seed + 100))" -v count=200 -v kind=$kind -f "$here/draw.awk" > again.script
       mv "drawn-$kind-$seed.img" of-program.img
       mv "drawn-$kind-$seed-c.img" of-c.img
-      "$program" run of-c.img < again.script > by-program.replies
+      "$program" run of-c.img < again.script | told_of > by-program.replies
       "$out/script" run of-program.img < again.script > by-c.replies
       cmp by-program.replies by-c.replies && cmp of-c.img of-program.img && continue
       echo "c: seed $seed, $kind: each on the image of the other, they are apart"

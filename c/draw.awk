@@ -40,7 +40,15 @@ function op_on_stores(    k) {
     if (k < 39) return "abort"
     return below(3) ? "stat" : "compact"
 }
+# Mostly what goes on with the client's transaction, or begins one; ends that are refused are not kept count of.
+function line_of(client,    op, tries) {
+    do op = kind == "stores" ? op_on_stores() : op_on_blocks(); while (tries++ < 8 && (op ~ /^begin|^takeover/) == has[client] && below(9))
+    if (op ~ /^begin|^takeover/) has[client] = 1
+    if (op ~ /^end|^abort|^release/) has[client] = 0
+    return client " " op
+}
 BEGIN {
     state = seed * 7919 + 17
-    for (line = 0; line < count; line++) print 1 + below(4) " " (kind == "stores" ? op_on_stores() : op_on_blocks())
+    for (client = 1; client <= 4; client++) has[client] = 0
+    for (line = 0; line < count; line++) print line_of(1 + below(4))
 }

@@ -1,7 +1,9 @@
-/* Answers a script on its input as `isotope` does (docs/script.md), by the calls of isotope.h, so that replies and images can be compared.
+/* Answers a script on its input as `isotope` does (docs/script.md), by the calls of isotope.h, so that replies and images can be
+ * compared.
  *     script new IMAGE BLOCK-SIZE BLOCKS LOG MODE HASH TREE < SCRIPT        MODE: 1 serial, 2 snapshot
  *     script run IMAGE < SCRIPT
- * A client is a place in a table here, and so is a label. Lines have to be good ones, without `await`. */
+ * A client is a place in a table here, and so is a label. Lines have to be good ones, without `await`. What is behind `no-blocks` and
+ * `broken` in a reply is not told. */
 #include "isotope.h"
 #include <stdio.h>
 #include <stdlib.h>
@@ -67,6 +69,8 @@ static const char *refusal(int status) {
     case ISOTOPE_BAD_KEY: return "bad-key";
     case ISOTOPE_BAD_VALUE: return "bad-value";
     case ISOTOPE_BAD_NAME: return "bad-name";
+    case ISOTOPE_NO_BLOCKS: return "no-blocks";
+    case ISOTOPE_BROKEN: return "broken";
     case ISOTOPE_NO_TRANSACTION: return "not-in-tx";
     default: return isotope_strerror(status);
     }
