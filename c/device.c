@@ -70,9 +70,14 @@ device *isotope_device_enter(isotope_device number) {
     return NULL;
 }
 
-/* In a child of fork(): it has none of the devices. A lock may be held by a thread that it has not, so all begin anew. */
+/* In a child of fork(): it has none of the devices. A lock may be held by a thread that it has not, so all begin anew; what is in memory
+ * of a device is let go where nobody was in a call. The file's lock stays, which is the parent's. */
 static void forget_all(void) {
     for (device *d = devices; d < devices + DEVICES; d++) {
+        if (pthread_mutex_trylock(&d->lock) == 0) {
+            isotope_c_close(&d->slot);
+            free(d->bytes);
+        }
         if (d->fd >= 0) close(d->fd);
         *d = (device){.lock = PTHREAD_MUTEX_INITIALIZER, .fd = -1, .queue = PTHREAD_MUTEX_INITIALIZER};
     }

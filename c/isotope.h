@@ -157,7 +157,7 @@ int isotope_open(const char *path, isotope_device *device, isotope_refusal *refu
 const char *isotope_refusal_text(const isotope_refusal *refusal, char *into, size_t n);
 /* Aborts what is live and lets the file go. A call that waits for the device is answered CLOSED. Only CLOSED may be refused. */
 int isotope_close(isotope_device device);
-/* The numbers with which the image was made. It is answered also on a device that is down. */
+/* The numbers with which the image was made. */
 int isotope_about(isotope_device device, isotope_geometry *geometry);
 int isotope_stat(isotope_device device, isotope_numbers *numbers);
 

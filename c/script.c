@@ -213,12 +213,14 @@ static int stores(const char *op, isotope_transaction tx) {
     if (strcmp(op + 1, "put") == 0) {
         value = bytes_of(3);
         say((is_hash ? isotope_hash_put : isotope_tree_put)(device, tx, key.bytes, key.n, value.bytes, value.n));
-    } else if (strcmp(op + 1, "get") == 0)
-        say_bytes((is_hash ? isotope_hash_get : isotope_tree_get)(device, tx, key.bytes, key.n, into, sizeof into, &n), into, n);
-    else if (strcmp(op + 1, "del") == 0) say((is_hash ? isotope_hash_delete : isotope_tree_delete)(device, tx, key.bytes, key.n));
+    } else if (strcmp(op + 1, "get") == 0) {
+        int status = (is_hash ? isotope_hash_get : isotope_tree_get)(device, tx, key.bytes, key.n, into, sizeof into, &n);
+        say_bytes(status, into, n);
+    } else if (strcmp(op + 1, "del") == 0) say((is_hash ? isotope_hash_delete : isotope_tree_delete)(device, tx, key.bytes, key.n));
     else if (strcmp(op, "tscan") == 0) {
         value = bytes_of(3);
-        say_pairs(isotope_tree_scan(device, tx, key.bytes, key.n, value.bytes, value.n, number(4), into, sizeof into, &n), into, n);
+        int status = isotope_tree_scan(device, tx, key.bytes, key.n, value.bytes, value.n, number(4), into, sizeof into, &n);
+        say_pairs(status, into, n);
     } else return 0;
     return 1;
 }
@@ -234,8 +236,10 @@ static int files(const char *op, isotope_transaction tx) {
     else if (strcmp(op, "fwrite") == 0) {
         text t = bytes_of(4);
         say(isotope_file_write(device, tx, name, number(3), t.bytes, t.n));
-    } else if (strcmp(op, "fread") == 0) say_bytes(isotope_file_read(device, tx, name, number(3), into, number(4), &n), into, n);
-    else if (strcmp(op, "fmove") == 0) say(isotope_file_rename(device, tx, name, name_of(3, other)));
+    } else if (strcmp(op, "fread") == 0) {
+        int status = isotope_file_read(device, tx, name, number(3), into, number(4), &n);
+        say_bytes(status, into, n);
+    } else if (strcmp(op, "fmove") == 0) say(isotope_file_rename(device, tx, name, name_of(3, other)));
     else if (strcmp(op, "fdel") == 0) say(isotope_file_remove(device, tx, name));
     else return 0;
     return 1;
