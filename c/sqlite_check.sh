@@ -1,5 +1,5 @@
 #!/usr/bin/env bash
-# sqlite_check.sh OUT [bench]: builds the SQLite VFS over OUT/libisotope.a, as an extension and linked, and tests it, within 90 seconds. With
+# sqlite_check.sh OUT [bench]: builds the SQLite VFS over OUT/libisotope.a, as an extension and linked, and tests it within 90 seconds. With
 # `bench` it measures it beside SQLite's own journals as well. Its status is 1 where something is wrong, and it says what it skips.
 set -u
 here=$(cd "$(dirname "$0")" && pwd)

@@ -138,7 +138,7 @@ static int doom(file *f, int code) {
 static int begin_changes(file *f) {
     uint64_t at = 0;
     if (f->changes) return SQLITE_OK;
-    if (f->doom) return f->doom == SQLITE_FULL ? SQLITE_FULL : SQLITE_IOERR_WRITE;
+    if (f->doom) return SQLITE_IOERR_WRITE;
     int status = isotope_begin(f->image->device, ISOTOPE_IMAGE_MODE, &f->changes, &at);
     if (status != ISOTOPE_OK) {
         f->changes = 0;
@@ -344,7 +344,6 @@ static int x_lock(sqlite3_file *p, int level) {
     int code = SQLITE_OK;
     if (f->lock == SQLITE_LOCK_NONE && level >= SQLITE_LOCK_SHARED) {
         f->doom = 0;
-        drop(f, &f->shown);
         code = show(f);
     }
     if (code == SQLITE_OK && level >= SQLITE_LOCK_RESERVED && !f->image->optimistic) code = reserve(f);

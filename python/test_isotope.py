@@ -93,6 +93,8 @@ class Devices(ImageTest):
         live.put(2, 5, b"jelly")
         self.reopen()
         self.assertEqual(self.shown(2, 5, 5), b"hello")
+        self.assertRefused(Status.CLOSED, live.end)
+        live.device = self.device
         self.assertRefused(Status.NO_TRANSACTION, live.end)
 
     def test_a_closed_device(self):
@@ -300,6 +302,8 @@ class LogIsFull(ImageTest):
 
 
 class Transact(ImageTest):
+    numbers = {"block_size": 64, "blocks": 4, "log": 65536}
+
     def add(self, tx):
         n = int.from_bytes(tx.get(0, 0, 8), "big") + 1
         tx.put(0, 0, n.to_bytes(8, "big"))
