@@ -15,11 +15,11 @@ echo '#include <sqlite3.h>' | "$cc" -E - > /dev/null 2>&1 || skip 'sqlite3.h (li
 work=$(mktemp -d /dev/shm/isotope-sqlite-XXXXXX 2> /dev/null || mktemp -d "$out/sqlite-XXXXXX")
 trap 'rm -rf "$work"' EXIT
 
-flags=(-O2 -Wall -Wextra -Werror -pthread -I "$here")
+flags=(-O2 -Wall -Wextra -pthread -I "$here")
 "$cc" "${flags[@]}" -shared -fPIC "$here/sqlite_vfs.c" "$out/libisotope.a" -o "$out/isotope_vfs.so" &&
 "$cc" "${flags[@]}" "$here/sqlite_test.c" -lsqlite3 -o "$out/sqlite_test" &&
 "$cc" "${flags[@]}" -DLINKED -DSQLITE_CORE "$here/sqlite_test.c" "$here/sqlite_stop.c" "$here/sqlite_vfs.c" "$out/libisotope.a" -lsqlite3 \
-  -Wl,--wrap=pwrite,--wrap=fdatasync -o "$out/sqlite_stop" || exit 1
+  -Wl,--wrap=pwrite,--wrap=fdatasync,--wrap=fsync -o "$out/sqlite_stop" || exit 1
 export ISOTOPE_VFS=$out/isotope_vfs.so
 test=$out/sqlite_test
 stop=$out/sqlite_stop

@@ -1,5 +1,6 @@
-/* Linked into sqlite_test with -Wl,--wrap=pwrite,--wrap=fdatasync. The call of either that the variable STOP_AT numbers writes half of its
- * bytes, and then the process is gone with status 77; or, with STOP_FAILS, this call and all later ones fail. */
+/* Linked into sqlite_test with -Wl,--wrap=pwrite,--wrap=fdatasync,--wrap=fsync. The call of these that the variable STOP_AT numbers, in
+ * their common order, writes half of its bytes, and then the process is gone with status 77; or, with STOP_FAILS, it and all later ones
+ * fail. */
 #include <errno.h>
 #include <stdlib.h>
 #include <sys/types.h>
@@ -7,6 +8,7 @@
 
 ssize_t __real_pwrite(int, const void *, size_t, off_t);
 int __real_fdatasync(int);
+int __real_fsync(int);
 
 static long calls, at = -1;
 static int fails;
@@ -35,3 +37,4 @@ ssize_t __wrap_pwrite(int fd, const void *bytes, size_t n, off_t where) {
 }
 
 int __wrap_fdatasync(int fd) { return due() ? stop() : __real_fdatasync(fd); }
+int __wrap_fsync(int fd) { return due() ? stop() : __real_fsync(fd); }

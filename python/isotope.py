@@ -13,8 +13,8 @@ A transaction is shown the last commit of its begin, with its own writes on top.
 a later commit that wrote what it read is a `Conflict`. `Device.transact` runs a function again until there is none.
 
 Each status of isotope.h but OK is an exception below `Error`, with a class of its own where a caller would catch it; where a docstring says
-no more, the device and the transaction are as before. Any thread may use any device and any transaction. A child of fork() may not use a
-device that was opened before.
+no more, the device and the transaction are as before. Any thread may use any device and any transaction. In a child of fork() the devices
+of its parent are closed.
 
 The variable LIBISOTOPE names the shared object; else it is looked for beside this file, in ../c/out, and where the system looks. In the
 examples below `device` is an image like the one above, just made.
