@@ -27,7 +27,7 @@ SQLITE_EXTENSION_INIT1
 #include <string.h>
 #include <strings.h>
 
-enum { PAGE = 4096, MOST_BLOCKS = 16384, HEAD = 24, NEW_BLOCKS = 4096, NEW_LOG = 16777216 };
+enum { PAGE = 4096, HEAD = 24, NEW_BLOCKS = 4096, NEW_LOG = 16777216 };
 
 /* An open image, and the connections of this process that share it. */
 typedef struct image image;
@@ -45,7 +45,7 @@ typedef struct {
     int doom;                       /* not 0: the changes were given up, and SQLite is told so until it unlocks */
     int ended;                      /* under this lock changes were committed, and none came after them .. */
     int64_t shrink;                 /* .. but the wish for this size; -1: no wish */
-    unsigned char written[MOST_BLOCKS / 8];     /* a bit for each block that the changes wrote */
+    unsigned char written[ISOTOPE_MOST_BLOCKS / 8];     /* a bit for each block that the changes wrote */
 } file;
 
 struct image {
@@ -499,7 +499,7 @@ static int add_image(const char *name, int flags, image **out) {
     images = im;
     int status = isotope_about(im->device, &geometry);
     im->blocks = geometry.blocks;
-    int fits = geometry.block_size == PAGE && geometry.blocks <= MOST_BLOCKS && geometry.hash == 0 && geometry.tree == 0;
+    int fits = geometry.block_size == PAGE && geometry.blocks <= ISOTOPE_MOST_BLOCKS && geometry.hash == 0 && geometry.tree == 0;
     if (status != ISOTOPE_OK || !fits) {
         let_go(im);
         return status == ISOTOPE_OK ? SQLITE_NOTADB : code_of(status, SQLITE_CANTOPEN);
