@@ -249,9 +249,9 @@ class Transactions(ImageTest):
         one, two = self.device.begin(), self.device.begin()
         one.fill(0, 1), one.fill(1, 1)
         two.fill(2, 1), two.fill(3, 1)
-        ends = self.device.end_group([one, two])        # 164 bytes each, and the log has 256
+        ends = self.device.end_group([one, two])        # 164 bytes each, and one for the next gate; the log has 256
         self.assertEqual(ends[0], 1)
-        self.assertEqual((ends[1].status, ends[1].need, ends[1].room), (Status.LOG_FULL, 164, 92))
+        self.assertEqual((ends[1].status, ends[1].need, ends[1].room), (Status.LOG_FULL, 165, 92))
         self.assertRefused(Status.NO_TRANSACTION, two.end)
 
     def test_another_device(self):
@@ -272,7 +272,7 @@ class LogIsFull(ImageTest):
         self.put(0, 0, b"a")
         self.put(0, 0, b"b")
         tx = self.device.begin()
-        tx.put(1, 0, b"cd")
+        tx.put(1, 0, b"c")
         full = self.assertRefused(Status.LOG_FULL, tx.end, kind=isotope.LogFull)
         self.assertEqual((full.need, full.room), (30, 6))
         self.device.compact()
@@ -286,7 +286,7 @@ class LogIsFull(ImageTest):
         self.put(0, 0, b"b")
         with self.assertRaises(isotope.LogFull):
             with self.device.begin() as tx:
-                tx.put(1, 0, b"cd")
+                tx.put(1, 0, b"c")
         self.assertEqual(self.device.stat().live, 0)
 
     def test_transact_compacts(self):
@@ -297,7 +297,7 @@ class LogIsFull(ImageTest):
     def test_transact_gives_up_what_never_fits(self):
         with self.assertRaises(isotope.LogFull) as caught:
             self.device.transact(lambda tx: tx.fill(1, 7))
-        self.assertEqual((caught.exception.need, caught.exception.room), (92, 64))
+        self.assertEqual((caught.exception.need, caught.exception.room), (93, 64))
         self.assertEqual((self.device.stat().live, self.device.stat().base), (0, 0))
 
 
