@@ -388,7 +388,7 @@ class Stores(ImageTest):
             self.assertRefused(Status.BAD_KEY, tx.tree.scan, b"", b"z")
 
     def test_the_longest_pairs(self):
-        pairs = [(bytes([n]) * 28, bytes([n]) * 32) for n in range(8)]
+        pairs = [(bytes([n]) * 28, bytes([n]) * 32) for n in range(4)]
         with self.device.begin() as tx:
             for key, value in pairs:
                 tx.tree[key] = value
