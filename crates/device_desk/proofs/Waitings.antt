@@ -1,5 +1,5 @@
 -- Ends that are made one after the other, and as one group.
-use Rattle.iso_machine.proofs.{Words.{◌≡◌, ◌≢◌, ◌∙◌, inl, inr, sym, refl, ap, subst, ℕ, suc, true, false, List, [], ◌∷◌, ◌++◌, length, take, arith, Option, Some, None, Ok, Err, IsSome, DiskState, IsLawful, started, weakened, World, CoreReply, Reply, Stop, ShowsEither, ShowsLast, SameButShown, Answers, Wanting, as_reply, end_step, attached, as_step, step, Live}, Endings.end_is}
+use Rattle.iso_machine.proofs.{Words.{◌≡◌, ◌≢◌, ◌∙◌, inl, inr, sym, refl, ap, subst, ℕ, suc, true, false, List, [], ◌∷◌, ◌++◌, length, take, arith, Option, Some, None, Ok, Err, IsSome, DiskState, IsLawful, started, weakened, World, CoreReply, Reply, Stop, ShowsEither, ShowsLast, SameButShown, Answers, Wanting, as_reply, end_step, attached, as_step, step, Live, append-nil, append_assoc, disk_of, shows}, Endings.end_is}
 use Rattle.std.proofs.lemmas.List.{take_all}
 use Rattle.counts.specs.Count.{Rose}
 use Rattle.iso_disk.proofs.Moments.{at_end, joined}
@@ -7,6 +7,7 @@ use Rattle.script_model.specs.declared.script.Op.TheVariants as op
 use Rattle.script_model.specs.declared.script.Reply.TheVariants as reply
 use Rattle.script_model.specs.declared.stop.Stop.TheVariants as stop
 use Rattle.iso_model.specs.declared.core_reply.CoreReply.TheVariants as core
+use Rattle.device_desk.specs.{declared.table.Table.Table, Seats.IsTableOf}
 use Rattle.device_desk.specs.Waiting.{HasTried, ShowsFrom, Waits, after_ends, end_replies}
 
 -- an end is answered by no bytes
@@ -182,3 +183,48 @@ tried_first first {stands = stands} {old = old} {new = new} {W = W} numbers befo
       failed = λ e. subst (λ (n : ℕ). Rose n new.faults) is.3 (later.failed e);
       passed = λ e. later.passed e ∙ is.3;
     })
+
+-- From the world W the ends of some numbers were made, whose replies are behind those of before, and the others follow.
+pub record GoneOn {D : Type 0} (state : D → DiskState) (old now : Table D) (W : World) (numbers rest : List ℕ) (before so_far : List Reply) : Type 0 where
+  pub done : List Reply
+  pub pushed : so_far ≡ before ++ done
+  pub world : World
+  pub is : IsTableOf state now world
+  pub behind : (m : Table D) (more : List Reply) (why : Option Stop) → Waits (IsTableOf state m) (state (disk_of now.core)) (state (disk_of m.core)) world rest more why
+      → Waits (IsTableOf state m) (state (disk_of old.core)) (state (disk_of m.core)) W numbers (done ++ more) why
+
+module _ {D : Type 0} {state : D → DiskState} {old : Table D} {W : World} {numbers : List ℕ} {before : List Reply} where
+  pub gone_none : IsTableOf state old W → GoneOn state old old W numbers numbers before before
+  gone_none of = record { done = []; pushed = sym (append-nil before); world = W; is = of; behind = λ m more why waits. waits }
+
+  pub gone_one : {now next : Table D} {so_far after : List Reply} (number : ℕ) (others rest : List ℕ) (r : Reply) (gone : GoneOn state old now W numbers rest before so_far) → rest ≡ number ∷ others
+      → Answers Wanting (IsTableOf state next) (state (disk_of now.core)) (state (disk_of next.core)) gone.world (step gone.world number op.End) (Ok r) → after ≡ so_far ++ r ∷ [] → GoneOn state old next W numbers others before after
+  gone_one number others rest r gone are is pushed = record {
+    done = gone.done ++ r ∷ [];
+    pushed = pushed ∙ ap (λ (l : List Reply). l ++ r ∷ []) gone.pushed ∙ append_assoc before gone.done (r ∷ []);
+    world = (step gone.world number op.End).1;
+    is = is.world;
+    behind = λ m more why waits.
+        subst (λ (l : List Reply). Waits (IsTableOf state m) (state (disk_of old.core)) (state (disk_of m.core)) W numbers l why) (sym (append_assoc gone.done (r ∷ []) more))
+        (gone.behind m (r ∷ more) why (goes_on number others rest r more why are is waits));
+  }
+
+  -- no end is left, or the next one has no reply
+  pub gone_all : {now : Table D} {so_far : List Reply} (rest : List ℕ) (gone : GoneOn state old now W numbers rest before so_far) → length rest ≡ 0 → IsLawful (state (disk_of now.core))
+      → (more : List Reply) × (so_far ≡ before ++ more) × Waits (IsTableOf state now) (state (disk_of old.core)) (state (disk_of now.core)) W numbers more None
+  gone_all {now = now} rest gone none laws = (
+    gone.done,
+    gone.pushed,
+    subst (λ (l : List Reply). Waits (IsTableOf state now) (state (disk_of old.core)) (state (disk_of now.core)) W numbers l None) (append-nil gone.done)
+        (gone.behind now [] None (no_ends rest none laws (shows state now.core gone.world gone.is.core_of) gone.is)),
+  )
+
+  pub gone_until : {now : Table D} (next : Table D) {so_far : List Reply} (number : ℕ) (others rest : List ℕ) (why : Stop) (gone : GoneOn state old now W numbers rest before so_far) → rest ≡ number ∷ others → IsLawful (state (disk_of next.core))
+      → Answers Wanting (IsTableOf state next) (state (disk_of now.core)) (state (disk_of next.core)) gone.world (step gone.world number op.End) (Err why)
+      → (more : List Reply) × (so_far ≡ before ++ more) × Waits (IsTableOf state next) (state (disk_of old.core)) (state (disk_of next.core)) W numbers more (Some why)
+  gone_until next number others rest why gone are laws is = (
+    gone.done,
+    gone.pushed,
+    subst (λ (l : List Reply). Waits (IsTableOf state next) (state (disk_of old.core)) (state (disk_of next.core)) W numbers l (Some why)) (append-nil gone.done)
+        (gone.behind next [] (Some why) (stops_at number others rest why are laws is)),
+  )

@@ -40,14 +40,13 @@ impl<D: Disk> Table<D> {
         ensures { (W : World) → IsTableOf D.state self.old W → (more : List Reply) × (replies.new.items ≡ replies.old.items ++ more)
             × Waits (IsTableOf D.state self.new) (D.state (disk_of self.old.core)) (D.state (disk_of self.new.core)) W numbers.now more result }
     {
-        let Some((first, others)) = numbers.split_first() else {
-            return None;
-        };
-        match self.end(*first) {
-            Ok(reply) => replies.push_reserved(reply),
-            Err(why) => return Some(why),
+        for number in numbers {
+            match self.end(*number) {
+                Ok(reply) => replies.push_reserved(reply),
+                Err(why) => return Some(why),
+            }
         }
-        self.end_each(others, replies)
+        None
     }
 
     /// Ends the transactions of these numbers one after the other, as one group where all fit.
