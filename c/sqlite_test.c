@@ -7,7 +7,8 @@
  *     sqlite_test two NAME             two connections of one process
  *     sqlite_test threads NAME         four threads, a connection each, add to one number
  *     sqlite_test limits NAME          what is refused, and that all is as before then; an image of 16,384 blocks
- *     sqlite_test bench NAME MODE N    N inserts and N updates of one row each, bulk inserts and scans; MODE isotope, wal or delete
+ *     sqlite_test bench NAME MODE N    the processor time of N inserts and N updates of one row each, of 20 transactions of 5,000 inserts,
+ *                                      and of 20 scans with a cache of 10 pages; MODE isotope, wal or delete
  *
  * NAME may be a URI. The variable PRAGMAS is run after each opening. Exit 1: wrong; 3: no opening; 4: a statement was refused. */
 #include <pthread.h>
@@ -347,7 +348,10 @@ static void long_reader(const char *name) {
     expect("then the log is full", rc & 255, SQLITE_FULL);
     expect("b has its snapshot", number(b, "SELECT sum(n) FROM t"), 6115);
     expect("b ends", try(b, "COMMIT"), 0);
-    expect("a goes on", try(a, "DELETE FROM big; INSERT INTO big VALUES(randomblob(100000))"), 0);
+    for (commits = 0, rc = 0; rc == 0 && commits < 100; commits++)
+        rc = try(a, "DELETE FROM big; INSERT INTO big VALUES(randomblob(100000))");
+    expect("a goes on, for more than the log has room for", commits, 100);
+    expect("and the last one too", rc, 0);
     close_two(a, b);
 }
 
@@ -480,9 +484,10 @@ static int limits(const char *name) {
 
 /* ---- bench ---- */
 
+/* the processor time of this process, as other work does not count then */
 static double now(void) {
     struct timespec t;
-    clock_gettime(CLOCK_MONOTONIC, &t);
+    clock_gettime(CLOCK_PROCESS_CPUTIME_ID, &t);
     return (double)t.tv_sec + (double)t.tv_nsec / 1e9;
 }
 
