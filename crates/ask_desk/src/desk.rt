@@ -51,7 +51,8 @@ pub struct Desk<P: Protocol> {
     ghost idle: { stage_of server.view ≡ 5 },
 }
 
-/// The client's place at a desk. It cannot be dropped: `close` of the desk spends it.
+/// The client's place at a desk, which is closed with it.
+#[derive(Drop)]
 pub struct Client<P: Protocol> {
     seat: Place<P>,
 }
