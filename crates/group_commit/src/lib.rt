@@ -10,7 +10,10 @@ mod aborts;
 mod answers;
 mod commit;
 mod each;
+mod ends;
 mod members;
+mod serve;
 
 pub use commit::commit_group;
 pub use each::{Ended, commit_each, end_each};
+pub use ends::{Ends, OfDevice, Outcome};
