@@ -1,3 +1,4 @@
 pub mod Words
 pub mod EachTold
 pub mod Grouping
+pub mod Lasts

@@ -1,3 +1,4 @@
 pub mod Each
 pub mod Groups
 pub mod Outcomes
+pub mod Serving

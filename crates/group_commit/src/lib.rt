@@ -12,6 +12,7 @@ mod commit;
 mod each;
 mod ends;
 mod members;
+mod outcomes;
 mod serve;
 
 pub use commit::commit_group;
