@@ -84,7 +84,7 @@ pub fn end_each<D: Disk + Drop, O: Origin, R: Wait>(
 }
 
 // Room for what so many members are told.
-fn told_room<D: Disk + Drop, O: Origin>(
+pub(crate) fn told_room<D: Disk + Drop, O: Origin>(
     alloc: Global,
     count: usize,
 ) -> Result<Vec<Ended<D, O>>, Memory>

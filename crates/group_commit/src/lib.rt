@@ -9,6 +9,7 @@
 mod aborts;
 mod answers;
 mod commit;
+mod committer;
 mod each;
 mod ends;
 mod members;
@@ -16,5 +17,6 @@ mod outcomes;
 mod serve;
 
 pub use commit::commit_group;
+pub use committer::Committer;
 pub use each::{Ended, commit_each, end_each};
 pub use ends::{Ends, OfDevice, Outcome};

@@ -23,7 +23,40 @@ pub(crate) enum Outcomes<D: Disk + Drop, O: Origin> {
     Live(Vec<Tx<D, O>>),
 }
 
-/// Ends these as a group. One alone is left to be ended by itself.
+// The bytes of a record's head with its gate, and of the head of a run in it.
+const RECORD_HEAD: u64 = 21;
+
+const RUN_HEAD: u64 = 8;
+
+// More bytes than the records of these take in the log: each access is counted as a write of a whole block.
+fn most_bytes<D: Disk + Drop, O: Origin>(group: &[Tx<D, O>], block: u32) -> u64 {
+    let mut total: u64 = 0;
+    for tx in group {
+        let accesses = 4096_u32.saturating_sub(tx.room()) as u64;
+        let runs = accesses.saturating_mul(RUN_HEAD + block as u64);
+        total = total.saturating_add(RECORD_HEAD).saturating_add(runs);
+    }
+    total
+}
+
+// Whether the log has room for all of these. A commit that another caller makes before their turn may still take it.
+fn fit<D: Disk + Drop, O: Origin, R: Wait>(
+    rt: &R,
+    shared: &Shared<D, O>,
+    port: &mut Port<D, O>,
+    group: &[Tx<D, O>],
+) -> bool
+    requires port { IsPort shared.now port.old }
+    ensures port { IsPort shared.now port.new }
+    ensures units { (port_view port.new).units ≡ (port_view port.old).units }
+{
+    let used = shared.stat(rt, port).used;
+    let geometry = shared.geometry();
+    most_bytes(group, geometry.block) <= geometry.log.saturating_sub(used) as u64
+}
+
+/// Ends these as a group, if the log has room for all of them. Else, and where there is one alone, each is left to be ended by itself,
+/// so that one that does not fit stays.
 pub(crate) fn end_taken<D: Disk + Drop, O: Origin, R: Wait>(
     rt: &R,
     shared: &Shared<D, O>,
@@ -39,7 +72,7 @@ pub(crate) fn end_taken<D: Disk + Drop, O: Origin, R: Wait>(
     ensures told { AreTold shared.now O.start (port_view port.new).seen group.items result }
     ensures units { (port_view port.new).units ≡ (port_view port.old).units + due result group.items }
 {
-    if group.len() < 2 {
+    if group.len() < 2 || !fit(rt, shared, port, group.as_slice()) {
         ended.destroy_empty();
         return Outcomes::Live(group);
     }

@@ -1,21 +1,24 @@
 // Whoever serves the desks: it takes what was handed in, ends it as one group, and answers at each desk.
-ghost use Rattle.std.specs.{Prelude.{◌≡◌, ◌+◌, ◌≤◌, [], length, vec_capacity}, List.AllByRecursion};
+ghost use Rattle.std.specs.{Prelude.{◌≡◌, ◌+◌, ◌≤◌, [], length, vec_capacity, IfOk}, List.AllByRecursion};
 ghost use Rattle.iso_core.specs.declared.group_end.TheConstants.{MAX_GROUP};
 ghost use Rattle.iso_shared.specs.Ports.{IsPort, port_view};
 ghost use Rattle.group_commit.specs.{Outcomes.MayEnd, Serving.{AreTold, due}};
 
-use crate::each::Ended;
+use crate::each::{Ended, told_room};
 use crate::ends::{Ends, OfDevice, end_alone};
-use crate::outcomes::{Outcomes, end_taken, last_outcome};
+use crate::members::group_room;
+use crate::outcomes::{Outcomes, end_taken, finish, last_outcome};
 use ask_desk::Desk;
 use iso_core::MAX_GROUP;
 use iso_disk::Disk;
+use iso_model::Memory;
 use iso_shared::{Origin, Port, Shared, Tx};
+use std::alloc::Global;
 use std::sync::Wait;
 
-/// Ends each transaction that was handed in at these desks by itself, in their order, and answers it. It takes no memory but that
-/// of the ends.
-pub(crate) fn serve_singly<D: Disk + Drop, O: Origin, P: OfDevice<D, O>, R: Wait>(
+// Ends each transaction that was handed in at these desks by itself, in their order, and answers it. It takes no memory but that
+// of the ends.
+fn serve_singly<D: Disk + Drop, O: Origin, P: OfDevice<D, O>, R: Wait>(
     rt: &R,
     shared: &Shared<D, O>,
     port: &mut Port<D, O>,
@@ -70,4 +73,43 @@ fn serve_taken<D: Disk + Drop, O: Origin, P: OfDevice<D, O>, R: Wait>(
     let (outcome, left) = last_outcome(rt, shared, port, outcomes);
     desk.respond(job, outcome);
     left
+}
+
+// Room for a group and for what its members are told.
+fn room<D: Disk + Drop, O: Origin>(
+    alloc: Global,
+) -> Result<(Vec<Tx<D, O>>, Vec<Ended<D, O>>), Memory>
+    ensures group { IfOk result (λ r. (r.0.items ≡ []) × (MAX_GROUP ≤ vec_capacity r.0)) }
+    ensures ended { IfOk result (λ r. (r.1.items ≡ []) × (MAX_GROUP ≤ vec_capacity r.1)) }
+{
+    let group = group_room(alloc, MAX_GROUP as u32)?;
+    match told_room(alloc, MAX_GROUP) {
+        Ok(ended) => Ok((group, ended)),
+        Err(error) => {
+            group.destroy_empty();
+            Err(error)
+        }
+    }
+}
+
+/// Ends all transactions that were handed in at these desks, up to the most of a group, as one group, and answers each; where there
+/// is one alone, or no memory for a group, each by itself. The port keeps its units.
+pub(crate) fn serve_all<D: Disk + Drop, O: Origin, P: OfDevice<D, O>, R: Wait>(
+    rt: &R,
+    alloc: Global,
+    shared: &Shared<D, O>,
+    port: &mut Port<D, O>,
+    desks: &[Desk<Ends<D, O, P>>],
+)
+    requires device { shared.now ≡ P.device }
+    requires port { IsPort shared.now port.old }
+    ensures port { IsPort shared.now port.new }
+    ensures units { (port_view port.new).units ≡ (port_view port.old).units }
+{
+    match room(alloc) {
+        Ok((group, ended)) => {
+            finish(serve_taken(rt, shared, port, desks, group, ended));
+        }
+        Err(_) => serve_singly(rt, shared, port, desks),
+    }
 }
