@@ -2,3 +2,4 @@ pub mod Words
 pub mod EachTold
 pub mod Grouping
 pub mod Lasts
+pub mod Rejoined

@@ -2,3 +2,4 @@ pub mod Each
 pub mod Groups
 pub mod Outcomes
 pub mod Serving
+pub mod Together

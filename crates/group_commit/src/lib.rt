@@ -15,8 +15,10 @@ mod ends;
 mod members;
 mod outcomes;
 mod serve;
+mod session_end;
 
 pub use commit::commit_group;
 pub use committer::Committer;
 pub use each::{Ended, commit_each, end_each};
 pub use ends::{Ends, OfDevice, Outcome};
+pub use session_end::{EndWithError, end_with};
