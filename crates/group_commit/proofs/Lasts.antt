@@ -1,5 +1,5 @@
 -- The last of several transactions, and what became of it.
-use Rattle.group_commit.proofs.Words.{inl, inr, ℕ, ◌+◌, ◌-◌, ◌<◌, ◌++◌, ◌≡◌, ◌≤◌, ◌∙◌, List, [], ◌∷◌, length, map, refl, sym, ap, subst, arith, AllByRecursion, CoreError, IsLegal, number_of, tx_view, Start, Entry, Shared, Tx, View, ArePaired, IsBack, cause_of, members_in, units_of, IsPrefix}
+use Rattle.group_commit.proofs.Words.{inl, inr, ℕ, ◌++◌, ◌≡◌, ◌∙◌, List, [], ◌∷◌, length, map, refl, sym, ap, subst, arith, AllByRecursion, CoreError, IsLegal, number_of, tx_view, Start, Entry, Shared, Tx, View, ArePaired, IsBack, cause_of, members_in, units_of, IsPrefix}
 use Rattle.iso_model.specs.declared.access.Access.{Access}
 use Rattle.iso_model.specs.declared.core_error.CoreError.TheVariants as error
 use Rattle.iso_shared.specs.{declared.entry.Member.Member, Ports.doing_of}
@@ -40,7 +40,7 @@ module _ {D O : Type 0} (shared : Shared D O) (A : Start) where
   are_txs (t ∷ txs) all = (all.0.tx, are_txs txs all.1)
 
   module _ (e : CoreError) (faults now : ℕ) (before seen : List Entry) (members : List Member)
-    (is : seen ≡ before ++ entry.Refused (call.EndGroup members) (cause_of faults now e) ∷ []) (legal : IsLegal A seen) where
+      (is : seen ≡ before ++ entry.Refused (call.EndGroup members) (cause_of faults now e) ∷ []) (legal : IsLegal A seen) where
     -- a member of the group that was refused, where this was seen
     refused : (t : Tx D O) (list : List Entry) → list ≡ seen → IsPrefix (tx_view t).seen before → IsMember (number_of t) (doing_of t).accesses members → IsRefusedIn shared A t e list
     refused t list same begins among = record {

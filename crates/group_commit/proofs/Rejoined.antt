@@ -1,9 +1,9 @@
 -- A session whose transaction was handed out, and what came back of it.
-use Rattle.group_commit.proofs.Words.{inl, inr, ℕ, ◌+◌, ◌++◌, ◌≡◌, ◌⊎◌, ◌∙◌, List, [], ◌∷◌, Some, refl, sym, ap, subst, arith, ⊎_elim, CoreError, IsLegal, IsPort, number_of, port_view, tx_view, Start, Entry, Shared, Tx, IsPrefix, prefix_self, prefix_trans, times, cause_of, Session}
-use Rattle.iso_shared.specs.{declared.shared.Port.Port, Ports.{IsSameTx, doing_of}}
+use Rattle.group_commit.proofs.Words.{inl, inr, ◌++◌, ◌≡◌, ◌⊎◌, ◌∙◌, List, [], ◌∷◌, Some, refl, sym, ap, subst, arith, ⊎_elim, CoreError, IsLegal, IsPort, number_of, port_view, tx_view, Start, Entry, Shared, Tx, IsPrefix, prefix_self, prefix_trans, times, cause_of, Session}
+use Rattle.iso_shared.specs.{declared.shared.Port.Port, Ports.{doing_of}}
 use Rattle.iso_shared.specs.declared.entry.Entry.TheVariants as entry
-use Rattle.handle_pass.{proofs.Entering.{own_same}, specs.Sessions.{Own, count, device, own, own_in, seen, units}, specs.Splits.{Joined}}
-use Rattle.group_commit.specs.{declared.each.Ended.Ended, Each.IsEndedIn, Outcomes.{HasSeen, IsEndOf, IsEndedAlone, IsHandedBack, IsRefusedIn, MayEnd}, Together.{Follows, IsAnswer, IsHandedOut, IsRefusal, Parted}}
+use Rattle.handle_pass.{proofs.Entering.{own_same}, specs.Sessions.{Own, own, own_in, seen, units}, specs.Splits.{Joined}}
+use Rattle.group_commit.specs.{declared.each.Ended.Ended, Each.IsEndedIn, Outcomes.{IsEndedAlone, IsHandedBack, IsRefusedIn}, Together.{Follows, IsAnswer, IsHandedOut, IsRefusal, Parted}}
 
 module _ (A : Start) where
   -- what follows in one list follows in those that hold it
@@ -34,16 +34,16 @@ module _ {D O : Type 0} (A : Start) where
 
   pub told_of : (d : Shared D O) (u : Tx D O) (e : Ended D O) → IsEndedIn d A u e ⊎ IsEndedAlone d A u e → IsTold d u e
   told_of d u e one = ⊎_elim
-    (λ m. (m.port, m.unit, m.bare, entry.EndGroup m.members, inl (m.members, refl, m.among), ends_in A m.before (port_view e.port).seen (entry.EndGroup m.members) (tx_view u).seen m.told m.seen_is m.legal))
-    (λ a. (
-      a.port.port,
-      a.port.unit,
-      a.port.bare,
-      entry.End (number_of u) (doing_of u).accesses a.reply,
-      inr (a.reply, refl, a.same),
-      ends_in A a.seen.before (port_view e.port).seen (entry.End (number_of u) (doing_of u).accesses a.reply) (tx_view u).seen a.seen.told a.seen.seen_is a.seen.legal,
-    ))
-    one
+      (λ m. (m.port, m.unit, m.bare, entry.EndGroup m.members, inl (m.members, refl, m.among), ends_in A m.before (port_view e.port).seen (entry.EndGroup m.members) (tx_view u).seen m.told m.seen_is m.legal))
+      (λ a. (
+        a.port.port,
+        a.port.unit,
+        a.port.bare,
+        entry.End (number_of u) (doing_of u).accesses a.reply,
+        inr (a.reply, refl, a.same),
+        ends_in A a.seen.before (port_view e.port).seen (entry.End (number_of u) (doing_of u).accesses a.reply) (tx_view u).seen a.seen.told a.seen.seen_is a.seen.legal,
+      ))
+      one
 
   pub refused_of : (d : Shared D O) (u : Tx D O) (why : CoreError) (list : List Entry) → IsRefusedIn d A u why list → IsRefusedAt A (own_in u) why (tx_view u).seen list
   refused_of d u why list r = (

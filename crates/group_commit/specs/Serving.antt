@@ -1,5 +1,5 @@
 -- What whoever serves desks knows of the transactions that it took.
-use Rattle.std.specs.{Prelude.{◌≡◌, ℕ, List, [], ◌∷◌, length}, List.AllByRecursion}
+use Rattle.std.specs.{Prelude.{◌≡◌, ℕ, List, length}, List.AllByRecursion}
 use Rattle.iso_model.specs.declared.core_error.CoreError.TheVariants as error
 use Rattle.iso_shared.specs.{declared.entry.Entry.Entry, declared.shared.Shared.Shared, declared.tx.Tx.Tx, Groups.ArePaired, States.Start}
 use Rattle.group_commit.specs.{declared.outcomes.Outcomes.Outcomes, Each.IsEndedIn, Outcomes.{IsHandedBack, IsRefusedIn, MayEnd}}

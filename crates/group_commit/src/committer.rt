@@ -1,12 +1,12 @@
 // The threads that end transactions together: one at a time serves the desks, and the others wait for their outcomes.
-ghost use Rattle.std.specs.Prelude.{◌≡◌};
+ghost use Rattle.std.specs.Prelude.{◌≡◌, IfSome, Some};
 ghost use Rattle.ask_desk.specs.Sides.{HasRequest, IsClient, Rests};
 ghost use Rattle.iso_shared.specs.Ports.{IsPort, port_view};
 ghost use Rattle.iso_shared.specs.declared.tx.Tx.{Tx};
 ghost use Rattle.group_commit.specs.Outcomes.{IsOutcome};
 ghost use Rattle.turn_lock.specs.Props.{pass_props};
 
-use crate::ends::{Ends, OfDevice, Outcome};
+use crate::ends::{Ends, OfDevice, Outcome, take_outcome};
 use crate::serve::serve_all;
 use ask_desk::{Client, Desk};
 use iso_disk::Disk;
@@ -21,13 +21,13 @@ struct Leader<D: Disk + Drop, O: Origin, P: OfDevice<D, O>> {
     port: Port<D, O>,
     alloc: Global,
     device: PhantomData<P>,
-    ghost at: { IsPort P.device port × ((port_view port).units ≡ 1) } by { Prim.hlevel pass_props },
+    ghost at: { IfSome P.device (λ d. IsPort d port) × ((port_view port).units ≡ 1) } by { Prim.hlevel pass_props },
 }
 
 impl<D: Disk + Drop, O: Origin, P: OfDevice<D, O>> Leader<D, O, P> {
     // Serves these desks once.
     fn serve<R: Wait>(&mut self, rt: &R, shared: &Shared<D, O>, desks: &[Desk<Ends<D, O, P>>])
-        requires { shared.now ≡ P.device }
+        requires { P.device ≡ Some shared.now }
     {
         serve_all(rt, self.alloc, shared, &mut self.port, desks);
     }
@@ -43,9 +43,11 @@ pub struct Committer<D: Disk + Drop, O: Origin, P: OfDevice<D, O>> {
 
 impl<D: Disk + Drop, O: Origin, P: OfDevice<D, O>> Committer<D, O, P> {
     /// A place over a port that has one unit. Memory for groups comes from the allocator, for each anew.
-    pub fn new(alloc: Global, port: Port<D, O>) -> Committer<D, O, P>
-        requires { IsPort P.device port × ((port_view port).units ≡ 1) }
+    pub fn new(alloc: Global, shared: &Shared<D, O>, port: Port<D, O>) -> Committer<D, O, P>
+        requires device { P.device ≡ Some shared.now }
+        requires port { IsPort shared.now port × ((port_view port).units ≡ 1) }
     {
+        let _ = shared;
         Committer {
             leader: Mutex::new(Leader {
                 port,
@@ -58,9 +60,11 @@ impl<D: Disk + Drop, O: Origin, P: OfDevice<D, O>> Committer<D, O, P> {
     }
 
     /// Gives the port back.
-    pub fn close(self) -> Port<D, O>
-        ensures { IsPort P.device result × ((port_view result).units ≡ 1) }
+    pub fn close(self, shared: &Shared<D, O>) -> Port<D, O>
+        requires device { P.device ≡ Some shared.now }
+        ensures { IsPort shared.now result × ((port_view result).units ≡ 1) }
     {
+        let _ = shared;
         let Committer {
             leader,
             busy: _,
@@ -85,14 +89,14 @@ impl<D: Disk + Drop, O: Origin, P: OfDevice<D, O>> Committer<D, O, P> {
         desk: &Desk<Ends<D, O, P>>,
         client: &mut Client<Ends<D, O, P>>,
     ) -> Outcome<D, O>
-        requires device { shared.now ≡ P.device }
+        requires device { P.device ≡ Some shared.now }
         requires client { IsClient desk.now client.old }
         requires request { (t : Tx D O) × HasRequest client.old t }
         ensures client { IsClient desk.now client.new × Rests client.new }
-        ensures outcome { (t : Tx D O) → HasRequest client.old t → IsOutcome P.device O.start t result }
+        ensures outcome { (t : Tx D O) → HasRequest client.old t → IsOutcome shared.now O.start t result }
     {
         for _ in rt.forever() {
-            if let Some(outcome) = desk.take_response(client) {
+            if let Some(outcome) = take_outcome(shared, desk, client) {
                 return outcome;
             }
             if self.comes_to_serve(rt) {
@@ -115,7 +119,7 @@ impl<D: Disk + Drop, O: Origin, P: OfDevice<D, O>> Committer<D, O, P> {
 
     // Serves these desks once, and leaves. Whoever waits then looks for its outcome, and one of those that have none serves next.
     fn serve<R: Wait>(&self, rt: &R, shared: &Shared<D, O>, desks: &[Desk<Ends<D, O, P>>])
-        requires { shared.now ≡ P.device }
+        requires { P.device ≡ Some shared.now }
     {
         let mut leader = self.leader.lock(rt);
         leader.serve(rt, shared, desks);

@@ -20,5 +20,5 @@ mod session_end;
 pub use commit::commit_group;
 pub use committer::Committer;
 pub use each::{Ended, commit_each, end_each};
-pub use ends::{Ends, OfDevice, Outcome};
+pub use ends::{Ends, OfDevice, Outcome, hand_in};
 pub use session_end::{EndWithError, end_with};

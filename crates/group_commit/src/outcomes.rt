@@ -114,7 +114,10 @@ pub(crate) fn last_outcome<D: Disk + Drop, O: Origin, R: Wait>(
             let Some(last) = back.pop() else {
                 unreachable!()
             };
-            (Outcome::Refused(error, last), Outcomes::Refused(error, back))
+            (
+                Outcome::Refused(error, last),
+                Outcomes::Refused(error, back),
+            )
         }
         Outcomes::Lost => (Outcome::Lost(shared.port(port, 1)), Outcomes::Lost),
         Outcomes::Live(mut txs) => {

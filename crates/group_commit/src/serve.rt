@@ -1,11 +1,11 @@
 // Whoever serves the desks: it takes what was handed in, ends it as one group, and answers at each desk.
-ghost use Rattle.std.specs.{Prelude.{◌≡◌, ◌+◌, ◌≤◌, [], length, vec_capacity, IfOk}, List.AllByRecursion};
+ghost use Rattle.std.specs.{Prelude.{◌≡◌, ◌+◌, ◌≤◌, [], length, vec_capacity, IfOk, Some}, List.AllByRecursion};
 ghost use Rattle.iso_core.specs.declared.group_end.TheConstants.{MAX_GROUP};
 ghost use Rattle.iso_shared.specs.Ports.{IsPort, port_view};
 ghost use Rattle.group_commit.specs.{Outcomes.MayEnd, Serving.{AreTold, due}};
 
 use crate::each::{Ended, told_room};
-use crate::ends::{Ends, OfDevice, end_alone};
+use crate::ends::{Ends, OfDevice, answer_tx, end_alone, take_tx};
 use crate::members::group_room;
 use crate::outcomes::{Outcomes, end_taken, finish, last_outcome};
 use ask_desk::Desk;
@@ -24,7 +24,7 @@ fn serve_singly<D: Disk + Drop, O: Origin, P: OfDevice<D, O>, R: Wait>(
     port: &mut Port<D, O>,
     desks: &[Desk<Ends<D, O, P>>],
 )
-    requires device { shared.now ≡ P.device }
+    requires device { P.device ≡ Some shared.now }
     requires port { IsPort shared.now port.old }
     ensures port { IsPort shared.now port.new }
     ensures units { (port_view port.new).units ≡ (port_view port.old).units }
@@ -32,9 +32,9 @@ fn serve_singly<D: Disk + Drop, O: Origin, P: OfDevice<D, O>, R: Wait>(
     let Some((desk, rest)) = desks.split_first() else {
         return;
     };
-    if let Some((job, tx)) = desk.accept() {
+    if let Some((job, tx)) = take_tx(shared, desk) {
         let outcome = end_alone(rt, shared, port, tx);
-        desk.respond(job, outcome);
+        answer_tx(shared, desk, job, outcome);
     }
     serve_singly(rt, shared, port, rest);
 }
@@ -49,7 +49,7 @@ fn serve_taken<D: Disk + Drop, O: Origin, P: OfDevice<D, O>, R: Wait>(
     mut group: Vec<Tx<D, O>>,
     ended: Vec<Ended<D, O>>,
 ) -> Outcomes<D, O>
-    requires device { shared.now ≡ P.device }
+    requires device { P.device ≡ Some shared.now }
     requires port { IsPort shared.now port.old }
     requires group { AllByRecursion (MayEnd shared.now O.start) group.items }
     requires most { length group.items ≤ MAX_GROUP }
@@ -65,13 +65,13 @@ fn serve_taken<D: Disk + Drop, O: Origin, P: OfDevice<D, O>, R: Wait>(
     if group.len() >= MAX_GROUP {
         return end_taken(rt, shared, port, group, ended);
     }
-    let Some((job, tx)) = desk.accept() else {
+    let Some((job, tx)) = take_tx(shared, desk) else {
         return serve_taken(rt, shared, port, rest, group, ended);
     };
     group.push_reserved(tx);
     let outcomes = serve_taken(rt, shared, port, rest, group, ended);
     let (outcome, left) = last_outcome(rt, shared, port, outcomes);
-    desk.respond(job, outcome);
+    answer_tx(shared, desk, job, outcome);
     left
 }
 
@@ -101,7 +101,7 @@ pub(crate) fn serve_all<D: Disk + Drop, O: Origin, P: OfDevice<D, O>, R: Wait>(
     port: &mut Port<D, O>,
     desks: &[Desk<Ends<D, O, P>>],
 )
-    requires device { shared.now ≡ P.device }
+    requires device { P.device ≡ Some shared.now }
     requires port { IsPort shared.now port.old }
     ensures port { IsPort shared.now port.new }
     ensures units { (port_view port.new).units ≡ (port_view port.old).units }

@@ -1,5 +1,5 @@
 // The end of a session's transaction, together with those of other threads.
-ghost use Rattle.std.specs.Prelude.{◌≡◌, ◌<◌, IsSome};
+ghost use Rattle.std.specs.Prelude.{◌≡◌, ◌<◌, IsSome, Some};
 ghost use Rattle.ask_desk.specs.Sides.{IsClient, Rests};
 ghost use Rattle.iso_shared.specs.Ports.{port_view};
 ghost use Rattle.handle_pass.specs.Sessions.{IsSession, device, own, port_of};
@@ -7,7 +7,7 @@ ghost use Rattle.group_commit.specs.Together.{HasEndedWith, IsHandedOut};
 
 use crate::committer::Committer;
 use crate::each::Ended;
-use crate::ends::{Ends, OfDevice, Outcome};
+use crate::ends::{Ends, OfDevice, Outcome, hand_in};
 use ask_desk::{Client, Desk};
 use handle_pass::Session;
 use iso_disk::Disk;
@@ -36,7 +36,7 @@ pub fn end_with<'a, D: Disk + Drop, O: Origin, P: OfDevice<D, O>, R: Wait>(
     desk: &Desk<Ends<D, O, P>>,
     client: &mut Client<Ends<D, O, P>>,
 ) -> Result<GroupReply, EndWithError<D, O>>
-    requires device { (shared.now ≡ P.device) × (device session.old ≡ shared.now) }
+    requires device { (P.device ≡ Some shared.now) × (device session.old ≡ shared.now) }
     requires session { IsSession O.start session.old }
     requires units { 32 < (port_view (port_of session.old)).units }
     requires client { IsClient desk.now client.old × Rests client.old }
@@ -48,7 +48,7 @@ pub fn end_with<'a, D: Disk + Drop, O: Origin, P: OfDevice<D, O>, R: Wait>(
         return Err(EndWithError::NotInTx);
     }
     let tx = hand_out(shared, session);
-    desk.request(client, tx);
+    hand_in(shared, desk, client, tx);
     match committer.outcome(rt, shared, desks, desk, client) {
         Outcome::Ended(ended) => {
             let Ended { reply, port } = ended;

@@ -22,6 +22,7 @@ struct Counts;
 
 impl Protocol for Counts {
     type Request = u64;
+
     type Response = u64;
 
     ghost allows = { λ n. n < 1000 };
@@ -65,8 +66,12 @@ fn serve<R: Wait + Clock>(rt: &R, desk: &Desk<Counts>, answered: &AtomicU64) {
 fn serve_both<R: Threads + Wait + Clock + Sync>(rt: &R, desk: &Desk<Counts>, answered: &AtomicU64) {
     join(
         rt,
-        || requires { IsSync R.row } { serve(rt, desk, answered) },
-        || requires { IsSync R.row } { serve(rt, desk, answered) },
+        ||
+            requires { IsSync R.row }
+        { serve(rt, desk, answered) },
+        ||
+            requires { IsSync R.row }
+        { serve(rt, desk, answered) },
     );
 }
 
@@ -83,7 +88,9 @@ fn one_desk<R: Threads + Wait + Abort + Clock + Sync>(rt: &R, alloc: Global) -> 
             requires { IsSync R.row × IsClient desk client × Rests client }
             ensures { IsClient desk result.0 × Rests result.0 }
         { talk(rt, &desk, client) },
-        || requires { IsSync R.row } { serve_both(rt, &desk, &answered) },
+        ||
+            requires { IsSync R.row }
+        { serve_both(rt, &desk, &answered) },
     );
     desk.close(client);
     right
@@ -93,9 +100,12 @@ fn one_desk<R: Threads + Wait + Abort + Clock + Sync>(rt: &R, alloc: Global) -> 
 fn sixty_four_clients_are_answered(rt: HostRuntime) -> Result<(), Fail> {
     let alloc = rt.alloc();
     let mut right: [u64; CLIENTS] = [0; CLIENTS];
-    thread::for_each_mut(&rt, &mut right, CLIENTS, &|_, slot: &mut u64| {
-        *slot = one_desk(&rt, alloc)
-    });
+    thread::for_each_mut(
+        &rt,
+        &mut right,
+        CLIENTS,
+        &|_, slot: &mut u64| { *slot = one_desk(&rt, alloc) },
+    );
     for count in &right {
         assert!(rt; *count == REQUESTS);
     }

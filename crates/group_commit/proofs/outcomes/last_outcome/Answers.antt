@@ -1,4 +1,4 @@
-use Rattle.group_commit.proofs.{Words.{ap, arith, inl, List, length, port_view, subst, sym, ArePaired, Entry, Tx, View, ◌+◌, ◌++◌, ◌-◌, ◌<◌, ◌∙◌, ◌∷◌, ◌≡◌, []}, Grouping.{nothing_left}, Lasts.{last_of, last_paired, same_seen, some_paired}}
+use Rattle.group_commit.proofs.{Words.{ap, arith, inl, List, port_view, subst, sym, ArePaired, Entry, Tx, View, ◌++◌, ◌∙◌, ◌∷◌, ◌≡◌, []}, Grouping.{nothing_left}, Lasts.{last_of, last_paired, same_seen, some_paired}}
 use Rattle.std.proofs.Common.{length-append}
 use Rattle.iso_model.specs.declared.core_error.CoreError.TheVariants as error
 use Rattle.group_commit.specs.{declared.each.Ended.Ended, declared.outcomes.Outcomes.Outcomes, Each.IsEndedIn, Outcomes.{IsHandedBack, IsRefusedIn, MayEnd}, Serving.{AreTold, due}}

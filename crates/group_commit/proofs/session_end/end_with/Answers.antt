@@ -1,4 +1,4 @@
-use Rattle.group_commit.proofs.{Words.{ap, subst, sym, IsPort, Shared, Tx, ◌∙◌}, Rejoined.{answered_in, handed_back, refused_of, rejoined, told_of}}
+use Rattle.group_commit.proofs.{Words.{ap, subst, sym, IsPort, Shared, ◌∙◌}, Rejoined.{answered_in, handed_back, refused_of, rejoined, told_of}}
 use Rattle.iso_model.specs.declared.core_error.CoreError.TheVariants as error
 use Rattle.handle_pass.specs.Sessions.{own_in}
 use Rattle.iso_shared.specs.Ports.{port_view}

@@ -1,8 +1,8 @@
 use Rattle.group_commit.proofs.Words.{sym, ◌∙◌}
 use Rattle.group_commit.proofs.committer.Committer.outcome.Goals as goal
 
-pub returns-in-Some-take_response-clause-outcome : goal.returns-in-Some-take_response-clause-outcome
-returns-in-Some-take_response-clause-outcome g c = λ t was. c.in-Some-take_response.ensures.some.1 t (c.loop.invariant.1 ∙ was)
+pub returns-in-Some-take_outcome-clause-outcome : goal.returns-in-Some-take_outcome-clause-outcome
+returns-in-Some-take_outcome-clause-outcome g c = λ t was. c.in-Some-take_outcome.ensures.some.1 t (c.loop.invariant.1 ∙ was)
 
 pub loop-preserved-then-comes_to_serve : goal.loop-preserved-then-comes_to_serve
 loop-preserved-then-comes_to_serve g c = (
