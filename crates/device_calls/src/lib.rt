@@ -8,6 +8,7 @@
 
 mod beginning;
 mod blocks_call;
+mod device_job;
 mod ending;
 mod hash;
 mod regions;
@@ -17,6 +18,7 @@ mod visit;
 
 pub use beginning::{Beginning, beginning_of};
 pub use blocks_call::BlocksCall;
+pub use device_job::{Job, with_device};
 pub use ending::end_now;
 pub use hash::{hash_delete, hash_get, hash_put};
 pub use regions::{hash_region, tree_region};

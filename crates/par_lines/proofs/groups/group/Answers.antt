@@ -1,4 +1,4 @@
-use Rattle.par_lines.proofs.{Words.{subst, sym, port_view, Answered, Group}, Grouping.{answers, port_units, wants_memory}}
+use Rattle.par_lines.proofs.{Words.{subst, sym, port_view, Answered, Group}, Grouping.{answers, more_units, wants_memory}}
 
 pub returns-then-labels-gt-MAX_LABELS-clause-did : Rattle.par_lines.proofs.groups.group.Goals.returns-then-labels-gt-MAX_LABELS-clause-did
 returns-then-labels-gt-MAX_LABELS-clause-did g c = wants_memory g.O.Origin.start c.args.session.now c.args.labels.now
@@ -7,7 +7,7 @@ pub returns-in_default-clause-did : Rattle.par_lines.proofs.groups.group.Goals.r
 returns-in_default-clause-did g c = wants_memory g.O.Origin.start c.args.session.now c.args.labels.now
 
 pub split_port-port-requires-clause-units : Rattle.par_lines.proofs.groups.group.Goals.split_port-port-requires-clause-units
-split_port-port-requires-clause-units g c = port_units (port_view c.args.session.now.port) c.args.session.now.tx c.requires.session.one c.requires.units
+split_port-port-requires-clause-units g c = more_units c.args.session.now c.requires.units
 
 pub returns-clause-did : Rattle.par_lines.proofs.groups.group.Goals.returns-clause-did
 returns-clause-did g c =

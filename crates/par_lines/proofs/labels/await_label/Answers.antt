@@ -10,7 +10,6 @@ returns-in-Ok-Some-clause-did g c =
 
 pub loop-round-preserved : Rattle.par_lines.proofs.labels.await_label.Goals.loop-round-preserved
 loop-round-preserved g c = record {
-  session = c.look_tx.ensures.session;
   looking = not_now g.O.Origin.start c.args.session.now c.loop-round.session c.look_tx.new.self c.args.label.now c.loop-round.round c.loop-round.invariant.looking
       (subst (λ r. HasLooked g.O.Origin.start c.loop-round.session c.args.label.now r c.look_tx.new.self) (c.in-Ok-None.is ∙ ap (λ v. Ok v) c.in-Ok-None.field-0-is) c.look_tx.ensures.did);
 }
