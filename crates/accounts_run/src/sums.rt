@@ -30,7 +30,6 @@ fn amount_of(value: &[u8]) -> Option<u64> {
 /// The sum by one transaction of a session.
 #[derive(Drop)]
 struct SumOf<'k> {
-    alloc: Global,
     accounts: &'k [Account],
 }
 
@@ -42,6 +41,7 @@ impl<'k> Job for SumOf<'k> {
     fn run<'a, D: Disk + Drop, O: Origin, R: Wait>(
         self,
         rt: &R,
+        alloc: Global,
         session: &mut Session<'a, D, O>,
         geometry: &Geometry,
     ) -> Option<Sum> {
@@ -50,7 +50,7 @@ impl<'k> Job for SumOf<'k> {
         let mut found: usize = 0;
         let mut sum: u64 = 0;
         for account in self.accounts {
-            if let Some(value) = hash_get(rt, self.alloc, session, region, &account.name).ok()? {
+            if let Some(value) = hash_get(rt, alloc, session, region, &account.name).ok()? {
                 found = found.checked_add(1)?;
                 sum = sum.checked_add(amount_of(value.as_slice())?)?;
             }
@@ -72,6 +72,6 @@ pub(crate) fn sum_of<D: Disk + Drop, R: Wait>(
 ) -> Option<Sum>
     requires { (W : World) × BeginsAt D.state core W }
 {
-    let (sum, _core) = with_device(rt, alloc, core, SumOf { alloc, accounts });
+    let (sum, _core) = with_device(rt, alloc, core, SumOf { accounts });
     sum?
 }

@@ -32,6 +32,7 @@ pub trait Job {
     fn run<'a, D: Disk + Drop, O: Origin, R: Wait>(
         self,
         rt: &R,
+        alloc: Global,
         session: &mut Session<'a, D, O>,
         geometry: &Geometry,
     ) -> Self::Answer
@@ -61,7 +62,7 @@ fn served<D: Disk + Drop, O: Origin, R: Wait, J: Job + Drop>(
         Ok((shared, port)) => {
             let geometry = shared.geometry();
             let mut session = Session::new(&shared, port);
-            let answer = job.run(rt, &mut session, &geometry);
+            let answer = job.run(rt, alloc, &mut session, &geometry);
             let port = session.finish(rt);
             (Some(answer), shared.close(port))
         }
@@ -76,7 +77,7 @@ pub fn with_device<D: Disk + Drop, R: Wait, J: Job + Drop>(
     core: Core<D>,
     job: J,
 ) -> (Option<J::Answer>, Core<D>)
-    requires begins { (W : World) × BeginsAt D.state core W }
+    requires { (W : World) × BeginsAt D.state core W }
     ensures did { IfSome result.0 (λ x. WasServed D.state core (λ A s t. J.says job A s t x) result.1) }
     ensures none { IfNone result.0 (result.1 ≡ core) }
 {

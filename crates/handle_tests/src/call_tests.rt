@@ -52,9 +52,9 @@ fn put_both<D: Disk + Drop, O: Origin, R: Wait>(
     session: &mut Session<D, O>,
     geometry: &Geometry,
 ) -> Option<bool>
-    requires session { 1 < session.old.units }
+    requires units { 1 < session.old.units }
     requires image { (geometry.now ≡ O.start.world.geometry) × IsTrue (is_valid geometry.now) }
-    ensures session { session.new.units ≡ session.old.units }
+    ensures units { session.new.units ≡ session.old.units }
 {
     let hash = hash_region(geometry)?;
     let tree = tree_region(geometry)?;
@@ -76,9 +76,9 @@ fn remove_both<D: Disk + Drop, O: Origin, R: Wait>(
     session: &mut Session<D, O>,
     geometry: &Geometry,
 ) -> Option<bool>
-    requires session { 1 < session.old.units }
+    requires units { 1 < session.old.units }
     requires image { (geometry.now ≡ O.start.world.geometry) × IsTrue (is_valid geometry.now) }
-    ensures session { session.new.units ≡ session.old.units }
+    ensures units { session.new.units ≡ session.old.units }
 {
     let hash = hash_region(geometry)?;
     let tree = tree_region(geometry)?;

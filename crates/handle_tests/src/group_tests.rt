@@ -27,7 +27,7 @@ fn posted<O: Origin, R: Wait>(
     block: u32,
     label: Label,
 ) -> Option<()>
-    requires session { 1 < session.old.units }
+    requires units { 1 < session.old.units }
     requires image { O.start.world.geometry ≡ small }
     ensures device { session.new.device ≡ session.old.device }
 {
@@ -70,9 +70,9 @@ fn grouped<O: Origin, R: Wait>(
     session: &mut Session<MemDisk, O>,
     labels: &[Label; 3],
 ) -> Result<LabelReplies, CoreError>
-    requires session { 33 < session.old.units }
+    requires units { 33 < session.old.units }
     requires device { session.old.device ≡ device_of shared.now }
-    ensures session { session.new.device ≡ session.old.device }
+    ensures device { session.new.device ≡ session.old.device }
 {
     let mut members = Vec::new(alloc);
     if let Err(_) = members.reserve(3) {

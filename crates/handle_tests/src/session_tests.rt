@@ -25,7 +25,7 @@ fn written<O: Origin, R: Wait>(
     rt: &R,
     session: &mut Session<MemDisk, O>,
 ) -> Option<Handle<MemDisk, O>>
-    requires session { 1 < session.old.units }
+    requires units { 1 < session.old.units }
     requires image { O.start.world.geometry ≡ small }
     ensures device { session.new.device ≡ session.old.device }
     ensures handle { IfSome result (λ h. h.device ≡ session.old.device) }
@@ -61,10 +61,10 @@ fn committed_from<O: Origin, R: Wait>(
     session: &mut Session<MemDisk, O>,
     place: &mut Option<Handle<MemDisk, O>>,
 ) -> Option<(u8, EndReply)>
-    requires session { session.old.own ≡ None }
+    requires none { session.old.own ≡ None }
     requires handle { IfSome place.old (λ h. h.device ≡ session.old.device) }
     requires image { O.start.world.geometry ≡ small }
-    ensures session { session.new.device ≡ session.old.device }
+    ensures device { session.new.device ≡ session.old.device }
     ensures place { place.new ≡ None }
 {
     match place.take() {
@@ -274,7 +274,7 @@ fn shown_through<'s, 'a, O: Origin, R: Wait>(
     rt: &'s R,
     session: &'s mut Session<'a, MemDisk, O>,
 ) -> Option<(u8, u8)>
-    requires session { 1 < session.old.units }
+    requires units { 1 < session.old.units }
     requires image { O.start.world.geometry ≡ small }
     requires valid { IsTrue (is_valid O.start.world.geometry) }
 {

@@ -1,5 +1,4 @@
-//! A value is put under a key, in one transaction on an image file. It is the program of `docs/library.md`; its contracts are of
-//! sessions and units, and not of what was put.
+//! A value is put under a key, in one transaction on an image file. It is the program of `docs/library.md`.
 #![tactic(auto)]
 
 ghost use Rattle.std.specs.Prelude.{IsTrue};
@@ -20,9 +19,7 @@ use std::sync::Wait;
 
 /// One transaction of a session: a value is put under a key.
 #[derive(Drop)]
-struct PutOne {
-    alloc: Global,
-}
+struct PutOne;
 
 impl Job for PutOne {
     type Answer = Option<EndReply>;
@@ -32,12 +29,13 @@ impl Job for PutOne {
     fn run<'a, D: Disk + Drop, O: Origin, R: Wait>(
         self,
         rt: &R,
+        alloc: Global,
         session: &mut Session<'a, D, O>,
         geometry: &Geometry,
     ) -> Option<EndReply> {
         let region = hash_region(geometry)?;
         session.begin_tx(rt, None).ok()?;
-        hash_put(rt, self.alloc, session, region, b"key", b"value").ok()?;
+        hash_put(rt, alloc, session, region, b"key", b"value").ok()?;
         end_now(rt, session).ok()
     }
 }
@@ -64,13 +62,13 @@ fn put<D: Image + Drop, R: Wait>(rt: &R, alloc: Global, image: D, new: bool) -> 
     if new {
         image.bind("data.img", Some(image_size(&geometry))).ok()?;
         match format_image(alloc, image, &geometry) {
-            Ok(core) => with_device(rt, alloc, core, PutOne { alloc }).0?,
+            Ok(core) => with_device(rt, alloc, core, PutOne).0?,
             Err(_) => None,
         }
     } else {
         image.bind("data.img", None).ok()?;
         match open_image(alloc, image) {
-            Ok(core) => with_device(rt, alloc, core, PutOne { alloc }).0?,
+            Ok(core) => with_device(rt, alloc, core, PutOne).0?,
             Err(_) => None,
         }
     }
@@ -78,7 +76,10 @@ fn put<D: Image + Drop, R: Wait>(rt: &R, alloc: Global, image: D, new: bool) -> 
 
 fn main(rt: HostRuntime) -> io::Result<()> {
     let alloc = rt.alloc();
-    let (Ok(files), Ok(more)) = (rt.clone(), rt.clone()) else {
+    let Ok(files) = rt.clone() else {
+        return println!(rt; "no memory");
+    };
+    let Ok(more) = rt.clone() else {
         return println!(rt; "no memory");
     };
     let image = Kept::new(alloc, FileDisk::new(files, alloc));

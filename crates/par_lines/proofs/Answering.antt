@@ -1,5 +1,5 @@
 -- What each call of a session makes of a client's line.
-use Rattle.par_lines.proofs.Words.{◌≡◌, ℕ, List, [], ◌∷◌, Option, Some, None, ap, inl, inr, refl, sym, subst, ◌∙◌, IsSome, Result, Ok, Err, BeginError, EndError, PostTxError, left_by, HasAborted, HasBegun, HasChecked, HasEnded, IsCheckCause, HasLooked, HasPosted, own, KeepsTx, Made, moves_made, moves_none, moves_on, Stat, reply_of, EndReply, Mode, CoreError, InTx, NotInTx, as_reply, Op, Reply, step, Entry, Start, cause_of, compact_entry, numbers_of, trim_entry, upgrade_entry, Stop, Own, Did, Does, EndsThen, Answered, SessionState}
+use Rattle.par_lines.proofs.Words.{◌≡◌, ℕ, List, [], ◌∷◌, Option, Some, None, ap, inl, inr, refl, sym, subst, ◌∙◌, IsSome, Result, Ok, Err, BeginError, EndError, PostTxError, left_by, HasAborted, HasBegun, HasChecked, HasEnded, IsCheckCause, HasLooked, HasPosted, KeepsTx, Made, moves_made, moves_none, moves_on, Stat, reply_of, EndReply, Mode, CoreError, InTx, NotInTx, as_reply, Op, Reply, step, Entry, Start, cause_of, compact_entry, numbers_of, trim_entry, upgrade_entry, Stop, Own, Did, Does, EndsThen, Answered, SessionState}
 use Rattle.handle_pass.specs.declared.errors.BeginError.TheVariants as begin
 use Rattle.handle_pass.specs.declared.errors.EndError.TheVariants as end
 use Rattle.handle_pass.specs.declared.errors.PostTxError.TheVariants as post
@@ -34,7 +34,7 @@ same_own o p is = ap (unwrap_or' o) is
 
 -- an operation that is this one, and an answer that is this one
 pub said : {A : Start} {s t : SessionState} {o p : Op} {r q : Result Reply Stop} → o ≡ p → r ≡ q → Answered A s p q t → Answered A s o r t
-said {D} {O} {A} {s} {t} {o} {p} {r} {q} is says answered = subst (λ x. Answered A s x r t) (sym is) (subst (λ x. Answered A s p x t) (sym says) answered)
+said {A} {s} {t} {o} {p} {r} {q} is says answered = subst (λ x. Answered A s x r t) (sym is) (subst (λ x. Answered A s p x t) (sym says) answered)
 
 module _ (A : Start) where
   -- a line of one entry
@@ -43,7 +43,7 @@ module _ (A : Start) where
     entries = e ∷ [];
     moves = moves_made A s t e m;
     did = inl (subst (λ w. Does A.world.geometry A.tells w o (e ∷ []) r t.own) (sym is) does);
-    of = ap (λ v. v.now) m.of;
+    of = m.of;
   }
 
   -- a line that the client's own state answers
@@ -129,7 +129,7 @@ module _ (A : Start) where
     entries = entry.Recent o.number upto ∷ e ∷ [];
     moves = moves_on s m t (entry.Recent o.number upto ∷ []) (e ∷ []) (moves_made A s m (entry.Recent o.number upto) first) (moves_made A m t e second);
     did = inl (subst (λ w. Does A.world.geometry A.tells w op.End (entry.Recent o.number upto ∷ e ∷ []) r t.own) (sym is) (refl, ends));
-    of = ap (λ v. v.now) second.of ∙ ap (λ v. v.now) first.of;
+    of = second.of ∙ first.of;
   }
 
   pub ended : (s m t : SessionState) (upto old new : ℕ) (r : Result EndReply EndError) → HasChecked A s (Ok upto) m → HasEnded A m old r t new → Answered A s op.End (say.ended r) t

@@ -40,7 +40,7 @@ not_now A s t u label n l h = record {
   none = l.none;
   still = h.1;
   moves = subst (λ es. Moves s u es) (one_behind n (entry.Look label None)) (moves_on s t u (replicate n (entry.Look label None)) (entry.Look label None ∷ []) l.moves (moves_made A t u (entry.Look label None) h.2));
-  of = ap (λ v. v.now) h.2.of ∙ l.of;
+  of = h.2.of ∙ l.of;
   units = h.2.units ∙ l.units;
 }
 
@@ -57,7 +57,7 @@ pub found : (A : Start) (s t u : SessionState) (label : List ℕ) (n at : ℕ) �
     → Answered A s (op.Await label) (Ok (reply.Began at)) u
 found A s t u label n at few l h =
     awaits A s u label (replicate n (entry.Look label None) ++ entry.Look label (Some h.1) ∷ []) (Ok (reply.Began at)) l.none
-    (moves_on s t u (replicate n (entry.Look label None)) (entry.Look label (Some h.1) ∷ []) l.moves (moves_made A t u (entry.Look label (Some h.1)) h.4)) (ap (λ v. v.now) h.4.of ∙ l.of)
+    (moves_on s t u (replicate n (entry.Look label None)) (entry.Look label (Some h.1) ∷ []) l.moves (moves_made A t u (entry.Look label (Some h.1)) h.4)) (h.4.of ∙ l.of)
     (looks label MAX_LOOKS n (omega arith) (entry.Look label (Some h.1) ∷ []) (Ok (reply.Began at)) u.own (omega arith, refl, ap (λ k. Ok (reply.Began k)) h.3, h.2))
 
 pub never_found : (A : Start) (s t : SessionState) (label : List ℕ) (n : ℕ) → n ≡ MAX_LOOKS → Looking s label n t → Answered A s (op.Await label) (Ok reply.NoHandle) t

@@ -194,7 +194,7 @@ module _ (A : Start) (block : ℕ) where
         did = subst (λ w. Did A.world.geometry A.tells w (op.Get block off len) (entry.Fetch f.own.number block f.bytes ∷ []) (Ok (reply.Shown bytes)) t.own) (sym f.was)
             (inl (fetched A (op.Get block off len) block view a parts f.own (entry.Fetch f.own.number block f.bytes ∷ []) (Ok (reply.Shown bytes)) t.own f.shown
             (refl, refl, ap (λ l. Ok (reply.Shown l)) cut ∙ ap (λ v. Ok v) (sym f.answers), k.is ∙ ap (λ p. Some (with_mark p off len)) own' ∙ ap (λ l. Some (record f.own { accesses = l })) last ∙ sym f.leaves)));
-        of = ap (λ v. v.now) k.rested.of ∙ ap (λ v. v.now) f.made.of;
+        of = k.rested.of ∙ f.made.of;
       })
 
   -- a line whose bytes are none, or pass the end of a block

@@ -191,7 +191,7 @@ module _ {D O : Type 0} where
   wants_now : (found : List (Option Own)) (txs : List (Tx D O)) (e : CoreError) → found_ones found ≡ map own_in txs → e ≡ error.Memory → GroupWants found (commit.aborts_of txs) (say.refused e)
   wants_now found txs e are is = (aborts_are txs ∙ ap lines.aborts_of (sym are), ap say.refused is)
 
-module _ {D O : Type 0} (A : Start) (s t u : SessionState) (q r seen : Port D O) (labels : List (List ℕ)) (members : List (Option (Tx D O))) (cut : Split s q t) (looked : HaveLooked (port_view q) labels members (port_view seen)) (new : AreNew (found_in members))
+module _ {D O : Type 0} (A : Start) (s t u : SessionState) (q seen r : Port D O) (labels : List (List ℕ)) (members : List (Option (Tx D O))) (cut : Split s q t) (looked : HaveLooked (port_view q) labels members (port_view seen)) (new : AreNew (found_in members))
     (given : units_all (port_view seen) (found_in members) ≡ (port_view q).units) (back : (port_view r).units ≡ units_all (port_view seen) (found_in members)) (joined : Joined t r u) where
   by_entries : (es : List Entry) (said : Result Reply Stop) → commit.HasMade A (port_view seen) (found_in members) es (port_view r) → GroupEnds (told_of members) es said ⊎ GroupWants (told_of members) es said → Answered A s (op.Group labels) said u
   by_entries es said made ends =
@@ -201,7 +201,7 @@ module _ {D O : Type 0} (A : Start) (s t u : SessionState) (q r seen : Port D O)
         moves = moves_joined s t u q r (looks ++ es) cut
             (through_on t (port_view q) (port_view seen) (port_view r) looks es (looked.made t) (through_group A t (port_view seen) (port_view r) (found_in members) es new made)) joined (back ∙ (given ∙ cut.given));
         did = inl (does_group A s.own u.own labels (looks ++ es) said (joined.tx.is ∙ cut.tx.is) (groups_behind labels [] (told_of members) es said (length-map members own_of ∙ looked.count) ends));
-        of = ap (λ v. v.now) joined.of ∙ ap (λ v. v.now) cut.of;
+        of = joined.of ∙ cut.of;
       }
 
   pub answers : (result : Result (List (Option GroupReply)) CoreError) → HasGrouped A (port_view seen) members result (port_view r) → Answered A s (op.Group labels) (say.grouped result) u

@@ -66,7 +66,7 @@ module _ (A : Start) (off len : ℕ) where
         moves = moves_rested s t m.rested;
         did = subst (λ w. Did g A.tells w (op.Mark off len) [] (Ok reply.Done) t.own) (sym is)
             (inl (says_mark g A.tells o t.own off len (marked_step (alone g [] (Some o)) (live_of o) (span_at off len) None) stepped (m.is ∙ ap (λ p. Some (with_mark p off len)) same ∙ sym (with_last o off len g))));
-        of = ap (λ v. v.now) m.rested.of;
+        of = m.rested.of;
       })
 
   -- a line that marks

@@ -87,7 +87,7 @@ module _ (A : Start) (block off : ℕ) (bytes : List ℕ) (inside : is_outside A
             did = subst (λ w. Did A.world.geometry A.tells w (op.Put block off bytes) [] (Ok reply.Done) t.own) (sym a.own_is)
                 (inl (says A block off bytes inside (Some a.own) t.own (Ok reply.Done) (ap (λ v. Ok v) (sym (a.answers [])))
                 (k.is ∙ ap (λ p. Some (with_mark p off (length bytes))) own' ∙ ap (λ l. Some (record o { accesses = l })) last ∙ ap (λ p. Some (with_access p (put_access A.world.geometry.block block off bytes))) same ∙ sym (a.leaves []))));
-            of = ap (λ v. v.now) k.rested.of ∙ ap (λ v. v.now) wrote.3.of;
+            of = k.rested.of ∙ wrote.3.of;
           })
 
 -- a put whose bytes are none, or pass the end of a block

@@ -255,7 +255,7 @@ module _ (A : Start) (s : SessionState) (x : Op) (is : IsOnStore x) where
         did = subst (λ y. Did g A.tells y x (visits.fetches o.number made.fetched ++ visits.refusals o.number visit.refused) q t.own) (sym was)
             (inl (subst (λ y. Does g A.tells (Some o) x (visits.fetches o.number made.fetched ++ visits.refusals o.number visit.refused) y t.own) (sym ends)
             ((store_line g x is).does_in A.tells o (visits.fetches o.number made.fetched ++ visits.refusals o.number visit.refused) (settled failures is_down r) t.own (in_store_so (CallsStore g A.tells o x (visits.fetches o.number made.fetched ++ visits.refusals o.number visit.refused) (settled failures is_down r) t.own) (Says g (Some o) x (visits.fetches o.number made.fetched ++ visits.refusals o.number visit.refused) (settled failures is_down r) t.own) (store_blocks g x) o there mode calls))));
-        of = ap (λ y. y.now) made.of;
+        of = made.of;
       }
     where
       same_session : (a b : SessionState) → Some a ≡ Some b → a ≡ b

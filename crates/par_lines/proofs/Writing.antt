@@ -1,5 +1,5 @@
 -- Accesses that make no entry: what the rules answer the client, and what the session does.
-use Rattle.par_lines.proofs.Words.{◌≡◌, ℕ, ◌==◌, Bool, true, false, cond, List, [], ◌∷◌, ◌++◌, Option, Some, None, ap, inl, inr, length, refl, sym, subst, ◌∙◌, eq-eqb, nat_le, Result, Ok, Err, IfErr, is_some, slice_index, eqb-true, access_answer, accesses_of, with_access, HasWritten, IsWriteCause, own, moves_none, moves_rested, Access, Geometry, MAX_ACCESSES, Op, Reply, TxError, access_step, fill_step, step, write_step, write_access, World, Start, Stop, access_refusal, IsRefused, Own, Did, Does, alone, answer, live_of, own_after, own_among, Answered, SessionState}
+use Rattle.par_lines.proofs.Words.{◌≡◌, ℕ, ◌==◌, Bool, true, false, cond, List, [], ◌∷◌, ◌++◌, Option, Some, None, ap, inl, inr, length, refl, sym, subst, ◌∙◌, eq-eqb, nat_le, Result, Ok, Err, IfErr, is_some, slice_index, eqb-true, access_answer, accesses_of, with_access, HasWritten, IsWriteCause, moves_none, moves_rested, Access, Geometry, MAX_ACCESSES, Op, Reply, TxError, access_step, fill_step, step, write_step, write_access, World, Start, Stop, access_refusal, IsRefused, Own, Did, Does, alone, answer, live_of, own_after, own_among, Answered, SessionState}
 use Rattle.std.specs.Prelude.{not, replicate}
 use Rattle.script_model.specs.declared.script.Op.TheVariants as op
 use Rattle.script_model.specs.declared.script.Reply.TheVariants as reply
@@ -77,7 +77,7 @@ module _ (A : Start) (x : Op) (block : ℕ) (bytes : List ℕ) (parts : IsAccess
         did = subst (λ w. Did A.world.geometry A.tells w x [] (Ok reply.Done) t.own) (sym is)
             (inl (parts.says A.tells (Some o) t.own (Ok reply.Done) (ap (λ (w : Reply × World). Ok w.0) (sym whole))
             (did.2 ∙ ap (λ p. Some (with_access p (write_access block bytes))) same ∙ sym (after A.world.geometry o block reply.Done (write_access block bytes)) ∙ ap (λ (w : Reply × World). own_among w.1.live) (sym whole))));
-        of = ap (λ v. v.now) did.3.of;
+        of = did.3.of;
       }
     where
       unwrap : Own → Option Own → Own

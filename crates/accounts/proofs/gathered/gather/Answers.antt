@@ -1,4 +1,7 @@
-use Rattle.accounts.proofs.{Words.{port_view, times, opening_of}, Covering.{covers_both, covers_on}, Keeping.finished}
+use Rattle.accounts.proofs.{Words.{subst, port_view, times, IsPortAt, opening_of}, Covering.{covers_both, covers_on}, Keeping.finished}
+
+pub join-requires-clause-from : Rattle.accounts.proofs.gathered.gather.Goals.join-requires-clause-from
+join-requires-clause-from g c = subst (λ d. IsPortAt d c.finish-from.result) c.requires.of c.finish-from.ensures.port
 
 pub returns-clause-kept : Rattle.accounts.proofs.gathered.gather.Goals.returns-clause-kept
 returns-clause-kept g c =
