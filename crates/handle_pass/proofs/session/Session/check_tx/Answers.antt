@@ -76,7 +76,7 @@ invariant_of-self-in-Some g c =
     let port = c.tell_port.ensures.port in
     let rests = c.tell_port.ensures.tx.0 in
     elim c.match-recent.branch [
-      in-Ok+in-Ok-check w ↦ rw w.self-inside-is (still_session h w.check.new.self port rests w.check.ensures.same.0 w.check.ensures.tx)
-    | in-Ok+in-Err-check w ↦ rw w.self-inside-is (still_session h w.check.new.self port rests w.check.ensures.same.0 w.check.ensures.tx)
-    | in-Err w ↦ rw w.self-inside-is (still_session h b port rests refl rests.1)
+      | in-Ok+in-Ok-check w ↦ rw w.self-inside-is (still_session h w.check.new.self port rests w.check.ensures.same.0 w.check.ensures.tx)
+      | in-Ok+in-Err-check w ↦ rw w.self-inside-is (still_session h w.check.new.self port rests w.check.ensures.same.0 w.check.ensures.tx)
+      | in-Err w ↦ rw w.self-inside-is (still_session h b port rests refl rests.1)
     ]

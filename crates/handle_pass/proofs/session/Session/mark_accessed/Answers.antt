@@ -5,19 +5,19 @@ pub returns-clause-did : Rattle.handle_pass.proofs.session.Session.mark_accessed
 returns-clause-did g c =
     let s = c.self.inside in
     elim c.match-self.branch [
-      in-None w ↦ rw (w.result-is, w.self-inside-is, ← c.self.view_is) (search rules)
-    | in-Some+in-Ok w ↦
-        let t = w.in-Some.tx in
-        rw (w.result-is, w.self-inside-is, ← c.self.view_is) (
-          own_in t,
-          ap own_of w.in-Some.is,
-          ap Some (own_by_parts t w.mark.new.self _ w.mark.ensures.same.1 w.in-Ok.ensures.ok.2),
-          rested_by s t w.mark.new.self w.in-Some.is w.mark.ensures.same.0,
-        )
-    | in-Some+in-Err-BadRange w ↦
-        rw (w.result-is, w.self-inside-is, ← c.self.view_is) (same_state s w.in-Some.tx w.mark.new.self w.in-Some.is (w.in-Err-BadRange.ensures.err _ refl).1)
-    | in-Some+in-Err-NoAccess w ↦
-        rw (w.result-is, w.self-inside-is, ← c.self.view_is) (same_state s w.in-Some.tx w.mark.new.self w.in-Some.is (w.in-Err-NoAccess.ensures.err _ refl).1)
-    | in-Some+in-Err-TooManyMarks w ↦
-        rw (w.result-is, w.self-inside-is, ← c.self.view_is) (same_state s w.in-Some.tx w.mark.new.self w.in-Some.is (w.in-Err-TooManyMarks.ensures.err _ refl).1)
+      | in-None w ↦ rw (w.result-is, w.self-inside-is, ← c.self.view_is) (search rules)
+      | in-Some+in-Ok w ↦
+          let t = w.in-Some.tx in
+          rw (w.result-is, w.self-inside-is, ← c.self.view_is) (
+            own_in t,
+            ap own_of w.in-Some.is,
+            ap Some (own_by_parts t w.mark.new.self _ w.mark.ensures.same.1 w.in-Ok.ensures.ok.2),
+            rested_by s t w.mark.new.self w.in-Some.is w.mark.ensures.same.0,
+          )
+      | in-Some+in-Err-BadRange w ↦
+          rw (w.result-is, w.self-inside-is, ← c.self.view_is) (same_state s w.in-Some.tx w.mark.new.self w.in-Some.is (w.in-Err-BadRange.ensures.err _ refl).1)
+      | in-Some+in-Err-NoAccess w ↦
+          rw (w.result-is, w.self-inside-is, ← c.self.view_is) (same_state s w.in-Some.tx w.mark.new.self w.in-Some.is (w.in-Err-NoAccess.ensures.err _ refl).1)
+      | in-Some+in-Err-TooManyMarks w ↦
+          rw (w.result-is, w.self-inside-is, ← c.self.view_is) (same_state s w.in-Some.tx w.mark.new.self w.in-Some.is (w.in-Err-TooManyMarks.ensures.err _ refl).1)
     ]

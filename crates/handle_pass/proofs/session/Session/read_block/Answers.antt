@@ -32,33 +32,33 @@ returns-after-fetched-clause-did g c =
     let b = c.tell_port.new.tx in
     let u = view c.tell_tx.new.tx.pass in
     elim c.match-fetched.branch [
-      in-Ok w ↦
-        let l = w.read.new.self in
-        let bytes = c.fetch-fetched.new.into in
-        let first : own_in l ≡ with_access (own_in b) (read_access c.args.block) = own_by_parts b l _ w.read.ensures.same.1 w.read.ensures.work in
-        let made = made_through h l (λ n. Fetch n c.args.block bytes) w.in-Ok.ensures.made.2 (ap view w.read.ensures.same.0) in
-        let rests = rw c.in-Some.is at c.self.invariant.tx in
-        rw (w.result-is, w.self-inside-is, w.into-is, ← c.self.view_is) (
-          own_in t,
-          ap own_of c.in-Some.is,
-          ap Some (first ∙ ap (λ (o : Own). with_access o (read_access c.args.block)) h.owns),
-          bytes,
-          record {
-            made = made;
-            base = fetched_is A t made.entered.before c.args.block bytes rests.0.1 (prefix_trans _ _ _ rests.1 made.entered.told) made.entered.legal;
-            laid = λ B told. w.read.ensures.shown B told ∙ ap (λ (o : Own). block_at (effect.own B o.accesses) c.args.block) h.owns;
-          },
-        )
-    | in-Err-fetched+in-Disk w ↦
-        let m = w.in-Err-fetched.ensures.made in
-        let made = subst (λ (e : CoreError). Made A u u (Refused (call.Fetch c.tell_tx.new.tx.number c.args.block) (cause_of m.0 m.1 e)) (view c.fetch-fetched.new.tx.pass)) w.in-Disk.is m.2 in
-        rw (w.result-is, w.self-inside-is, ← c.self.view_is) (own_in t, ap own_of c.in-Some.is, ap Some h.owns, m.0, m.1, made_through h b (λ n. Refused (call.Fetch n c.args.block) (cause_of m.0 m.1 error.Disk)) made refl)
-    | in-Err-fetched+in_default-error w ↦
-        let a = c.tell_tx.new.tx in
-        let m = w.in-Err-fetched.ensures.made in
-        let down = down_by A m.2.before a.number c.args.block m.0 m.1 w.in-Err-fetched.error (subst (λ (l : List Entry). IsLegal A l) m.2.seen m.2.legal) w.in_default-error.not-Disk in
-        let made = subst (λ (e : CoreError). Made A u u (Refused (call.Fetch a.number c.args.block) (cause_of m.0 m.1 e)) (view c.fetch-fetched.new.tx.pass)) down m.2 in
-        rw (w.result-is, w.self-inside-is, ← c.self.view_is) (own_in t, ap own_of c.in-Some.is, ap Some h.owns, made_through h b (λ n. Refused (call.Fetch n c.args.block) (cause_of m.0 m.1 error.Down)) made refl)
+      | in-Ok w ↦
+          let l = w.read.new.self in
+          let bytes = c.fetch-fetched.new.into in
+          let first : own_in l ≡ with_access (own_in b) (read_access c.args.block) = own_by_parts b l _ w.read.ensures.same.1 w.read.ensures.work in
+          let made = made_through h l (λ n. Fetch n c.args.block bytes) w.in-Ok.ensures.made.2 (ap view w.read.ensures.same.0) in
+          let rests = rw c.in-Some.is at c.self.invariant.tx in
+          rw (w.result-is, w.self-inside-is, w.into-is, ← c.self.view_is) (
+            own_in t,
+            ap own_of c.in-Some.is,
+            ap Some (first ∙ ap (λ (o : Own). with_access o (read_access c.args.block)) h.owns),
+            bytes,
+            record {
+              made = made;
+              base = fetched_is A t made.entered.before c.args.block bytes rests.0.1 (prefix_trans _ _ _ rests.1 made.entered.told) made.entered.legal;
+              laid = λ B told. w.read.ensures.shown B told ∙ ap (λ (o : Own). block_at (effect.own B o.accesses) c.args.block) h.owns;
+            },
+          )
+      | in-Err-fetched+in-Disk w ↦
+          let m = w.in-Err-fetched.ensures.made in
+          let made = subst (λ (e : CoreError). Made A u u (Refused (call.Fetch c.tell_tx.new.tx.number c.args.block) (cause_of m.0 m.1 e)) (view c.fetch-fetched.new.tx.pass)) w.in-Disk.is m.2 in
+          rw (w.result-is, w.self-inside-is, ← c.self.view_is) (own_in t, ap own_of c.in-Some.is, ap Some h.owns, m.0, m.1, made_through h b (λ n. Refused (call.Fetch n c.args.block) (cause_of m.0 m.1 error.Disk)) made refl)
+      | in-Err-fetched+in_default-error w ↦
+          let a = c.tell_tx.new.tx in
+          let m = w.in-Err-fetched.ensures.made in
+          let down = down_by A m.2.before a.number c.args.block m.0 m.1 w.in-Err-fetched.error (subst (λ (l : List Entry). IsLegal A l) m.2.seen m.2.legal) w.in_default-error.not-Disk in
+          let made = subst (λ (e : CoreError). Made A u u (Refused (call.Fetch a.number c.args.block) (cause_of m.0 m.1 e)) (view c.fetch-fetched.new.tx.pass)) down m.2 in
+          rw (w.result-is, w.self-inside-is, ← c.self.view_is) (own_in t, ap own_of c.in-Some.is, ap Some h.owns, made_through h b (λ n. Refused (call.Fetch n c.args.block) (cause_of m.0 m.1 error.Down)) made refl)
     ]
 
 pub invariant_of-self-in-Some : goal.invariant_of-self-in-Some
@@ -68,7 +68,7 @@ invariant_of-self-in-Some g c =
     let port = c.tell_port.ensures.port in
     let rests = c.tell_port.ensures.tx.0 in
     elim c.match-fetched.branch [
-      in-Ok w ↦ rw w.self-inside-is (still_session h w.read.new.self port rests w.read.ensures.same.0 w.read.ensures.tx)
-    | in-Err-fetched+in-Disk w ↦ rw w.self-inside-is (still_session h b port rests refl rests.1)
-    | in-Err-fetched+in_default-error w ↦ rw w.self-inside-is (still_session h b port rests refl rests.1)
+      | in-Ok w ↦ rw w.self-inside-is (still_session h w.read.new.self port rests w.read.ensures.same.0 w.read.ensures.tx)
+      | in-Err-fetched+in-Disk w ↦ rw w.self-inside-is (still_session h b port rests refl rests.1)
+      | in-Err-fetched+in_default-error w ↦ rw w.self-inside-is (still_session h b port rests refl rests.1)
     ]

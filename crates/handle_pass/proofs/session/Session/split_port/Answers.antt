@@ -11,4 +11,4 @@ returns g c =
     let s = c.self.inside in
     let more = subst (λ (x : SessionState). 32 < port_units x) (sym c.self.view_is) c.requires.units in
     let some = subst (λ (n : ℕ). 32 < n) (left_units (view s.port.pass) s.tx c.self.invariant.one) more in
-    rw (← c.self.view_is) (record { did = split_off s c.port.new.from c.port.result c.port.ensures.new.0 some c.port.ensures.from.1 c.port.ensures.new.1; })
+    rw (← c.self.view_is) (record { did = split_off s c.port.new.from c.port.result c.port.ensures.new.0 some c.port.ensures.from.1 c.port.ensures.new.1 })

@@ -1,7 +1,7 @@
 use Rattle.handle_pass.proofs.{Words.{ap, sym, ◌∙◌, Seen}, Looking.tried}
 
 pub read_block-answer-requires : Rattle.handle_pass.proofs.visitor.Visitor.fetch.Goals.read_block-answer-requires
-read_block-answer-requires g c = record { size = c.requires.size ∙ sym (ap (λ (v : Seen). v.tx.size) c.self.view_is); }
+read_block-answer-requires g c = record { size = c.requires.size ∙ sym (ap (λ (v : Seen). v.tx.size) c.self.view_is) }
 
 pub invariant_of-self : Rattle.handle_pass.proofs.visitor.Visitor.fetch.Goals.invariant_of-self
 invariant_of-self g c =

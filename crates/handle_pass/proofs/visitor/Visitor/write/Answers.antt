@@ -1,7 +1,7 @@
 use Rattle.handle_pass.proofs.{Words.{ap, subst, sym, ◌∙◌, Wrote, Seen, seen_by}, Looking.wrote}
 
 pub write_block-requires : Rattle.handle_pass.proofs.visitor.Visitor.write.Goals.write_block-requires
-write_block-requires g c = record { size = c.requires ∙ sym (ap (λ (v : Seen). v.tx.size) c.self.view_is); }
+write_block-requires g c = record { size = c.requires ∙ sym (ap (λ (v : Seen). v.tx.size) c.self.view_is) }
 
 pub invariant_of-self : Rattle.handle_pass.proofs.visitor.Visitor.write.Goals.invariant_of-self
 invariant_of-self g c =
