@@ -1,8 +1,8 @@
 -- A session whose transaction was handed out, and what came back of it.
-use Rattle.group_commit.proofs.Words.{inl, inr, ◌++◌, ◌≡◌, ◌⊎◌, ◌∙◌, List, [], ◌∷◌, Some, refl, sym, ap, subst, arith, ⊎_elim, CoreError, IsLegal, IsPort, number_of, port_view, tx_view, Start, Entry, Shared, Tx, IsPrefix, prefix_self, prefix_trans, times, cause_of, Session}
+use Rattle.group_commit.proofs.Words.{inl, inr, ◌++◌, ◌≡◌, ◌⊎◌, ◌∙◌, List, [], ◌∷◌, Some, refl, sym, ap, subst, arith, ⊎_elim, CoreError, IsLegal, IsPort, number_of, port_view, tx_view, Start, Entry, Shared, Tx, IsPrefix, prefix_self, prefix_trans, times, cause_of, SessionState}
 use Rattle.iso_shared.specs.{declared.shared.Port.Port, Ports.{doing_of}}
 use Rattle.iso_shared.specs.declared.entry.Entry.TheVariants as entry
-use Rattle.handle_pass.{proofs.Entering.{own_same}, specs.Sessions.{Own, own, own_in, seen, units}, specs.Splits.{Joined}}
+use Rattle.handle_pass.{proofs.Entering.{own_same}, specs.Inside.{own_in}, specs.Sessions.{Own}, specs.Splits.{Joined}}
 use Rattle.group_commit.specs.{declared.each.Ended.Ended, Each.IsEndedIn, Outcomes.{IsEndedAlone, IsHandedBack, IsRefusedIn}, Together.{Follows, IsAnswer, IsHandedOut, IsRefusal, Parted}}
 
 module _ (A : Start) where
@@ -52,26 +52,26 @@ module _ {D O : Type 0} (A : Start) where
     ends_in A r.seen.before list (entry.Refused r.asked (cause_of r.faults r.now why)) (tx_view u).seen r.seen.told r.seen.seen_is r.seen.legal,
   )
 
-  module _ (s m : Session D O) (u : Tx D O) (out : IsHandedOut A s u m) where
+  module _ (d : Shared D O) (s m : SessionState) (u : Tx D O) (out : IsHandedOut d A s u m) where
     -- the port of a transaction that is gone was joined into the session
-    pub rejoined : (t : Session D O) (q : Port D O) → (port_view q).units ≡ 1 → (port_view q).mine ≡ [] → Joined m q t → Parted s t × (units t ≡ units s)
+    pub rejoined : (t : SessionState) (q : Port D O) → (port_view q).units ≡ 1 → (port_view q).mine ≡ [] → Joined m q t → Parted s t × (t.units ≡ s.units)
     rejoined t q one bare j = (
       record {
         left = j.tx.is ∙ out.parted.left;
-        known = prefix_trans (seen s) (seen m) (seen t) out.parted.known j.known;
+        known = prefix_trans s.seen m.seen t.seen out.parted.known j.known;
         places = λ p. (let more = j.places p in let none = ap (times p) bare in let was = out.parted.places p in omega (arith, more, none, was));
         of = j.of ∙ out.parted.of;
       },
       (let more = j.more in let less = out.units in omega (arith, more, less, one)),
     )
 
-    pub answered_in : (t : Session D O) (q : Port D O) (x : Entry) → Joined m q t → Follows A (tx_view u).seen x (port_view q).seen → Follows A (seen s) x (seen t)
-    answered_in t q x j f = widened A (seen s) (tx_view u).seen (port_view q).seen (seen t) x out.told f j.told
+    pub answered_in : (t : SessionState) (q : Port D O) (x : Entry) → Joined m q t → Follows A (tx_view u).seen x (port_view q).seen → Follows A s.seen x t.seen
+    answered_in t q x j f = widened A s.seen (tx_view u).seen (port_view q).seen t.seen x out.told f j.told
 
-    pub handed_back : (d : Shared D O) (why : CoreError) (v : Tx D O) → IsHandedBack d A u why v → (own s ≡ Some (own_in v)) × IsRefusedAt A (own_in v) why (seen s) (tx_view v).seen
-    handed_back d why v back =
+    pub handed_back : (why : CoreError) (v : Tx D O) → IsHandedBack d A u why v → (s.own ≡ Some (own_in v)) × IsRefusedAt A (own_in v) why s.seen (tx_view v).seen
+    handed_back why v back =
         let same : own_in v ≡ own_in u = own_same u v back.same in
         let r = refused_of d u why (tx_view v).seen back.refused in (
           out.was ∙ ap Some (sym same),
-          (r.0, subst (λ (o : Own). IsRefusal o why r.0) (sym same) r.1, widened A (seen s) (tx_view u).seen (tx_view v).seen (tx_view v).seen r.0 out.told r.2 (prefix_self (tx_view v).seen)),
+          (r.0, subst (λ (o : Own). IsRefusal o why r.0) (sym same) r.1, widened A s.seen (tx_view u).seen (tx_view v).seen (tx_view v).seen r.0 out.told r.2 (prefix_self (tx_view v).seen)),
         )

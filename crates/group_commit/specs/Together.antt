@@ -3,9 +3,9 @@ use Rattle.std.specs.Prelude.{◌≡◌, ◌⊎◌, ℕ, ◌+◌, ◌++◌, List
 use mathlib.Core.List.{IsPrefix}
 use Rattle.iso_model.specs.{declared.access.EndReply.EndReply, declared.access.GroupReply.GroupReply, declared.core_error.CoreError.CoreError}
 use Rattle.iso_model.specs.declared.core_error.CoreError.TheVariants as error
-use Rattle.iso_shared.specs.{declared.entry.Call.Call, declared.entry.Entry.Entry, declared.entry.MemberEnd.MemberEnd, declared.tx.Tx.Tx, Legal.IsLegal, Ports.tx_view, States.Start, Told.cause_of}
+use Rattle.iso_shared.specs.{declared.entry.Call.Call, declared.entry.Entry.Entry, declared.entry.MemberEnd.MemberEnd, declared.shared.Shared.Shared, declared.tx.Tx.Tx, Legal.IsLegal, Ports.tx_view, States.Start, Told.cause_of}
 use Rattle.iso_shared.specs.declared.entry.Entry.TheVariants as entry
-use Rattle.handle_pass.specs.{declared.session.Session.Session, Sessions.{Own, count, device, own, own_in, seen, units}}
+use Rattle.handle_pass.specs.{Inside.own_in, Sessions.{Own, SessionState, count}}
 use Rattle.group_commit.specs.{declared.session_end.EndWithError.EndWithError, Each.IsAmong, Outcomes.{IsEndOf, MayEnd, as_member}}
 use Rattle.group_commit.specs.declared.session_end.EndWithError.TheVariants as end
 
@@ -26,26 +26,25 @@ pub record Follows (A : Start) (old : List Entry) (e : Entry) (new : List Entry)
   pub known : IsPrefix (before ++ e ∷ []) new
   pub legal : IsLegal A (before ++ e ∷ [])
 
-module _ {D O : Type 0} where
-  -- the session made no entry, and keeps its places; its transaction has left it
-  pub record Parted (s t : Session D O) : Type 0 where
-    pub left : own t ≡ None
-    pub known : IsPrefix (seen s) (seen t)
-    pub places : (p : ℕ) → count t p ≡ count s p
-    pub of : t.shared ≡ s.shared
+-- the session made no entry, and keeps its places; its transaction has left it
+pub record Parted (s t : SessionState) : Type 0 where
+  pub left : t.own ≡ None
+  pub known : IsPrefix s.seen t.seen
+  pub places : (p : ℕ) → count t p ≡ count s p
+  pub of : t.device ≡ s.device
 
-  module _ (A : Start) where
-    -- this is the transaction, with one unit; the session's places stayed, and the transaction knows what the session did
-    pub record IsHandedOut (s : Session D O) (u : Tx D O) (t : Session D O) : Type 0 where
-      pub tx : MayEnd (device s) A u
-      pub was : own s ≡ Some (own_in u)
-      pub told : IsPrefix (seen s) (tx_view u).seen
-      pub parted : Parted s t
-      pub units : units t + 1 ≡ units s
+module _ {D O : Type 0} (shared : Shared D O) (A : Start) where
+  -- this is the transaction, with one unit; the session's places stayed, and the transaction knows what the session did
+  pub record IsHandedOut (s : SessionState) (u : Tx D O) (t : SessionState) : Type 0 where
+    pub tx : MayEnd shared A u
+    pub was : s.own ≡ Some (own_in u)
+    pub told : IsPrefix s.seen (tx_view u).seen
+    pub parted : Parted s t
+    pub units : t.units + 1 ≡ s.units
 
-    abbrev pub HasEndedWith : Session D O → Result GroupReply (EndWithError D O) → Session D O → Type 0
-    HasEndedWith s (Ok reply) t = (o : Own) × (own s ≡ Some o) × Parted s t × (units t ≡ units s) × (e : Entry) × IsAnswer o reply e × Follows A (seen s) e (seen t)
-    HasEndedWith s (Err end.NotInTx) t = (own s ≡ None) × (t ≡ s)
-    HasEndedWith s (Err (end.Refused why u)) t =
-        (own s ≡ Some (own_in u)) × Parted s t × (units t + 1 ≡ units s) × MayEnd (device s) A u × (e : Entry) × IsRefusal (own_in u) why e × Follows A (seen s) e (tx_view u).seen
-    HasEndedWith s (Err end.Lost) t = (o : Own) × (own s ≡ Some o) × Parted s t × (units t ≡ units s) × (e : Entry) × IsRefusal o error.Disk e × Follows A (seen s) e (seen t)
+  abbrev pub HasEndedWith : SessionState → Result GroupReply (EndWithError D O) → SessionState → Type 0
+  HasEndedWith s (Ok reply) t = (o : Own) × (s.own ≡ Some o) × Parted s t × (t.units ≡ s.units) × (e : Entry) × IsAnswer o reply e × Follows A s.seen e t.seen
+  HasEndedWith s (Err end.NotInTx) t = (s.own ≡ None) × (t ≡ s)
+  HasEndedWith s (Err (end.Refused why u)) t =
+      (s.own ≡ Some (own_in u)) × Parted s t × (t.units + 1 ≡ s.units) × MayEnd shared A u × (e : Entry) × IsRefusal (own_in u) why e × Follows A s.seen e (tx_view u).seen
+  HasEndedWith s (Err end.Lost) t = (o : Own) × (s.own ≡ Some o) × Parted s t × (t.units ≡ s.units) × (e : Entry) × IsRefusal o error.Disk e × Follows A s.seen e t.seen

@@ -1,8 +1,7 @@
 // The end of a session's transaction, together with those of other threads.
 ghost use Rattle.std.specs.Prelude.{◌≡◌, ◌<◌, IsSome, Some};
 ghost use Rattle.ask_desk.specs.Sides.{IsClient, Rests};
-ghost use Rattle.iso_shared.specs.Ports.{port_view};
-ghost use Rattle.handle_pass.specs.Sessions.{IsSession, device, own, port_of};
+ghost use Rattle.handle_pass.specs.{Sessions.device_of, Splits.port_units};
 ghost use Rattle.group_commit.specs.Together.{HasEndedWith, IsHandedOut};
 
 use crate::committer::Committer;
@@ -36,13 +35,11 @@ pub fn end_with<'a, D: Disk + Drop, O: Origin, P: OfDevice<D, O>, R: Wait>(
     desk: &Desk<Ends<D, O, P>>,
     client: &mut Client<Ends<D, O, P>>,
 ) -> Result<GroupReply, EndWithError<D, O>>
-    requires device { (P.device ≡ Some shared.now) × (device session.old ≡ shared.now) }
-    requires session { IsSession O.start session.old }
-    requires units { 32 < (port_view (port_of session.old)).units }
+    requires device { (P.device ≡ Some shared.now) × (session.old.device ≡ device_of shared.now) }
+    requires units { 32 < port_units session.old }
     requires client { IsClient desk.now client.old × Rests client.old }
-    ensures session { IsSession O.start session.new }
     ensures client { IsClient desk.now client.new × Rests client.new }
-    ensures did { HasEndedWith O.start session.old result session.new }
+    ensures did { HasEndedWith shared.now O.start session.old result session.new }
 {
     if session.mode().is_none() {
         return Err(EndWithError::NotInTx);
@@ -68,12 +65,10 @@ fn hand_out<'a, D: Disk + Drop, O: Origin>(
     shared: &Shared<D, O>,
     session: &mut Session<'a, D, O>,
 ) -> Tx<D, O>
-    requires device { device session.old ≡ shared.now }
-    requires session { IsSession O.start session.old }
-    requires own { IsSome (own session.old) }
-    requires units { 32 < (port_view (port_of session.old)).units }
-    ensures session { IsSession O.start session.new }
-    ensures out { IsHandedOut O.start session.old result session.new }
+    requires device { session.old.device ≡ device_of shared.now }
+    requires own { IsSome session.old.own }
+    requires units { 32 < port_units session.old }
+    ensures out { IsHandedOut shared.now O.start session.old result session.new }
 {
     let mut port = session.split_port();
     let Ok(handle) = session.release_tx() else {
