@@ -1,5 +1,5 @@
 -- Calls on accounts fill the transaction that a session has begun.
-use Rattle.accounts.proofs.{Words.{◌≡◌, ◌∙◌, sym, refl, ap, subst, ℕ, ◌+◌, ◌<◌, ◌≤◌, true, cond, List, [], ◌∷◌, ◌++◌, Option, Some, None, Ok, arith, length, Accounts, Array, Geometry, firsts, KeyCall, StoreAnswer, IsOfAccounts, IsMadeOfBoth, answers_in, calls_in, hash_area, image_hash, image_tree, IsHashArea, Area, Region, area_of, Tx, Does, IsPut, IsTakenFor, more_first_answers, more_first_calls, the_tree, IsPrefix, option_map, ext_get_or, block_shaped, length-shaped, Session, accesses_of, tx_on, HasBegun, Own, own, seen, Visited, base_in, begin_array, shaped, with_list, array_shape, Mode, Serial, array_at, last, block_at, IsWorld, began_last, follows_all, follows_prefix, legal_last, Entry, IsLegal, Start, opened, world_at, hash_area_is, array_extends, prefix_trans, sound_at, to_be_bytes, w64, Cause, area_in, HashPuts, HasCalled, HasStore, IsFilled, IsHeld, OfCalls, OwnFilled}, Adding.{completed, does_put, put_adds, transfers}}
+use Rattle.accounts.proofs.{Words.{◌≡◌, ◌∙◌, sym, refl, ap, subst, ℕ, ◌+◌, ◌<◌, ◌≤◌, true, cond, List, [], ◌∷◌, ◌++◌, Option, Some, None, Ok, arith, length, Accounts, Array, Geometry, firsts, KeyCall, StoreAnswer, IsOfAccounts, IsMadeOfBoth, answers_in, calls_in, hash_area, image_hash, image_tree, IsHashArea, Area, Region, area_of, Tx, Does, IsPut, IsTakenFor, more_first_answers, more_first_calls, the_tree, IsPrefix, option_map, ext_get_or, block_shaped, length-shaped, accesses_of, tx_on, HasBegun, Own, Visited, base_in, begin_array, shaped, with_list, array_shape, Mode, Serial, array_at, last, block_at, IsWorld, began_last, follows_all, follows_prefix, legal_last, Entry, IsLegal, Start, opened, world_at, hash_area_is, array_extends, prefix_trans, sound_at, to_be_bytes, w64, Cause, area_in, HashPuts, HasCalled, HasStore, IsFilled, IsHeld, OfCalls, OwnFilled, SessionState}, Adding.{completed, does_put, put_adds, transfers}}
 use Rattle.iso_shared.specs.declared.entry.Entry.TheVariants as entry
 
 -- an array that has the image's shape is not cut
@@ -51,35 +51,35 @@ may_put A region store =
     let regions = (Rattle.iso_model.proofs.Bounds.limits A.world.geometry store.ready.sound.valid).regions in
     (subst IsHashArea (area_is A region store) (hash_area_is A.world.geometry store.ready.sound.valid store.some), omega arith)
 
-module _ {D O : Type 0} (accounts : Accounts) (A : Start) (region : Region) (store : HasStore A region) where
+module _ (accounts : Accounts) (A : Start) (region : Region) (store : HasStore A region) where
   -- the store may be called there
-  pub may_call : (s : Session D O) → let t = tx_on A s (base_in A s) in IsHashArea (area_of t region) × (region.start + region.size ≤ t.blocks)
+  pub may_call : (s : SessionState) → let t = tx_on A s (base_in A s) in IsHashArea (area_of t region) × (region.start + region.size ≤ t.blocks)
   may_call s = may_put A region store
 
-  base_is : (s : Session D O) (o : Own) → own s ≡ Some o → A.tells ≡ true → base_in A s ≡ Some (shaped A.world.geometry (array_at (world_at A (seen s)).history o.begin))
+  base_is : (s : SessionState) (o : Own) → s.own ≡ Some o → A.tells ≡ true → base_in A s ≡ Some (shaped A.world.geometry (array_at (world_at A s.seen).history o.begin))
   base_is s o was tells =
       ap (λ b. cond b (begin_array A s) None) tells
-      ∙ ap (option_map (λ (p : Own). shaped A.world.geometry (array_at (world_at A (seen s)).history p.begin))) was
+      ∙ ap (option_map (λ (p : Own). shaped A.world.geometry (array_at (world_at A s.seen).history p.begin))) was
 
   -- calls come to a transaction of such calls, and are such ones with them
-  pub continues : (s t : Session D O) (Is Then Both : OfCalls) → ((c d : List KeyCall) (x y : List StoreAnswer) → Is c x → Then d y → Both (c ++ d) (x ++ y)) → (o : Own) → own s ≡ Some o
-      → (refused : Option (ℕ × Cause)) → Visited A s t refused → (let x = tx_on A s (base_in A s) in Does (area_of x region) x (tx_on A t (base_in A s)) Then) → (A.tells ≡ true → IsFilled Is A (seen s) o) → OwnFilled Both A (seen t) (own t)
+  pub continues : (s t : SessionState) (Is Then Both : OfCalls) → ((c d : List KeyCall) (x y : List StoreAnswer) → Is c x → Then d y → Both (c ++ d) (x ++ y)) → (o : Own) → s.own ≡ Some o
+      → (refused : Option (ℕ × Cause)) → Visited A s t refused → (let x = tx_on A s (base_in A s) in Does (area_of x region) x (tx_on A t (base_in A s)) Then) → (A.tells ≡ true → IsFilled Is A s.seen o) → OwnFilled Both A t.seen t.own
   continues s t Is Then Both both o was refused visited does filled tells q is_q =
       let f = filled tells in
-      let p : Own = with_list (accesses_of (own t)) o in
-      let is : own t ≡ Some p = visited.keeps ∙ ap (option_map (with_list (accesses_of (own t)))) was in
+      let p : Own = with_list (accesses_of t.own) o in
+      let is : t.own ≡ Some p = visited.keeps ∙ ap (option_map (with_list (accesses_of t.own))) was in
       let Y : Array = array_at (world_at A f.before).history o.begin in
-      let base : base_in A s ≡ Some Y = base_is s o was tells ∙ ap Some (begin_shaped A f.before o.number o.begin o.mode (seen s) store.ready.sound f.legal f.known) in
+      let base : base_in A s ≡ Some Y = base_is s o was tells ∙ ap Some (begin_shaped A f.before o.number o.begin o.mode s.seen store.ready.sound f.legal f.known) in
       let x : Tx = tx_on A s (base_in A s) in
-      let has : accesses_of (own s) ≡ o.accesses = ap accesses_of was in
+      let has : accesses_of s.own ≡ o.accesses = ap accesses_of was in
       let made : IsMadeOfBoth (image_hash A.world.geometry) (image_tree A.world.geometry) Y x f.parts = record { base = base; are = f.are ∙ sym has; made = f.made } in
       let further = does.adds A.world.geometry store.some (area_is A region store) Y f.parts made in
       let cs = more_first_calls the_tree f.parts further.more (calls_in (firsts f.parts)) refl ∙ ap (λ (xs : List KeyCall). calls_in (firsts f.parts) ++ xs) further.calls_are in
       let xs = more_first_answers the_tree f.parts further.more (answers_in (firsts f.parts)) refl ∙ ap (λ (ys : List StoreAnswer). answers_in (firsts f.parts) ++ ys) further.answers_are in
-      subst (IsFilled Both A (seen t)) (some_is p q (sym is ∙ is_q))
+      subst (IsFilled Both A t.seen) (some_is p q (sym is ∙ is_q))
       (record {
         before = f.before;
-        known = prefix_trans (f.before ++ entry.Begin o.number o.begin o.mode ∷ []) (seen s) (seen t) f.known visited.moves.known;
+        known = prefix_trans (f.before ++ entry.Begin o.number o.begin o.mode ∷ []) s.seen t.seen f.known visited.moves.known;
         legal = f.legal;
         serial = f.serial;
         parts = f.parts ++ further.more;
@@ -91,7 +91,7 @@ module _ {D O : Type 0} (accounts : Accounts) (A : Start) (region : Region) (sto
       })
 
   -- a transaction that has just begun is of no calls
-  begun_filled : (r s : Session D O) (at : ℕ) (did : HasBegun A r (Some Serial) (Ok at) s) → IsFilled NoCalls A (seen s) (record { number = did.1; begin = at; mode = did.2; accesses = [] })
+  begun_filled : (r s : SessionState) (at : ℕ) (did : HasBegun A r (Some Serial) (Ok at) s) → IsFilled NoCalls A s.seen (record { number = did.1; begin = at; mode = did.2; accesses = [] })
   begun_filled r s at did = record {
     before = did.3.entered.before;
     known = did.3.entered.known;
@@ -103,14 +103,14 @@ module _ {D O : Type 0} (accounts : Accounts) (A : Start) (region : Region) (sto
     is = (refl, refl);
   }
 
-  pub fills : (r s t : Session D O) (at : ℕ) (Then : OfCalls) → HasBegun A r (Some Serial) (Ok at) s → HasCalled A s t (λ x y before now. Does (area_of x region) x y Then) → OwnFilled Then A (seen t) (own t)
+  pub fills : (r s t : SessionState) (at : ℕ) (Then : OfCalls) → HasBegun A r (Some Serial) (Ok at) s → HasCalled A s t (λ x y before now. Does (area_of x region) x y Then) → OwnFilled Then A t.seen t.own
   fills r s t at Then begun did =
       continues s t NoCalls Then Then (λ c d x y none then. subst (λ (ks : List KeyCall). Then (ks ++ d) (x ++ y)) (sym none.0) (subst (λ (ys : List StoreAnswer). Then d (ys ++ y)) (sym none.1) then))
       (record { number = begun.1; begin = at; mode = begun.2; accesses = [] }) begun.5 did.refused did.visited did.says (λ tells. begun_filled r s at begun)
 
   -- the second half of a transfer comes to the first one
-  pub completes : (s t : Session D O) (to : List ℕ) (more : ℕ) (o : Own) → own s ≡ Some o → HasCalled A s t (λ x y before now. HashPuts (area_of x region) to (to_be_bytes w64 more) (Ok tt) x y before now)
-      → IsHeld accounts (IsTakenFor to more) A s → OwnFilled (IsOfAccounts accounts) A (seen t) (own t)
+  pub completes : (s t : SessionState) (to : List ℕ) (more : ℕ) (o : Own) → s.own ≡ Some o → HasCalled A s t (λ x y before now. HashPuts (area_of x region) to (to_be_bytes w64 more) (Ok tt) x y before now)
+      → IsHeld accounts (IsTakenFor to more) A s → OwnFilled (IsOfAccounts accounts) A t.seen t.own
   completes s t to more o was did held =
       let x : Tx = tx_on A s (base_in A s) in
       let value = to_be_bytes w64 more in

@@ -1,5 +1,5 @@
 -- A group of transactions that were given away commits as accounts do.
-use Rattle.accounts.proofs.{Words.{◌≡◌, ◌∙◌, inl, inr, sym, refl, ap, subst, suc, ℕ, true, List, [], ◌∷◌, ◌++◌, arith, length, Option, Some, None, Result, Ok, Err, Accounts, IsPrefix, AllByRecursion, prefix_self, prefix_trans, View, times, HasGrouped, HasMade, KnowsAll, aborts_after, aborts_of, count_all, found_in, group_of, refused_by, next_prefix, own_in, Commit, GroupReply, CoreError, made_by, Live, World, legal_last, loose_is, Entry, Member, Shared, answered, made_in, AreLoose, IsLegal, number_of, tx_view, Start, commits_made, group_answers, lost_commits, member_numbers, members_of, opened, state_at, txs_of, cause_of, members_in, commit_at, world_at, IsOfAccountsAt, CommitsAccounts, AreGiven, Covers, IsReady, IsWhole}, Committing.commits_well, Covering.{IsQuiet, covers_both, covers_none, covers_on, covers_one, covers_quiet}}
+use Rattle.accounts.proofs.{Words.{◌≡◌, ◌∙◌, inl, inr, sym, refl, ap, subst, suc, ℕ, true, List, [], ◌∷◌, ◌++◌, arith, length, Option, Some, None, Result, Ok, Err, Accounts, IsPrefix, AllByRecursion, prefix_self, prefix_trans, View, times, HasGrouped, HasMade, KnowsAll, aborts_after, aborts_of, count_all, found_in, group_of, refused_by, next_prefix, own_in, Commit, GroupReply, CoreError, made_by, Live, World, legal_last, loose_is, Entry, Member, answered, made_in, AreLoose, IsLegal, number_of, tx_view, Start, commits_made, group_answers, lost_commits, member_numbers, members_of, opened, state_at, txs_of, cause_of, members_in, commit_at, world_at, IsOfAccountsAt, CommitsAccounts, AreGiven, Covers, IsReady, IsWhole, DeviceId}, Committing.commits_well, Covering.{IsQuiet, covers_both, covers_none, covers_on, covers_one, covers_quiet}}
 use Rattle.group_commit.specs.Groups.{HasEnded}
 use Rattle.iso_model.specs.declared.access.GroupReply.TheVariants as member
 use Rattle.iso_model.specs.declared.core_error.CoreError.TheVariants as error
@@ -34,11 +34,11 @@ many_members : {D O : Type 0} (txs : List (Tx D O)) → length (members_in txs) 
 many_members [] = refl
 many_members (t ∷ txs) = ap suc (many_members txs)
 
-module _ {D O : Type 0} (accounts : Accounts) (A : Start) (l : Shared D O) (ready : IsReady A) where
+module _ {D O : Type 0} (accounts : Accounts) (A : Start) (d : DeviceId) (ready : IsReady A) where
   abbrev AllGiven : List (Tx D O) → Type 0
-  AllGiven txs = AllByRecursion (IsWhole accounts A l) txs
+  AllGiven txs = AllByRecursion (IsWhole accounts A d) txs
 
-  found_given : (members : List (Option (Tx D O))) → AreGiven accounts A l members → AllGiven (found_in members)
+  found_given : (members : List (Option (Tx D O))) → AreGiven accounts A d members → AllGiven (found_in members)
   found_given [] all = tt
   found_given (None ∷ members) all = found_given members all.1
   found_given (Some t ∷ members) all = (all.0, found_given members all.1)
@@ -48,7 +48,7 @@ module _ {D O : Type 0} (accounts : Accounts) (A : Start) (l : Shared D O) (read
       → AllByRecursion (λ m. CommitsAccounts accounts A.world.geometry (world_at A before).history (commit_at (world_at A before) m.number m.accesses)) (members_in txs)
   each_well W before [] given knows legal at loose tells = tt
   each_well W before (t ∷ txs) given knows legal at loose tells = (
-    commits_well accounts A (tx_view t).seen W before (own_in t) ready.sound ready.idle (given.0.filled tells (own_in t) refl) knows.0 legal at (loose_is (number_of t) (state_at A before) loose.0).0,
+    commits_well accounts A (tx_view t).seen W before (own_in t) ready.sound ready.idle (given.0.given.filled tells (own_in t) refl) knows.0 legal at (loose_is (number_of t) (state_at A before) loose.0).0,
     each_well W before txs given.1 knows.1 legal at loose.1 tells,
   )
 
@@ -84,7 +84,7 @@ module _ {D O : Type 0} (accounts : Accounts) (A : Start) (l : Shared D O) (read
   places_of W [] given knows = covers_none accounts A W (λ p. made_in {D = D} {O = O} p []) (λ p. refl)
   places_of W (t ∷ us) given knows =
       covers_both accounts A W (λ p. times p (tx_view t).mine) (λ p. made_in p us) (λ p. made_in p (t ∷ us)) (λ p. refl)
-      (covers_on accounts A (tx_view t).seen W (λ p. times p (tx_view t).mine) knows.0 given.0.covers) (places_of W us given.1 knows.1)
+      (covers_on accounts A (tx_view t).seen W (λ p. times p (tx_view t).mine) knows.0 given.0.given.covers) (places_of W us given.1 knows.1)
 
   all_covered : (W : List Entry) (v : View Entry) (txs : List (Tx D O)) → Covers accounts A W (λ p. times p v.mine) → AllGiven txs → KnowsAll txs W → Covers accounts A W (count_all v txs)
   all_covered W v txs port given knows = covers_both accounts A W (λ p. times p v.mine) (λ p. made_in p txs) (count_all v txs) (λ p. refl) port (places_of W txs given knows)
@@ -110,7 +110,7 @@ module _ {D O : Type 0} (accounts : Accounts) (A : Start) (l : Shared D O) (read
       then_quiet v w txs (entry.Refused (call.EndGroup (members_in txs)) (cause_of did.0 did.1 x)) (aborts_after x txs) did.2 (λ before legal at. refused_well w.seen before txs did.0 did.1 x given knows legal at) (after_quiet x txs) is
 
   -- a port that held entries of accounts alone holds such after the group
-  pub grouped : (v w : View Entry) (members : List (Option (Tx D O))) (r : Result (List (Option GroupReply)) CoreError) → HasGrouped A v members r w → AreGiven accounts A l members → KnowsAll (found_in members) w.seen → IsPrefix v.seen w.seen
+  pub grouped : (v w : View Entry) (members : List (Option (Tx D O))) (r : Result (List (Option GroupReply)) CoreError) → HasGrouped A v members r w → AreGiven accounts A d members → KnowsAll (found_in members) w.seen → IsPrefix v.seen w.seen
       → Covers accounts A v.seen (λ p. times p v.mine) → Covers accounts A w.seen (λ p. times p w.mine)
   grouped v w members r did given knows more is =
       let txs = found_in members in

@@ -1,8 +1,9 @@
 -- What calls leave of a session whose transactions are those of accounts.
-use Rattle.accounts.proofs.{Words.{◌≡◌, ◌∙◌, sym, refl, ap, subst, ℕ, true, List, [], ◌∷◌, ◌++◌, arith, Option, Some, None, Result, Ok, Err, Accounts, Access, IsPrefix, AllByRecursion, prefix_self, prefix_trans, View, times, BeginError, EndError, Handle, Session, EndsWith, HasAborted, HasBegun, Next, Released, known, places, tx_of, IsSession, Made, Own, count, device, own, seen, Visited, fetches, number_in, refusals, EndReply, Committed, Conflict, ReadOnly, Mode, CoreError, NotInTx, legal_last, loose_is, Cause, Entry, Start, opened, state_at, cause_of, commit_at, world_at, IsOfAccountsAt, CommitsAccounts, IsOfAccounts, TookOver, Covers, IsFilled, IsGiven, IsHeld, IsKept, IsReady, OfCalls, Stays}, Committing.commits_well, Covering.{IsQuiet, covers_both, covers_less, covers_on, covers_one, covers_quiet, quiet_well}}
+use Rattle.accounts.proofs.{Words.{◌≡◌, ◌∙◌, sym, refl, ap, subst, ℕ, true, List, [], ◌∷◌, ◌++◌, arith, Option, Some, None, Result, Ok, Err, Accounts, Access, IsPrefix, AllByRecursion, prefix_self, prefix_trans, View, times, BeginError, EndError, EndsWith, HasAborted, HasBegun, Next, Released, Made, Own, count, Visited, fetches, number_in, refusals, EndReply, Committed, Conflict, ReadOnly, Mode, CoreError, NotInTx, legal_last, loose_is, Cause, Entry, Start, opened, state_at, cause_of, commit_at, world_at, IsOfAccountsAt, CommitsAccounts, IsOfAccounts, TookOver, Covers, IsFilled, IsGiven, IsHeld, IsKept, IsReady, OfCalls, Stays, DeviceId, HandleState, IsReleased, IsWhole, SessionState, held_state}, Committing.commits_well, Covering.{IsQuiet, covers_both, covers_less, covers_on, covers_one, covers_quiet, quiet_well}}
 use Rattle.handle_pass.specs.declared.errors.BeginError.TheVariants as begin
 use Rattle.handle_pass.specs.declared.errors.EndError.TheVariants as end
 use Rattle.handle_pass.specs.Calls.{HasEnded}
+use Rattle.iso_shared.specs.declared.tx.Tx.{Tx}
 use Rattle.iso_model.specs.declared.core_error.CoreError.TheVariants as error
 use Rattle.iso_shared.specs.declared.entry.Call.TheVariants as call
 use Rattle.iso_shared.specs.declared.entry.Entry.TheVariants as entry
@@ -38,74 +39,74 @@ fetches_quiet n [] None = tt
 fetches_quiet n [] (Some r) = ((λ W. refl), tt)
 fetches_quiet n (f ∷ fs) refused = ((λ W. refl), fetches_quiet n fs refused)
 
-module _ {D O : Type 0} (accounts : Accounts) (A : Start) where
-  stays_same : (s t : Session D O) → t ≡ s → Stays s t
-  stays_same s t same = subst (λ (u : Session D O). Stays s u) (sym same) (record { of = refl; units = refl })
+module _ (accounts : Accounts) (A : Start) where
+  stays_same : (s t : SessionState) → t ≡ s → Stays s t
+  stays_same s t same = subst (λ (u : SessionState). Stays s u) (sym same) (record { of = refl; units = refl })
 
-  stays_made : (s t : Session D O) (e : Entry) → Made A s t e → Stays s t
-  stays_made s t e m = record { of = ap (λ y. y.now) m.of; units = m.units }
+  stays_made : (s t : SessionState) (e : Entry) → Made A s t e → Stays s t
+  stays_made s t e m = record { of = m.of; units = m.units }
 
   -- one entry of the session's own
-  made_well : (s t : Session D O) (e : Entry) (m : Made A s t e) → (A.tells ≡ true → IsOfAccountsAt accounts A m.entered.before e) → Covers accounts A (seen s) (count s) → Covers accounts A (seen t) (count t)
+  made_well : (s t : SessionState) (e : Entry) (m : Made A s t e) → (A.tells ≡ true → IsOfAccountsAt accounts A m.entered.before e) → Covers accounts A s.seen (count s) → Covers accounts A t.seen (count t)
   made_well s t e m well is =
       let x = m.entered in
-      let n : Next A (seen s) (count s) e (seen t) (count t) = record { before = x.before; told = x.told; known = x.known; legal = x.legal; places = x.places } in
-      covers_one accounts A (seen t) (seen s) (seen t) (count s) (count t) e n (prefix_self (seen t)) well
-      (covers_on accounts A (seen s) (seen t) (count s) (prefix_trans (seen s) x.before (seen t) x.told (prefix_trans x.before (x.before ++ e ∷ []) (seen t) (e ∷ [], refl) x.known)) is)
+      let n : Next A s.seen (count s) e t.seen (count t) = record { before = x.before; told = x.told; known = x.known; legal = x.legal; places = x.places } in
+      covers_one accounts A t.seen s.seen t.seen (count s) (count t) e n (prefix_self t.seen) well
+      (covers_on accounts A s.seen t.seen (count s) (prefix_trans s.seen x.before t.seen x.told (prefix_trans x.before (x.before ++ e ∷ []) t.seen (e ∷ [], refl) x.known)) is)
 
-  made_quiet : (s t : Session D O) (e : Entry) → Made A s t e → IsQuiet e → Covers accounts A (seen s) (count s) → Covers accounts A (seen t) (count t)
+  made_quiet : (s t : SessionState) (e : Entry) → Made A s t e → IsQuiet e → Covers accounts A s.seen (count s) → Covers accounts A t.seen (count t)
   made_quiet s t e m quiet is = made_well s t e m (λ tells. quiet_well accounts A m.entered.before e quiet) is
 
-  same_kept : (s t : Session D O) → t ≡ s → IsKept accounts A s → IsKept accounts A t
-  same_kept s t same is = subst (λ (u : Session D O). IsKept accounts A u) (sym same) is
+  same_kept : (s t : SessionState) → t ≡ s → IsKept accounts A s → IsKept accounts A t
+  same_kept s t same is = subst (λ (u : SessionState). IsKept accounts A u) (sym same) is
 
   -- ---- a begin
 
-  pub begun : (s t : Session D O) (named : Option Mode) (at : ℕ) → HasBegun A s named (Ok at) t → Covers accounts A (seen s) (count s) → Covers accounts A (seen t) (count t) × Stays s t
+  pub begun : (s t : SessionState) (named : Option Mode) (at : ℕ) → HasBegun A s named (Ok at) t → Covers accounts A s.seen (count s) → Covers accounts A t.seen (count t) × Stays s t
   begun s t named at did is = (made_quiet s t (entry.Begin did.1 at did.2) did.3 (λ W. refl) is, stays_made s t (entry.Begin did.1 at did.2) did.3)
 
-  pub unbegun : (s t : Session D O) (named : Option Mode) (e : BeginError) → HasBegun A s named (Err e) t → IsSession A t → IsKept accounts A s → IsKept accounts A t × Stays s t
-  unbegun s t named begin.InTx did session is = (same_kept s t did.1 is, stays_same s t did.1)
-  unbegun s t named (begin.Core e) did session is =
+  pub unbegun : (s t : SessionState) (named : Option Mode) (e : BeginError) → HasBegun A s named (Err e) t → IsKept accounts A s → IsKept accounts A t × Stays s t
+  unbegun s t named begin.InTx did is = (same_kept s t did.1 is, stays_same s t did.1)
+  unbegun s t named (begin.Core e) did is =
       let entry = entry.Refused (call.Begin named) (cause_of did.2 did.3 e) in (
-        record { session = session; covers = made_quiet s t entry did.4 (λ W. refl) is.covers; none = did.1 },
+        record { covers = made_quiet s t entry did.4 (λ W. refl) is.covers; none = did.1 },
         stays_made s t entry did.4,
       )
 
   -- ---- a visit
 
-  pub visited : (s t : Session D O) (refused : Option (ℕ × Cause)) → Visited A s t refused → Covers accounts A (seen s) (count s) → Covers accounts A (seen t) (count t) × Stays s t
+  pub visited : (s t : SessionState) (refused : Option (ℕ × Cause)) → Visited A s t refused → Covers accounts A s.seen (count s) → Covers accounts A t.seen (count t) × Stays s t
   visited s t refused v is =
-      let n = number_in (own s) in (
-        covers_quiet accounts A (seen t) (seen s) (seen t) (count s) (count t) (fetches n v.fetched ++ refusals n refused) v.next (fetches_quiet n v.fetched refused) (prefix_self (seen t))
-            (covers_on accounts A (seen s) (seen t) (count s) v.moves.known is),
-        record { of = ap (λ y. y.now) v.of; units = v.moves.units },
+      let n = number_in s.own in (
+        covers_quiet accounts A t.seen s.seen t.seen (count s) (count t) (fetches n v.fetched ++ refusals n refused) v.next (fetches_quiet n v.fetched refused) (prefix_self t.seen)
+            (covers_on accounts A s.seen t.seen (count s) v.moves.known is),
+        record { of = v.of; units = v.moves.units },
       )
 
   -- ---- an abort
 
-  pub aborted : (s t : Session D O) (r : Result (Unit {0}) NotInTx) → HasAborted A s r t → IsSession A t → Covers accounts A (seen s) (count s) → IsKept accounts A t × Stays s t
-  aborted s t (Ok done) did session is = (
-    record { session = session; covers = made_quiet s t (entry.Abort did.0.number) did.3 (λ W. refl) is; none = did.2 },
+  pub aborted : (s t : SessionState) (r : Result (Unit {0}) NotInTx) → HasAborted A s r t → Covers accounts A s.seen (count s) → IsKept accounts A t × Stays s t
+  aborted s t (Ok done) did is = (
+    record { covers = made_quiet s t (entry.Abort did.0.number) did.3 (λ W. refl) is; none = did.2 },
     stays_made s t (entry.Abort did.0.number) did.3,
   )
-  aborted s t (Err e) did session is = (
-    record { session = session; covers = subst (λ (u : Session D O). Covers accounts A (seen u) (count u)) (sym did.1) is; none = ap own did.1 ∙ did.0 },
+  aborted s t (Err e) did is = (
+    record { covers = subst (λ (u : SessionState). Covers accounts A u.seen (count u)) (sym did.1) is; none = ap (λ (v : SessionState). v.own) did.1 ∙ did.0 },
     stays_same s t did.1,
   )
 
   -- ---- an end
 
   -- a transaction that is filled commits as one of accounts where its end was made
-  fine : (s t : Session D O) (o : Own) (e : Entry) (m : Made A s t e) → IsReady A → IsHeld accounts (IsOfAccounts accounts) A s → own s ≡ Some o
+  fine : (s t : SessionState) (o : Own) (e : Entry) (m : Made A s t e) → IsReady A → IsHeld accounts (IsOfAccounts accounts) A s → s.own ≡ Some o
       → Rattle.iso_shared.specs.States.is_live o.number (world_at A m.entered.before).live ≡ true → Fine accounts A m.entered.before o.number o.accesses
   fine s t o e m ready is was live tells =
       let before : List Entry = m.entered.before in
-      commits_well accounts A (seen s) (seen t) before o ready.sound ready.idle (is.filled tells o was)
-      (prefix_trans (seen s) before (seen t) m.entered.told (prefix_trans before (before ++ e ∷ []) (seen t) (e ∷ [], refl) m.entered.known))
-      (legal_last (opened A) before e m.entered.legal).0 (prefix_trans before (before ++ e ∷ []) (seen t) (e ∷ [], refl) m.entered.known) live
+      commits_well accounts A s.seen t.seen before o ready.sound ready.idle (is.filled tells o was)
+      (prefix_trans s.seen before t.seen m.entered.told (prefix_trans before (before ++ e ∷ []) t.seen (e ∷ [], refl) m.entered.known))
+      (legal_last (opened A) before e m.entered.legal).0 (prefix_trans before (before ++ e ∷ []) t.seen (e ∷ [], refl) m.entered.known) live
 
-  pub ended : (s t : Session D O) (old new : ℕ) (r : Result EndReply EndError) → HasEnded A s old r t new → IsReady A → IsHeld accounts (IsOfAccounts accounts) A s → Covers accounts A (seen t) (count t) × Stays s t
+  pub ended : (s t : SessionState) (old new : ℕ) (r : Result EndReply EndError) → HasEnded A s old r t new → IsReady A → IsHeld accounts (IsOfAccounts accounts) A s → Covers accounts A t.seen (count t) × Stays s t
   ended s t old new (Ok reply) did ready is =
       let o : Own = did.0 in
       let e : Entry = entry.End o.number o.accesses reply in
@@ -115,7 +116,7 @@ module _ {D O : Type 0} (accounts : Accounts) (A : Start) where
         made_well s t e m (end_well accounts A m.entered.before o.number o.accesses reply (fine s t o e m ready is did.1 live)) is.covers,
         stays_made s t e m,
       )
-  ended s t old new (Err end.NotInTx) did ready is = (subst (λ (u : Session D O). Covers accounts A (seen u) (count u)) (sym did.1) is.covers, stays_same s t did.1)
+  ended s t old new (Err end.NotInTx) did ready is = (subst (λ (u : SessionState). Covers accounts A u.seen (count u)) (sym did.1) is.covers, stays_same s t did.1)
   ended s t old new (Err (end.Core x)) did ready is =
       let o : Own = did.0 in
       let e : Entry = entry.Refused (call.End o.number o.accesses) (cause_of did.3 did.4 x) in
@@ -127,45 +128,49 @@ module _ {D O : Type 0} (accounts : Accounts) (A : Start) where
       )
 
   -- a session whose transaction was ended
-  pub over : (s t : Session D O) (new : ℕ) (r : EndReply) → HasEnded A s 0 (Ok r) t new → IsReady A → IsSession A t → IsHeld accounts (IsOfAccounts accounts) A s → IsKept accounts A t
-  over s t new r did ready session is = record { session = session; covers = (ended s t 0 new (Ok r) did ready is).0; none = did.2 }
+  pub over : (s t : SessionState) (new : ℕ) (r : EndReply) → HasEnded A s 0 (Ok r) t new → IsReady A → IsHeld accounts (IsOfAccounts accounts) A s → IsKept accounts A t
+  over s t new r did ready is = record { covers = (ended s t 0 new (Ok r) did ready is).0; none = did.2 }
 
   -- ---- a transaction that is given away, and one that is taken over
 
-  pub given : (Is : OfCalls) (s t : Session D O) (h : Handle D O) → Released A s h t → IsSession A t → IsHeld accounts Is A s → IsKept accounts A t × IsGiven accounts Is A (device s) (tx_of h)
-  given Is s t h is session held = (
+  pub given : (Is : OfCalls) (s t : SessionState) (h : HandleState) → Released s h t → IsHeld accounts Is A s → IsKept accounts A t × IsGiven accounts Is A h
+  given Is s t h is held = (
     record {
-      session = session;
-      covers = covers_less accounts A (seen t) (count s) (count t) (λ p. let c = is.places p in omega arith) (subst (λ (E : List Entry). Covers accounts A E (count s)) (sym is.same) held.covers);
+      covers = covers_less accounts A t.seen (count s) (count t) (λ p. let c = is.places p in omega arith) (subst (λ (E : List Entry). Covers accounts A E (count s)) (sym is.same) held.covers);
       none = is.left;
     },
     record {
-      tx = is.handle.0;
-      one = is.handle.1;
-      covers = covers_on accounts A (seen s) (known h) (places h) is.told (covers_less accounts A (seen s) (count s) (places h) (λ p. let c = is.places p in omega arith) held.covers);
-      filled = λ tells o was. filled_on Is A (seen s) (known h) o is.told (held.filled tells o (is.was ∙ was));
+      covers = covers_on accounts A s.seen h.seen (λ p. times p h.mine) is.told (covers_less accounts A s.seen (count s) (λ p. times p h.mine) (λ p. let c = is.places p in omega arith) held.covers);
+      filled = λ tells o was. filled_on Is A s.seen h.seen o is.told (held.filled tells o (is.was ∙ was));
     },
   )
 
-  -- without a transaction it gives none away
-  pub let_go : (Is : OfCalls) (s t : Session D O) → own s ≡ None → t ≡ s → IsHeld accounts Is A s → IsKept accounts A t
-  let_go Is s t none same held = same_kept s t same (record { session = held.session; covers = held.covers; none = none })
+  -- the transaction of such a handle
+  pub whole : {D O : Type 0} (d : DeviceId) (h : HandleState) (t : Tx D O) → IsReleased A t → held_state t ≡ h → h.device ≡ d → IsGiven accounts (IsOfAccounts accounts) A h → IsWhole accounts A d t
+  whole d h t is same of has = record {
+    tx = ((ap (λ (x : HandleState). x.device) same ∙ of, is.rest, (let one = is.one in omega (arith, one))), is.tx);
+    one = is.one;
+    given = subst (IsGiven accounts (IsOfAccounts accounts) A) (sym same) has;
+  }
 
-  pub took_over : (Is : OfCalls) (s t : Session D O) (h : Handle D O) (at : ℕ) → TookOver s h at t → IsSession A t → IsKept accounts A s → IsGiven accounts Is A (device s) (tx_of h) → IsHeld accounts Is A t
-  took_over Is s t h at is session kept given = record {
-    session = session;
-    covers = covers_both accounts A (seen t) (count s) (places h) (count t) is.places (covers_on accounts A (seen s) (seen t) (count s) is.more kept.covers)
-        (covers_on accounts A (known h) (seen t) (places h) is.told given.covers);
-    filled = λ tells o now. filled_on Is A (known h) (seen t) o is.told (given.filled tells o (sym is.is ∙ now));
+  -- without a transaction it gives none away
+  pub let_go : (Is : OfCalls) (s t : SessionState) → s.own ≡ None → t ≡ s → IsHeld accounts Is A s → IsKept accounts A t
+  let_go Is s t none same held = same_kept s t same (record { covers = held.covers; none = none })
+
+  pub took_over : (Is : OfCalls) (s t : SessionState) (h : HandleState) (at : ℕ) → TookOver s h at t → IsKept accounts A s → IsGiven accounts Is A h → IsHeld accounts Is A t
+  took_over Is s t h at is kept given = record {
+    covers = covers_both accounts A t.seen (count s) (λ p. times p h.mine) (count t) is.places (covers_on accounts A s.seen t.seen (count s) is.more kept.covers)
+        (covers_on accounts A h.seen t.seen (λ p. times p h.mine) is.told given.covers);
+    filled = λ tells o now. filled_on Is A h.seen t.seen o is.told (given.filled tells o (sym is.is ∙ now));
   }
 
   -- ---- the end of a session
 
-  pub finished : (s : Session D O) (o : Option Own) (v : View Entry) → EndsWith A s o v → Covers accounts A (seen s) (count s) → Covers accounts A v.seen (λ p. times p v.mine)
+  pub finished : (s : SessionState) (o : Option Own) (v : View Entry) → EndsWith A s o v → Covers accounts A s.seen (count s) → Covers accounts A v.seen (λ p. times p v.mine)
   finished s None v did is =
-      subst (λ (E : List Entry). Covers accounts A E (λ p. times p v.mine)) (sym did.0) (covers_less accounts A (seen s) (count s) (λ p. times p v.mine) (λ p. let c = did.1 p in omega arith) is)
+      subst (λ (E : List Entry). Covers accounts A E (λ p. times p v.mine)) (sym did.0) (covers_less accounts A s.seen (count s) (λ p. times p v.mine) (λ p. let c = did.1 p in omega arith) is)
   finished s (Some o) v did is =
       let e : Entry = entry.Abort o.number in
-      covers_one accounts A v.seen (seen s) v.seen (count s) (λ p. times p v.mine) e
+      covers_one accounts A v.seen s.seen v.seen (count s) (λ p. times p v.mine) e
       (record { before = did.before; told = did.told; known = did.known; legal = did.legal; places = did.places }) (prefix_self v.seen) (λ tells. tt)
-      (covers_on accounts A (seen s) v.seen (count s) (prefix_trans (seen s) did.before v.seen did.told (prefix_trans did.before (did.before ++ e ∷ []) v.seen (e ∷ [], refl) did.known)) is)
+      (covers_on accounts A s.seen v.seen (count s) (prefix_trans s.seen did.before v.seen did.told (prefix_trans did.before (did.before ++ e ∷ []) v.seen (e ∷ [], refl) did.known)) is)

@@ -1,7 +1,7 @@
 -- What the jobs of the two threads are, and what becomes of them.
 use Rattle.std.specs.Prelude.{◌≡◌, ◌+◌, ◌<◌, ◌≤◌, List, Option, None, IfSome, length}
 use Rattle.group_commit.specs.Groups.{found_in, units_all}
-use Rattle.handle_pass.specs.Sessions.{device, units}
+use Rattle.handle_pass.specs.Sessions.{device_of}
 use Rattle.iso_core.specs.declared.group_end.TheConstants.{MAX_GROUP}
 use Rattle.iso_shared.specs.{declared.tx.Tx.Tx, Groups.units_of, Ports.{IsPort, port_view}, States.Start}
 use Rattle.accounts.specs.{Kept.{AreGiven, HasStore, Hold, IsHalf, IsKept, Stays, half_units}, Made.opening_of, Sums.Accounts, declared.account.Plan.Plan, declared.half.Half.Half, declared.tellers.Ender.Ender, declared.tellers.Giver.Giver, declared.tellers.Mover.Mover}
@@ -14,23 +14,23 @@ module _ {D O : Type 0} (A : Start) where
   pub record IsGiver (c : Giver D O) : Type 0 where
     pub store : HasStore A c.region
     pub session : IsKept (planned c.plan) A c.session
-    pub units : 18 < units c.session
+    pub units : 18 < c.session.units
     pub few : length c.plan.handed.now ≤ MAX_GROUP
 
   -- what it gave away is of its device
   pub record Gave (c d : Giver D O) (members : List (Option (Tx D O))) (half : Option (Half D O)) : Type 0 where
     pub session : IsKept (planned c.plan) A d.session
-    pub of : device d.session ≡ device c.session
-    pub left : 1 < units d.session
-    pub units : units d.session + units_of (found_in members) + half_units half ≡ units c.session
+    pub of : d.session.device ≡ c.session.device
+    pub left : 1 < d.session.units
+    pub units : d.session.units + units_of (found_in members) + half_units half ≡ c.session.units
     pub few : length members ≤ MAX_GROUP
-    pub given : AreGiven (planned c.plan) A (device c.session) members
-    pub taken : IfSome half (IsHalf (planned c.plan) A (device c.session))
+    pub given : AreGiven (planned c.plan) A c.session.device members
+    pub taken : IfSome half (IsHalf (planned c.plan) A c.session.device)
 
   pub record IsMover (c : Mover D O) : Type 0 where
     pub store : HasStore A c.region
     pub session : IsKept (planned c.plan) A c.session
-    pub units : 1 < units c.session
+    pub units : 1 < c.session.units
 
   pub record Moved (c d : Mover D O) : Type 0 where
     pub session : IsKept (planned c.plan) A d.session
@@ -39,18 +39,18 @@ module _ {D O : Type 0} (A : Start) where
   pub record IsEnder (c : Ender D O) : Type 0 where
     pub store : HasStore A c.region
     pub session : IsKept (planned c.plan) A c.session
-    pub of : device c.session ≡ c.shared.now
-    pub half : IfSome c.half (IsHalf (planned c.plan) A (device c.session))
+    pub of : c.session.device ≡ device_of c.shared.now
+    pub half : IfSome c.half (IsHalf (planned c.plan) A c.session.device)
     pub port : IsPort c.shared.now c.port
     pub hold : Hold (planned c.plan) A c.port
     pub few : IfSome c.members (λ v. length v.items ≤ MAX_GROUP)
-    pub given : IfSome c.members (λ v. AreGiven (planned c.plan) A c.shared.now v.items)
+    pub given : IfSome c.members (λ v. AreGiven (planned c.plan) A (device_of c.shared.now) v.items)
 
   -- the units of all that was given to it are its session's and its port's
   pub record Ended (c d : Ender D O) : Type 0 where
     pub session : IsKept (planned c.plan) A d.session
-    pub of : device d.session ≡ device c.session
-    pub units : units d.session ≡ units c.session + half_units c.half
+    pub of : d.session.device ≡ c.session.device
+    pub units : d.session.units ≡ c.session.units + half_units c.half
     pub no_half : d.half ≡ None
     pub port : IsPort c.shared.now d.port
     pub hold : Hold (planned c.plan) A d.port

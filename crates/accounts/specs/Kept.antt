@@ -2,14 +2,14 @@
 use Rattle.std.specs.{Prelude.{◌≡◌, ◌≢◌, ℕ, ◌<◌, true, List, [], ◌∷◌, ◌++◌, Option, Some, None, IfSome, length}, List.AllByRecursion}
 use mathlib.Core.List.{IsPrefix}
 use Rattle.iso_model.specs.{declared.access.Mode.TheVariants.Serial, History.array_at, Worlds.IsWorld}
-use Rattle.iso_shared.specs.{declared.entry.Entry.Entry, declared.shared.Port.Port, declared.shared.Shared.Shared, declared.tx.Tx.Tx, Legal.IsLegal, Ports.{IsTx, port_view, tx_view}, States.Start}
+use Rattle.iso_shared.specs.{declared.entry.Entry.Entry, declared.shared.Port.Port, declared.tx.Tx.Tx, Legal.IsLegal, Ports.{port_view, tx_view}, States.Start}
 use Rattle.iso_shared.specs.declared.entry.Entry.TheVariants as entry
 use Rattle.par_calls.specs.EntriesInOrder.{world_at}
 use Rattle.store_laws.specs.{Both.{AreMixed, firsts}, BothStores.StorePart, Calls.{KeyCall, StoreAnswer}, Parts.{accesses_in, answers_in, calls_in}}
 use Rattle.store_model.specs.declared.stores.Region.{Region}
 use Rattle.store_scripts.specs.Stores.{image_hash, image_tree}
 use Rattle.turn_lock.specs.Lists.{times}
-use Rattle.handle_pass.specs.{declared.session.Session.Session, Handles.tx_of, Sessions.{IsSession, Own, count, device, own, own_in, seen, units}}
+use Rattle.handle_pass.specs.{Held.{HandleState, held_state}, Sessions.{DeviceId, IsTxAt, Own, SessionState, count}}
 use Rattle.accounts.specs.{Lists.IsOfAccountsAt, Made.IsTakenFor, Sums.Accounts, Transactions.IsOfAccounts, declared.half.Half.Half}
 
 -- a list that begins on a sound world without a transaction
@@ -56,37 +56,35 @@ pub record IsFilled (Is : OfCalls) (A : Start) (E : List Entry) (o : Own) : Type
 abbrev pub OwnFilled : OfCalls → Start → List Entry → Option Own → Type 0
 OwnFilled Is A E own = A.tells ≡ true → (o : Own) → own ≡ Some o → IsFilled Is A E o
 
+-- a session all of whose entries are of accounts, and whose transaction is of such calls
+pub record IsHeld (accounts : Accounts) (Is : OfCalls) (A : Start) (s : SessionState) : Type 0 where
+  pub covers : Covers accounts A s.seen (count s)
+  pub filled : OwnFilled Is A s.seen s.own
+
+-- a session all of whose entries are of accounts, without a transaction
+pub record IsKept (accounts : Accounts) (A : Start) (s : SessionState) : Type 0 where
+  pub covers : Covers accounts A s.seen (count s)
+  pub none : s.own ≡ None
+
+-- it is on the same device with the same units
+pub record Stays (s t : SessionState) : Type 0 where
+  pub of : t.device ≡ s.device
+  pub units : t.units ≡ s.units
+
+-- a transaction that was given away, as its holder knows it
+pub record IsGiven (accounts : Accounts) (Is : OfCalls) (A : Start) (h : HandleState) : Type 0 where
+  pub covers : Covers accounts A h.seen (λ p. times p h.mine)
+  pub filled : OwnFilled Is A h.seen (Some h.own)
+
 module _ {D O : Type 0} where
-  -- a session all of whose entries are of accounts, and whose transaction is of such calls
-  pub record IsHeld (accounts : Accounts) (Is : OfCalls) (A : Start) (s : Session D O) : Type 0 where
-    pub session : IsSession A s
-    pub covers : Covers accounts A (seen s) (count s)
-    pub filled : OwnFilled Is A (seen s) (own s)
-
-  -- a session all of whose entries are of accounts, without a transaction
-  pub record IsKept (accounts : Accounts) (A : Start) (s : Session D O) : Type 0 where
-    pub session : IsSession A s
-    pub covers : Covers accounts A (seen s) (count s)
-    pub none : own s ≡ None
-
-  -- it is on the same device with the same units
-  pub record Stays (s t : Session D O) : Type 0 where
-    pub of : device t ≡ device s
-    pub units : units t ≡ units s
-
-  -- a transaction of this device that was given away, with one unit
-  pub record IsGiven (accounts : Accounts) (Is : OfCalls) (A : Start) (l : Shared D O) (t : Tx D O) : Type 0 where
-    pub tx : IsTx l A t
+  -- one of this device that may end as a transaction of accounts, with one unit, and one of which a put is still wanting
+  pub record IsWhole (accounts : Accounts) (A : Start) (d : DeviceId) (t : Tx D O) : Type 0 where
+    pub tx : IsTxAt d A t
     pub one : (tx_view t).units ≡ 1
-    pub covers : Covers accounts A (tx_view t).seen (λ p. times p (tx_view t).mine)
-    pub filled : OwnFilled Is A (tx_view t).seen (Some (own_in t))
+    pub given : IsGiven accounts (IsOfAccounts accounts) A (held_state t)
 
-  -- one that may end as a transaction of accounts, and one of which a put is still wanting
-  abbrev pub IsWhole : Accounts → Start → Shared D O → Tx D O → Type 0
-  IsWhole accounts A l t = IsGiven accounts (IsOfAccounts accounts) A l t
-
-  abbrev pub IsHalf : Accounts → Start → Shared D O → Half D O → Type 0
-  IsHalf accounts A l h = IsGiven accounts (IsTakenFor h.to h.more) A l (tx_of h.handle)
+  abbrev pub IsHalf : Accounts → Start → DeviceId → Half D O → Type 0
+  IsHalf accounts A d h = (h.handle.device ≡ d) × IsGiven accounts (IsTakenFor h.to h.more) A h.handle
 
   abbrev pub given_units : Option (Tx D O) → ℕ
   given_units None = 0
@@ -94,10 +92,10 @@ module _ {D O : Type 0} where
 
   abbrev pub half_units : Option (Half D O) → ℕ
   half_units None = 0
-  half_units (Some h) = (tx_view (tx_of h.handle)).units
+  half_units (Some h) = 1
 
-  abbrev pub AreGiven : Accounts → Start → Shared D O → List (Option (Tx D O)) → Type 0
-  AreGiven accounts A l members = AllByRecursion (λ m. IfSome m (IsWhole accounts A l)) members
+  abbrev pub AreGiven : Accounts → Start → DeviceId → List (Option (Tx D O)) → Type 0
+  AreGiven accounts A d members = AllByRecursion (λ m. IfSome m (IsWhole accounts A d)) members
 
   -- the entries at a port's places are of accounts
   abbrev pub Hold : Accounts → Start → Port D O → Type 0

@@ -1,6 +1,6 @@
 // Sessions of a device, from its first port and back into it.
 ghost use Rattle.std.specs.Prelude.{◌≡◌, ◌+◌, ◌<◌};
-ghost use Rattle.handle_pass.specs.Sessions.{device, units};
+ghost use Rattle.handle_pass.specs.Sessions.{device_of};
 ghost use Rattle.iso_shared.specs.Ports.{IsPort, first_geometry, port_view};
 ghost use Rattle.accounts.specs.{Kept.{Hold, IsKept}, Made.opening_of};
 
@@ -27,7 +27,7 @@ pub(crate) fn session_on<'a, D: Disk + Drop, O: Origin>(
     ensures units { (port_view port.new).units + 4294967296 ≡ (port_view port.old).units }
     ensures kept { Hold (opening_of accounts.now) O.start port.new }
     ensures session { IsKept (opening_of accounts.now) O.start result }
-    ensures new { (device result ≡ shared.now) × (units result ≡ 4294967296) }
+    ensures new { (result.device ≡ device_of shared.now) × (result.units ≡ 4294967296) }
 {
     Session::new(shared, shared.port(port, UNITS))
 }
@@ -42,10 +42,10 @@ pub(crate) fn gather<'a, D: Disk + Drop, O: Origin, R: Wait>(
 )
     requires port { IsPort shared.now port.old }
     requires session { IsKept (opening_of accounts.now) O.start session }
-    requires of { device session ≡ shared.now }
+    requires of { session.device ≡ device_of shared.now }
     requires kept { Hold (opening_of accounts.now) O.start port.old }
     ensures port { IsPort shared.now port.new }
-    ensures units { (port_view port.new).units ≡ (port_view port.old).units + units session.entry }
+    ensures units { (port_view port.new).units ≡ (port_view port.old).units + session.entry.units }
     ensures kept { Hold (opening_of accounts.now) O.start port.new }
 {
     let from = session.finish(rt);

@@ -1,7 +1,6 @@
 // Accounts on a device from its first entry to its last.
 ghost use Rattle.std.specs.Prelude.{◌≡◌, ◌≢◌, ◌+◌, ◌<◌, ◌≤◌, [], length, IfErr, IfOk, IfSome};
 ghost use Rattle.group_commit.specs.Groups.{found_in, units_all};
-ghost use Rattle.handle_pass.specs.Sessions.{device, units};
 ghost use Rattle.iso_core.specs.{Core.disk_of, declared.group_end.TheConstants.MAX_GROUP};
 ghost use Rattle.iso_shared.specs.{Groups.units_of, Ports.{IsPort, first_geometry, port_view}, Standing.{Came, Holds}, States.{opened as opened_at}};
 ghost use Rattle.turn_lock.specs.Views.{fresh};
@@ -38,17 +37,17 @@ fn give_beside<'a, D: Disk + Drop + Send, O: Origin + Send + Sync, R: Threads + 
     first: Session<'a, D, O>,
     second: Session<'a, D, O>,
 ) -> (Session<'a, D, O>, Session<'a, D, O>, Gift<D, O>, u32)
-    requires first { IsKept (planned plan) O.start first × (18 < units first) }
-    requires second { IsKept (planned plan) O.start second × (1 < units second) }
+    requires first { IsKept (planned plan) O.start first × (18 < first.units) }
+    requires second { IsKept (planned plan) O.start second × (1 < second.units) }
     requires store { HasStore O.start region }
     requires few { length plan.handed.now ≤ MAX_GROUP }
-    ensures first { IsKept (planned plan.entry) O.start result.0 × (device result.0 ≡ device first.entry) }
-    ensures second { IsKept (planned plan.entry) O.start result.1 × (device result.1 ≡ device second.entry) }
-    ensures units { (units result.0 + units_of (found_in result.2.members.items) + half_units result.2.half ≡ units first.entry) × (units result.1 ≡ units second.entry) }
-    ensures left { 1 < units result.0 }
+    ensures first { IsKept (planned plan.entry) O.start result.0 × (result.0.device ≡ first.entry.device) }
+    ensures second { IsKept (planned plan.entry) O.start result.1 × (result.1.device ≡ second.entry.device) }
+    ensures units { (result.0.units + units_of (found_in result.2.members.items) + half_units result.2.half ≡ first.entry.units) × (result.1.units ≡ second.entry.units) }
+    ensures left { 1 < result.0.units }
     ensures few { length result.2.members.items ≤ MAX_GROUP }
-    ensures given { AreGiven (planned plan.entry) O.start (device first.entry) result.2.members.items }
-    ensures half { IfSome result.2.half (IsHalf (planned plan.entry) O.start (device first.entry)) }
+    ensures given { AreGiven (planned plan.entry) O.start first.entry.device result.2.members.items }
+    ensures half { IfSome result.2.half (IsHalf (planned plan.entry) O.start first.entry.device) }
 {
     let mut giver = Giver {
         alloc,
@@ -102,7 +101,7 @@ fn end_beside<'a, D: Disk + Drop + Send, O: Origin + Send + Sync, R: Threads + W
     requires mover { IsMover O.start mover }
     requires ender { IsEnder O.start ender }
     ensures first { IsKept (planned mover.entry.plan) O.start result.0 × Stays mover.entry.session result.0 }
-    ensures second { IsKept (planned ender.entry.plan) O.start result.1 × (device result.1 ≡ device ender.entry.session) × (units result.1 ≡ units ender.entry.session + half_units ender.entry.half) }
+    ensures second { IsKept (planned ender.entry.plan) O.start result.1 × (result.1.device ≡ ender.entry.session.device) × (result.1.units ≡ ender.entry.session.units + half_units ender.entry.half) }
     ensures port { IsPort ender.entry.shared.now result.2 × Hold (planned ender.entry.plan) O.start result.2 }
     ensures units { IfSome ender.entry.members (λ v. (port_view result.2).units ≡ units_all (port_view ender.entry.port) (found_in v.items)) }
 {

@@ -1,7 +1,6 @@
 // Transactions of accounts by a session: each is serial, and one of its own is tried again after a conflict.
 ghost use Rattle.std.specs.Prelude.{◌≡◌, ◌+◌, ◌<◌, ◌≤◌, IfOk, IfSome, OnErr};
 ghost use Rattle.accounts.specs.{Kept.{HasStore, IsHalf, IsHeld, IsKept, IsReady, IsWhole, Stays, given_units, half_units}, Made.{calls_of, opening_of}, Transactions.IsOfAccounts};
-ghost use Rattle.handle_pass.specs.Sessions.{device, units};
 
 use crate::account::{Account, AccountError, Step, Transfer, Work};
 use crate::call::AccountCall;
@@ -25,7 +24,7 @@ fn fill<'a, D: Disk + Drop, O: Origin, R: Wait>(
     step: Step,
 ) -> Result<u64, AccountError>
     requires session { IsKept (opening_of accounts.now) O.start session.old }
-    requires units { 1 < units session.old }
+    requires units { 1 < session.old.units }
     requires store { HasStore O.start region }
     ensures filled { IfOk result (λ n. IsHeld (opening_of accounts.now) (calls_of (opening_of accounts.now) step n) O.start session.new) }
     ensures kept { OnErr result (IsKept (opening_of accounts.now) O.start session.new) }
@@ -91,7 +90,7 @@ fn attempt<'a, D: Disk + Drop, O: Origin, R: Wait>(
     work: Work,
 ) -> Result<u64, AccountError>
     requires session { IsKept (opening_of accounts.now) O.start session.old }
-    requires units { 1 < units session.old }
+    requires units { 1 < session.old.units }
     requires store { HasStore O.start region }
     ensures session { IsKept (opening_of accounts.now) O.start session.new }
     ensures stays { Stays session.old session.new }
@@ -111,7 +110,7 @@ pub(crate) fn commit<'a, D: Disk + Drop, O: Origin, R: Wait>(
     most: u32,
 ) -> Result<u64, AccountError>
     requires session { IsKept (opening_of accounts.now) O.start session.old }
-    requires units { 1 < units session.old }
+    requires units { 1 < session.old.units }
     requires store { HasStore O.start region }
     ensures session { IsKept (opening_of accounts.now) O.start session.new }
     ensures stays { Stays session.old session.new }
@@ -135,12 +134,12 @@ pub(crate) fn give<'a, D: Disk + Drop, O: Origin, R: Wait>(
     transfer: &Transfer,
 ) -> Option<Tx<D, O>>
     requires session { IsKept (opening_of accounts.now) O.start session.old }
-    requires units { 1 < units session.old }
+    requires units { 1 < session.old.units }
     requires store { HasStore O.start region }
     ensures session { IsKept (opening_of accounts.now) O.start session.new }
-    ensures device { device session.new ≡ device session.old }
-    ensures units { units session.new + given_units result ≡ units session.old }
-    ensures given { IfSome result (IsWhole (opening_of accounts.now) O.start (device session.old)) }
+    ensures device { session.new.device ≡ session.old.device }
+    ensures units { session.new.units + given_units result ≡ session.old.units }
+    ensures given { IfSome result (IsWhole (opening_of accounts.now) O.start session.old.device) }
 {
     match fill(
         rt,
@@ -168,13 +167,13 @@ pub(crate) fn give_half<'a, D: Disk + Drop, O: Origin, R: Wait>(
     transfer: &Transfer,
 ) -> Option<Half<D, O>>
     requires session { IsKept (opening_of accounts.now) O.start session.old }
-    requires units { 1 < units session.old }
+    requires units { 1 < session.old.units }
     requires store { HasStore O.start region }
     ensures session { IsKept (opening_of accounts.now) O.start session.new }
-    ensures device { device session.new ≡ device session.old }
-    ensures units { units session.new + half_units result ≡ units session.old }
-    ensures left { units session.old ≤ units session.new + 1 }
-    ensures half { IfSome result (IsHalf (opening_of accounts.now) O.start (device session.old)) }
+    ensures device { session.new.device ≡ session.old.device }
+    ensures units { session.new.units + half_units result ≡ session.old.units }
+    ensures left { session.old.units ≤ session.new.units + 1 }
+    ensures half { IfSome result (IsHalf (opening_of accounts.now) O.start session.old.device) }
 {
     match fill(rt, alloc, session, region, accounts, Step::Take(*transfer)) {
         Ok(more) => match session.release_tx() {
@@ -200,10 +199,10 @@ pub(crate) fn end_half<'a, D: Disk + Drop, O: Origin, R: Wait>(
 ) -> Result<u64, AccountError>
     requires session { IsKept (opening_of accounts.now) O.start session.old }
     requires store { HasStore O.start region }
-    requires half { IsHalf (opening_of accounts.now) O.start (device session.old) half }
+    requires half { IsHalf (opening_of accounts.now) O.start session.old.device half }
     ensures session { IsKept (opening_of accounts.now) O.start session.new }
-    ensures device { device session.new ≡ device session.old }
-    ensures units { units session.new ≡ units session.old + 1 }
+    ensures device { session.new.device ≡ session.old.device }
+    ensures units { session.new.units ≡ session.old.units + 1 }
 {
     let Half { handle, to, more } = half;
     if let Err(_) = session.takeover_tx(handle) {

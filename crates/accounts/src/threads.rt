@@ -3,7 +3,7 @@ ghost use Rattle.std.specs.Prelude.{◌≡◌, ◌+◌, ◌<◌, ◌≤◌, IfSo
 ghost use Rattle.iso_core.specs.declared.group_end.TheConstants.{MAX_GROUP};
 ghost use Rattle.iso_shared.specs.{Ports.{IsPort, port_view}, Groups.units_of};
 ghost use Rattle.group_commit.specs.Groups.{found_in, units_all};
-ghost use Rattle.handle_pass.specs.Sessions.{device, units};
+ghost use Rattle.handle_pass.specs.Sessions.{device_of};
 ghost use Rattle.accounts.specs.{Kept.{AreGiven, HasStore, Hold, IsHalf, IsKept, IsReady, Stays, half_units}, Made.opening_of};
 
 use crate::account::{Account, AccountError, Transfer, Work};
@@ -29,7 +29,7 @@ pub(crate) fn commit_all<'a, D: Disk + Drop, O: Origin, R: Wait>(
     most: u32,
 ) -> u32
     requires session { IsKept (opening_of accounts.now) O.start session.old }
-    requires units { 1 < units session.old }
+    requires units { 1 < session.old.units }
     requires store { HasStore O.start region }
     ensures session { IsKept (opening_of accounts.now) O.start session.new }
     ensures stays { Stays session.old session.new }
@@ -54,15 +54,15 @@ pub(crate) fn give_all<'a, D: Disk + Drop, O: Origin, R: Wait>(
     transfers: &[Transfer],
 ) -> Vec<Option<Tx<D, O>>>
     requires session { IsKept (opening_of accounts.now) O.start session.old }
-    requires units { 17 < units session.old }
+    requires units { 17 < session.old.units }
     requires few { length transfers.now ≤ MAX_GROUP }
     requires store { HasStore O.start region }
     ensures session { IsKept (opening_of accounts.now) O.start session.new }
-    ensures device { device session.new ≡ device session.old }
-    ensures units { units session.new + units_of (found_in result.items) ≡ units session.old }
-    ensures left { units session.old ≤ units session.new + 16 }
+    ensures device { session.new.device ≡ session.old.device }
+    ensures units { session.new.units + units_of (found_in result.items) ≡ session.old.units }
+    ensures left { session.old.units ≤ session.new.units + 16 }
     ensures few { length result.items ≤ MAX_GROUP }
-    ensures given { AreGiven (opening_of accounts.now) O.start (device session.old) result.items }
+    ensures given { AreGiven (opening_of accounts.now) O.start session.old.device result.items }
 {
     let mut members = Vec::new(alloc);
     if let Err(_) = members.reserve(transfers.len()) {
@@ -88,7 +88,7 @@ fn end_group<D: Disk + Drop, O: Origin, R: Wait>(
     requires kept { Hold (opening_of accounts.now) O.start port.old }
     requires ready { IsReady O.start }
     requires few { length members.items ≤ MAX_GROUP }
-    requires given { AreGiven (opening_of accounts.now) O.start shared.now members.items }
+    requires given { AreGiven (opening_of accounts.now) O.start (device_of shared.now) members.items }
     ensures port { IsPort shared.now port.new }
     ensures units { (port_view port.new).units ≡ units_all (port_view port.old) (found_in members.items) }
     ensures kept { Hold (opening_of accounts.now) O.start port.new }
@@ -109,7 +109,7 @@ pub(crate) fn end_members<D: Disk + Drop, O: Origin, R: Wait>(
     requires kept { Hold (opening_of accounts.now) O.start port.old }
     requires ready { IsReady O.start }
     requires few { IfSome place.old (λ v. length v.items ≤ MAX_GROUP) }
-    requires given { IfSome place.old (λ v. AreGiven (opening_of accounts.now) O.start shared.now v.items) }
+    requires given { IfSome place.old (λ v. AreGiven (opening_of accounts.now) O.start (device_of shared.now) v.items) }
     ensures port { IsPort shared.now port.new }
     ensures units { IfSome place.old (λ v. (port_view port.new).units ≡ units_all (port_view port.old) (found_in v.items)) }
     ensures kept { Hold (opening_of accounts.now) O.start port.new }
@@ -132,10 +132,10 @@ pub(crate) fn end_taken<'a, D: Disk + Drop, O: Origin, R: Wait>(
 ) -> Result<u64, AccountError>
     requires session { IsKept (opening_of accounts.now) O.start session.old }
     requires store { HasStore O.start region }
-    requires half { IfSome place.old (IsHalf (opening_of accounts.now) O.start (device session.old)) }
+    requires half { IfSome place.old (IsHalf (opening_of accounts.now) O.start session.old.device) }
     ensures session { IsKept (opening_of accounts.now) O.start session.new }
-    ensures device { device session.new ≡ device session.old }
-    ensures units { units session.new ≡ units session.old + half_units place.old }
+    ensures device { session.new.device ≡ session.old.device }
+    ensures units { session.new.units ≡ session.old.units + half_units place.old }
     ensures place { place.new ≡ None }
 {
     match place.take() {

@@ -1,10 +1,10 @@
 -- A call on the transaction of a session, as its visit has gone.
-use Rattle.device_calls.proofs.Words.{◌≡◌, ◌∙◌, sym, ap, subst, ℕ, Bool, false, Array, Option, Some, IfSome, Result, Ok, Err, OnErr, IfErr, Start, Session, tx_on, IsVisit, Seen, Visited, base_in, base_of, seen_by, Device, Tx, HasRead, IsUnwritten, StoreError, HasCalled, calm}
+use Rattle.device_calls.proofs.Words.{◌≡◌, ◌∙◌, sym, ap, subst, ℕ, Bool, false, Array, Option, Some, IfSome, Result, Ok, Err, OnErr, IfErr, Start, SessionState, tx_on, IsVisit, Seen, Visited, base_in, base_of, seen_by, Device, Tx, HasRead, IsUnwritten, StoreError, HasCalled, calm}
 
-same_session : {D O : Type 0} (a b : Session D O) → Some a ≡ Some b → a ≡ b
+same_session : (a b : SessionState) → Some a ≡ Some b → a ≡ b
 same_session a b e = cc e
 
-module _ {D O : Type 0} (A : Start) (s : Session D O) (before : Option (Session D O)) (begun : before ≡ Some s) where
+module _ (A : Start) (s : SessionState) (before : Option SessionState) (begun : before ≡ Some s) where
   base : base_of A before ≡ base_in A s
   base = ap (base_of A) begun
 
@@ -13,7 +13,7 @@ module _ {D O : Type 0} (A : Start) (s : Session D O) (before : Option (Session 
   may_make Fits v is may =
       subst (λ (y : Seen). Fits y.tx) (sym is) (subst (λ (b : Option Array). Fits (tx_on A s b)) (sym base) may)
 
-  pub called : (t : Session D O) (failures : ℕ) (is_down : Bool) (v w : Seen) (Says : (x y : Tx) → (before now : Device) → Type 0) → v ≡ seen_by A before s 0 false → w ≡ seen_by A before t failures is_down
+  pub called : (t : SessionState) (failures : ℕ) (is_down : Bool) (v w : Seen) (Says : (x y : Tx) → (before now : Device) → Type 0) → v ≡ seen_by A before s 0 false → w ≡ seen_by A before t failures is_down
       → IsVisit A before t failures is_down → Says v.tx w.tx v.device w.device → HasCalled A s t Says
   called t failures is_down v w Says first last visit says =
       let same : visit.was ≡ s = same_session visit.was s (sym visit.is ∙ begun) in
@@ -21,7 +21,7 @@ module _ {D O : Type 0} (A : Start) (s : Session D O) (before : Option (Session 
         refused = visit.refused;
         failures = failures;
         is_down = is_down;
-        visited = subst (λ (u : Session D O). Visited A u t visit.refused) same visit.made;
+        visited = subst (λ (u : SessionState). Visited A u t visit.refused) same visit.made;
         failed = visit.failed;
         says = subst (λ (b : Option Array). Says (tx_on A s b) (tx_on A t b) calm (record { faults = failures; is_down = is_down })) base
             (subst (λ (y : Seen). Says (tx_on A s (base_of A before)) y.tx calm y.device) last (subst (λ (y : Seen). Says y.tx w.tx y.device w.device) first says));

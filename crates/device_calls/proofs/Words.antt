@@ -4,7 +4,7 @@ pub use Rattle.iso_core.specs.contracts.core_itself.Core.{the_row}
 pub use Rattle.iso_disk.specs.declared.disk.Disk.{Ghosts}
 pub use Rattle.iso_model.{proofs.Bounds.limits, specs.Array.Array, specs.World.World, specs.declared.access.EndReply.EndReply}
 pub use Rattle.iso_shared.specs.States.{Start}
-pub use Rattle.handle_pass.specs.{Accesses.tx_on, Calls.HasEnded, Visits.{IsVisit, Seen, Visited, base_in, base_of, seen_by}, declared.session.Session.Session}
+pub use Rattle.handle_pass.specs.{Accesses.tx_on, Calls.HasEnded, Visits.{IsVisit, Seen, Visited, base_in, base_of, seen_by}, Sessions.SessionState}
 pub use Rattle.store_model.{proofs.HashAccesses.hash_area_is, proofs.TreeAccesses.tree_area_is, specs.declared.stores.StoreError.StoreError}
 pub use Rattle.tx_blocks.specs.{Runs.{HasRead, IsUnwritten}, Tx.{Device, Tx}}
 pub use mathlib.Core.List.{List, [], ◌++◌, ◌∷◌}

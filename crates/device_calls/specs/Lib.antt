@@ -3,3 +3,4 @@ pub mod Regions
 pub mod Visits
 pub mod Stores
 pub mod Retries
+pub mod Jobs

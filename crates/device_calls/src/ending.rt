@@ -1,6 +1,6 @@
 // An end that makes its own steps.
 ghost use Rattle.std.specs.Prelude.{◌≡◌, ◌<◌, ℕ};
-ghost use Rattle.handle_pass.specs.{Calls.HasEnded, Sessions.IsSession};
+ghost use Rattle.handle_pass.specs.Calls.{HasEnded};
 
 use counts::Steps;
 use handle_pass::{EndError, Session};
@@ -20,8 +20,6 @@ fn end_with<'a, L: Ledger, D: Disk + Drop, O: Origin, R: Wait>(
     requires name { blank.name ≡ L.name }
     requires parts { blank.parts ≡ L.parts }
     requires some { 0 < L.parts }
-    requires session { IsSession O.start session.old }
-    ensures session { IsSession O.start session.new }
     ensures did { (taken : ℕ) × HasEnded O.start session.old 0 result session.new taken }
 {
     let mut steps = Steps::<L>::start(blank);
@@ -33,8 +31,6 @@ pub fn end_now<'a, D: Disk + Drop, O: Origin, R: Wait>(
     rt: &R,
     session: &mut Session<'a, D, O>,
 ) -> Result<EndReply, EndError>
-    requires session { IsSession O.start session.old }
-    ensures session { IsSession O.start session.new }
     ensures did { (taken : ℕ) × HasEnded O.start session.old 0 result session.new taken }
 {
     end_with::<Brand, D, O, R>(Blank::new(1), rt, session)

@@ -2,7 +2,6 @@
 ghost use Rattle.std.specs.Prelude.{◌+◌, ◌≤◌, IsTrue};
 ghost use Rattle.iso_model.specs.Geometry.{is_valid};
 ghost use Rattle.store_model.specs.HashRegion.{IsHashArea};
-ghost use Rattle.handle_pass.specs.Sessions.{IsSession};
 ghost use Rattle.tx_blocks.specs.Runs.{area_of};
 ghost use Rattle.device_calls.specs.{Regions.area_in, Stores.{HashGets, HashPuts, HashRemoves}, Visits.HasCalled};
 
@@ -50,11 +49,9 @@ pub fn hash_get<'a, D: Disk + Drop, O: Origin, R: Wait>(
     region: Region,
     key: &[u8],
 ) -> Result<Option<Bytes>, StoreError>
-    requires session { IsSession O.start session.old }
     requires valid { IsTrue (is_valid O.start.world.geometry) }
     requires area { IsHashArea (area_in O.start.world.geometry region) }
     requires fits { region.start + region.size ≤ O.start.world.geometry.blocks }
-    ensures session { IsSession O.start session.new }
     ensures did { HasCalled O.start session.old session.new (λ t u before now. HashGets (area_of t region) key.now result t u before now) }
 {
     on_blocks(rt, session, GetHash { alloc, region, key })
@@ -96,11 +93,9 @@ pub fn hash_put<'a, D: Disk + Drop, O: Origin, R: Wait>(
     key: &[u8],
     value: &[u8],
 ) -> Result<(), StoreError>
-    requires session { IsSession O.start session.old }
     requires valid { IsTrue (is_valid O.start.world.geometry) }
     requires area { IsHashArea (area_in O.start.world.geometry region) }
     requires fits { region.start + region.size ≤ O.start.world.geometry.blocks }
-    ensures session { IsSession O.start session.new }
     ensures did { HasCalled O.start session.old session.new (λ t u before now. HashPuts (area_of t region) key.now value.now result t u before now) }
 {
     on_blocks(
@@ -149,11 +144,9 @@ pub fn hash_delete<'a, D: Disk + Drop, O: Origin, R: Wait>(
     region: Region,
     key: &[u8],
 ) -> Result<bool, StoreError>
-    requires session { IsSession O.start session.old }
     requires valid { IsTrue (is_valid O.start.world.geometry) }
     requires area { IsHashArea (area_in O.start.world.geometry region) }
     requires fits { region.start + region.size ≤ O.start.world.geometry.blocks }
-    ensures session { IsSession O.start session.new }
     ensures did { HasCalled O.start session.old session.new (λ t u before now. HashRemoves (area_of t region) key.now result t u before now) }
 {
     on_blocks(rt, session, DeleteHash { alloc, region, key })

@@ -1,5 +1,5 @@
 //! Calls on a session that take less of their caller. `end_now` makes its own steps; `end_or_again` begins again after each conflict,
-//! so `Ended` has none (`did`).
+//! so `Ended` has none (`did`). `with_device` does a `Job` in a session of a core's device, and gives the core back (`did`, `none`).
 //!
 //! `on_blocks` makes a call on a session's transaction as stores see it: the entries of its fetches, and what the call says of the
 //! transaction (`HasCalled`); `hash_get` and `tree_scan` are such calls. `hash_region` and `tree_region` are their regions, none
@@ -8,6 +8,7 @@
 
 mod beginning;
 mod blocks_call;
+mod device_job;
 mod ending;
 mod hash;
 mod regions;
@@ -17,6 +18,7 @@ mod visit;
 
 pub use beginning::{Beginning, beginning_of};
 pub use blocks_call::BlocksCall;
+pub use device_job::{Job, with_device};
 pub use ending::end_now;
 pub use hash::{hash_delete, hash_get, hash_put};
 pub use regions::{hash_region, tree_region};

@@ -1,6 +1,5 @@
 // An end that begins again after a conflict.
 ghost use Rattle.std.specs.Prelude.{◌<◌};
-ghost use Rattle.handle_pass.specs.Sessions.{units, IsSession};
 ghost use Rattle.device_calls.specs.Retries.{HasRetried};
 
 use crate::ending::end_now;
@@ -31,9 +30,7 @@ pub fn end_or_again<'a, D: Disk + Drop, O: Origin, R: Wait>(
     session: &mut Session<'a, D, O>,
     mode: Option<Mode>,
 ) -> Result<Retry, RetryError>
-    requires session { IsSession O.start session.old }
-    requires units { 1 < units session.old }
-    ensures session { IsSession O.start session.new }
+    requires units { 1 < session.old.units }
     ensures did { HasRetried O.start session.old mode result session.new }
 {
     match end_now(rt, session) {

@@ -2,7 +2,6 @@
 ghost use Rattle.std.specs.Prelude.{◌+◌, ◌≤◌, ◌<◌, IsTrue};
 ghost use Rattle.iso_model.specs.Geometry.{is_valid};
 ghost use Rattle.store_model.specs.TreeRegion.{IsTreeArea};
-ghost use Rattle.handle_pass.specs.Sessions.{IsSession};
 ghost use Rattle.tx_blocks.specs.Runs.{area_of};
 ghost use Rattle.device_calls.specs.{Regions.area_in, Stores.{TreeGets, TreePuts, TreeRemoves, TreeScans}, Visits.HasCalled};
 
@@ -50,11 +49,9 @@ pub fn tree_get<'a, D: Disk + Drop, O: Origin, R: Wait>(
     region: Region,
     key: &[u8],
 ) -> Result<Option<Bytes>, StoreError>
-    requires session { IsSession O.start session.old }
     requires valid { IsTrue (is_valid O.start.world.geometry) }
     requires area { IsTreeArea (area_in O.start.world.geometry region) }
     requires fits { region.start + region.size ≤ O.start.world.geometry.blocks }
-    ensures session { IsSession O.start session.new }
     ensures did { HasCalled O.start session.old session.new (λ t u before now. TreeGets (area_of t region) key.now result t u before now) }
 {
     on_blocks(rt, session, GetTree { alloc, region, key })
@@ -96,11 +93,9 @@ pub fn tree_put<'a, D: Disk + Drop, O: Origin, R: Wait>(
     key: &[u8],
     value: &[u8],
 ) -> Result<(), StoreError>
-    requires session { IsSession O.start session.old }
     requires valid { IsTrue (is_valid O.start.world.geometry) }
     requires area { IsTreeArea (area_in O.start.world.geometry region) }
     requires fits { region.start + region.size ≤ O.start.world.geometry.blocks }
-    ensures session { IsSession O.start session.new }
     ensures did { HasCalled O.start session.old session.new (λ t u before now. TreePuts (area_of t region) key.now value.now result t u before now) }
 {
     on_blocks(
@@ -148,11 +143,9 @@ pub fn tree_delete<'a, D: Disk + Drop, O: Origin, R: Wait>(
     region: Region,
     key: &[u8],
 ) -> Result<bool, StoreError>
-    requires session { IsSession O.start session.old }
     requires valid { IsTrue (is_valid O.start.world.geometry) }
     requires area { IsTreeArea (area_in O.start.world.geometry region) }
     requires fits { region.start + region.size ≤ O.start.world.geometry.blocks }
-    ensures session { IsSession O.start session.new }
     ensures did { HasCalled O.start session.old session.new (λ t u before now. TreeRemoves (area_of t region) key.now result t u before now) }
 {
     on_blocks(rt, session, DeleteTree { alloc, region, key })
@@ -195,12 +188,10 @@ pub fn tree_scan<'a, D: Disk + Drop, O: Origin, R: Wait>(
     to: &[u8],
     most: u32,
 ) -> Result<PairList, StoreError>
-    requires session { IsSession O.start session.old }
     requires valid { IsTrue (is_valid O.start.world.geometry) }
     requires area { IsTreeArea (area_in O.start.world.geometry region) }
     requires fits { region.start + region.size ≤ O.start.world.geometry.blocks }
     requires some { 0 < most }
-    ensures session { IsSession O.start session.new }
     ensures did { HasCalled O.start session.old session.new (λ t u before now. TreeScans (area_of t region) from.now to.now most result t u before now) }
 {
     on_blocks(

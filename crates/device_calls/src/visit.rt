@@ -1,7 +1,7 @@
 // A call on a session's transaction over blocks, in one step.
 ghost use Rattle.std.specs.Prelude.{◌≡◌, ◌≢◌, IfSome, IsTrue, None, Some};
 ghost use Rattle.iso_model.specs.Geometry.{is_valid};
-ghost use Rattle.handle_pass.specs.{Accesses.tx_on, Sessions.IsSession, Visits.base_in};
+ghost use Rattle.handle_pass.specs.{Accesses.tx_on, Visits.base_in};
 ghost use Rattle.device_calls.specs.Visits.{HasCalled};
 
 use crate::blocks_call::BlocksCall;
@@ -12,19 +12,17 @@ use std::marker::Brand;
 use std::sync::Wait;
 
 // The session that was lent is handed back.
-fn visit<'s, 'a, D: Disk + Drop, O: Origin, R: Wait, V: Visit<D, O>, C: BlocksCall>(
+fn visit<'s, 'a, D: Disk + Drop, O: Origin, R: Wait, V: Visit, C: BlocksCall>(
     rt: &'s R,
     session: &'s mut Session<'a, D, O>,
     call: C,
     answer: &mut Option<C::Answer>,
 ) -> &'s mut Session<'a, D, O>
-    requires session { IsSession O.start session.old }
     requires valid { IsTrue (is_valid O.start.world.geometry) }
     requires name { session.ghost_name ≡ V.name }
     requires before { V.before ≡ Some session.old }
     requires fits { C.fits call (tx_on O.start session.old (base_in O.start session.old)) }
     ensures name { result.ghost_name ≡ session.entry.ghost_name }
-    ensures session { IsSession O.start result.now }
     ensures some { answer.new ≢ None }
     ensures did { IfSome answer.new (λ x. HasCalled O.start session.old result.now (λ t u before now. C.says call t u before now x)) }
 {
@@ -45,10 +43,8 @@ pub fn on_blocks<'a, D: Disk + Drop, O: Origin, R: Wait, C: BlocksCall>(
     session: &mut Session<'a, D, O>,
     call: C,
 ) -> C::Answer
-    requires session { IsSession O.start session.old }
     requires valid { IsTrue (is_valid O.start.world.geometry) }
     requires fits { C.fits call (tx_on O.start session.old (base_in O.start session.old)) }
-    ensures session { IsSession O.start session.new }
     ensures did { HasCalled O.start session.old session.new (λ t u before now. C.says call t u before now result) }
 {
     let mut answer = None;

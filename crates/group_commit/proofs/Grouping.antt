@@ -1,5 +1,5 @@
 -- What is left to do of a group, one transaction after the other.
-use Rattle.group_commit.proofs.Words.{◌≡◌, ◌⊎◌, false, true, is_some, spread, marks_of, inl, inr, CoreError, aborts_after, cause_of, refused_by, ℕ, ◌+◌, ◌<◌, ◌≤◌, List, [], ◌∷◌, ◌++◌, Option, Some, None, length, map, refl, sym, ap, ◌∙◌, subst, arith, AllByRecursion, GroupReply, IsLegal, MadeBoth, number_of, tx_view, Start, Entry, Shared, Tx, prefix_self, prefix_trans, hit, times, total, View, AreNext, Next, next_on, next_prefix, next_same, through_next, MovesThrough, Session, ArePaired, IsBack, MadeAll, answered, made_in, members_in, units_of, AreMembers, AreTxs, HasMade, KnowsAll, aborts_of, count_all, found_in, group_of, IsPrefix}
+use Rattle.group_commit.proofs.Words.{◌≡◌, ◌⊎◌, false, true, is_some, spread, marks_of, inl, inr, CoreError, aborts_after, cause_of, refused_by, ℕ, ◌+◌, ◌<◌, ◌≤◌, List, [], ◌∷◌, ◌++◌, Option, Some, None, length, map, refl, sym, ap, ◌∙◌, subst, arith, AllByRecursion, GroupReply, IsLegal, MadeBoth, number_of, tx_view, Start, Entry, Shared, Tx, prefix_self, prefix_trans, hit, times, total, View, AreNext, Next, next_on, next_prefix, next_same, through_next, MovesThrough, SessionState, ArePaired, IsBack, MadeAll, answered, made_in, members_in, units_of, AreMembers, AreTxs, HasMade, KnowsAll, aborts_of, count_all, found_in, group_of, IsPrefix}
 use Rattle.iso_model.specs.declared.core_error.CoreError.TheVariants as error
 use Rattle.iso_shared.specs.declared.entry.Call.TheVariants as call
 use Rattle.iso_shared.specs.declared.entry.Entry.TheVariants as entry
@@ -171,7 +171,7 @@ module _ {D O : Type 0} where
   unmade p [] all = refl
   unmade p (t ∷ txs) all = let none : times p (tx_view t).mine ≡ 0 = ap (times p) all.0 in let rest = unmade p txs all.1 in omega (arith, none, rest)
 
-  pub through_group : (A : Start) (s : Session D O) (v w : View Entry) (txs : List (Tx D O)) (es : List Entry) → AllByRecursion (λ t. (tx_view t).mine ≡ []) txs → HasMade A v txs es w → MovesThrough s v w es
+  pub through_group : (A : Start) (s : SessionState) (v w : View Entry) (txs : List (Tx D O)) (es : List Entry) → AllByRecursion (λ t. (tx_view t).mine ≡ []) txs → HasMade A v txs es w → MovesThrough s v w es
   through_group A s v w txs es all made =
       through_next A s v w es
       (next_same A v.seen w.seen (count_all v txs) (λ p. times p v.mine) (λ p. times p w.mine) es (λ p. let none = unmade p txs all in omega (arith, none)) made)

@@ -1,3 +1,5 @@
 pub mod Words
 pub mod EachTold
 pub mod Grouping
+pub mod Lasts
+pub mod Rejoined

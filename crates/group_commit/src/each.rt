@@ -67,6 +67,7 @@ pub fn end_each<D: Disk + Drop, O: Origin, R: Wait>(
     ensures ok { OnOk result (ArePaired (IsEndedIn shared.now O.start) group.items told.new.items
         × ((port_view port.new).units + length group.items ≡ (port_view port.old).units + units_of group.items)) }
     ensures made { OnOk result ((replies : List GroupReply) × MadeAll O.start (port_view port.old) (map tx_view group.items) (EndGroup (answered (members_in group.items) replies)) (port_view port.new)) }
+    ensures same { IfErr result (λ _. told.new.items ≡ []) }
     ensures gone { IfErr result (λ e. IfNone e.1 ((e.0 ≡ OfDisk) × ((port_view port.new).units ≡ (port_view port.old).units + units_of group.items)
         × ((before : ℕ) × (now : ℕ) × MadeAll O.start (port_view port.old) (map tx_view group.items) (Refused (TheCall.EndGroup (members_in group.items)) (cause_of before now e.0)) (port_view port.new)))) }
     ensures kept { IfErr result (λ e. IfSome e.1 (λ back. ((e.0 ≡ OfDown) ⊎ (e.0 ≡ OfMemory)) × ((port_view port.new).units + length group.items ≡ (port_view port.old).units + units_of group.items)
@@ -83,7 +84,7 @@ pub fn end_each<D: Disk + Drop, O: Origin, R: Wait>(
 }
 
 // Room for what so many members are told.
-fn told_room<D: Disk + Drop, O: Origin>(
+pub(crate) fn told_room<D: Disk + Drop, O: Origin>(
     alloc: Global,
     count: usize,
 ) -> Result<Vec<Ended<D, O>>, Memory>

@@ -15,7 +15,10 @@ pub(crate) struct Room<D: Disk + Drop, O: Origin> {
 }
 
 /// A vector with room for `count` members.
-fn group_room<D: Disk + Drop, O: Origin>(alloc: Global, count: u32) -> Result<Vec<Tx<D, O>>, Memory>
+pub(crate) fn group_room<D: Disk + Drop, O: Origin>(
+    alloc: Global,
+    count: u32,
+) -> Result<Vec<Tx<D, O>>, Memory>
     ensures { IfOk result (λ v. (v.items ≡ []) × (count ≤ vec_capacity v)) }
 {
     let mut group = Vec::new(alloc);

@@ -1,5 +1,5 @@
 -- The array at the begin of a session's transaction is the same at each later place of the list.
-use Rattle.handle_pass.proofs.Words.{◌≡◌, ℕ, ◌<◌, ◌≤◌, List, [], ◌∷◌, Option, Some, None, IfSome, refl, ap, ◌∙◌, arith, History, all_own, array_at, last, Extends, Call, Cause, Entry, Shared, Tx, tx_view, Start, State, after, after_all, after_fault, after_refusal, after_sweep, opened, state_at, follows_prefix, up_to_same, ahead_on, Session, Own, own, own_of, seen, IsSession, IsPrefix}
+use Rattle.handle_pass.proofs.Words.{◌≡◌, ℕ, ◌<◌, ◌≤◌, List, [], ◌∷◌, Option, Some, None, IfSome, refl, ap, ◌∙◌, arith, History, all_own, array_at, last, Extends, Call, Cause, Entry, Shared, Tx, tx_view, Start, State, after, after_all, after_fault, after_refusal, after_sweep, opened, state_at, follows_prefix, up_to_same, ahead_on, Own, own_of, IsSession, IsPrefix, Inside, HasBegin, view}
 use Rattle.iso_shared.specs.declared.entry.Call.TheVariants as call
 use Rattle.iso_shared.specs.declared.entry.Cause.TheVariants as cause
 use Rattle.iso_shared.specs.declared.entry.Entry.TheVariants as entry
@@ -34,28 +34,18 @@ tells_at A es = tells_all (opened A) es
 array_same : (H G : History) (n : ℕ) → 0 < H.first → n ≤ last H → Extends H G → array_at G n ≡ array_at H n
 array_same H G n some within more = ap (λ (h : History). all_own h.base h.commits) (up_to_same H G n some within more)
 
--- a list in which the transaction has begun
-pub record HasBegin (A : Start) (es : List Entry) (begin : ℕ) : Type 0 where
-  pub first : 0 < (state_at A es).world.history.first
-  pub within : begin ≤ last (state_at A es).world.history
-
 module _ {D O : Type 0} where
-  begun_by : (A : Start) (sh : Shared D O) (xs : List Entry) (tx : Option (Tx D O)) (o : Own) → IfSome tx (λ t. IsTx sh A t × IsPrefix (tx_view t).seen xs) → own_of tx ≡ Some o → HasBegin A xs o.begin
-  begun_by A sh xs None o is has = absurd (cc has)
-  begun_by A sh xs (Some t) o is has =
+  begun_by : (A : Start) (sh : Shared D O) (xs : List Entry) (tx : Option (Tx D O)) → IfSome tx (λ t. IsTx sh A t × IsPrefix (tx_view t).seen xs) → IfSome (own_of tx) (λ o. HasBegin A xs o.begin)
+  begun_by A sh xs None is = tt
+  begun_by A sh xs (Some t) is =
       let ahead = ahead_on A (tx_view t).seen xs t.work t.checked is.1 is.0.1.ahead in
-      let begin : t.work.begin ≡ o.begin = ap begin_in has in
       let from : t.work.begin ≤ t.checked.upto = ahead.from in
       let to : t.checked.upto ≤ last (state_at A xs).world.history = ahead.to in
       record { first = ahead.first; within = omega arith }
-    where
-      begin_in : Option Own → ℕ
-      begin_in None = 0
-      begin_in (Some p) = p.begin
 
   -- what a session has seen has the begin of its transaction
-  pub has_begin : (A : Start) (s : Session D O) (o : Own) → IsSession A s → own s ≡ Some o → HasBegin A (seen s) o.begin
-  has_begin A s o is has = begun_by A s.shared.now (seen s) s.tx o is.tx has
+  pub has_begin : (A : Start) (s : Inside D O) → IsSession A s → IfSome (own_of s.tx) (λ o. HasBegin A (view s.port.pass).seen o.begin)
+  has_begin A s is = begun_by A s.shared.now (view s.port.pass).seen s.tx is.tx
 
 -- the array at the begin is the same at each later place
 pub array_kept : (A : Start) (xs ys : List Entry) (begin : ℕ) → HasBegin A xs begin → IsPrefix xs ys → array_at (state_at A ys).world.history begin ≡ array_at (state_at A xs).world.history begin

@@ -6,3 +6,4 @@ pub mod Shapes
 pub mod Visiting
 pub mod Looking
 pub mod Beginning
+pub mod Handing

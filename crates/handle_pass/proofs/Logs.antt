@@ -1,5 +1,5 @@
 -- The entries of a session, as it makes more.
-use Rattle.handle_pass.proofs.{Words.{IsLegal, times, ◌≡◌, ℕ, ◌+◌, List, [], ◌∷◌, ◌++◌, get_or, length, refl, sym, ap, ◌∙◌, subst, append_assoc, arith, length-append, map-append, append-nil, get_or-append, get_or-append_seam, hit, AllBelow, prefix_length, prefix_self, prefix_trans, below_more, below_snoc, rises_snoc, times_append, Entry, Start, Session, Port, View, port_view, Joined, Split, entries_at, AreNext, Log, Moves, MovesThrough, count, count_with, seen, units, Made, Rested, IsPrefix, PassMade}, Entering.{known_by, one_place}}
+use Rattle.handle_pass.proofs.{Words.{IsLegal, times, ◌≡◌, ℕ, ◌+◌, List, [], ◌∷◌, ◌++◌, get_or, length, refl, sym, ap, ◌∙◌, subst, append_assoc, arith, length-append, map-append, append-nil, get_or-append, get_or-append_seam, hit, AllBelow, prefix_length, prefix_self, prefix_trans, below_more, below_snoc, rises_snoc, times_append, Entry, Start, Port, View, port_view, Joined, Split, entries_at, AreNext, Log, Moves, MovesThrough, count, count_with, Made, Rested, IsPrefix, PassMade, SessionState}, Entering.{known_by, one_place}}
 use Rattle.iso_shared.specs.declared.entry.Entry.TheVariants as entry
 
 at_prefix : (xs E : List Entry) (ps : List ℕ) → IsPrefix xs E → AllBelow (length xs) ps → entries_at E ps ≡ entries_at xs ps
@@ -50,33 +50,32 @@ log_more count after xs before ys F e pre more counts l =
       reads = map-append (λ p. get_or ys p (entry.Abort 0)) l.places (n ∷ []) ∙ (ap (λ v. v ++ get_or ys n (entry.Abort 0) ∷ []) (at_prefix xs ys l.places first l.below ∙ l.reads) ∙ ap (λ v. F ++ v ∷ []) seam);
     }
 
-module _ {D O : Type 0} where
-  -- an entry that a session made is the next one of its log
-  pub moves_made : (A : Start) (s t : Session D O) (e : Entry) → Made A s t e → Moves s t (e ∷ [])
-  moves_made A s t e m = record {
-    known = prefix_trans (seen s) m.entered.before (seen t) m.entered.told (prefix_trans m.entered.before (m.entered.before ++ e ∷ []) (seen t) (e ∷ [], refl) m.entered.known);
-    log = λ F l. log_more (count s) (count t) (seen s) m.entered.before (seen t) F e m.entered.told m.entered.known m.entered.places l;
-    units = m.units;
-  }
+-- an entry that a session made is the next one of its log
+pub moves_made : (A : Start) (s t : SessionState) (e : Entry) → Made A s t e → Moves s t (e ∷ [])
+moves_made A s t e m = record {
+  known = prefix_trans s.seen m.entered.before t.seen m.entered.told (prefix_trans m.entered.before (m.entered.before ++ e ∷ []) t.seen (e ∷ [], refl) m.entered.known);
+  log = λ F l. log_more (count s) (count t) s.seen m.entered.before t.seen F e m.entered.told m.entered.known m.entered.places l;
+  units = m.units;
+}
 
-  -- a session that made none keeps its log
-  pub moves_rested : (s t : Session D O) → Rested s t → Moves s t []
-  moves_rested s t r = record {
-    known = subst (λ l. IsPrefix (seen s) l) (sym r.known) (prefix_self (seen s));
-    log = λ F l. subst (Log (count t) (seen t)) (sym (append-nil F)) (subst (λ E. Log (count t) E F) (sym r.known) (log_count (count s) (count t) (seen s) F r.places l));
-    units = r.units;
-  }
+-- a session that made none keeps its log
+pub moves_rested : (s t : SessionState) → Rested s t → Moves s t []
+moves_rested s t r = record {
+  known = subst (λ l. IsPrefix s.seen l) (sym r.known) (prefix_self s.seen);
+  log = λ F l. subst (Log (count t) t.seen) (sym (append-nil F)) (subst (λ E. Log (count t) E F) (sym r.known) (log_count (count s) (count t) s.seen F r.places l));
+  units = r.units;
+}
 
-  pub moves_none : (s : Session D O) → Moves s s []
-  moves_none s = record { known = prefix_self (seen s); log = λ F l. subst (Log (count s) (seen s)) (sym (append-nil F)) l; units = refl }
+pub moves_none : (s : SessionState) → Moves s s []
+moves_none s = record { known = prefix_self s.seen; log = λ F l. subst (Log (count s) s.seen) (sym (append-nil F)) l; units = refl }
 
-  -- what was made in two calls
-  pub moves_on : (s t u : Session D O) (es ds : List Entry) → Moves s t es → Moves t u ds → Moves s u (es ++ ds)
-  moves_on s t u es ds m n = record {
-    known = prefix_trans (seen s) (seen t) (seen u) m.known n.known;
-    log = λ F l. subst (Log (count u) (seen u)) (append_assoc F es ds) (n.log (F ++ es) (m.log F l));
-    units = n.units ∙ m.units;
-  }
+-- what was made in two calls
+pub moves_on : (s t u : SessionState) (es ds : List Entry) → Moves s t es → Moves t u ds → Moves s u (es ++ ds)
+moves_on s t u es ds m n = record {
+  known = prefix_trans s.seen t.seen u.seen m.known n.known;
+  log = λ F l. subst (Log (count u) u.seen) (append_assoc F es ds) (n.log (F ++ es) (m.log F l));
+  units = n.units ∙ m.units;
+}
 
 -- what was made in two stretches
 pub next_on : (A : Start) (xs ys zs : List Entry) (mine now after : ℕ → ℕ) (es ds : List Entry) → AreNext A xs mine es ys now → AreNext A ys now ds zs after → AreNext A xs mine (es ++ ds) zs after
@@ -142,63 +141,62 @@ log_all A xs mine (e ∷ es) ys after F is l =
     let m = is.2 in
     subst (Log after ys) (append_assoc F (e ∷ []) es) (log_all A is.0 is.1 es ys after (F ++ e ∷ []) is.3 (log_more mine is.1 xs m.before is.0 F e m.told m.known m.places l))
 
-module _ {D O : Type 0} where
-  -- an entry that a session made is the next one
-  pub next_made : (A : Start) (s t : Session D O) (e : Entry) → Made A s t e → AreNext A (seen s) (count s) (e ∷ []) (seen t) (count t)
-  next_made A s t e m = (
-    seen t,
-    count t,
-    record { before = m.entered.before; told = m.entered.told; known = m.entered.known; legal = m.entered.legal; places = m.entered.places },
-    (prefix_self (seen t), λ p. refl),
-  )
+-- an entry that a session made is the next one
+pub next_made : (A : Start) (s t : SessionState) (e : Entry) → Made A s t e → AreNext A s.seen (count s) (e ∷ []) t.seen (count t)
+next_made A s t e m = (
+  t.seen,
+  count t,
+  record { before = m.entered.before; told = m.entered.told; known = m.entered.known; legal = m.entered.legal; places = m.entered.places },
+  (prefix_self t.seen, λ p. refl),
+)
 
-  -- a session that made none
-  pub next_rested : (A : Start) (s t : Session D O) → Rested s t → AreNext A (seen s) (count s) [] (seen t) (count t)
-  next_rested A s t r = (subst (λ l. IsPrefix (seen s) l) (sym r.known) (prefix_self (seen s)), r.places)
+-- a session that made none
+pub next_rested : (A : Start) (s t : SessionState) → Rested s t → AreNext A s.seen (count s) [] t.seen (count t)
+next_rested A s t r = (subst (λ l. IsPrefix s.seen l) (sym r.known) (prefix_self s.seen), r.places)
 
-  -- a port that has just been split off has no place: a log of the session is one of the two
-  pub log_split : (s t : Session D O) (q : Port D O) (F : List Entry) → Split s q t → Log (count s) (seen s) F → Log (count_with t (port_view q)) (port_view q).seen F
-  log_split s t q F cut l =
-      subst (λ E. Log (count_with t (port_view q)) E F) (sym cut.told)
-      (log_count (count s) (count_with t (port_view q)) (seen s) F (λ p. let a = cut.places p in let b = cut.none p in omega arith) l)
+-- a port that has just been split off has no place: a log of the session is one of the two
+pub log_split : {D O : Type 0} (s t : SessionState) (q : Port D O) (F : List Entry) → Split s q t → Log (count s) s.seen F → Log (count_with t (port_view q)) (port_view q).seen F
+log_split s t q F cut l =
+    subst (λ E. Log (count_with t (port_view q)) E F) (sym cut.told)
+    (log_count (count s) (count_with t (port_view q)) s.seen F (λ p. let a = cut.places p in let b = cut.none p in omega arith) l)
 
-  -- entries that were made through the port are the next ones of the two
-  pub through_next : (A : Start) (s : Session D O) (v w : View Entry) (es : List Entry) → AreNext A v.seen (λ p. times p v.mine) es w.seen (λ p. times p w.mine) → MovesThrough s v w es
-  through_next A s v w es is = record {
-    known = next_prefix A v.seen w.seen (λ p. times p v.mine) (λ p. times p w.mine) es is;
-    log = λ F l. log_all A v.seen (count_with s v) es w.seen (count_with s w) F (next_beside A v.seen w.seen (count s) (λ p. times p v.mine) (λ p. times p w.mine) es is) l;
-  }
+-- entries that were made through the port are the next ones of the two
+pub through_next : (A : Start) (s : SessionState) (v w : View Entry) (es : List Entry) → AreNext A v.seen (λ p. times p v.mine) es w.seen (λ p. times p w.mine) → MovesThrough s v w es
+through_next A s v w es is = record {
+  known = next_prefix A v.seen w.seen (λ p. times p v.mine) (λ p. times p w.mine) es is;
+  log = λ F l. log_all A v.seen (count_with s v) es w.seen (count_with s w) F (next_beside A v.seen w.seen (count s) (λ p. times p v.mine) (λ p. times p w.mine) es is) l;
+}
 
-  pub through_made : (A : Start) (s : Session D O) (v w : View Entry) (e : Entry) → PassMade A v v e w → MovesThrough s v w (e ∷ [])
-  through_made A s v w e m =
-      through_next A s v w (e ∷ []) (
-        w.seen,
-        (λ p. times p w.mine),
-        record {
-          before = m.before;
-          told = m.told;
-          known = known_by m.before w.seen w.seen e m.seen (prefix_self w.seen);
-          legal = subst (λ l. IsLegal A l) m.seen m.legal;
-          places = λ p. one_place A v v w e m p;
-        },
-        (prefix_self w.seen, λ p. refl),
-      )
+pub through_made : (A : Start) (s : SessionState) (v w : View Entry) (e : Entry) → PassMade A v v e w → MovesThrough s v w (e ∷ [])
+through_made A s v w e m =
+    through_next A s v w (e ∷ []) (
+      w.seen,
+      (λ p. times p w.mine),
+      record {
+        before = m.before;
+        told = m.told;
+        known = known_by m.before w.seen w.seen e m.seen (prefix_self w.seen);
+        legal = subst (λ l. IsLegal A l) m.seen m.legal;
+        places = λ p. one_place A v v w e m p;
+      },
+      (prefix_self w.seen, λ p. refl),
+    )
 
-  pub through_none : (s : Session D O) (v : View Entry) → MovesThrough s v v []
-  through_none s v = record { known = prefix_self v.seen; log = λ F l. subst (Log (count_with s v) v.seen) (sym (append-nil F)) l }
+pub through_none : (s : SessionState) (v : View Entry) → MovesThrough s v v []
+through_none s v = record { known = prefix_self v.seen; log = λ F l. subst (Log (count_with s v) v.seen) (sym (append-nil F)) l }
 
-  pub through_on : (s : Session D O) (v w u : View Entry) (es ds : List Entry) → MovesThrough s v w es → MovesThrough s w u ds → MovesThrough s v u (es ++ ds)
-  through_on s v w u es ds m n = record {
-    known = prefix_trans v.seen w.seen u.seen m.known n.known;
-    log = λ F l. subst (Log (count_with s u) u.seen) (append_assoc F es ds) (n.log (F ++ es) (m.log F l));
-  }
+pub through_on : (s : SessionState) (v w u : View Entry) (es ds : List Entry) → MovesThrough s v w es → MovesThrough s w u ds → MovesThrough s v u (es ++ ds)
+through_on s v w u es ds m n = record {
+  known = prefix_trans v.seen w.seen u.seen m.known n.known;
+  log = λ F l. subst (Log (count_with s u) u.seen) (append_assoc F es ds) (n.log (F ++ es) (m.log F l));
+}
 
-  -- once the port is joined back, they are the next ones of the session
-  pub moves_joined : (s t u : Session D O) (q r : Port D O) (es : List Entry) → Split s q t → MovesThrough t (port_view q) (port_view r) es → Joined t r u → (port_view r).units ≡ 32 → Moves s u es
-  moves_joined s t u q r es cut m joined all = record {
-    known = subst (λ l. IsPrefix l (seen u)) cut.known joined.known;
-    log = λ F l.
-        log_seen (count u) (port_view r).seen (seen u) (F ++ es) joined.told
-        (log_count (count_with t (port_view r)) (count u) (port_view r).seen (F ++ es) joined.places (m.log F (log_split s t q F cut l)));
-    units = joined.more ∙ (ap (λ (n : ℕ). units t + n) all ∙ cut.less);
-  }
+-- once the port is joined back, they are the next ones of the session
+pub moves_joined : {D O : Type 0} (s t u : SessionState) (q r : Port D O) (es : List Entry) → Split s q t → MovesThrough t (port_view q) (port_view r) es → Joined t r u → (port_view r).units ≡ 32 → Moves s u es
+moves_joined s t u q r es cut m joined all = record {
+  known = subst (λ l. IsPrefix l u.seen) cut.known joined.known;
+  log = λ F l.
+      log_seen (count u) (port_view r).seen u.seen (F ++ es) joined.told
+      (log_count (count_with t (port_view r)) (count u) (port_view r).seen (F ++ es) joined.places (m.log F (log_split s t q F cut l)));
+  units = joined.more ∙ (ap (λ (n : ℕ). t.units + n) all ∙ cut.less);
+}

@@ -1,5 +1,5 @@
 -- How one call on a session's transaction answers a store.
-use Rattle.handle_pass.proofs.{Words.{◌≡◌, ◌≢◌, ℕ, ◌<◌, ◌≤◌, Bool, true, false, not, if◌then◌else◌, List, [], ◌∷◌, ◌++◌, Option, Some, None, Result, Ok, Err, length, nat_le, inl, inr, refl, sym, ap, ◌∙◌, subst, arith, is_some, nat_tests, append-nil, length_push, Rose, Access, TxError, marked, block_at, read_access, write_access, length-marked, Cause, Start, span_at, Device, IsArrayOf, IsFree, IsLater, IsRefused, IsTx, access_refusal, with_accesses, Session, HasMarked, HasRead, HasWritten, IsReadCause, IsWriteCause, access_answer, accesses_of, mark_answer, tx_on, with_access, Looked, Marked, Wrote, down_in, failed_in, failures_in, Own, own, IsSession, Made, Rested, Failed, IsVisit, Seen, Visited, base_of, blocks_read, seen_by}, Visiting.{blocks_append, blocks_marked, none_refused, told_by, visit_fetched, visit_refused, visit_rested}}
+use Rattle.handle_pass.proofs.{Words.{◌≡◌, ◌≢◌, ℕ, ◌<◌, ◌≤◌, Bool, true, false, not, if◌then◌else◌, List, [], ◌∷◌, ◌++◌, Option, Some, None, Result, Ok, Err, length, nat_le, inl, inr, refl, sym, ap, ◌∙◌, subst, arith, is_some, nat_tests, append-nil, length_push, Rose, Access, TxError, marked, block_at, read_access, write_access, length-marked, Cause, Start, span_at, Device, IsArrayOf, IsFree, IsLater, IsRefused, IsTx, access_refusal, with_accesses, HasMarked, HasRead, HasWritten, IsReadCause, IsWriteCause, access_answer, accesses_of, mark_answer, tx_on, with_access, Looked, Marked, Wrote, down_in, failed_in, failures_in, Own, Made, Rested, Failed, IsVisit, Seen, Visited, base_of, blocks_read, seen_by, SessionState, HasItsBegin}, Visiting.{blocks_append, blocks_marked, none_refused, told_by, visit_fetched, visit_refused, visit_rested}}
 use Rattle.store_model.specs.declared.stores.TxError.TheVariants as error
 use Rattle.iso_model.specs.Effect as effect
 use Rattle.iso_shared.specs.declared.entry.Call.TheVariants as call
@@ -64,7 +64,7 @@ none_failed e other = refl
 later_first : (d : Device) → IsLater first_device d
 later_first d = record { faults = omega arith; down = λ is. absurd (cc is) }
 
-module _ {D O : Type 0} (A : Start) (before : Option (Session D O)) where
+module _ (A : Start) (before : Option SessionState) where
   -- the transaction that a store sees, by the session's own
   abbrev shown : Option Own → Tx
   shown x = record { size = A.world.geometry.block; blocks = A.world.geometry.blocks; base = base_of A before; accesses = accesses_of x; is_open = is_some x }
@@ -86,7 +86,7 @@ module _ {D O : Type 0} (A : Start) (before : Option (Session D O)) where
       omega (arith, m, n, room, length_push o.accesses a)
 
   -- a first read that is refused
-  looked_err : (s t : Session D O) (block : ℕ) (e : TxError) (into : List ℕ) → own t ≡ own s → IsRefused {T = Unit {0}} (access_answer A s block) IsReadCause (Err e) → IsTx (shown (own s))
+  looked_err : (s t : SessionState) (block : ℕ) (e : TxError) (into : List ℕ) → t.own ≡ s.own → IsRefused {T = Unit {0}} (access_answer A s block) IsReadCause (Err e) → IsTx (shown s.own)
       → Looked (seen_by A before s 0 false) (seen_by A before t (failures_in (Err e)) (down_in (Err e))) block (Err e) into
   looked_err s t block e into same cause limits = record {
     bytes = tt;
@@ -96,11 +96,11 @@ module _ {D O : Type 0} (A : Start) (before : Option (Session D O)) where
         (λ f is here. subst (λ g. IsFree first_device (after_read g) f) (sym here) (read_free f is)) cause;
     later = later_first (after_read (Err e));
     passed = none_failed e;
-    limits = limits_same (own s) (own t) same limits;
+    limits = limits_same s.own t.own same limits;
   }
 
-  looked_ok : (s t was : Session D O) (refused : Option (ℕ × Cause)) (v : Visited A was s refused) (block : ℕ) (into : List ℕ) (done : Unit {0}) → before ≡ Some was → IsSession A was → IsRefused (access_answer A s block) IsReadCause (Ok done)
-      → HasRead A s block (Ok done) into t → length into ≡ A.world.geometry.block → IsTx (shown (own s)) → Looked (seen_by A before s 0 false) (seen_by A before t 0 false) block (Ok done) into
+  looked_ok : (s t was : SessionState) (refused : Option (ℕ × Cause)) (v : Visited A was s refused) (block : ℕ) (into : List ℕ) (done : Unit {0}) → before ≡ Some was → HasItsBegin A was → IsRefused (access_answer A s block) IsReadCause (Ok done)
+      → HasRead A s block (Ok done) into t → length into ≡ A.world.geometry.block → IsTx (shown s.own) → Looked (seen_by A before s 0 false) (seen_by A before t 0 false) block (Ok done) into
   looked_ok s t was refused v block into done is first cause did size limits =
       let may = may_access IsReadCause done (tx_on A s None) block cause in
       let told = told_by A was s t refused v did.0 block did.3 into first did.1 did.4 may.0 size in
@@ -108,91 +108,89 @@ module _ {D O : Type 0} (A : Start) (before : Option (Session D O)) where
         bytes = λ B base.
             let at : did.3 ≡ block_at B block = told B (sym (ap (base_of A) is) ∙ base) in
             did.4.laid B (sym at) ∙ ap (λ w. block_at (effect.own B (accesses_of w)) block) (sym did.1);
-        read = shown_more (own s) (own t) did.0 (read_access block) did.1 did.2;
+        read = shown_more s.own t.own did.0 (read_access block) did.1 did.2;
         kept = tt;
         cause = refused_as (access_answer A s block) IsReadCause (IsFree first_device first_device) (Ok done) (λ f is here. absurd (no_error done f here)) cause;
         later = later_first first_device;
         passed = λ other. refl;
-        limits = limits_of (own s) (own t) (few_more (own s) (own t) did.0 (read_access block) did.1 did.2 may.1) limits;
+        limits = limits_of s.own t.own (few_more s.own t.own did.0 (read_access block) did.1 did.2 may.1) limits;
       }
 
   -- a read that is made, where none was refused yet
-  pub record Fetched (s t : Session D O) (block : ℕ) (r : Result (Unit {0}) TxError) (into : List ℕ) : Type 0 where
+  pub record Fetched (s t : SessionState) (block : ℕ) (r : Result (Unit {0}) TxError) (into : List ℕ) : Type 0 where
     pub visit : IsVisit A before t (failures_in r) (down_in r)
     pub looked : Looked (seen_by A before s 0 false) (seen_by A before t (failures_in r) (down_in r)) block r into
 
   -- one that changed nothing
-  unchanged : (s t : Session D O) (block : ℕ) (e : TxError) (into : List ℕ) → t ≡ s → IsVisit A before s (failures_in (Err e)) (down_in (Err e)) → IsRefused {T = Unit {0}} (access_answer A s block) IsReadCause (Err e) → Fetched s t block (Err e) into
+  unchanged : (s t : SessionState) (block : ℕ) (e : TxError) (into : List ℕ) → t ≡ s → IsVisit A before s (failures_in (Err e)) (down_in (Err e)) → IsRefused {T = Unit {0}} (access_answer A s block) IsReadCause (Err e) → Fetched s t block (Err e) into
   unchanged s t block e into same is cause = record {
     visit = subst (λ u. IsVisit A before u (failures_in (Err e)) (down_in (Err e))) (sym same) is;
-    looked = looked_err s t block e into (ap own same) cause is.limits;
+    looked = looked_err s t block e into (ap (λ (v : SessionState). v.own) same) cause is.limits;
   }
 
   -- no fetch was refused so far
-  sound_visit : (s : Session D O) (is : IsVisit A before s 0 false) → Visited A is.was s None
+  sound_visit : (s : SessionState) (is : IsVisit A before s 0 false) → Visited A is.was s None
   sound_visit s is = subst (Visited A is.was s) (none_refused is.refused is.failed) is.made
 
   -- one that the device refused
-  refused_by : (s t : Session D O) (block : ℕ) (e : TxError) (why : Cause) (into : List ℕ) (o : Own) → IsVisit A before s 0 false → IsSession A t → own s ≡ Some o → own t ≡ Some o
+  refused_by : (s t : SessionState) (block : ℕ) (e : TxError) (why : Cause) (into : List ℕ) (o : Own) → IsVisit A before s 0 false → s.own ≡ Some o → t.own ≡ Some o
       → Made A s t (entry.Refused (call.Fetch o.number block) why)
       → Failed (Some (block, why)) (failures_in (Err e)) (down_in (Err e)) → IsRefused {T = Unit {0}} (access_answer A s block) IsReadCause (Err e) → Fetched s t block (Err e) into
-  refused_by s t block e why into o is session was now made failed cause = record {
+  refused_by s t block e why into o is was now made failed cause = record {
     visit = record {
       was = is.was;
       is = is.is;
-      first = is.first;
-      session = session;
+      begun = is.begun;
       refused = Some (block, why);
       made = visit_refused A is.was s t (sound_visit s is) o block why was now made;
       failed = failed;
-      limits = limits_same (own s) (own t) (now ∙ sym was) is.limits;
+      limits = limits_same s.own t.own (now ∙ sym was) is.limits;
     };
     looked = looked_err s t block e into (now ∙ sym was) cause is.limits;
   }
 
-  pub fetched : (s t : Session D O) (block : ℕ) (r : Result (Unit {0}) TxError) (into : List ℕ) → IsVisit A before s 0 false → IsSession A t → IsRefused (access_answer A s block) IsReadCause r → HasRead A s block r into t
+  pub fetched : (s t : SessionState) (block : ℕ) (r : Result (Unit {0}) TxError) (into : List ℕ) → IsVisit A before s 0 false → IsRefused (access_answer A s block) IsReadCause r → HasRead A s block r into t
       → length into ≡ A.world.geometry.block → Fetched s t block r into
-  fetched s t block (Ok done) into is session because did size =
-      let looked = looked_ok s t is.was None (sound_visit s is) block into done is.is is.first because did size is.limits in
+  fetched s t block (Ok done) into is because did size =
+      let looked = looked_ok s t is.was None (sound_visit s is) block into done is.is is.begun because did size is.limits in
       let may = may_access IsReadCause done (tx_on A s None) block because in
       record {
         visit = record {
           was = is.was;
           is = is.is;
-          first = is.first;
-          session = session;
+          begun = is.begun;
           refused = None;
           made = visit_fetched A is.was s t (sound_visit s is) did.0 (read_access block) did.3 did.1 did.2 refl did.4.made
-              (told_by A is.was s t None (sound_visit s is) did.0 block did.3 into is.first did.1 did.4 may.0 size);
+              (told_by A is.was s t None (sound_visit s is) did.0 block did.3 into is.begun did.1 did.4 may.0 size);
           failed = (refl, refl);
           limits = looked.limits;
         };
         looked = looked;
       }
-  fetched s t block (Err error.Down) into is session because did size =
-      refused_by s t block error.Down cause.Down into did.0 is session did.1 did.2 did.3 (refl, refl) because
-  fetched s t block (Err error.Disk) into is session because did size =
-      refused_by s t block error.Disk (cause.Disk did.3 did.4) into did.0 is session did.1 did.2 did.5 (omega arith, refl) because
-  fetched s t block (Err error.BadBlock) into is session because did size = unchanged s t block error.BadBlock into did is because
-  fetched s t block (Err error.BadRange) into is session because did size = unchanged s t block error.BadRange into did is because
-  fetched s t block (Err error.NoAccess) into is session because did size = unchanged s t block error.NoAccess into did is because
-  fetched s t block (Err error.TooManyMarks) into is session because did size = unchanged s t block error.TooManyMarks into did is because
-  fetched s t block (Err error.TooManyAccesses) into is session because did size = unchanged s t block error.TooManyAccesses into did is because
-  fetched s t block (Err error.Memory) into is session because did size = unchanged s t block error.Memory into did is because
-  fetched s t block (Err error.NotInTx) into is session because did size = unchanged s t block error.NotInTx into did is because
+  fetched s t block (Err error.Down) into is because did size =
+      refused_by s t block error.Down cause.Down into did.0 is did.1 did.2 did.3 (refl, refl) because
+  fetched s t block (Err error.Disk) into is because did size =
+      refused_by s t block error.Disk (cause.Disk did.3 did.4) into did.0 is did.1 did.2 did.5 (omega arith, refl) because
+  fetched s t block (Err error.BadBlock) into is because did size = unchanged s t block error.BadBlock into did is because
+  fetched s t block (Err error.BadRange) into is because did size = unchanged s t block error.BadRange into did is because
+  fetched s t block (Err error.NoAccess) into is because did size = unchanged s t block error.NoAccess into did is because
+  fetched s t block (Err error.TooManyMarks) into is because did size = unchanged s t block error.TooManyMarks into did is because
+  fetched s t block (Err error.TooManyAccesses) into is because did size = unchanged s t block error.TooManyAccesses into did is because
+  fetched s t block (Err error.Memory) into is because did size = unchanged s t block error.Memory into did is because
+  fetched s t block (Err error.NotInTx) into is because did size = unchanged s t block error.NotInTx into did is because
 
   -- the same where the counts are told otherwise
   sound_counts : (failures : ℕ) (is_down : Bool) → failed_in (record { faults = failures; is_down = is_down }) ≡ false → (failures ≡ 0) × (is_down ≡ false)
   sound_counts failures true never = absurd (cc never)
   sound_counts failures false sound = (grind (arith, nat_tests), refl)
 
-  pub tried : (s t : Session D O) (failures : ℕ) (is_down : Bool) (count : ℕ) (fell : Bool) (old : Seen) (block : ℕ) (r : Result (Unit {0}) TxError) (into : List ℕ) → seen_by A before s failures is_down ≡ old
-      → failed_in old.device ≡ false → IsVisit A before s failures is_down → IsSession A t → IsRefused (access_answer A s block) IsReadCause r → HasRead A s block r into t → length into ≡ A.world.geometry.block
+  pub tried : (s t : SessionState) (failures : ℕ) (is_down : Bool) (count : ℕ) (fell : Bool) (old : Seen) (block : ℕ) (r : Result (Unit {0}) TxError) (into : List ℕ) → seen_by A before s failures is_down ≡ old
+      → failed_in old.device ≡ false → IsVisit A before s failures is_down → IsRefused (access_answer A s block) IsReadCause r → HasRead A s block r into t → length into ≡ A.world.geometry.block
       → count ≡ failures_in r → fell ≡ down_in r → IsVisit A before t count fell × Looked old (seen_by A before t count fell) block r into
-  tried s t failures is_down count fell old block r into is sound visit session because did size counts falls =
+  tried s t failures is_down count fell old block r into is sound visit because did size counts falls =
       let none = sound_counts failures is_down (ap (λ (v : Seen). failed_in v.device) is ∙ sound) in
       let first : IsVisit A before s 0 false = subst (λ b. IsVisit A before s 0 b) none.1 (subst (λ (n : ℕ). IsVisit A before s n is_down) none.0 visit) in
-      let f : Fetched s t block r into = fetched s t block r into first session because did size in
+      let f : Fetched s t block r into = fetched s t block r into first because did size in
       let same : seen_by A before s 0 false ≡ old = sym (λ i. seen_by A before s (none.0 i) (none.1 i)) ∙ is in (
         subst (λ b. IsVisit A before t count b) (sym falls) (subst (λ (n : ℕ). IsVisit A before t n (down_in r)) (sym counts) f.visit),
         subst (λ (v : Seen). Looked v (seen_by A before t count fell) block r into) same
@@ -201,13 +199,12 @@ module _ {D O : Type 0} (A : Start) (before : Option (Session D O)) where
       )
 
   -- a visit that goes on without an entry
-  pub rested_visit : (s t : Session D O) (failures : ℕ) (is_down : Bool) (o : Own) (l : List Access) (is : IsVisit A before s failures is_down) → IsSession A t → own s ≡ Some o → own t ≡ Some (record o { accesses = l })
-      → blocks_read l ≡ blocks_read o.accesses → Rested s t → IsTx (shown (own t)) → IsVisit A before t failures is_down
-  rested_visit s t failures is_down o l is session was now same rested limits = record {
+  pub rested_visit : (s t : SessionState) (failures : ℕ) (is_down : Bool) (o : Own) (l : List Access) (is : IsVisit A before s failures is_down) → s.own ≡ Some o → t.own ≡ Some (record o { accesses = l })
+      → blocks_read l ≡ blocks_read o.accesses → Rested s t → IsTx (shown t.own) → IsVisit A before t failures is_down
+  rested_visit s t failures is_down o l is was now same rested limits = record {
     was = is.was;
     is = is.is;
-    first = is.first;
-    session = session;
+    begun = is.begun;
     refused = is.refused;
     made = visit_rested A is.was s t is.refused is.made o l was now same rested;
     failed = is.failed;
@@ -215,50 +212,50 @@ module _ {D O : Type 0} (A : Start) (before : Option (Session D O)) where
   }
 
   -- what a write or a mark leaves
-  pub record Changed (s t : Session D O) (failures : ℕ) (is_down : Bool) (P : Type 0) : Type 0 where
+  pub record Changed (s t : SessionState) (failures : ℕ) (is_down : Bool) (P : Type 0) : Type 0 where
     pub visit : IsVisit A before t failures is_down
     pub seen : P
 
-  pub wrote : (s t : Session D O) (failures : ℕ) (is_down : Bool) (block : ℕ) (bytes : List ℕ) (r : Result (Unit {0}) TxError) (is : IsVisit A before s failures is_down) → IsSession A t
+  pub wrote : (s t : SessionState) (failures : ℕ) (is_down : Bool) (block : ℕ) (bytes : List ℕ) (r : Result (Unit {0}) TxError) (is : IsVisit A before s failures is_down)
       → IsRefused (access_answer A s block) IsWriteCause r → HasWritten s block bytes r t
       → Changed s t failures is_down (Wrote (seen_by A before s failures is_down) (seen_by A before t failures is_down) block bytes r)
-  wrote s t failures is_down block bytes (Ok done) is session cause did =
+  wrote s t failures is_down block bytes (Ok done) is cause did =
       let may = may_access IsWriteCause done (tx_on A s None) block cause in
       let a : Access = write_access block bytes in
-      let limits = limits_of (own s) (own t) (few_more (own s) (own t) did.0 a did.1 did.2 may.1) is.limits in
+      let limits = limits_of s.own t.own (few_more s.own t.own did.0 a did.1 did.2 may.1) is.limits in
       record {
-        visit = rested_visit s t failures is_down did.0 (did.0.accesses ++ a ∷ []) is session did.1 did.2 (blocks_append did.0.accesses (a ∷ []) ∙ append-nil (blocks_read did.0.accesses)) did.3 limits;
+        visit = rested_visit s t failures is_down did.0 (did.0.accesses ++ a ∷ []) is did.1 did.2 (blocks_append did.0.accesses (a ∷ []) ∙ append-nil (blocks_read did.0.accesses)) did.3 limits;
         seen = record {
-          written = shown_more (own s) (own t) did.0 a did.1 did.2;
+          written = shown_more s.own t.own did.0 a did.1 did.2;
           kept = tt;
           cause = cause;
           device = refl;
           limits = limits;
         };
       }
-  wrote s t failures is_down block bytes (Err e) is session cause did = record {
+  wrote s t failures is_down block bytes (Err e) is cause did = record {
     visit = subst (λ u. IsVisit A before u failures is_down) (sym did) is;
     seen = record {
       written = tt;
-      kept = ap (λ u. shown (own u)) did;
+      kept = ap (λ u. shown u.own) did;
       cause = cause;
       device = refl;
-      limits = limits_same (own s) (own t) (ap own did) is.limits;
+      limits = limits_same s.own t.own (ap (λ (v : SessionState). v.own) did) is.limits;
     };
   }
 
-  pub marked_by : (s t : Session D O) (failures : ℕ) (is_down : Bool) (off len : ℕ) (r : Result (Unit {0}) TxError) (is : IsVisit A before s failures is_down) → IsSession A t
+  pub marked_by : (s t : SessionState) (failures : ℕ) (is_down : Bool) (off len : ℕ) (r : Result (Unit {0}) TxError) (is : IsVisit A before s failures is_down)
       → IsRefused (mark_answer A s off len) (λ e. ⊥) r → HasMarked s off len r t
       → Changed s t failures is_down (Marked (seen_by A before s failures is_down) (seen_by A before t failures is_down) off len r)
-  marked_by s t failures is_down off len (Ok done) is session cause did =
+  marked_by s t failures is_down off len (Ok done) is cause did =
       let span = span_at off len in
       let l : List Access = marked span did.0.accesses in
-      let count : length (accesses_of (own t)) ≡ length (accesses_of (own s)) =
+      let count : length (accesses_of t.own) ≡ length (accesses_of s.own) =
       ap (λ w. length (accesses_of w)) did.2 ∙ length-marked span did.0.accesses ∙ sym (ap (λ w. length (accesses_of w)) did.1) in
-      let few : length (accesses_of (own s)) ≤ 4096 = is.limits.count in
-      let limits = limits_of (own s) (own t) (omega (arith, count, few)) is.limits in
+      let few : length (accesses_of s.own) ≤ 4096 = is.limits.count in
+      let limits = limits_of s.own t.own (omega (arith, count, few)) is.limits in
       record {
-        visit = rested_visit s t failures is_down did.0 l is session did.1 did.2 (blocks_marked span did.0.accesses) did.3 limits;
+        visit = rested_visit s t failures is_down did.0 l is did.1 did.2 (blocks_marked span did.0.accesses) did.3 limits;
         seen = record {
           marked = ap shown did.2 ∙ sym (ap (λ w. (let v : Tx = record (shown w) { accesses = marked span (shown w).accesses } in v)) did.1);
           kept = tt;
@@ -267,14 +264,14 @@ module _ {D O : Type 0} (A : Start) (before : Option (Session D O)) where
           limits = limits;
         };
       }
-  marked_by s t failures is_down off len (Err e) is session cause did = record {
+  marked_by s t failures is_down off len (Err e) is cause did = record {
     visit = subst (λ u. IsVisit A before u failures is_down) (sym did) is;
     seen = record {
       marked = tt;
-      kept = ap (λ u. shown (own u)) did;
+      kept = ap (λ u. shown u.own) did;
       cause = cause;
       device = refl;
-      limits = limits_same (own s) (own t) (ap own did) is.limits;
+      limits = limits_same s.own t.own (ap (λ (v : SessionState). v.own) did) is.limits;
     };
   }
 
@@ -287,13 +284,12 @@ module _ {D O : Type 0} (A : Start) (before : Option (Session D O)) where
   raised (Some (b, cause.Disk earlier now)) failures count false fell up rose later failed = (omega (arith, later, failed.0), refl)
   raised (Some (b, why)) failures count false fell up rose later failed = failed
 
-  pub failed_again : (s : Session D O) (failures count : ℕ) (is_down : Bool) (old : Seen) → seen_by A before s failures is_down ≡ old → failed_in old.device ≡ true → is_down ≡ false → Rose failures count → failures ≤ count
+  pub failed_again : (s : SessionState) (failures count : ℕ) (is_down : Bool) (old : Seen) → seen_by A before s failures is_down ≡ old → failed_in old.device ≡ true → is_down ≡ false → Rose failures count → failures ≤ count
       → IsVisit A before s failures is_down → IsVisit A before s count is_down
   failed_again s failures count is_down old view fell up rose later is = record {
     was = is.was;
     is = is.is;
-    first = is.first;
-    session = is.session;
+    begun = is.begun;
     refused = is.refused;
     made = is.made;
     failed = raised is.refused failures count is_down (ap (λ (v : Seen). failed_in v.device) view ∙ fell) up rose later is.failed;

@@ -1,5 +1,5 @@
 -- What a session's own calls make of a visit: its fetches, its transaction, and what a store sees.
-use Rattle.handle_pass.proofs.{Words.{◌≡◌, ℕ, ◌<◌, Bool, true, false, cond, List, [], ◌∷◌, ◌++◌, Option, Some, None, option_map, length, map, refl, sym, ap, ◌∙◌, subst, append_assoc, arith, ForSome, map-append, append-nil, Access, Span, Array, is_write, array_at, marked, block_at, Cause, Entry, Start, state_at, Session, accesses_of, Shows, AreNext, Moves, Own, count, own, seen, IsSession, Made, Rested, Failed, KeepsOwn, Visited, base_in, begin_array, blocks_read, with_list, fetches, number_in, refusals, shaped, prefix_self, prefix_trans}, Logs.{moves_made, moves_none, moves_on, moves_rested, next_made, next_on, next_rested}, Begun.{HasBegin, array_kept, has_begin, tells_at}, Shapes.{all_snoc, block_shaped, length_laid}}
+use Rattle.handle_pass.proofs.{Words.{◌≡◌, ℕ, ◌<◌, Bool, true, false, cond, List, [], ◌∷◌, ◌++◌, Option, Some, None, option_map, length, map, refl, sym, ap, ◌∙◌, subst, append_assoc, arith, ForSome, map-append, append-nil, Access, Span, Array, is_write, array_at, marked, block_at, Cause, Entry, Start, state_at, accesses_of, Shows, AreNext, Moves, Own, count, Made, Rested, Failed, KeepsOwn, Visited, base_in, begin_array, blocks_read, with_list, fetches, number_in, refusals, shaped, prefix_self, prefix_trans, SessionState, HasBegin, HasItsBegin, IfSome}, Logs.{moves_made, moves_none, moves_on, moves_rested, next_made, next_on, next_rested}, Begun.{array_kept, tells_at}, Shapes.{all_snoc, block_shaped, length_laid}}
 use Rattle.iso_shared.specs.declared.entry.Call.TheVariants as call
 use Rattle.iso_shared.specs.declared.entry.Cause.TheVariants as cause
 use Rattle.iso_shared.specs.declared.entry.Entry.TheVariants as entry
@@ -69,43 +69,43 @@ none_refused (Some (b, cause.Down)) failed = absurd (cc failed.1)
 none_refused (Some (b, cause.Disk before now)) failed = absurd (omega (arith, failed.0))
 none_refused (Some (b, why)) failed = absurd failed
 
-module _ {D O : Type 0} (A : Start) where
+module _ (A : Start) where
   -- nothing was done yet
-  pub visit_none : (s : Session D O) → Visited A s s None
+  pub visit_none : (s : SessionState) → Visited A s s None
   visit_none s = record {
     fetched = [];
     moves = moves_none s;
-    next = (prefix_self (seen s), λ p. refl);
-    keeps = kept_itself (own s);
-    reads = sym (append-nil (blocks_read (accesses_of (own s))));
+    next = (prefix_self s.seen, λ p. refl);
+    keeps = kept_itself s.own;
+    reads = sym (append-nil (blocks_read (accesses_of s.own)));
     told = λ B is. tt;
     of = refl;
   }
 
   -- the transaction changed, and no entry was made
-  pub visit_rested : (s t u : Session D O) (refused : Option (ℕ × Cause)) (v : Visited A s t refused) (o : Own) (l : List Access) → own t ≡ Some o → own u ≡ Some (record o { accesses = l }) → blocks_read l ≡ blocks_read o.accesses → Rested t u → Visited A s u refused
+  pub visit_rested : (s t u : SessionState) (refused : Option (ℕ × Cause)) (v : Visited A s t refused) (o : Own) (l : List Access) → t.own ≡ Some o → u.own ≡ Some (record o { accesses = l }) → blocks_read l ≡ blocks_read o.accesses → Rested t u → Visited A s u refused
   visit_rested s t u refused v o l was is same rested =
-      let n : ℕ = number_in (own s) in
+      let n : ℕ = number_in s.own in
       let es : List Entry = fetches n v.fetched ++ refusals n refused in
       record {
         fetched = v.fetched;
         moves = subst (Moves s u) (append-nil es) (moves_on s t u es [] v.moves (moves_rested t u rested));
-        next = subst (λ (xs : List Entry). AreNext A (seen s) (count s) xs (seen u) (count u)) (append-nil es)
-            (next_on A (seen s) (seen t) (seen u) (count s) (count t) (count u) es [] v.next (next_rested A t u rested));
-        keeps = kept_on (own s) (own t) (own u) v.keeps (kept_with (own t) (own u) o l was is);
+        next = subst (λ (xs : List Entry). AreNext A s.seen (count s) xs u.seen (count u)) (append-nil es)
+            (next_on A s.seen t.seen u.seen (count s) (count t) (count u) es [] v.next (next_rested A t u rested));
+        keeps = kept_on s.own t.own u.own v.keeps (kept_with t.own u.own o l was is);
         reads = ap (λ w. blocks_read (accesses_of w)) is ∙ same ∙ sym (ap (λ w. blocks_read (accesses_of w)) was) ∙ v.reads;
         told = v.told;
         of = rested.of ∙ v.of;
       }
 
   -- one fetch more
-  pub visit_fetched : (s t u : Session D O) (v : Visited A s t None) (o : Own) (a : Access) (bytes : List ℕ) → own t ≡ Some o → own u ≡ Some (record o { accesses = o.accesses ++ a ∷ [] }) → is_write a ≡ false
+  pub visit_fetched : (s t u : SessionState) (v : Visited A s t None) (o : Own) (a : Access) (bytes : List ℕ) → t.own ≡ Some o → u.own ≡ Some (record o { accesses = o.accesses ++ a ∷ [] }) → is_write a ≡ false
       → Made A t u (entry.Fetch o.number a.block bytes) → ForSome (base_in A s) (λ B. bytes ≡ block_at B a.block) → Visited A s u None
   visit_fetched s t u v o a bytes was is read made told =
-      let n : ℕ = number_in (own s) in
+      let n : ℕ = number_in s.own in
       let e : Entry = entry.Fetch n a.block bytes in
       let es : List Entry = fetches n v.fetched ++ [] in
-      let number : o.number ≡ n = sym (ap number_in was) ∙ number_kept (own s) (own t) v.keeps in
+      let number : o.number ≡ n = sym (ap number_in was) ∙ number_kept s.own t.own v.keeps in
       let made' : Made A t u e = subst (λ (k : ℕ). Made A t u (entry.Fetch k a.block bytes)) number made in
       let all : es ++ e ∷ [] ≡ fetches n (v.fetched ++ (a.block, bytes) ∷ []) ++ [] =
       ap (λ l. l ++ e ∷ []) (append-nil (fetches n v.fetched))
@@ -116,53 +116,53 @@ module _ {D O : Type 0} (A : Start) where
       record {
         fetched = v.fetched ++ (a.block, bytes) ∷ [];
         moves = subst (Moves s u) all (moves_on s t u es (e ∷ []) v.moves (moves_made A t u e made'));
-        next = subst (λ (xs : List Entry). AreNext A (seen s) (count s) xs (seen u) (count u)) all
-            (next_on A (seen s) (seen t) (seen u) (count s) (count t) (count u) es (e ∷ []) v.next (next_made A t u e made'));
-        keeps = kept_on (own s) (own t) (own u) v.keeps (kept_with (own t) (own u) o (o.accesses ++ a ∷ []) was is);
+        next = subst (λ (xs : List Entry). AreNext A s.seen (count s) xs u.seen (count u)) all
+            (next_on A s.seen t.seen u.seen (count s) (count t) (count u) es (e ∷ []) v.next (next_made A t u e made'));
+        keeps = kept_on s.own t.own u.own v.keeps (kept_with t.own u.own o (o.accesses ++ a ∷ []) was is);
         reads = ap (λ w. blocks_read (accesses_of w)) is
             ∙ last
             ∙ ap (λ l. l ++ a.block ∷ []) (sym (ap (λ w. blocks_read (accesses_of w)) was) ∙ v.reads)
-            ∙ append_assoc (blocks_read (accesses_of (own s))) (map (λ f. f.0) v.fetched) (a.block ∷ [])
-            ∙ ap (λ l. blocks_read (accesses_of (own s)) ++ l) (sym (map-append (λ (f : ℕ × List ℕ). f.0) v.fetched ((a.block, bytes) ∷ [])));
+            ∙ append_assoc (blocks_read (accesses_of s.own)) (map (λ f. f.0) v.fetched) (a.block ∷ [])
+            ∙ ap (λ l. blocks_read (accesses_of s.own) ++ l) (sym (map-append (λ (f : ℕ × List ℕ). f.0) v.fetched ((a.block, bytes) ∷ [])));
         told = λ B base. all_snoc (λ (f : ℕ × List ℕ). f.1 ≡ block_at B f.0) v.fetched (a.block, bytes) (v.told B base) (told B base);
         of = made.of ∙ v.of;
       }
 
   -- a fetch was refused
-  pub visit_refused : (s t u : Session D O) (v : Visited A s t None) (o : Own) (block : ℕ) (why : Cause) → own t ≡ Some o → own u ≡ Some o
+  pub visit_refused : (s t u : SessionState) (v : Visited A s t None) (o : Own) (block : ℕ) (why : Cause) → t.own ≡ Some o → u.own ≡ Some o
       → Made A t u (entry.Refused (call.Fetch o.number block) why) → Visited A s u (Some (block, why))
   visit_refused s t u v o block why was is made =
-      let n : ℕ = number_in (own s) in
+      let n : ℕ = number_in s.own in
       let e : Entry = entry.Refused (call.Fetch n block) why in
       let es : List Entry = fetches n v.fetched ++ [] in
-      let number : o.number ≡ n = sym (ap number_in was) ∙ number_kept (own s) (own t) v.keeps in
+      let number : o.number ≡ n = sym (ap number_in was) ∙ number_kept s.own t.own v.keeps in
       let made' : Made A t u e = subst (λ (k : ℕ). Made A t u (entry.Refused (call.Fetch k block) why)) number made in
       let all : es ++ e ∷ [] ≡ fetches n v.fetched ++ e ∷ [] =
       ap (λ l. l ++ e ∷ []) (append-nil (fetches n v.fetched)) in
       record {
         fetched = v.fetched;
         moves = subst (Moves s u) all (moves_on s t u es (e ∷ []) v.moves (moves_made A t u e made'));
-        next = subst (λ (xs : List Entry). AreNext A (seen s) (count s) xs (seen u) (count u)) all
-            (next_on A (seen s) (seen t) (seen u) (count s) (count t) (count u) es (e ∷ []) v.next (next_made A t u e made'));
-        keeps = kept_on (own s) (own t) (own u) v.keeps (kept_with (own t) (own u) o o.accesses was is);
+        next = subst (λ (xs : List Entry). AreNext A s.seen (count s) xs u.seen (count u)) all
+            (next_on A s.seen t.seen u.seen (count s) (count t) (count u) es (e ∷ []) v.next (next_made A t u e made'));
+        keeps = kept_on s.own t.own u.own v.keeps (kept_with t.own u.own o o.accesses was is);
         reads = ap (λ w. blocks_read (accesses_of w)) (is ∙ sym was) ∙ v.reads;
         told = v.told;
         of = made.of ∙ v.of;
       }
 
   -- the bytes of a fetch are those of the array at the begin
-  pub told_by : (s t u : Session D O) (refused : Option (ℕ × Cause)) (v : Visited A s t refused) (o : Own) (block : ℕ) (bytes into : List ℕ) → IsSession A s → own t ≡ Some o → Shows A o block t u bytes into → block < A.world.geometry.blocks
+  pub told_by : (s t u : SessionState) (refused : Option (ℕ × Cause)) (v : Visited A s t refused) (o : Own) (block : ℕ) (bytes into : List ℕ) → HasItsBegin A s → t.own ≡ Some o → Shows A o block t u bytes into → block < A.world.geometry.blocks
       → length into ≡ A.world.geometry.block → ForSome (base_in A s) (λ B. bytes ≡ block_at B block)
   told_by s t u refused v o block bytes into first was shows below size B is =
       let tells = told_base A.tells (begin_array A s) B is in
-      let begun = begun_base (own s) (λ (p : Own). shaped A.world.geometry (array_at (state_at A (seen s)).world.history p.begin)) B tells.1 in
-      let begin : begun.0.begin ≡ o.begin = sym (ap begin_in begun.1) ∙ sym (begin_kept (own s) (own t) v.keeps) ∙ ap begin_in was in
+      let begun = begun_base s.own (λ (p : Own). shaped A.world.geometry (array_at (state_at A s.seen).world.history p.begin)) B tells.1 in
+      let begin : begun.0.begin ≡ o.begin = sym (ap begin_in begun.1) ∙ sym (begin_kept s.own t.own v.keeps) ∙ ap begin_in was in
       let before : List Entry = shows.made.entered.before in
-      let X : Array = array_at (state_at A (seen s)).world.history o.begin in
-      let has : HasBegin A (seen s) o.begin = subst (HasBegin A (seen s)) begin (has_begin A s begun.0 first begun.1) in
-      let later : array_at (state_at A before).world.history o.begin ≡ X = array_kept A (seen s) before o.begin has (prefix_trans (seen s) (seen t) before v.moves.known shows.made.entered.told) in
+      let X : Array = array_at (state_at A s.seen).world.history o.begin in
+      let has : HasBegin A s.seen o.begin = subst (HasBegin A s.seen) begin (subst (λ (x : Option Own). IfSome x (λ (p : Own). HasBegin A s.seen p.begin)) begun.1 first) in
+      let later : array_at (state_at A before).world.history o.begin ≡ X = array_kept A s.seen before o.begin has (prefix_trans s.seen t.seen before v.moves.known shows.made.entered.told) in
       let at : bytes ≡ block_at X block = shows.base (tells_at A before ∙ tells.0) ∙ ap (λ (Y : Array). block_at Y block) later in
       let whole : length (block_at X block) ≡ A.world.geometry.block = sym (ap length at) ∙ length_laid block bytes into o.accesses shows.laid ∙ size in
       at ∙ sym (block_shaped A.world.geometry X block below whole)
-      ∙ ap (λ (k : ℕ). block_at (shaped A.world.geometry (array_at (state_at A (seen s)).world.history k)) block) (sym begin)
+      ∙ ap (λ (k : ℕ). block_at (shaped A.world.geometry (array_at (state_at A s.seen).world.history k)) block) (sym begin)
       ∙ ap (λ (Y : Array). block_at Y block) begun.2

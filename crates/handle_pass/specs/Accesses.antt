@@ -10,7 +10,7 @@ use Rattle.iso_shared.specs.declared.entry.Entry.TheVariants as entry
 use Rattle.iso_shared.specs.States.{Start, state_at}
 use Rattle.tx_blocks.specs.Tx.{Tx, access_refusal, mark_refusal}
 use Rattle.tx_table.specs.Work.{span_at}
-use Rattle.handle_pass.specs.{declared.session.Session.Session, Sessions.{Own, own, Made, Rested}}
+use Rattle.handle_pass.specs.Sessions.{Own, SessionState, Made, Rested}
 
 abbrev pub accesses_of : Option Own → List Access
 accesses_of None = []
@@ -29,44 +29,43 @@ IsReadCause e = (e ≡ error.Memory) ⊎ (e ≡ error.Down) ⊎ (e ≡ error.Dis
 abbrev pub IsWriteCause : TxError → Type 0
 IsWriteCause e = e ≡ error.Memory
 
-module _ {D O : Type 0} where
-  -- the session's transaction on blocks of the device, whose array is not told here
-  abbrev pub tx_on : Start → Session D O → Option (Array) → Tx
-  tx_on A s base = record { size = A.world.geometry.block; blocks = A.world.geometry.blocks; base = base; accesses = accesses_of (own s); is_open = is_some (own s) }
+-- the session's transaction on blocks of the device, whose array is not told here
+abbrev pub tx_on : Start → SessionState → Option (Array) → Tx
+tx_on A s base = record { size = A.world.geometry.block; blocks = A.world.geometry.blocks; base = base; accesses = accesses_of s.own; is_open = is_some s.own }
 
-  -- why an access to a block is refused, and why a mark, by the session's own state
-  abbrev pub access_answer : Start → Session D O → (block : ℕ) → Option TxError
-  access_answer A s block = access_refusal (tx_on A s None) block
+-- why an access to a block is refused, and why a mark, by the session's own state
+abbrev pub access_answer : Start → SessionState → (block : ℕ) → Option TxError
+access_answer A s block = access_refusal (tx_on A s None) block
 
-  abbrev pub mark_answer : Start → Session D O → (off len : ℕ) → Option TxError
-  mark_answer A s off len = mark_refusal (tx_on A s None) off len
+abbrev pub mark_answer : Start → SessionState → (off len : ℕ) → Option TxError
+mark_answer A s off len = mark_refusal (tx_on A s None) off len
 
-  -- The bytes that were fetched are the block's at the transaction's begin, where the disk tells them at that place of the list,
-  -- and what was read is these with the own writes over them.
-  pub record Shows (A : Start) (o : Own) (block : ℕ) (s t : Session D O) (bytes into : List ℕ) : Type 0 where
-    pub made : Made A s t (entry.Fetch o.number block bytes)
-    pub base : (state_at A made.entered.before).tells ≡ true → bytes ≡ block_at (array_at (state_at A made.entered.before).world.history o.begin) block
-    pub laid : (B : Array) → block_at B block ≡ bytes → into ≡ block_at (effect.own B o.accesses) block
+-- The bytes that were fetched are the block's at the transaction's begin, where the disk tells them at that place of the list,
+-- and what was read is these with the own writes over them.
+pub record Shows (A : Start) (o : Own) (block : ℕ) (s t : SessionState) (bytes into : List ℕ) : Type 0 where
+  pub made : Made A s t (entry.Fetch o.number block bytes)
+  pub base : (state_at A made.entered.before).tells ≡ true → bytes ≡ block_at (array_at (state_at A made.entered.before).world.history o.begin) block
+  pub laid : (B : Array) → block_at B block ≡ bytes → into ≡ block_at (effect.own B o.accesses) block
 
-  abbrev pub HasRead : (A : Start) → Session D O → (block : ℕ) → Result (Unit {0}) TxError → (into : List ℕ) → Session D O → Type 0
-  HasRead A s block (Ok done) into t =
-      (o : Own) × (own s ≡ Some o) × (own t ≡ Some (with_access o (read_access block))) × (bytes : List ℕ) × Shows A o block s t bytes into
-  HasRead A s block (Err error.Down) into t =
-      (o : Own) × (own s ≡ Some o) × (own t ≡ Some o) × Made A s t (entry.Refused (call.Fetch o.number block) cause.Down)
-  HasRead A s block (Err error.Disk) into t =
-      (o : Own) × (own s ≡ Some o) × (own t ≡ Some o) × (before : ℕ) × (now : ℕ) × Made A s t (entry.Refused (call.Fetch o.number block) (cause.Disk before now))
-  HasRead A s block (Err error.BadBlock) into t = t ≡ s
-  HasRead A s block (Err error.BadRange) into t = t ≡ s
-  HasRead A s block (Err error.NoAccess) into t = t ≡ s
-  HasRead A s block (Err error.TooManyMarks) into t = t ≡ s
-  HasRead A s block (Err error.TooManyAccesses) into t = t ≡ s
-  HasRead A s block (Err error.Memory) into t = t ≡ s
-  HasRead A s block (Err error.NotInTx) into t = t ≡ s
+abbrev pub HasRead : (A : Start) → SessionState → (block : ℕ) → Result (Unit {0}) TxError → (into : List ℕ) → SessionState → Type 0
+HasRead A s block (Ok done) into t =
+    (o : Own) × (s.own ≡ Some o) × (t.own ≡ Some (with_access o (read_access block))) × (bytes : List ℕ) × Shows A o block s t bytes into
+HasRead A s block (Err error.Down) into t =
+    (o : Own) × (s.own ≡ Some o) × (t.own ≡ Some o) × Made A s t (entry.Refused (call.Fetch o.number block) cause.Down)
+HasRead A s block (Err error.Disk) into t =
+    (o : Own) × (s.own ≡ Some o) × (t.own ≡ Some o) × (before : ℕ) × (now : ℕ) × Made A s t (entry.Refused (call.Fetch o.number block) (cause.Disk before now))
+HasRead A s block (Err error.BadBlock) into t = t ≡ s
+HasRead A s block (Err error.BadRange) into t = t ≡ s
+HasRead A s block (Err error.NoAccess) into t = t ≡ s
+HasRead A s block (Err error.TooManyMarks) into t = t ≡ s
+HasRead A s block (Err error.TooManyAccesses) into t = t ≡ s
+HasRead A s block (Err error.Memory) into t = t ≡ s
+HasRead A s block (Err error.NotInTx) into t = t ≡ s
 
-  abbrev pub HasWritten : Session D O → (block : ℕ) → (bytes : List ℕ) → Result (Unit {0}) TxError → Session D O → Type 0
-  HasWritten s block bytes (Ok done) t = (o : Own) × (own s ≡ Some o) × (own t ≡ Some (with_access o (write_access block bytes))) × Rested s t
-  HasWritten s block bytes (Err e) t = t ≡ s
+abbrev pub HasWritten : SessionState → (block : ℕ) → (bytes : List ℕ) → Result (Unit {0}) TxError → SessionState → Type 0
+HasWritten s block bytes (Ok done) t = (o : Own) × (s.own ≡ Some o) × (t.own ≡ Some (with_access o (write_access block bytes))) × Rested s t
+HasWritten s block bytes (Err e) t = t ≡ s
 
-  abbrev pub HasMarked : Session D O → (off len : ℕ) → Result (Unit {0}) TxError → Session D O → Type 0
-  HasMarked s off len (Ok done) t = (o : Own) × (own s ≡ Some o) × (own t ≡ Some (with_mark o off len)) × Rested s t
-  HasMarked s off len (Err e) t = t ≡ s
+abbrev pub HasMarked : SessionState → (off len : ℕ) → Result (Unit {0}) TxError → SessionState → Type 0
+HasMarked s off len (Ok done) t = (o : Own) × (s.own ≡ Some o) × (t.own ≡ Some (with_mark o off len)) × Rested s t
+HasMarked s off len (Err e) t = t ≡ s

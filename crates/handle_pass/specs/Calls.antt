@@ -6,7 +6,7 @@ use Rattle.iso_shared.specs.declared.entry.Call.TheVariants as call
 use Rattle.iso_shared.specs.{declared.entry.Entry.Entry, Ports.most_steps, States.Start, Told.cause_of}
 use Rattle.iso_shared.specs.declared.entry.Entry.TheVariants as entry
 use Rattle.turn_lock.specs.{declared.view.View.View, Lists.times}
-use Rattle.handle_pass.specs.{declared.errors.BeginError.BeginError, declared.errors.EndError.EndError, declared.session.Session.Session, Sessions.{Own, checked, count, own, seen, Entered, KeepsTx, Made}}
+use Rattle.handle_pass.specs.{declared.errors.BeginError.BeginError, declared.errors.EndError.EndError, Sessions.{Own, SessionState, count, Entered, KeepsTx, Made}}
 use Rattle.handle_pass.specs.declared.errors.BeginError.TheVariants as begin
 use Rattle.handle_pass.specs.declared.errors.EndError.TheVariants as end
 
@@ -20,46 +20,46 @@ left_by error.Memory o = Some o
 left_by (error.Worn at) o = Some o
 left_by error.ModeFixed o = Some o
 
-module _ {D O : Type 0} (A : Start) where
-  abbrev pub HasBegun : Session D O → Option Mode → Result ℕ BeginError → Session D O → Type 0
+module _ (A : Start) where
+  abbrev pub HasBegun : SessionState → Option Mode → Result ℕ BeginError → SessionState → Type 0
   HasBegun s named (Ok at) t =
-      (own s ≡ None) × (n : ℕ) × (mode : Mode) × Made A s t (entry.Begin n at mode) × (mode ≡ mode_named A.world named)
-      × (own t ≡ Some (record { number = n; begin = at; mode = mode; accesses = [] }))
-  HasBegun s named (Err begin.InTx) t = IsSome (own s) × (t ≡ s)
+      (s.own ≡ None) × (n : ℕ) × (mode : Mode) × Made A s t (entry.Begin n at mode) × (mode ≡ mode_named A.world named)
+      × (t.own ≡ Some (record { number = n; begin = at; mode = mode; accesses = [] }))
+  HasBegun s named (Err begin.InTx) t = IsSome s.own × (t ≡ s)
   HasBegun s named (Err (begin.Core e)) t =
-      (own s ≡ None) × (own t ≡ None) × (before : ℕ) × (now : ℕ) × Made A s t (entry.Refused (call.Begin named) (cause_of before now e))
+      (s.own ≡ None) × (t.own ≡ None) × (before : ℕ) × (now : ℕ) × Made A s t (entry.Refused (call.Begin named) (cause_of before now e))
 
   -- why a check that asked for the later commits is refused: the device does, or memory was wanting to compare
-  abbrev pub IsCheckCause : (s t : Session D O) → Own → CoreError → Type 0
+  abbrev pub IsCheckCause : (s t : SessionState) → Own → CoreError → Type 0
   IsCheckCause s t o e =
       ((before : ℕ) × (now : ℕ) × Made A s t (entry.Refused (call.Recent o.number) (cause_of before now e)))
       ⊎ ((e ≡ error.Memory) × (upto : ℕ) × Made A s t (entry.Recent o.number upto))
 
-  abbrev pub HasChecked : Session D O → Result ℕ EndError → Session D O → Type 0
-  HasChecked s (Ok upto) t = (o : Own) × (own s ≡ Some o) × (own t ≡ Some o) × (checked t ≡ upto) × Made A s t (entry.Recent o.number upto)
-  HasChecked s (Err end.NotInTx) t = (own s ≡ None) × (t ≡ s)
-  HasChecked s (Err (end.Core e)) t = (o : Own) × (own s ≡ Some o) × KeepsTx s t × IsCheckCause s t o e
+  abbrev pub HasChecked : SessionState → Result ℕ EndError → SessionState → Type 0
+  HasChecked s (Ok upto) t = (o : Own) × (s.own ≡ Some o) × (t.own ≡ Some o) × (t.checked ≡ upto) × Made A s t (entry.Recent o.number upto)
+  HasChecked s (Err end.NotInTx) t = (s.own ≡ None) × (t ≡ s)
+  HasChecked s (Err (end.Core e)) t = (o : Own) × (s.own ≡ Some o) × KeepsTx s t × IsCheckCause s t o e
 
   -- the end took at most a step for each commit above those that were compared ahead: a step is a commit looked at
-  abbrev pub TookFew : (s t : Session D O) → (e : Entry) → Made A s t e → (old new : ℕ) → Type 0
-  TookFew s t e made old new = new ≤ old + most_steps A made.entered.before (checked s)
+  abbrev pub TookFew : (s t : SessionState) → (e : Entry) → Made A s t e → (old new : ℕ) → Type 0
+  TookFew s t e made old new = new ≤ old + most_steps A made.entered.before s.checked
 
-  abbrev pub HasEnded : Session D O → (old : ℕ) → Result EndReply EndError → Session D O → (new : ℕ) → Type 0
+  abbrev pub HasEnded : SessionState → (old : ℕ) → Result EndReply EndError → SessionState → (new : ℕ) → Type 0
   HasEnded s old (Ok reply) t new =
-      (o : Own) × (own s ≡ Some o) × (own t ≡ None) × (made : Made A s t (entry.End o.number o.accesses reply)) × TookFew s t _ made old new
-  HasEnded s old (Err end.NotInTx) t new = (own s ≡ None) × (t ≡ s) × (new ≡ old)
+      (o : Own) × (s.own ≡ Some o) × (t.own ≡ None) × (made : Made A s t (entry.End o.number o.accesses reply)) × TookFew s t _ made old new
+  HasEnded s old (Err end.NotInTx) t new = (s.own ≡ None) × (t ≡ s) × (new ≡ old)
   HasEnded s old (Err (end.Core e)) t new =
-      (o : Own) × (own s ≡ Some o) × (own t ≡ left_by e o) × (before : ℕ) × (now : ℕ)
+      (o : Own) × (s.own ≡ Some o) × (t.own ≡ left_by e o) × (before : ℕ) × (now : ℕ)
       × (made : Made A s t (entry.Refused (call.End o.number o.accesses) (cause_of before now e))) × TookFew s t _ made old new
 
-  abbrev pub HasAborted : Session D O → Result (Unit {0}) NotInTx → Session D O → Type 0
-  HasAborted s (Ok done) t = (o : Own) × (own s ≡ Some o) × (own t ≡ None) × Made A s t (entry.Abort o.number)
-  HasAborted s (Err never) t = (own s ≡ None) × (t ≡ s)
+  abbrev pub HasAborted : SessionState → Result (Unit {0}) NotInTx → SessionState → Type 0
+  HasAborted s (Ok done) t = (o : Own) × (s.own ≡ Some o) × (t.own ≡ None) × Made A s t (entry.Abort o.number)
+  HasAborted s (Err never) t = (s.own ≡ None) × (t ≡ s)
 
   -- the session has ended, and its port knows this: a transaction that it still had was aborted
-  abbrev pub EndsWith : Session D O → Option Own → View Entry → Type 0
-  EndsWith s None v = (v.seen ≡ seen s) × ((p : ℕ) → times p v.mine ≡ count s p)
-  EndsWith s (Some o) v = Entered A (seen s) (count s) (entry.Abort o.number) v.seen (λ p. times p v.mine)
+  abbrev pub EndsWith : SessionState → Option Own → View Entry → Type 0
+  EndsWith s None v = (v.seen ≡ s.seen) × ((p : ℕ) → times p v.mine ≡ count s p)
+  EndsWith s (Some o) v = Entered A s.seen (count s) (entry.Abort o.number) v.seen (λ p. times p v.mine)
 
-  abbrev pub HasFinished : Session D O → View Entry → Type 0
-  HasFinished s v = EndsWith s (own s) v
+  abbrev pub HasFinished : SessionState → View Entry → Type 0
+  HasFinished s v = EndsWith s s.own v

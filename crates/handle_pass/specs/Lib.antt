@@ -1,4 +1,6 @@
 pub mod Sessions
+pub mod Inside
+pub mod Held
 pub mod Calls
 pub mod Accesses
 pub mod Handles

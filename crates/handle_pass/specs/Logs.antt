@@ -4,7 +4,7 @@ use mathlib.Core.List.{IsPrefix}
 use Rattle.iso_shared.specs.{declared.entry.Entry.Entry, Legal.IsLegal, States.Start}
 use Rattle.iso_shared.specs.declared.entry.Entry.TheVariants as entry
 use Rattle.turn_lock.specs.{declared.view.View.View, Lists.{hit, times, AllBelow, RisesFrom}}
-use Rattle.handle_pass.specs.{declared.session.Session.Session, Sessions.{count, seen, units}}
+use Rattle.handle_pass.specs.Sessions.{SessionState, count}
 
 -- the entries at these places
 abbrev pub entries_at : List Entry → List ℕ → List Entry
@@ -19,18 +19,18 @@ pub record Log (count : ℕ → ℕ) (E F : List Entry) : Type 0 where
   pub reads : entries_at E places ≡ F
 
 -- from the one state to the other the session made these entries, behind all others of its own
-pub record Moves {D O : Type 0} (s t : Session D O) (es : List Entry) : Type 0 where
-  pub known : IsPrefix (seen s) (seen t)
-  pub log : (F : List Entry) → Log (count s) (seen s) F → Log (count t) (seen t) (F ++ es)
-  pub units : units t ≡ units s
+pub record Moves (s t : SessionState) (es : List Entry) : Type 0 where
+  pub known : IsPrefix s.seen t.seen
+  pub log : (F : List Entry) → Log (count s) s.seen F → Log (count t) t.seen (F ++ es)
+  pub units : t.units ≡ s.units
 
 -- how often a place is the session's own, or that of a port that was split off it
-abbrev pub count_with : {D O : Type 0} → Session D O → View Entry → ℕ → ℕ
+abbrev pub count_with : SessionState → View Entry → ℕ → ℕ
 count_with s v p = count s p + times p v.mine
 
 -- Through a port that was split off the session, which stayed as it was, these entries were made from the one view to the other,
 -- behind all others of the two.
-pub record MovesThrough {D O : Type 0} (s : Session D O) (v w : View Entry) (es : List Entry) : Type 0 where
+pub record MovesThrough (s : SessionState) (v w : View Entry) (es : List Entry) : Type 0 where
   pub known : IsPrefix v.seen w.seen
   pub log : (F : List Entry) → Log (count_with s v) v.seen F → Log (count_with s w) w.seen (F ++ es)
 

@@ -1,12 +1,12 @@
 -- A session while calls are made on its transaction: what was fetched since the first of them, and what it saw.
-use Rattle.std.specs.{Prelude.{◌≡◌, ℕ, ◌<◌, Bool, true, false, cond, List, [], ◌∷◌, ◌++◌, Option, Some, None, map, option_map, slice_index}, List.{AllByRecursion, range_with_len}, Option.ForSome}
-use Rattle.iso_model.specs.{declared.access.Access.Access, declared.access.Geometry.Geometry, Array.Array, Effect.is_write, History.array_at, Premises.block_at}
+use Rattle.std.specs.{Prelude.{◌≡◌, ℕ, ◌<◌, ◌≤◌, Bool, true, false, cond, List, [], ◌∷◌, ◌++◌, Option, Some, None, IfSome, map, option_map, slice_index}, List.{AllByRecursion, range_with_len}, Option.ForSome}
+use Rattle.iso_model.specs.{declared.access.Access.Access, declared.access.Geometry.Geometry, Array.Array, Effect.is_write, History.{array_at, last}, Premises.block_at}
 use Rattle.iso_shared.specs.declared.entry.Call.TheVariants as call
 use Rattle.iso_shared.specs.{declared.entry.Cause.Cause, declared.entry.Entry.Entry, States.{Start, state_at}}
 use Rattle.iso_shared.specs.declared.entry.Cause.TheVariants as cause
 use Rattle.iso_shared.specs.declared.entry.Entry.TheVariants as entry
 use Rattle.tx_blocks.specs.Tx.{Device, Tx, IsTx as AreLimits}
-use Rattle.handle_pass.specs.{declared.session.Session.Session, Accesses.{accesses_of, tx_on}, Logs.{AreNext, Moves}, Sessions.{Own, count, own, seen, IsSession}}
+use Rattle.handle_pass.specs.{Accesses.{accesses_of, tx_on}, Logs.{AreNext, Moves}, Sessions.{Own, SessionState, count}}
 
 -- the blocks of the geometry, each with the array's bytes: the array itself, where it has that shape
 abbrev pub shaped : Geometry → Array → Array
@@ -52,40 +52,47 @@ with_list accesses o = record o { accesses = accesses }
 abbrev pub KeepsOwn : (before now : Option Own) → Type 0
 KeepsOwn before now = now ≡ option_map (with_list (accesses_of now)) before
 
-module _ {D O : Type 0} where
-  -- the array at the begin of the session's transaction, by what the session has seen
-  abbrev pub begin_array : Start → Session D O → Option Array
-  begin_array A s = option_map (λ o. shaped A.world.geometry (array_at (state_at A (seen s)).world.history o.begin)) (own s)
+-- a list in which a transaction with this begin has begun
+pub record HasBegin (A : Start) (es : List Entry) (begin : ℕ) : Type 0 where
+  pub first : 0 < (state_at A es).world.history.first
+  pub within : begin ≤ last (state_at A es).world.history
 
-  -- the same, where the disk tells its bytes
-  abbrev pub base_in : Start → Session D O → Option Array
-  base_in A s = cond A.tells (begin_array A s) None
+-- what the session has seen has the begin of its transaction
+abbrev pub HasItsBegin : Start → SessionState → Type 0
+HasItsBegin A s = IfSome s.own (λ o. HasBegin A s.seen o.begin)
 
-  abbrev pub base_of : Start → Option (Session D O) → Option Array
-  base_of A None = None
-  base_of A (Some s) = base_in A s
+-- the array at the begin of the session's transaction, by what the session has seen
+abbrev pub begin_array : Start → SessionState → Option Array
+begin_array A s = option_map (λ o. shaped A.world.geometry (array_at (state_at A s.seen).world.history o.begin)) s.own
 
-  abbrev pub seen_by : Start → (before : Option (Session D O)) → (now : Session D O) → (failures : ℕ) → (is_down : Bool) → Seen
-  seen_by A before now failures is_down = record { tx = tx_on A now (base_of A before); device = record { faults = failures; is_down = is_down } }
+-- the same, where the disk tells its bytes
+abbrev pub base_in : Start → SessionState → Option Array
+base_in A s = cond A.tells (begin_array A s) None
 
-  -- From the one state to the other the session made these fetches, one for each read that came, and where one was refused that one
-  -- last. Its transaction has further accesses, and is else the same.
-  pub record Visited (A : Start) (s t : Session D O) (refused : Option (ℕ × Cause)) : Type 0 where
-    pub fetched : Fetched
-    pub moves : Moves s t (fetches (number_in (own s)) fetched ++ refusals (number_in (own s)) refused)
-    pub next : AreNext A (seen s) (count s) (fetches (number_in (own s)) fetched ++ refusals (number_in (own s)) refused) (seen t) (count t)
-    pub keeps : KeepsOwn (own s) (own t)
-    pub reads : blocks_read (accesses_of (own t)) ≡ blocks_read (accesses_of (own s)) ++ map (λ f. f.0) fetched
-    pub told : ForSome (base_in A s) (λ B. AllByRecursion (λ f. f.1 ≡ block_at B f.0) fetched)
-    pub of : t.shared ≡ s.shared
+abbrev pub base_of : Start → Option SessionState → Option Array
+base_of A None = None
+base_of A (Some s) = base_in A s
 
-  -- the session, which was so before, while calls are made on its transaction
-  pub record IsVisit (A : Start) (before : Option (Session D O)) (now : Session D O) (failures : ℕ) (is_down : Bool) : Type 0 where
-    pub was : Session D O
-    pub is : before ≡ Some was
-    pub first : IsSession A was
-    pub session : IsSession A now
-    pub refused : Option (ℕ × Cause)
-    pub made : Visited A was now refused
-    pub failed : Failed refused failures is_down
-    pub limits : AreLimits (tx_on A now (base_of A before))
+abbrev pub seen_by : Start → (before : Option SessionState) → (now : SessionState) → (failures : ℕ) → (is_down : Bool) → Seen
+seen_by A before now failures is_down = record { tx = tx_on A now (base_of A before); device = record { faults = failures; is_down = is_down } }
+
+-- From the one state to the other the session made these fetches, one for each read that came, and where one was refused that one
+-- last. Its transaction has further accesses, and is else the same.
+pub record Visited (A : Start) (s t : SessionState) (refused : Option (ℕ × Cause)) : Type 0 where
+  pub fetched : Fetched
+  pub moves : Moves s t (fetches (number_in s.own) fetched ++ refusals (number_in s.own) refused)
+  pub next : AreNext A s.seen (count s) (fetches (number_in s.own) fetched ++ refusals (number_in s.own) refused) t.seen (count t)
+  pub keeps : KeepsOwn s.own t.own
+  pub reads : blocks_read (accesses_of t.own) ≡ blocks_read (accesses_of s.own) ++ map (λ f. f.0) fetched
+  pub told : ForSome (base_in A s) (λ B. AllByRecursion (λ f. f.1 ≡ block_at B f.0) fetched)
+  pub of : t.device ≡ s.device
+
+-- the session, which was so before, while calls are made on its transaction
+pub record IsVisit (A : Start) (before : Option SessionState) (now : SessionState) (failures : ℕ) (is_down : Bool) : Type 0 where
+  pub was : SessionState
+  pub is : before ≡ Some was
+  pub begun : HasItsBegin A was
+  pub refused : Option (ℕ × Cause)
+  pub made : Visited A was now refused
+  pub failed : Failed refused failures is_down
+  pub limits : AreLimits (tx_on A now (base_of A before))

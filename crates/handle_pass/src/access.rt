@@ -1,6 +1,6 @@
 // Reads, writes and marks of a session's transaction.
 ghost use Rattle.std.specs.Prelude.{◌≡◌, length};
-ghost use Rattle.handle_pass.specs.{Accesses.{access_answer, mark_answer, HasMarked, HasRead, HasWritten, IsReadCause, IsWriteCause}, Sessions.IsSession};
+ghost use Rattle.handle_pass.specs.Accesses.{access_answer, mark_answer, HasMarked, HasRead, HasWritten, IsReadCause, IsWriteCause};
 ghost use Rattle.tx_blocks.specs.Tx.{IsRefused};
 
 use crate::session::Session;
@@ -19,9 +19,7 @@ impl<'a, D: Disk + Drop, O: Origin> Session<'a, D, O> {
         block: u32,
         into: &mut [u8],
     ) -> Result<(), TxError>
-        requires session { IsSession O.start self.old }
         requires size { length into.old ≡ O.start.world.geometry.block }
-        ensures session { IsSession O.start self.new }
         ensures cause { IsRefused (access_answer O.start self.old block) IsReadCause result }
         ensures did { HasRead O.start self.old block result into.new self.new }
     {
@@ -56,9 +54,7 @@ impl<'a, D: Disk + Drop, O: Origin> Session<'a, D, O> {
 
     /// Writes a block, or those bytes of it that are marked after. It waits for nobody. Each refusal leaves all as it was.
     pub fn write_block(&mut self, block: u32, bytes: &[u8]) -> Result<(), TxError>
-        requires session { IsSession O.start self.old }
         requires size { length bytes.now ≡ O.start.world.geometry.block }
-        ensures session { IsSession O.start self.new }
         ensures cause { IsRefused (access_answer O.start self.old block) IsWriteCause result }
         ensures did { HasWritten self.old block bytes.now result self.new }
     {
@@ -83,8 +79,6 @@ impl<'a, D: Disk + Drop, O: Origin> Session<'a, D, O> {
     /// Marks a range of the last access: the first mark takes the place of the whole block, and further ones add to it. It waits for
     /// nobody, and takes no memory. Each refusal leaves all as it was.
     pub fn mark_accessed(&mut self, off: u16, len: u16) -> Result<(), TxError>
-        requires session { IsSession O.start self.old }
-        ensures session { IsSession O.start self.new }
         ensures cause { IsRefused (mark_answer O.start self.old off len) (λ e. ⊥) result }
         ensures did { HasMarked self.old off len result self.new }
     {

@@ -1,6 +1,6 @@
 // The begin of a session's transaction, its end and its abort, and the check ahead of its end.
 ghost use Rattle.std.specs.Prelude.{◌≡◌, ◌<◌, IfOk};
-ghost use Rattle.handle_pass.specs.{Calls.{HasAborted, HasBegun, HasChecked, HasEnded}, Sessions.{checked, units, IsSession}};
+ghost use Rattle.handle_pass.specs.Calls.{HasAborted, HasBegun, HasChecked, HasEnded};
 
 use crate::errors::{BeginError, EndError};
 use crate::session::{Session, attach};
@@ -13,11 +13,9 @@ use std::sync::Wait;
 impl<'a, D: Disk + Drop, O: Origin> Session<'a, D, O> {
     /// Begins a transaction in the mode that is named, or else in the image's, and answers its begin.
     pub fn begin_tx<R: Wait>(&mut self, rt: &R, mode: Option<Mode>) -> Result<u64, BeginError>
-        requires session { IsSession O.start self.old }
-        requires units { 1 < units self.old }
-        ensures session { IsSession O.start self.new }
+        requires units { 1 < self.old.units }
         ensures did { HasBegun O.start self.old mode result self.new }
-        ensures checked { IfOk result (λ at. checked self.new ≡ at) }
+        ensures checked { IfOk result (λ at. self.new.checked ≡ at) }
     {
         if self.tx.is_some() {
             return Err(BeginError::InTx);
@@ -35,8 +33,6 @@ impl<'a, D: Disk + Drop, O: Origin> Session<'a, D, O> {
     /// Compares what the transaction did with the commits since, ahead of the turn of its end, and answers up to which one.
     /// After a refusal it is attached as it was.
     pub fn check_tx<R: Wait>(&mut self, rt: &R) -> Result<u64, EndError>
-        requires session { IsSession O.start self.old }
-        ensures session { IsSession O.start self.new }
         ensures did { HasChecked O.start self.old result self.new }
     {
         match &mut self.tx {
@@ -62,8 +58,6 @@ impl<'a, D: Disk + Drop, O: Origin> Session<'a, D, O> {
         rt: &R,
         steps: &mut Steps<L>,
     ) -> Result<EndReply, EndError>
-        requires session { IsSession O.start self.old }
-        ensures session { IsSession O.start self.new }
         ensures did { HasEnded O.start self.old steps.old result self.new steps.new }
     {
         let Some(tx) = self.tx.take() else {
@@ -84,8 +78,6 @@ impl<'a, D: Disk + Drop, O: Origin> Session<'a, D, O> {
 
     /// Aborts the transaction.
     pub fn abort_tx<R: Wait>(&mut self, rt: &R) -> Result<(), NotInTx>
-        requires session { IsSession O.start self.old }
-        ensures session { IsSession O.start self.new }
         ensures did { HasAborted O.start self.old result self.new }
     {
         let Some(tx) = self.tx.take() else {

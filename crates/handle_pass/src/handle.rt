@@ -1,11 +1,12 @@
 // A transaction that goes from one session to another, without an entry of the list.
 ghost use Rattle.std.specs.Prelude.{◌≡◌};
-ghost use Rattle.handle_pass.specs.{Handles.{HasReleased, HasTakenOver, IsHandle, tx_of}, Sessions.{device, IsSession}};
+ghost use Rattle.handle_pass.specs.{Handles.{HasReleased, HasTakenOver}, Held.{IsReleased, held_state}};
 
 use crate::session::{Session, attach};
 use iso_disk::Disk;
 use iso_model::{InTx, NotInTx};
 use iso_shared::{Origin, Tx};
+use std::marker::Model;
 
 /// A transaction that no session has. It has one holder, and cannot be dropped: `takeover_tx` of a session spends it, which may then
 /// end or abort it, or `into_tx`, as a member of a group.
@@ -13,10 +14,21 @@ pub struct Handle<D: Disk + Drop, O: Origin> {
     pub(crate) tx: Tx<D, O>,
 }
 
+impl<D: Disk + Drop, O: Origin> Model for Handle<D, O> {
+    ghost use Rattle.handle_pass.specs.Held.{HandleState, IsReleased, held_state};
+
+    ghost Value = { HandleState };
+
+    ghost view = { λ h. held_state h.tx };
+
+    ghost invariant = { λ h. IsReleased O.start h.tx };
+}
+
 impl<D: Disk + Drop, O: Origin> Handle<D, O> {
     /// The transaction itself, as calls of the device take it that end a group.
     pub fn into_tx(self) -> Tx<D, O>
-        ensures { result ≡ tx_of self }
+        ensures tx { IsReleased O.start result }
+        ensures is { held_state result ≡ self }
     {
         let Handle { tx } = self;
         tx
@@ -26,9 +38,7 @@ impl<D: Disk + Drop, O: Origin> Handle<D, O> {
 impl<'a, D: Disk + Drop, O: Origin> Session<'a, D, O> {
     /// Detaches the transaction, which then knows all that the session does. It waits for nobody, and takes no memory.
     pub fn release_tx(&mut self) -> Result<Handle<D, O>, NotInTx>
-        requires session { IsSession O.start self.old }
-        ensures session { IsSession O.start self.new }
-        ensures did { HasReleased O.start self.old result self.new }
+        ensures did { HasReleased self.old result self.new }
     {
         let Some(mut tx) = self.tx.take() else {
             return Err(NotInTx);
@@ -40,9 +50,7 @@ impl<'a, D: Disk + Drop, O: Origin> Session<'a, D, O> {
     /// Attaches a transaction, and answers its begin; the session then knows all that it does. A session in a transaction hands
     /// it back. It waits for nobody, and takes no memory.
     pub fn takeover_tx(&mut self, handle: Handle<D, O>) -> Result<u64, (InTx, Handle<D, O>)>
-        requires session { IsSession O.start self.old }
-        requires handle { IsHandle O.start (device self.old) handle }
-        ensures session { IsSession O.start self.new }
+        requires device { handle.device ≡ self.old.device }
         ensures did { HasTakenOver self.old handle result self.new }
     {
         if self.tx.is_some() {

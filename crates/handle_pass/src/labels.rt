@@ -1,6 +1,6 @@
 // Transactions under labels.
 ghost use Rattle.std.specs.Prelude.{◌≡◌, ◌<◌, IfOk, IfSome};
-ghost use Rattle.handle_pass.specs.{Handles.{HasLooked, HasPosted}, Sessions.{checked, units, IsSession}};
+ghost use Rattle.handle_pass.specs.Handles.{HasLooked, HasPosted};
 ghost use Rattle.handle_pass.specs.declared.errors.PostTxError.TheVariants as TheError;
 ghost use Rattle.tx_table.specs.declared.rack.PostError.TheVariants as TheCause;
 
@@ -26,8 +26,6 @@ fn refused(error: PostError) -> PostTxError
 impl<'a, D: Disk + Drop, O: Origin> Session<'a, D, O> {
     /// Puts the transaction under a label. After a refusal it is attached as it was.
     pub fn post_tx<R: Wait>(&mut self, rt: &R, label: Label) -> Result<(), PostTxError>
-        requires session { IsSession O.start self.old }
-        ensures session { IsSession O.start self.new }
         ensures did { HasPosted O.start self.old label result self.new }
     {
         let Some(tx) = self.tx.take() else {
@@ -46,11 +44,9 @@ impl<'a, D: Disk + Drop, O: Origin> Session<'a, D, O> {
     /// Attaches the transaction under a label and answers its begin, and none exactly where the label is not held. It takes no
     /// memory.
     pub fn look_tx<R: Wait>(&mut self, rt: &R, label: &Label) -> Result<Option<u64>, InTx>
-        requires session { IsSession O.start self.old }
-        requires units { 1 < units self.old }
-        ensures session { IsSession O.start self.new }
+        requires units { 1 < self.old.units }
         ensures did { HasLooked O.start self.old label.now result self.new }
-        ensures checked { IfOk result (λ found. IfSome found (λ at. checked self.new ≡ at)) }
+        ensures checked { IfOk result (λ found. IfSome found (λ at. self.new.checked ≡ at)) }
     {
         if self.tx.is_some() {
             return Err(InTx);

@@ -1,4 +1,5 @@
-//! Sessions: a port with at most one transaction, which can be handed to another session, in another thread too.
+//! Sessions: a port with at most one transaction, which can be handed to another session, in another thread too. That a session or a
+//! handle is in order is true of each, by the invariant of its `Model`, and no clause says it.
 //!
 //! Each call says how it ended, which entries it made, and which transaction the session has then (`did`); what the session's own
 //! state refuses is exact (`cause`). A handle carries a transaction with number, begin, mode, accesses and marks; `into_tx` gives it

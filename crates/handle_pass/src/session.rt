@@ -1,11 +1,12 @@
 // The session itself.
 ghost use Rattle.std.specs.Prelude.{◌≡◌, ◌-◌, ◌≤◌, None, Some, cond, is_some, length, option_map};
 ghost use Rattle.iso_shared.specs.Ports.{IsPort, first_geometry, port_view};
-ghost use Rattle.handle_pass.specs.{Accesses.accesses_of, Calls.HasFinished, Sessions.{device, own, port_of, units, IsSession}};
+ghost use Rattle.handle_pass.specs.{Accesses.accesses_of, Calls.HasFinished, Sessions.{device_of, IsPortAt}, Visits.HasItsBegin};
 
 use iso_disk::Disk;
-use iso_model::Mode;
+use iso_model::{Geometry, Mode};
 use iso_shared::{Origin, Port, Shared, Tx};
+use std::marker::Model;
 use std::sync::Wait;
 
 /// A port, and at most one transaction. It cannot be dropped: `finish` spends it, which aborts the transaction and gives the port back.
@@ -13,6 +14,18 @@ pub struct Session<'a, D: Disk + Drop, O: Origin> {
     pub(crate) shared: &'a Shared<D, O>,
     pub(crate) port: Port<D, O>,
     pub(crate) tx: Option<Tx<D, O>>,
+}
+
+impl<'a, D: Disk + Drop, O: Origin> Model for Session<'a, D, O> {
+    ghost use Rattle.handle_pass.specs.Sessions.{SessionState};
+
+    ghost Value = { SessionState };
+
+    ghost use Rattle.handle_pass.specs.Inside.{state_of, IsSession};
+
+    ghost view = { state_of };
+
+    ghost invariant = { IsSession O.start };
 }
 
 // Puts a transaction where none is.
@@ -30,9 +43,9 @@ impl<'a, D: Disk + Drop, O: Origin> Session<'a, D, O> {
     pub fn new(shared: &'a Shared<D, O>, port: Port<D, O>) -> Session<'a, D, O>
         requires port { IsPort shared.now port }
         requires image { first_geometry shared.now ≡ O.start.world.geometry }
-        ensures session { IsSession O.start result }
-        ensures own { own result ≡ None }
-        ensures device { (device result ≡ shared.now) × (port_of result ≡ port) }
+        ensures device { result.device ≡ device_of shared.now }
+        ensures own { result.own ≡ None }
+        ensures port { (result.seen ≡ (port_view port).seen) × (result.mine ≡ (port_view port).mine) × (result.units ≡ (port_view port).units) }
     {
         Session {
             shared,
@@ -43,7 +56,7 @@ impl<'a, D: Disk + Drop, O: Origin> Session<'a, D, O> {
 
     /// The mode of the transaction, and none exactly where there is no transaction.
     pub fn mode(&self) -> Option<Mode>
-        ensures { result ≡ option_map (λ o. o.mode) (own self.now) }
+        ensures { result ≡ option_map (λ o. o.mode) self.now.own }
     {
         match &self.tx {
             None => None,
@@ -51,10 +64,28 @@ impl<'a, D: Disk + Drop, O: Origin> Session<'a, D, O> {
         }
     }
 
+    /// Whether there is a transaction.
+    pub(crate) fn has_tx(&self) -> bool
+        ensures { result ≡ is_some self.now.own }
+    {
+        match &self.tx {
+            None => false,
+            Some(_) => true,
+        }
+    }
+
+    /// The numbers of the image.
+    pub(crate) fn geometry(&self) -> Geometry
+        ensures { result ≡ O.start.world.geometry }
+    {
+        self.shared.geometry()
+    }
+
     /// How many more accesses the transaction may make; all of them where there is none.
     pub(crate) fn room(&self) -> u32
-        ensures room { result ≡ cond (is_some (own self.now)) (4096 - length (accesses_of (own self.now))) 4096 }
-        ensures few { length (accesses_of (own self.now)) ≤ 4096 }
+        ensures room { result ≡ cond (is_some self.now.own) (4096 - length (accesses_of self.now.own)) 4096 }
+        ensures few { length (accesses_of self.now.own) ≤ 4096 }
+        ensures begun { HasItsBegin O.start self.now }
     {
         match &self.tx {
             None => 4096,
@@ -64,9 +95,8 @@ impl<'a, D: Disk + Drop, O: Origin> Session<'a, D, O> {
 
     /// Aborts the transaction, where there is one, and gives the port back, with all units of the session.
     pub fn finish<R: Wait>(self, rt: &R) -> Port<D, O>
-        requires session { IsSession O.start self }
-        ensures port { IsPort (device self.entry) result }
-        ensures units { (port_view result).units ≡ units self.entry }
+        ensures port { IsPortAt self.entry.device result }
+        ensures units { (port_view result).units ≡ self.entry.units }
         ensures did { HasFinished O.start self.entry (port_view result) }
     {
         let Session {

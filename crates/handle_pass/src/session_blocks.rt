@@ -2,7 +2,7 @@
 ghost use Rattle.std.specs.Prelude.{◌≡◌, Some, IsTrue, false};
 ghost use Rattle.iso_model.specs.Geometry.{is_valid};
 ghost use Rattle.tx_blocks.specs.Tx.{IsTx};
-ghost use Rattle.handle_pass.specs.{Sessions.IsSession, Visits.seen_by};
+ghost use Rattle.handle_pass.specs.Visits.{seen_by};
 
 use crate::session::Session;
 use crate::visit::Visit;
@@ -17,7 +17,7 @@ use tx_blocks::TxBlocks;
 /// The transaction of a session, as a store sees it. Its count of faults counts those of this visit. Once a fetch was refused, each
 /// further one is refused for the same cause, and none is tried again.
 #[derive(Drop)]
-pub struct SessionBlocks<'s, 'a, D: Disk + Drop, O: Origin, R: Wait, V: Visit<D, O>> {
+pub struct SessionBlocks<'s, 'a, D: Disk + Drop, O: Origin, R: Wait, V: Visit> {
     pub visitor: Visitor<'s, 'a, D, O, R, V>,
     ghost limits: { IsTx visitor.tx },
 }
@@ -32,11 +32,10 @@ pub struct Left<'s, 'a, D: Disk + Drop, O: Origin> {
 
 impl<'a, D: Disk + Drop, O: Origin> Session<'a, D, O> {
     /// Lends the transaction for the calls of stores.
-    pub fn blocks<'s, R: Wait, V: Visit<D, O>>(
+    pub fn blocks<'s, R: Wait, V: Visit>(
         &'s mut self,
         rt: &'s R,
     ) -> SessionBlocks<'s, 'a, D, O, R, V>
-        requires session { IsSession O.start self.old }
         requires valid { IsTrue (is_valid O.start.world.geometry) }
         requires name { self.ghost_name ≡ V.name }
         requires before { V.before ≡ Some self.old }
@@ -54,7 +53,7 @@ impl<'a, D: Disk + Drop, O: Origin> Session<'a, D, O> {
     }
 }
 
-impl<'s, 'a, D: Disk + Drop, O: Origin, R: Wait, V: Visit<D, O>> SessionBlocks<'s, 'a, D, O, R, V> {
+impl<'s, 'a, D: Disk + Drop, O: Origin, R: Wait, V: Visit> SessionBlocks<'s, 'a, D, O, R, V> {
     ghost use Rattle.handle_pass.specs.Visits.{IsVisit};
 
     /// The session, after the calls.
@@ -79,7 +78,7 @@ impl<'s, 'a, D: Disk + Drop, O: Origin, R: Wait, V: Visit<D, O>> SessionBlocks<'
     }
 }
 
-impl<'s, 'a, D: Disk + Drop, O: Origin, R: Wait, V: Visit<D, O>> TxBlocks
+impl<'s, 'a, D: Disk + Drop, O: Origin, R: Wait, V: Visit> TxBlocks
     for SessionBlocks<'s, 'a, D, O, R, V> {
     ghost state = { λ b. b.visitor.tx };
 

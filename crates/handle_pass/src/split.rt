@@ -1,7 +1,6 @@
 // A port that is split off a session and joined back, for calls of the device that are none of the session.
 ghost use Rattle.std.specs.Prelude.{◌<◌};
-ghost use Rattle.iso_shared.specs.Ports.{IsPort, port_view};
-ghost use Rattle.handle_pass.specs.{Sessions.{device, port_of, IsSession}, Splits.{Joined, Split}};
+ghost use Rattle.handle_pass.specs.{Sessions.IsPortAt, Splits.{Joined, Split, port_units}};
 
 use crate::session::Session;
 use iso_disk::Disk;
@@ -13,9 +12,7 @@ const UNITS: u64 = 32;
 impl<'a, D: Disk + Drop, O: Origin> Session<'a, D, O> {
     /// A new port of the device, which gets 32 of the port's units. It waits for nobody, and takes no memory.
     pub fn split_port(&mut self) -> Port<D, O>
-        requires session { IsSession O.start self.old }
-        requires units { 32 < (port_view (port_of self.old)).units }
-        ensures session { IsSession O.start self.new }
+        requires units { 32 < port_units self.old }
         ensures did { Split self.old result self.new }
     {
         self.shared.port(&mut self.port, UNITS)
@@ -23,9 +20,7 @@ impl<'a, D: Disk + Drop, O: Origin> Session<'a, D, O> {
 
     /// Takes a port into the session's, which then knows what both knew. It waits for nobody, and takes no memory.
     pub fn join_port(&mut self, port: Port<D, O>)
-        requires session { IsSession O.start self.old }
-        requires port { IsPort (device self.old) port }
-        ensures session { IsSession O.start self.new }
+        requires port { IsPortAt self.old.device port }
         ensures did { Joined self.old port self.new }
     {
         self.shared.join(&mut self.port, port);

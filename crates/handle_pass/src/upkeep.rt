@@ -1,7 +1,7 @@
 // The calls that need no transaction, and leave the one that there is.
 ghost use Rattle.std.specs.Prelude.{ℕ};
 ghost use Rattle.iso_shared.specs.{declared.entry.Entry.TheVariants.{Stat as OfStat}, Told.{compact_entry, numbers_of, trim_entry, upgrade_entry}};
-ghost use Rattle.handle_pass.specs.Sessions.{KeepsTx, IsSession, Made};
+ghost use Rattle.handle_pass.specs.Sessions.{KeepsTx, Made};
 
 use crate::session::Session;
 use iso_core::Stat;
@@ -13,8 +13,6 @@ use std::sync::Wait;
 impl<'a, D: Disk + Drop, O: Origin> Session<'a, D, O> {
     /// Lets the versions go that no transaction can be shown any more, and answers the floor.
     pub fn trim<R: Wait>(&mut self, rt: &R) -> Result<u64, CoreError>
-        requires session { IsSession O.start self.old }
-        ensures session { IsSession O.start self.new }
         ensures did { (before : ℕ) × (now : ℕ) × Made O.start self.old self.new (trim_entry before now result) }
         ensures tx { KeepsTx self.old self.new }
     {
@@ -23,8 +21,6 @@ impl<'a, D: Disk + Drop, O: Origin> Session<'a, D, O> {
 
     /// Moves the base to the floor, in the other half, and answers the floor.
     pub fn compact<R: Wait>(&mut self, rt: &R) -> Result<u64, CoreError>
-        requires session { IsSession O.start self.old }
-        ensures session { IsSession O.start self.new }
         ensures did { (before : ℕ) × (now : ℕ) × Made O.start self.old self.new (compact_entry before now result) }
         ensures tx { KeepsTx self.old self.new }
     {
@@ -33,8 +29,6 @@ impl<'a, D: Disk + Drop, O: Origin> Session<'a, D, O> {
 
     /// Compacts into an image of form 2, in which transactions of either mode may begin, and answers the floor.
     pub fn upgrade<R: Wait>(&mut self, rt: &R) -> Result<u64, CoreError>
-        requires session { IsSession O.start self.old }
-        ensures session { IsSession O.start self.new }
         ensures did { (before : ℕ) × (now : ℕ) × Made O.start self.old self.new (upgrade_entry before now result) }
         ensures tx { KeepsTx self.old self.new }
     {
@@ -43,8 +37,6 @@ impl<'a, D: Disk + Drop, O: Origin> Session<'a, D, O> {
 
     /// The numbers of the image and of its transactions.
     pub fn stat<R: Wait>(&mut self, rt: &R) -> Stat
-        requires session { IsSession O.start self.old }
-        ensures session { IsSession O.start self.new }
         ensures did { Made O.start self.old self.new (OfStat (numbers_of result)) }
         ensures tx { KeepsTx self.old self.new }
     {

@@ -3,18 +3,18 @@
 use std::marker::Brand;
 
 /// What a session was when a visit of its transaction began. A caller picks it at the call.
-pub trait Visit<D, O> {
+pub trait Visit {
     ghost use Rattle.std.specs.Prelude.{ℕ, Option};
-    ghost use Rattle.handle_pass.specs.declared.session.Session.{Session};
+    ghost use Rattle.handle_pass.specs.Sessions.{SessionState};
 
     /// The session then.
-    ghost before: { Option (Session D O) };
+    ghost before: { Option SessionState };
 
     /// Where it is.
     ghost name: { ℕ };
 }
 
-impl<D, O> Visit<D, O> for Brand {
+impl Visit for Brand {
     ghost use Rattle.std.specs.Prelude.{None};
 
     ghost before = { None };

@@ -14,7 +14,7 @@ use store_model::TxError;
 
 /// A session on whose transaction calls are made. It counts how often the disk has failed, and knows whether the device is down.
 #[derive(Drop)]
-pub struct Visitor<'s, 'a, D: Disk + Drop, O: Origin, R: Wait, V: Visit<D, O>> {
+pub struct Visitor<'s, 'a, D: Disk + Drop, O: Origin, R: Wait, V: Visit> {
     pub(crate) session: &'s mut Session<'a, D, O>,
     pub(crate) rt: &'s R,
     pub(crate) failures: u64,
@@ -22,8 +22,7 @@ pub struct Visitor<'s, 'a, D: Disk + Drop, O: Origin, R: Wait, V: Visit<D, O>> {
     pub(crate) of: PhantomData<V>,
 }
 
-impl<'s, 'a, D: Disk + Drop, O: Origin, R: Wait, V: Visit<D, O>> Model
-    for Visitor<'s, 'a, D, O, R, V> {
+impl<'s, 'a, D: Disk + Drop, O: Origin, R: Wait, V: Visit> Model for Visitor<'s, 'a, D, O, R, V> {
     ghost use Rattle.std.specs.Prelude.{◌≡◌};
     ghost use Rattle.handle_pass.specs.Visits.{IsVisit, Seen, seen_by};
 
@@ -34,12 +33,12 @@ impl<'s, 'a, D: Disk + Drop, O: Origin, R: Wait, V: Visit<D, O>> Model
     ghost invariant = { λ v. (v.session.ghost_name ≡ V.name) × IsVisit O.start V.before v.session.now v.failures v.is_down };
 }
 
-impl<'s, 'a, D: Disk + Drop, O: Origin, R: Wait, V: Visit<D, O>> Visitor<'s, 'a, D, O, R, V> {
+impl<'s, 'a, D: Disk + Drop, O: Origin, R: Wait, V: Visit> Visitor<'s, 'a, D, O, R, V> {
     /// How many bytes a block has.
     pub(crate) fn block_size(&self) -> u32
         ensures { result ≡ self.now.tx.size }
     {
-        self.session.shared.geometry().block
+        self.session.geometry().block
     }
 
     /// How many more accesses there may be.
@@ -53,9 +52,9 @@ impl<'s, 'a, D: Disk + Drop, O: Origin, R: Wait, V: Visit<D, O>> Visitor<'s, 'a,
     fn refusal(&self, block: u32) -> Option<TxError>
         ensures { result ≡ access_refusal self.now.tx block }
     {
-        if self.session.tx.is_none() {
+        if !self.session.has_tx() {
             Some(TxError::NotInTx)
-        } else if block >= self.session.shared.geometry().blocks {
+        } else if block >= self.session.geometry().blocks {
             Some(TxError::BadBlock)
         } else if self.session.room() == 0 {
             Some(TxError::TooManyAccesses)

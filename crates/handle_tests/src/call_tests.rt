@@ -3,7 +3,6 @@ ghost use Rattle.std.specs.Prelude.{◌≡◌, ◌<◌, [], IsTrue};
 ghost use Rattle.iso_core.specs.Core.{disk_of};
 ghost use Rattle.iso_model.specs.{Geometry.is_valid, World.World};
 ghost use Rattle.iso_shared.specs.{Standing.{Came, Holds}, States.opened};
-ghost use Rattle.handle_pass.specs.Sessions.{units, IsSession};
 ghost use Rattle.device_calls.specs.Beginnings.{BeginsAt};
 
 use device_calls::{
@@ -53,9 +52,9 @@ fn put_both<D: Disk + Drop, O: Origin, R: Wait>(
     session: &mut Session<D, O>,
     geometry: &Geometry,
 ) -> Option<bool>
-    requires session { IsSession O.start session.old × (1 < units session.old) }
+    requires units { 1 < session.old.units }
     requires image { (geometry.now ≡ O.start.world.geometry) × IsTrue (is_valid geometry.now) }
-    ensures session { IsSession O.start session.new × (units session.new ≡ units session.old) }
+    ensures units { session.new.units ≡ session.old.units }
 {
     let hash = hash_region(geometry)?;
     let tree = tree_region(geometry)?;
@@ -77,9 +76,9 @@ fn remove_both<D: Disk + Drop, O: Origin, R: Wait>(
     session: &mut Session<D, O>,
     geometry: &Geometry,
 ) -> Option<bool>
-    requires session { IsSession O.start session.old × (1 < units session.old) }
+    requires units { 1 < session.old.units }
     requires image { (geometry.now ≡ O.start.world.geometry) × IsTrue (is_valid geometry.now) }
-    ensures session { IsSession O.start session.new × (units session.new ≡ units session.old) }
+    ensures units { session.new.units ≡ session.old.units }
 {
     let hash = hash_region(geometry)?;
     let tree = tree_region(geometry)?;
@@ -132,11 +131,9 @@ fn put_again<D: Disk + Drop, O: Origin, R: Wait>(
     second: &mut Session<D, O>,
     geometry: &Geometry,
 ) -> Option<bool>
-    requires first { IsSession O.start first.old × (1 < units first.old) }
-    requires second { IsSession O.start second.old × (1 < units second.old) }
+    requires first { 1 < first.old.units }
+    requires second { 1 < second.old.units }
     requires image { (geometry.now ≡ O.start.world.geometry) × IsTrue (is_valid geometry.now) }
-    ensures first { IsSession O.start first.new }
-    ensures second { IsSession O.start second.new }
 {
     let hash = hash_region(geometry)?;
     first.begin_tx(rt, None).ok()?;

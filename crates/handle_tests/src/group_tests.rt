@@ -3,7 +3,7 @@ ghost use Rattle.std.specs.Prelude.{◌≡◌, ◌<◌, ◌≤◌, [], length, v
 ghost use denote.Param.Send.{IsSync};
 ghost use Rattle.iso_memdisk.specs.MemDisk.{state_of};
 ghost use Rattle.iso_shared.specs.{Ports.{IsPort, port_view}, TestImage.{small, MayStart}};
-ghost use Rattle.handle_pass.specs.Sessions.{device, units, IsSession};
+ghost use Rattle.handle_pass.specs.Sessions.{device_of};
 ghost use Rattle.group_commit.specs.Groups.{AreMembers};
 
 use crate::small_image::core_failing;
@@ -27,10 +27,9 @@ fn posted<O: Origin, R: Wait>(
     block: u32,
     label: Label,
 ) -> Option<()>
-    requires session { IsSession O.start session.old × (1 < units session.old) }
+    requires units { 1 < session.old.units }
     requires image { O.start.world.geometry ≡ small }
-    ensures session { IsSession O.start session.new }
-    ensures device { device session.new ≡ device session.old }
+    ensures device { session.new.device ≡ session.old.device }
 {
     session.begin_tx(rt, None).ok()?;
     if reads {
@@ -71,9 +70,9 @@ fn grouped<O: Origin, R: Wait>(
     session: &mut Session<MemDisk, O>,
     labels: &[Label; 3],
 ) -> Result<LabelReplies, CoreError>
-    requires session { IsSession O.start session.old × (33 < units session.old) }
-    requires device { device session.old ≡ shared.now }
-    ensures session { IsSession O.start session.new × (device session.new ≡ device session.old) }
+    requires units { 33 < session.old.units }
+    requires device { session.old.device ≡ device_of shared.now }
+    ensures device { session.new.device ≡ session.old.device }
 {
     let mut members = Vec::new(alloc);
     if let Err(_) = members.reserve(3) {
@@ -98,21 +97,17 @@ fn across<O: Origin + Send + Sync, R: Threads + Wait + Sync>(
     second: &mut Session<MemDisk, O>,
     reads: bool,
 ) -> Option<()>
-    requires first { IsSession O.start first.old × (1 < units first.old) }
-    requires second { IsSession O.start second.old × (1 < units second.old) }
+    requires first { 1 < first.old.units }
+    requires second { 1 < second.old.units }
     requires image { O.start.world.geometry ≡ small }
-    ensures first { IsSession O.start first.new }
-    ensures second { IsSession O.start second.new }
 {
     let (one, two) = join_mut(
         rt,
         &mut || -> Option<()>
-            requires { IsSync R.row × IsSession O.start first.now × (1 < units first.now) × (O.start.world.geometry ≡ small) }
-            ensures { IsSession O.start first.exit.now }
+            requires { IsSync R.row × (1 < first.now.units) × (O.start.world.geometry ≡ small) }
         { posted(rt, first, false, 0, Label::new(b"a")?) },
         &mut || -> Option<()>
-            requires { IsSync R.row × IsSession O.start second.now × (1 < units second.now) × (O.start.world.geometry ≡ small) }
-            ensures { IsSession O.start second.exit.now }
+            requires { IsSync R.row × (1 < second.now.units) × (O.start.world.geometry ≡ small) }
         { posted(rt, second, reads, 1, Label::new(b"b")?) },
     );
     one?;
@@ -126,8 +121,7 @@ fn ended<O: Origin, R: Wait>(
     shared: &Shared<MemDisk, O>,
     session: &mut Session<MemDisk, O>,
 ) -> Option<Told>
-    requires session { IsSession O.start session.old × (33 < units session.old) × (device session.old ≡ shared.now) }
-    ensures session { IsSession O.start session.new }
+    requires session { (33 < session.old.units) × (session.old.device ≡ device_of shared.now) }
 {
     let labels = [Label::new(b"a")?, Label::new(b"zz")?, Label::new(b"b")?];
     let told = grouped(rt, alloc, shared, session, &labels);

@@ -4,7 +4,6 @@ ghost use denote.Param.Send.{IsSync};
 ghost use Rattle.iso_memdisk.specs.MemDisk.{state_of};
 ghost use Rattle.iso_model.specs.Geometry.{is_valid};
 ghost use Rattle.iso_shared.specs.TestImage.{small, MayStart};
-ghost use Rattle.handle_pass.specs.{Handles.IsHandle, Sessions.{device, own, units, IsSession}};
 
 use crate::small_image::new_core;
 use device_calls::end_now;
@@ -26,11 +25,10 @@ fn written<O: Origin, R: Wait>(
     rt: &R,
     session: &mut Session<MemDisk, O>,
 ) -> Option<Handle<MemDisk, O>>
-    requires session { IsSession O.start session.old × (1 < units session.old) }
+    requires units { 1 < session.old.units }
     requires image { O.start.world.geometry ≡ small }
-    ensures session { IsSession O.start session.new }
-    ensures device { device session.new ≡ device session.old }
-    ensures handle { IfSome result (IsHandle O.start (device session.old)) }
+    ensures device { session.new.device ≡ session.old.device }
+    ensures handle { IfSome result (λ h. h.device ≡ session.old.device) }
 {
     session.begin_tx(rt, None).ok()?;
     session.write_block(1, &[7; 64]).ok()?;
@@ -43,12 +41,10 @@ fn committed<O: Origin, R: Wait>(
     session: &mut Session<MemDisk, O>,
     handle: Handle<MemDisk, O>,
 ) -> Option<(u8, EndReply)>
-    requires session { IsSession O.start session.old }
-    requires none { own session.old ≡ None }
-    requires handle { IsHandle O.start (device session.old) handle }
+    requires none { session.old.own ≡ None }
+    requires handle { handle.device ≡ session.old.device }
     requires image { O.start.world.geometry ≡ small }
-    ensures session { IsSession O.start session.new }
-    ensures device { device session.new ≡ device session.old }
+    ensures device { session.new.device ≡ session.old.device }
 {
     if let Err(_) = session.takeover_tx(handle) {
         unreachable!()
@@ -65,10 +61,10 @@ fn committed_from<O: Origin, R: Wait>(
     session: &mut Session<MemDisk, O>,
     place: &mut Option<Handle<MemDisk, O>>,
 ) -> Option<(u8, EndReply)>
-    requires session { IsSession O.start session.old × (own session.old ≡ None) }
-    requires handle { IfSome place.old (IsHandle O.start (device session.old)) }
+    requires none { session.old.own ≡ None }
+    requires handle { IfSome place.old (λ h. h.device ≡ session.old.device) }
     requires image { O.start.world.geometry ≡ small }
-    ensures session { IsSession O.start session.new × (device session.new ≡ device session.old) }
+    ensures device { session.new.device ≡ session.old.device }
     ensures place { place.new ≡ None }
 {
     match place.take() {
@@ -84,34 +80,34 @@ fn across<O: Origin + Send + Sync, R: Threads + Wait + Sync>(
     first: &mut Session<MemDisk, O>,
     second: &mut Session<MemDisk, O>,
 ) -> Option<(u8, EndReply)>
-    requires first { IsSession O.start first.old × (1 < units first.old) }
-    requires second { IsSession O.start second.old × (own second.old ≡ None) }
-    requires one { device second.old ≡ device first.old }
+    requires first { 1 < first.old.units }
+    requires second { second.old.own ≡ None }
+    requires one { second.old.device ≡ first.old.device }
     requires image { O.start.world.geometry ≡ small }
-    ensures first { IsSession O.start first.new × (device first.new ≡ device first.old) }
-    ensures second { IsSession O.start second.new × (device second.new ≡ device second.old) }
+    ensures first { first.new.device ≡ first.old.device }
+    ensures second { second.new.device ≡ second.old.device }
 {
     let (handle, _) = join_mut(
         rt,
         &mut || -> Option<Handle<MemDisk, O>>
-            requires { IsSync R.row × IsSession O.start first.now × (1 < units first.now) × (O.start.world.geometry ≡ small) }
-            ensures { IsSession O.start first.exit.now × (device first.exit.now ≡ device first.entry.now) × IfSome result (IsHandle O.start (device first.entry.now)) }
+            requires { IsSync R.row × (1 < first.now.units) × (O.start.world.geometry ≡ small) }
+            ensures { (first.exit.now.device ≡ first.entry.now.device) × IfSome result (λ h. h.device ≡ first.entry.now.device) }
         { written(rt, first) },
         &mut || -> Stat
-            requires { IsSync R.row × IsSession O.start second.now }
-            ensures { IsSession O.start second.exit.now × (device second.exit.now ≡ device second.entry.now) × (own second.exit.now ≡ own second.entry.now) }
+            requires { IsSync R.row }
+            ensures { (second.exit.now.device ≡ second.entry.now.device) × (second.exit.now.own ≡ second.entry.now.own) }
         { second.stat(rt) },
     );
     let mut place = Some(handle?);
     let (_, seen) = join_mut(
         rt,
         &mut || -> Stat
-            requires { IsSync R.row × IsSession O.start first.now }
-            ensures { IsSession O.start first.exit.now × (device first.exit.now ≡ device first.entry.now) }
+            requires { IsSync R.row }
+            ensures { first.exit.now.device ≡ first.entry.now.device }
         { first.stat(rt) },
         &mut || -> Option<(u8, EndReply)>
-            requires { IsSync R.row × IsSession O.start second.now × (own second.now ≡ None) × IfSome place (IsHandle O.start (device second.now)) × (O.start.world.geometry ≡ small) }
-            ensures { IsSession O.start second.exit.now × (device second.exit.now ≡ device second.entry.now) × (place.exit ≡ None) }
+            requires { IsSync R.row × (second.now.own ≡ None) × IfSome place (λ h. h.device ≡ second.now.device) × (O.start.world.geometry ≡ small) }
+            ensures { (second.exit.now.device ≡ second.entry.now.device) × (place.exit ≡ None) }
         { committed_from(rt, second, &mut place) },
     );
     if let Some(_) = place {
@@ -162,11 +158,11 @@ fn passed_back<O: Origin, R: Wait>(
     first: &mut Session<MemDisk, O>,
     second: &mut Session<MemDisk, O>,
 ) -> Option<bool>
-    requires first { IsSession O.start first.old × (own first.old ≡ None) × (1 < units first.old) }
-    requires second { IsSession O.start second.old × (own second.old ≡ None) × (1 < units second.old) }
-    requires one { device second.old ≡ device first.old }
-    ensures first { IsSession O.start first.new × (device first.new ≡ device first.old) }
-    ensures second { IsSession O.start second.new × (device second.new ≡ device second.old) }
+    requires first { (first.old.own ≡ None) × (1 < first.old.units) }
+    requires second { (second.old.own ≡ None) × (1 < second.old.units) }
+    requires one { second.old.device ≡ first.old.device }
+    ensures first { first.new.device ≡ first.old.device }
+    ensures second { second.new.device ≡ second.old.device }
 {
     second.begin_tx(rt, None).ok()?;
     first.begin_tx(rt, None).ok()?;
@@ -186,10 +182,8 @@ fn label_taken<O: Origin, R: Wait>(
     first: &mut Session<MemDisk, O>,
     second: &mut Session<MemDisk, O>,
 ) -> Option<(bool, bool, u64)>
-    requires first { IsSession O.start first.old }
-    requires second { IsSession O.start second.old }
-    ensures first { IsSession O.start first.new × (device first.new ≡ device first.old) }
-    ensures second { IsSession O.start second.new × (device second.new ≡ device second.old) }
+    ensures first { first.new.device ≡ first.old.device }
+    ensures second { second.new.device ≡ second.old.device }
 {
     first.post_tx(rt, Label::new(b"moved")?).ok()?;
     let refused = matches!(
@@ -248,19 +242,17 @@ fn a_session_in_a_transaction_hands_a_handle_back(rt: HostRuntime) -> Result<(),
 }
 
 /// Writes a block through the transaction as stores see it, and reads it and another one.
-fn through<'s, 'a, O: Origin, R: Wait, V: Visit<MemDisk, O>>(
+fn through<'s, 'a, O: Origin, R: Wait, V: Visit>(
     rt: &'s R,
     session: &'s mut Session<'a, MemDisk, O>,
     shown: &mut (u8, u8),
 ) -> &'s mut Session<'a, MemDisk, O>
-    requires session { IsSession O.start session.old }
     requires image { O.start.world.geometry ≡ small }
     requires valid { IsTrue (is_valid O.start.world.geometry) }
     requires name { session.ghost_name ≡ V.name }
     requires before { V.before ≡ Some session.old }
     ensures name { result.ghost_name ≡ session.entry.ghost_name }
-    ensures session { IsSession O.start result.now }
-    ensures device { device result.now ≡ device session.old }
+    ensures device { result.now.device ≡ session.old.device }
 {
     let mut blocks = session.blocks::<R, V>(rt);
     let mut own = [0; 64];
@@ -282,10 +274,9 @@ fn shown_through<'s, 'a, O: Origin, R: Wait>(
     rt: &'s R,
     session: &'s mut Session<'a, MemDisk, O>,
 ) -> Option<(u8, u8)>
-    requires session { IsSession O.start session.old × (1 < units session.old) }
+    requires units { 1 < session.old.units }
     requires image { O.start.world.geometry ≡ small }
     requires valid { IsTrue (is_valid O.start.world.geometry) }
-    ensures session { IsSession O.start session.new }
 {
     session.begin_tx(rt, None).ok()?;
     let mut shown = (0, 0);

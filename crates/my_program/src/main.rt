@@ -1,77 +1,43 @@
-//! A value is put under a key, in one transaction on an image file. It is the program of `docs/library.md`; its contracts are of
-//! sessions and units, and not of what was put.
+//! A value is put under a key, in one transaction on an image file. It is the program of `docs/library.md`.
 #![tactic(auto)]
 
-ghost use Rattle.std.specs.Prelude.{◌≡◌, ◌<◌, [], IsTrue, None};
-ghost use Rattle.device_calls.specs.Beginnings.{BeginsAt};
-ghost use Rattle.handle_pass.specs.Sessions.{device, units, IsSession};
-ghost use Rattle.iso_core.specs.Core.{disk_of};
-ghost use Rattle.iso_model.specs.{Geometry.is_valid, World.World};
-ghost use Rattle.iso_shared.specs.{Standing.{Came, Holds}, States.opened};
+ghost use Rattle.std.specs.Prelude.{IsTrue};
+ghost use Rattle.iso_model.specs.Geometry.{is_valid};
 
-use device_calls::{Beginning, beginning_of, end_now, hash_put, hash_region};
+use device_calls::{Job, end_now, hash_put, hash_region, with_device};
 use file_disk::FileDisk;
 use handle_pass::Session;
-use iso_core::Core;
 use iso_disk::{Disk, Image};
 use iso_image::image_size;
 use iso_model::{EndReply, Geometry, Mode};
 use iso_recover::{format_image, open_image};
-use iso_shared::{Origin, Shared};
+use iso_shared::Origin;
 use kept_disk::Kept;
 use std::alloc::Global;
 use std::io;
-use std::marker::Brand;
 use std::sync::Wait;
 
 /// One transaction of a session: a value is put under a key.
-fn put_one<'a, D: Disk + Drop, O: Origin, R: Wait>(
-    rt: &R,
-    alloc: Global,
-    session: &mut Session<'a, D, O>,
-    geometry: &Geometry,
-) -> Option<EndReply>
-    requires session { IsSession O.start session.old × (1 < units session.old) }
-    requires image { (geometry.now ≡ O.start.world.geometry) × IsTrue (is_valid geometry.now) }
-    ensures session { IsSession O.start session.new × (device session.new ≡ device session.old) × (units session.new ≡ units session.old) }
-{
-    let region = hash_region(geometry)?;
-    session.begin_tx(rt, None).ok()?;
-    hash_put(rt, alloc, session, region, b"key", b"value").ok()?;
-    end_now(rt, session).ok()
-}
+#[derive(Drop)]
+struct PutOne;
 
-/// The same on a device over a core, and then the device is closed.
-fn served<D: Disk + Drop, O: Origin, R: Wait>(
-    rt: &R,
-    alloc: Global,
-    core: Core<D>,
-    beginning: Beginning,
-) -> Option<EndReply>
-    requires start { Holds D.state core (opened O.start) × (O.start.world.live ≡ []) }
-    requires came { Came O.start O.disk (D.state (disk_of core)) [] }
-    requires valid { IsTrue (is_valid O.start.world.geometry) }
-{
-    let _ = beginning;
-    match Shared::<D, O>::new(alloc, core) {
-        Err((_memory, _core)) => None,
-        Ok((shared, port)) => {
-            let geometry = shared.geometry();
-            let mut session = Session::new(&shared, port);
-            let reply = put_one(rt, alloc, &mut session, &geometry);
-            let port = session.finish(rt);
-            let _core = shared.close(port);
-            reply
-        }
+impl Job for PutOne {
+    type Answer = Option<EndReply>;
+
+    ghost says = { λ job start before now reply. Unit {0} };
+
+    fn run<'a, D: Disk + Drop, O: Origin, R: Wait>(
+        self,
+        rt: &R,
+        alloc: Global,
+        session: &mut Session<'a, D, O>,
+        geometry: &Geometry,
+    ) -> Option<EndReply> {
+        let region = hash_region(geometry)?;
+        session.begin_tx(rt, None).ok()?;
+        hash_put(rt, alloc, session, region, b"key", b"value").ok()?;
+        end_now(rt, session).ok()
     }
-}
-
-/// The same over a core that was just made or opened.
-fn over_core<D: Disk + Drop, R: Wait>(rt: &R, alloc: Global, core: Core<D>) -> Option<EndReply>
-    requires { (W : World) × BeginsAt D.state core W }
-{
-    let beginning = beginning_of(&core);
-    served::<D, Brand, R>(rt, alloc, core, beginning)
 }
 
 /// The numbers of a new image.
@@ -90,29 +56,21 @@ fn numbers() -> Geometry
     }
 }
 
-/// On a new image of this name.
-fn made<I: Image + Drop, R: Wait>(rt: &R, alloc: Global, image: I, name: &str) -> Option<EndReply> {
-    let mut image = image;
-    let geometry = numbers();
-    image.bind(name, Some(image_size(&geometry))).ok()?;
-    match format_image(alloc, image, &geometry) {
-        Ok(core) => over_core(rt, alloc, core),
-        Err((_error, _image)) => None,
-    }
-}
-
-/// On the image of this name.
-fn opened_one<I: Image + Drop, R: Wait>(
-    rt: &R,
-    alloc: Global,
-    image: I,
-    name: &str,
-) -> Option<EndReply> {
-    let mut image = image;
-    image.bind(name, None).ok()?;
-    match open_image(alloc, image) {
-        Ok(core) => over_core(rt, alloc, core),
-        Err((_error, _image)) => None,
+/// Does it on a new image, or on the one that is there.
+fn put<D: Image + Drop, R: Wait>(rt: &R, alloc: Global, image: D, new: bool) -> Option<EndReply> {
+    let (mut image, geometry) = (image, numbers());
+    if new {
+        image.bind("data.img", Some(image_size(&geometry))).ok()?;
+        match format_image(alloc, image, &geometry) {
+            Ok(core) => with_device(rt, alloc, core, PutOne).0?,
+            Err(_) => None,
+        }
+    } else {
+        image.bind("data.img", None).ok()?;
+        match open_image(alloc, image) {
+            Ok(core) => with_device(rt, alloc, core, PutOne).0?,
+            Err(_) => None,
+        }
     }
 }
 
@@ -124,17 +82,9 @@ fn main(rt: HostRuntime) -> io::Result<()> {
     let Ok(more) = rt.clone() else {
         return println!(rt; "no memory");
     };
-    let first = made(
-        &rt,
-        alloc,
-        Kept::new(alloc, FileDisk::new(files, alloc)),
-        "data.img",
-    );
-    let second = opened_one(
-        &rt,
-        alloc,
-        Kept::new(alloc, FileDisk::new(more, alloc)),
-        "data.img",
-    );
+    let image = Kept::new(alloc, FileDisk::new(files, alloc));
+    let first = put(&rt, alloc, image, true);
+    let image = Kept::new(alloc, FileDisk::new(more, alloc));
+    let second = put(&rt, alloc, image, false);
     println!(rt; "{first:?} {second:?}")
 }

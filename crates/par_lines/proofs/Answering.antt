@@ -1,5 +1,5 @@
 -- What each call of a session makes of a client's line.
-use Rattle.par_lines.proofs.Words.{◌≡◌, ℕ, List, [], ◌∷◌, Option, Some, None, ap, inl, inr, refl, sym, subst, ◌∙◌, IsSome, Result, Ok, Err, BeginError, EndError, PostTxError, Session, left_by, HasAborted, HasBegun, HasChecked, HasEnded, IsCheckCause, HasLooked, HasPosted, own, KeepsTx, Made, moves_made, moves_none, moves_on, Stat, reply_of, EndReply, Mode, CoreError, InTx, NotInTx, as_reply, Op, Reply, step, Entry, Start, cause_of, compact_entry, numbers_of, trim_entry, upgrade_entry, Stop, Own, Did, Does, EndsThen, Answered}
+use Rattle.par_lines.proofs.Words.{◌≡◌, ℕ, List, [], ◌∷◌, Option, Some, None, ap, inl, inr, refl, sym, subst, ◌∙◌, IsSome, Result, Ok, Err, BeginError, EndError, PostTxError, left_by, HasAborted, HasBegun, HasChecked, HasEnded, IsCheckCause, HasLooked, HasPosted, KeepsTx, Made, moves_made, moves_none, moves_on, Stat, reply_of, EndReply, Mode, CoreError, InTx, NotInTx, as_reply, Op, Reply, step, Entry, Start, cause_of, compact_entry, numbers_of, trim_entry, upgrade_entry, Stop, Own, Did, Does, EndsThen, Answered, SessionState}
 use Rattle.handle_pass.specs.declared.errors.BeginError.TheVariants as begin
 use Rattle.handle_pass.specs.declared.errors.EndError.TheVariants as end
 use Rattle.handle_pass.specs.declared.errors.PostTxError.TheVariants as post
@@ -33,21 +33,21 @@ same_own o p is = ap (unwrap_or' o) is
     unwrap_or' d (Some x) = x
 
 -- an operation that is this one, and an answer that is this one
-pub said : {D O : Type 0} {A : Start} {s t : Session D O} {o p : Op} {r q : Result Reply Stop} → o ≡ p → r ≡ q → Answered A s p q t → Answered A s o r t
-said {D} {O} {A} {s} {t} {o} {p} {r} {q} is says answered = subst (λ x. Answered A s x r t) (sym is) (subst (λ x. Answered A s p x t) (sym says) answered)
+pub said : {A : Start} {s t : SessionState} {o p : Op} {r q : Result Reply Stop} → o ≡ p → r ≡ q → Answered A s p q t → Answered A s o r t
+said {A} {s} {t} {o} {p} {r} {q} is says answered = subst (λ x. Answered A s x r t) (sym is) (subst (λ x. Answered A s p x t) (sym says) answered)
 
-module _ {D O : Type 0} (A : Start) where
+module _ (A : Start) where
   -- a line of one entry
-  pub by_entry : (s t : Session D O) (o : Op) (e : Entry) (r : Result Reply Stop) (was : Option Own) → own s ≡ was → Made A s t e → Does A.world.geometry A.tells was o (e ∷ []) r (own t) → Answered A s o r t
+  pub by_entry : (s t : SessionState) (o : Op) (e : Entry) (r : Result Reply Stop) (was : Option Own) → s.own ≡ was → Made A s t e → Does A.world.geometry A.tells was o (e ∷ []) r t.own → Answered A s o r t
   by_entry s t o e r was is m does = record {
     entries = e ∷ [];
     moves = moves_made A s t e m;
-    did = inl (subst (λ w. Does A.world.geometry A.tells w o (e ∷ []) r (own t)) (sym is) does);
-    of = ap (λ v. v.now) m.of;
+    did = inl (subst (λ w. Does A.world.geometry A.tells w o (e ∷ []) r t.own) (sym is) does);
+    of = m.of;
   }
 
   -- a line that the client's own state answers
-  pub by_none : (s t : Session D O) (o : Op) (r : Result Reply Stop) (was : Option Own) → own s ≡ was → t ≡ s → Does A.world.geometry A.tells was o [] r was → Answered A s o r t
+  pub by_none : (s t : SessionState) (o : Op) (r : Result Reply Stop) (was : Option Own) → s.own ≡ was → t ≡ s → Does A.world.geometry A.tells was o [] r was → Answered A s o r t
   by_none s t o r was is same does =
       subst (λ u. Answered A s o r u) (sym same) (record {
         entries = [];
@@ -56,21 +56,21 @@ module _ {D O : Type 0} (A : Start) where
         of = refl;
       })
 
-  pub begun : (s t : Session D O) (named : Option Mode) (r : Result ℕ BeginError) → HasBegun A s named r t → Answered A s (op.Begin named) (say.begun r) t
+  pub begun : (s t : SessionState) (named : Option Mode) (r : Result ℕ BeginError) → HasBegun A s named r t → Answered A s (op.Begin named) (say.begun r) t
   unfolding step
   begun s t named (Ok at) h = by_entry s t (op.Begin named) (entry.Begin h.1 at h.2) (Ok (reply.Began at)) None h.0 h.3 (h.4, refl, h.5)
   begun s t named (Err begin.InTx) h =
-      let o = some_own (own s) h.0 in
+      let o = some_own s.own h.0 in
       by_none s t (op.Begin named) (Ok reply.InTx) (Some o.0) o.1 h.1 (refl, refl, refl)
   begun s t named (Err (begin.Core e)) h =
       by_entry s t (op.Begin named) (entry.Refused (call.Begin named) (cause_of h.2 h.3 e)) (say.refused e) None h.0 h.4 (refl, refused_is h.2 h.3 e, h.1)
 
-  pub aborted : (s t : Session D O) (r : Result (Unit {0}) NotInTx) → HasAborted A s r t → Answered A s op.Abort (say.aborted r) t
+  pub aborted : (s t : SessionState) (r : Result (Unit {0}) NotInTx) → HasAborted A s r t → Answered A s op.Abort (say.aborted r) t
   unfolding step
   aborted s t (Ok done) h = by_entry s t op.Abort (entry.Abort h.0.number) (Ok reply.Done) (Some h.0) h.1 h.3 (refl, refl, h.2)
   aborted s t (Err e) h = by_none s t op.Abort (Ok reply.NotInTx) None h.0 h.1 (refl, refl, refl)
 
-  pub posted : (s t : Session D O) (label : List ℕ) (r : Result (Unit {0}) PostTxError) → HasPosted A s label r t → Answered A s (op.Release label) (say.posted r) t
+  pub posted : (s t : SessionState) (label : List ℕ) (r : Result (Unit {0}) PostTxError) → HasPosted A s label r t → Answered A s (op.Release label) (say.posted r) t
   unfolding step
   posted s t label (Ok done) h =
       by_entry s t (op.Release label) (entry.Post h.0.number label h.0.accesses) (Ok reply.Done) (Some h.0) h.1 h.3 (refl, refl, refl, refl, h.2)
@@ -80,40 +80,40 @@ module _ {D O : Type 0} (A : Start) where
   posted s t label (Err post.Memory) h =
       by_entry s t (op.Release label) (entry.Refused (call.Post h.0.number label h.0.accesses) cause.Memory) (say.posted (Err post.Memory)) (Some h.0) h.1 h.3 (refl, refl, h.2.is ∙ h.1)
 
-  pub looked : (s t : Session D O) (label : List ℕ) (r : Result (Option ℕ) InTx) → HasLooked A s label r t → Answered A s (op.Takeover label) (say.looked r) t
+  pub looked : (s t : SessionState) (label : List ℕ) (r : Result (Option ℕ) InTx) → HasLooked A s label r t → Answered A s (op.Takeover label) (say.looked r) t
   unfolding step
   looked s t label (Ok (Some at)) h =
       by_entry s t (op.Takeover label) (entry.Look label (Some h.1)) (Ok (reply.Began at)) None h.0 h.4 (refl, ap (λ n. Ok (reply.Began n)) h.3, h.2)
   looked s t label (Ok None) h = by_entry s t (op.Takeover label) (entry.Look label None) (Ok reply.NoHandle) None h.0 h.2 (refl, refl, h.1)
   looked s t label (Err e) h =
-      let o = some_own (own s) h.0 in
+      let o = some_own s.own h.0 in
       by_none s t (op.Takeover label) (Ok reply.InTx) (Some o.0) o.1 h.1 (refl, refl, refl)
 
   -- a line that leaves the transaction, whatever it is
-  kept : (s t : Session D O) (o : Op) (e : Entry) (r : Result Reply Stop) → Made A s t e → own t ≡ own s → ((own' : Option Own) → own' ≡ None → Does A.world.geometry A.tells None o (e ∷ []) r own')
+  kept : (s t : SessionState) (o : Op) (e : Entry) (r : Result Reply Stop) → Made A s t e → t.own ≡ s.own → ((own' : Option Own) → own' ≡ None → Does A.world.geometry A.tells None o (e ∷ []) r own')
       → ((p : Own) (own' : Option Own) → own' ≡ Some p → Does A.world.geometry A.tells (Some p) o (e ∷ []) r own') → Answered A s o r t
-  kept s t o e r m same without within = by_entry s t o e r (own s) refl m (does (own s) (own t) same)
+  kept s t o e r m same without within = by_entry s t o e r s.own refl m (does s.own t.own same)
     where
       does : (was own' : Option Own) → own' ≡ was → Does A.world.geometry A.tells was o (e ∷ []) r own'
       does None own' is = without own' is
       does (Some p) own' is = within p own' is
 
-  pub trimmed : (s t : Session D O) (b n : ℕ) (r : Result ℕ CoreError) → Made A s t (trim_entry b n r) → KeepsTx s t → Answered A s op.Trim (say.trimmed r) t
+  pub trimmed : (s t : SessionState) (b n : ℕ) (r : Result ℕ CoreError) → Made A s t (trim_entry b n r) → KeepsTx s t → Answered A s op.Trim (say.trimmed r) t
   trimmed s t b n (Ok k) m keeps = kept s t op.Trim (entry.Trim k) (Ok (reply.Trimmed k)) m keeps.is (λ w is. (refl, is)) (λ p w is. (refl, is))
   trimmed s t b n (Err e) m keeps = kept s t op.Trim (entry.Refused call.Trim (cause_of b n e)) (say.refused e) m keeps.is (λ w is. (refl, refused_is b n e, is)) (λ p w is. (refl, refused_is b n e, is))
 
-  pub compacted : (s t : Session D O) (b n : ℕ) (r : Result ℕ CoreError) → Made A s t (compact_entry b n r) → KeepsTx s t → Answered A s op.Compact (say.compacted r) t
+  pub compacted : (s t : SessionState) (b n : ℕ) (r : Result ℕ CoreError) → Made A s t (compact_entry b n r) → KeepsTx s t → Answered A s op.Compact (say.compacted r) t
   compacted s t b n (Ok k) m keeps = kept s t op.Compact (entry.Compact k) (Ok (reply.Compacted k)) m keeps.is (λ w is. (refl, is)) (λ p w is. (refl, is))
   compacted s t b n (Err e) m keeps = kept s t op.Compact (entry.Refused call.Compact (cause_of b n e)) (say.refused e) m keeps.is (λ w is. (refl, refused_is b n e, is)) (λ p w is. (refl, refused_is b n e, is))
 
-  pub upgraded : (s t : Session D O) (b n : ℕ) (r : Result ℕ CoreError) → Made A s t (upgrade_entry b n r) → KeepsTx s t → Answered A s op.Upgrade (say.upgraded r) t
+  pub upgraded : (s t : SessionState) (b n : ℕ) (r : Result ℕ CoreError) → Made A s t (upgrade_entry b n r) → KeepsTx s t → Answered A s op.Upgrade (say.upgraded r) t
   upgraded s t b n (Ok k) m keeps = kept s t op.Upgrade (entry.Upgrade k) (Ok (reply.Upgraded k)) m keeps.is (λ w is. (refl, is)) (λ p w is. (refl, is))
   upgraded s t b n (Err e) m keeps = kept s t op.Upgrade (entry.Refused call.Upgrade (cause_of b n e)) (say.refused e) m keeps.is (λ w is. (refl, refused_is b n e, is)) (λ p w is. (refl, refused_is b n e, is))
 
-  pub told_numbers : (s t : Session D O) (n : Stat) → Made A s t (entry.Stat (numbers_of n)) → KeepsTx s t → Answered A s op.Stat (Ok (say.numbers n)) t
+  pub told_numbers : (s t : SessionState) (n : Stat) → Made A s t (entry.Stat (numbers_of n)) → KeepsTx s t → Answered A s op.Stat (Ok (say.numbers n)) t
   told_numbers s t n m keeps = kept s t op.Stat (entry.Stat (numbers_of n)) (Ok (say.numbers n)) m keeps.is (λ w is. (refl, is)) (λ p w is. (refl, is))
 
-  pub unchecked : (s t : Session D O) (e : EndError) → HasChecked A s (Err e) t → Answered A s op.End (say.not_ended e) t
+  pub unchecked : (s t : SessionState) (e : EndError) → HasChecked A s (Err e) t → Answered A s op.End (say.not_ended e) t
   unfolding step
   unchecked s t end.NotInTx h = by_none s t op.End (Ok reply.NotInTx) None h.0 h.1 (refl, refl, refl)
   unchecked s t (end.Core e) h = by_cause h.3
@@ -123,16 +123,16 @@ module _ {D O : Type 0} (A : Start) where
       by_cause (inr c) = by_entry s t op.End (entry.Recent h.0.number c.1) (say.refused e) (Some h.0) h.1 c.2 (refl, (ap say.refused c.0, h.2.is ∙ h.1))
 
   -- the end behind a check
-  two : (s m t : Session D O) (o : Own) (upto : ℕ) (e : Entry) (r : Result Reply Stop) → own s ≡ Some o → Made A s m (entry.Recent o.number upto) → Made A m t e → EndsThen o (e ∷ []) r (own t)
+  two : (s m t : SessionState) (o : Own) (upto : ℕ) (e : Entry) (r : Result Reply Stop) → s.own ≡ Some o → Made A s m (entry.Recent o.number upto) → Made A m t e → EndsThen o (e ∷ []) r t.own
       → Answered A s op.End r t
   two s m t o upto e r is first second ends = record {
     entries = entry.Recent o.number upto ∷ e ∷ [];
     moves = moves_on s m t (entry.Recent o.number upto ∷ []) (e ∷ []) (moves_made A s m (entry.Recent o.number upto) first) (moves_made A m t e second);
-    did = inl (subst (λ w. Does A.world.geometry A.tells w op.End (entry.Recent o.number upto ∷ e ∷ []) r (own t)) (sym is) (refl, ends));
-    of = ap (λ v. v.now) second.of ∙ ap (λ v. v.now) first.of;
+    did = inl (subst (λ w. Does A.world.geometry A.tells w op.End (entry.Recent o.number upto ∷ e ∷ []) r t.own) (sym is) (refl, ends));
+    of = second.of ∙ first.of;
   }
 
-  pub ended : (s m t : Session D O) (upto old new : ℕ) (r : Result EndReply EndError) → HasChecked A s (Ok upto) m → HasEnded A m old r t new → Answered A s op.End (say.ended r) t
+  pub ended : (s m t : SessionState) (upto old new : ℕ) (r : Result EndReply EndError) → HasChecked A s (Ok upto) m → HasEnded A m old r t new → Answered A s op.End (say.ended r) t
   ended s m t upto old new (Ok answer) c h =
       let same : h.0 ≡ c.0 = same_own h.0 c.0 (sym h.1 ∙ c.2) in
       two s m t c.0 upto _ (Ok (as_reply (reply_of answer))) c.1 c.4 h.3 (ap (λ (o : Own). o.number) same, ap (λ (o : Own). o.accesses) same, refl, h.2)

@@ -1,6 +1,5 @@
 -- Reads of a client: what the rules answer over the bytes that were fetched, and what the session does.
-use Rattle.par_lines.proofs.{Words.{◌≡◌, ◌⊎◌, ℕ, zero, suc, ◌+◌, ◌-◌, Bool, true, false, cond, nat_le, List, [], ◌∷◌, ◌++◌, Option, Some, None, ap, drop, get_or, inl, inr, refl, replicate, sym, subst, take, ◌∙◌, Result, Ok, Err, length-replicate, get_or-append_seam, Session, access_answer, mark_answer, with_access, with_mark, HasMarked, HasRead, IsReadCause, Shows, Made, moves_made, moves_none, moves_on, moves_rested, Access, Commit, Geometry, Op, Reply, TxError, Array, all_own, is_outside, mark_fault, marked, block_at, access_step, get_step, read_step, step, get_access, read_access, marked_last, World, Cause, Entry, Start, Stop, IsRefused, span_at, Own, Did, Does, Fetches, Says, WhereShown, alone, answer, live_of, own_after, own_among, with_block, Answered}, Allowing.{allowed, by_tests, refusal, Allows, IsAllowed, Refuses}, Answering.{by_entry, by_none, same_own}, Marking.{mark_free, never_refused, takes_mark, Marked}, Writing.{outside, wrong_range}}
-use Rattle.handle_pass.specs.Sessions as handle
+use Rattle.par_lines.proofs.{Words.{◌≡◌, ◌⊎◌, ℕ, zero, suc, ◌+◌, ◌-◌, Bool, true, false, cond, nat_le, List, [], ◌∷◌, ◌++◌, Option, Some, None, ap, drop, get_or, inl, inr, refl, replicate, sym, subst, take, ◌∙◌, Result, Ok, Err, length-replicate, get_or-append_seam, access_answer, mark_answer, with_access, with_mark, HasMarked, HasRead, IsReadCause, Shows, Made, moves_made, moves_none, moves_on, moves_rested, Access, Commit, Geometry, Op, Reply, TxError, Array, all_own, is_outside, mark_fault, marked, block_at, access_step, get_step, read_step, step, get_access, read_access, marked_last, World, Cause, Entry, Start, Stop, IsRefused, span_at, Own, Did, Does, Fetches, Says, WhereShown, alone, answer, live_of, own_after, own_among, with_block, Answered, SessionState}, Allowing.{allowed, by_tests, refusal, Allows, IsAllowed, Refuses}, Answering.{by_entry, by_none, same_own}, Marking.{mark_free, never_refused, takes_mark, Marked}, Writing.{outside, wrong_range}}
 use Rattle.script_model.specs.declared.script.Op.TheVariants as op
 use Rattle.script_model.specs.declared.script.Reply.TheVariants as reply
 use Rattle.store_model.specs.declared.stores.TxError.TheVariants as error
@@ -82,33 +81,33 @@ module _ (A : Start) (x : Op) (block : ℕ) (view : List ℕ → List ℕ) (a : 
   fetched : (o : Own) (es : List Entry) (r : Result Reply Stop) (own' : Option Own) → answer A.world.geometry [] (Some o) x ≡ shows view block [] o → Fetches A.world.geometry o x block es r own' → Does A.world.geometry A.tells (Some o) x es r own'
   fetched o es r own' is does = parts.some A.tells o es r own' (subst (λ v. WhereShown v (Fetches A.world.geometry o x block es r own') (Says A.world.geometry (Some o) x es r own')) (sym is) does)
 
-module _ {D O : Type 0} (A : Start) (x : Op) (block : ℕ) (view : List ℕ → List ℕ) (a : Access) (parts : IsReading A.world.geometry x block view a) where
+module _ (A : Start) (x : Op) (block : ℕ) (view : List ℕ → List ℕ) (a : Access) (parts : IsReading A.world.geometry x block view a) where
   -- a read that is refused before it asks
-  refused : (s t : Session D O) (e : TxError) (into : List ℕ) → HasRead A s block (Err e) into t → refusal A.world.geometry (handle.own s) block ≡ Some e → Answered A s x (say.accessed (Err e)) t
+  refused : (s t : SessionState) (e : TxError) (into : List ℕ) → HasRead A s block (Err e) into t → refusal A.world.geometry s.own block ≡ Some e → Answered A s x (say.accessed (Err e)) t
   refused s t e into did so =
-      by_tests A.world.geometry x block (shows view block) a parts.can (λ was f. handle.own s ≡ was → HasRead A s block (Err f) into t → Answered A s x (say.accessed (Err f)) t) (handle.own s) e so
+      by_tests A.world.geometry x block (shows view block) a parts.can (λ was f. s.own ≡ was → HasRead A s block (Err f) into t → Answered A s x (say.accessed (Err f)) t) s.own e so
       (λ refuses is same. by_none A s t x (Ok reply.NotInTx) None is same (parts.none A.tells reply.NotInTx refuses))
       (λ o refuses is same. by_none A s t x (Ok reply.BadBlock) (Some o) is same (not_shown A x block view a parts o reply.BadBlock [] (Ok reply.BadBlock) (Some o) refuses (said A x block view a parts o reply.BadBlock refuses)))
       (λ o refuses is same. by_none A s t x (Ok reply.TooManyAccesses) (Some o) is same (not_shown A x block view a parts o reply.TooManyAccesses [] (Ok reply.TooManyAccesses) (Some o) refuses (said A x block view a parts o reply.TooManyAccesses refuses)))
       refl did
 
   -- the device refuses the fetch
-  refused_fetch : (s t : Session D O) (o p : Own) (why : Cause) (r : Result Reply Stop) → handle.own s ≡ Some o → handle.own s ≡ Some p → answer A.world.geometry [] (Some p) x ≡ shows view block [] p → handle.own t ≡ Some o → r ≡ lines.refused why
+  refused_fetch : (s t : SessionState) (o p : Own) (why : Cause) (r : Result Reply Stop) → s.own ≡ Some o → s.own ≡ Some p → answer A.world.geometry [] (Some p) x ≡ shows view block [] p → t.own ≡ Some o → r ≡ lines.refused why
       → Made A s t (entry.Refused (call.Fetch o.number block) why) → Answered A s x r t
   refused_fetch s t o p why r is was answers left says made =
       let same : p ≡ o = same_own p o (sym was ∙ is) in
-      by_entry A s t x (entry.Refused (call.Fetch o.number block) why) r (Some o) is made (fetched A x block view a parts o (entry.Refused (call.Fetch o.number block) why ∷ []) r (handle.own t) (subst (λ q. answer A.world.geometry [] (Some q) x ≡ shows view block [] q) same answers) (refl, says, left))
+      by_entry A s t x (entry.Refused (call.Fetch o.number block) why) r (Some o) is made (fetched A x block view a parts o (entry.Refused (call.Fetch o.number block) why ∷ []) r t.own (subst (λ q. answer A.world.geometry [] (Some q) x ≡ shows view block [] q) same answers) (refl, says, left))
 
   -- a read that was refused
-  pub refused_read : (s t : Session D O) (e : TxError) (into : List ℕ) → IsRefused {T = Unit {0}} (access_answer A s block) IsReadCause (Err e) → HasRead A s block (Err e) into t → Answered A s x (say.accessed (Err e)) t
+  pub refused_read : (s t : SessionState) (e : TxError) (into : List ℕ) → IsRefused {T = Unit {0}} (access_answer A s block) IsReadCause (Err e) → HasRead A s block (Err e) into t → Answered A s x (say.accessed (Err e)) t
   refused_read s t e into because did = by (access_answer A s block) refl
     where
       by : (o : Option TxError) → access_answer A s block ≡ o → Answered A s x (say.accessed (Err e)) t
       by (Some f) is = refused s t e into did (is ∙ ap (λ v. Some v) (same_err f e (subst (λ v. IsRefused {T = Unit {0}} v IsReadCause (Err e)) is because)))
       by None is = free (subst (λ v. IsRefused {T = Unit {0}} v IsReadCause (Err e)) is because)
         where
-          allows : Allows A.world.geometry x block (shows view block) a parts.can (handle.own s)
-          allows = allowed A.world.geometry x block (shows view block) a parts.can (handle.own s) is
+          allows : Allows A.world.geometry x block (shows view block) a parts.can s.own
+          allows = allowed A.world.geometry x block (shows view block) a parts.can s.own is
 
           at : (f : TxError) → e ≡ f → HasRead A s block (Err f) into t
           at f so = subst (λ v. HasRead A s block (Err v) into t) so did
@@ -128,23 +127,23 @@ module _ {D O : Type 0} (A : Start) (x : Op) (block : ℕ) (view : List ℕ → 
           free (inr (inr so)) = subst (λ f. Answered A s x (say.accessed (Err f)) t) (sym so) (disk (at error.Disk so))
 
   -- what the bytes of a fetch are for the rules
-  pub record Fetched (s m : Session D O) (into : List ℕ) : Type 0 where
+  pub record Fetched (s m : SessionState) (into : List ℕ) : Type 0 where
     pub own : Own
-    pub was : handle.own s ≡ Some own
+    pub was : s.own ≡ Some own
     pub bytes : List ℕ
     pub made : Made A s m (entry.Fetch own.number block bytes)
     pub answers : answer A.world.geometry (with_block block bytes) (Some own) x ≡ reply.Shown (view into)
     pub shown : answer A.world.geometry [] (Some own) x ≡ shows view block [] own
     pub leaves : own_after A.world.geometry (with_block block bytes) (Some own) x ≡ Some (with_access own a)
-    pub is : handle.own m ≡ Some (with_access own (read_access block))
+    pub is : m.own ≡ Some (with_access own (read_access block))
 
-  pub was_fetched : (s m : Session D O) (into : List ℕ) (done : Unit {0}) → IsRefused (access_answer A s block) IsReadCause (Ok done) → HasRead A s block (Ok done) into m → Fetched s m into
+  pub was_fetched : (s m : SessionState) (into : List ℕ) (done : Unit {0}) → IsRefused (access_answer A s block) IsReadCause (Ok done) → HasRead A s block (Ok done) into m → Fetched s m into
   was_fetched s m into done cause did = by (access_answer A s block) refl
     where
       by : (o : Option TxError) → access_answer A s block ≡ o → Fetched s m into
       by (Some f) is = absurd (cc (subst (λ v. IsRefused v IsReadCause (Ok done)) is cause))
       by None is =
-          let allows = allowed A.world.geometry x block (shows view block) a parts.can (handle.own s) is in
+          let allows = allowed A.world.geometry x block (shows view block) a parts.can s.own is in
           let o : Own = did.0 in
           let same : allows.own ≡ o = same_own allows.own o (sym allows.own_is ∙ did.1) in
           let shown : Shows A o block s m did.3 into = did.4 in
@@ -164,19 +163,19 @@ no_get : (g : Geometry) (tells : Bool) (block off len : ℕ) → Does g tells No
 unfolding step
 no_get g tells block off len = (refl, refl, refl)
 
-module _ {D O : Type 0} (A : Start) (block : ℕ) where
+module _ (A : Start) (block : ℕ) where
   -- a line that reads a whole block
-  pub read_line : (s t : Session D O) (bytes : List ℕ) (r : Result (Unit {0}) TxError) → IsRefused (access_answer A s block) IsReadCause r → HasRead A s block r bytes t → Answered A s (op.Read block) (say.shown r bytes) t
+  pub read_line : (s t : SessionState) (bytes : List ℕ) (r : Result (Unit {0}) TxError) → IsRefused (access_answer A s block) IsReadCause r → HasRead A s block r bytes t → Answered A s (op.Read block) (say.shown r bytes) t
   read_line s t bytes (Err e) cause did = refused_read A (op.Read block) block (λ l. l) (read_access block) (read_parts A.world.geometry block) s t e bytes cause did
   read_line s t bytes (Ok done) cause did =
       let parts : IsReading A.world.geometry (op.Read block) block (λ l. l) (read_access block) = read_parts A.world.geometry block in
       let f : Fetched A (op.Read block) block (λ l. l) (read_access block) parts s t bytes = was_fetched A (op.Read block) block (λ l. l) (read_access block) parts s t bytes done cause did in
       by_entry A s t (op.Read block) (entry.Fetch f.own.number block f.bytes) (Ok (reply.Shown bytes)) (Some f.own) f.was f.made
-      (fetched A (op.Read block) block (λ l. l) (read_access block) parts f.own (entry.Fetch f.own.number block f.bytes ∷ []) (Ok (reply.Shown bytes)) (handle.own t) f.shown
+      (fetched A (op.Read block) block (λ l. l) (read_access block) parts f.own (entry.Fetch f.own.number block f.bytes ∷ []) (Ok (reply.Shown bytes)) t.own f.shown
       (refl, refl, ap (λ v. Ok v) (sym f.answers), f.is ∙ sym f.leaves))
 
   -- a line that reads a part of one, and marks it
-  pub get_line : (off len : ℕ) → is_outside A.world.geometry.block off len ≡ false → (s m t : Session D O) (into bytes : List ℕ) (done : Unit {0}) (r : Result (Unit {0}) TxError)
+  pub get_line : (off len : ℕ) → is_outside A.world.geometry.block off len ≡ false → (s m t : SessionState) (into bytes : List ℕ) (done : Unit {0}) (r : Result (Unit {0}) TxError)
       → IsRefused (access_answer A s block) IsReadCause (Ok done) → HasRead A s block (Ok done) into m → IsRefused (mark_answer A m off len) (λ e. ⊥) r → HasMarked m off len r t → bytes ≡ take len (drop off into)
       → Answered A s (op.Get block off len) (say.shown r bytes) t
   get_line off len inside s m t into bytes done r cause did may marks cut =
@@ -192,16 +191,16 @@ module _ {D O : Type 0} (A : Start) (block : ℕ) where
       subst (λ q. Answered A s (op.Get block off len) (say.shown q bytes) t) (sym k.answered) (record {
         entries = entry.Fetch f.own.number block f.bytes ∷ [];
         moves = moves_on s m t (entry.Fetch f.own.number block f.bytes ∷ []) [] (moves_made A s m (entry.Fetch f.own.number block f.bytes) f.made) (moves_rested m t k.rested);
-        did = subst (λ w. Did A.world.geometry A.tells w (op.Get block off len) (entry.Fetch f.own.number block f.bytes ∷ []) (Ok (reply.Shown bytes)) (handle.own t)) (sym f.was)
-            (inl (fetched A (op.Get block off len) block view a parts f.own (entry.Fetch f.own.number block f.bytes ∷ []) (Ok (reply.Shown bytes)) (handle.own t) f.shown
+        did = subst (λ w. Did A.world.geometry A.tells w (op.Get block off len) (entry.Fetch f.own.number block f.bytes ∷ []) (Ok (reply.Shown bytes)) t.own) (sym f.was)
+            (inl (fetched A (op.Get block off len) block view a parts f.own (entry.Fetch f.own.number block f.bytes ∷ []) (Ok (reply.Shown bytes)) t.own f.shown
             (refl, refl, ap (λ l. Ok (reply.Shown l)) cut ∙ ap (λ v. Ok v) (sym f.answers), k.is ∙ ap (λ p. Some (with_mark p off len)) own' ∙ ap (λ l. Some (record f.own { accesses = l })) last ∙ sym f.leaves)));
-        of = ap (λ v. v.now) k.rested.of ∙ ap (λ v. v.now) f.made.of;
+        of = k.rested.of ∙ f.made.of;
       })
 
   -- a line whose bytes are none, or pass the end of a block
-  pub wrong_get : (h : Geometry) (off len : ℕ) (s : Session D O) → h ≡ A.world.geometry → is_outside h.block off len ≡ true → Answered A s (op.Get block off len) (Ok (say.wrong_bytes h.blocks (handle.own s) block)) s
+  pub wrong_get : (h : Geometry) (off len : ℕ) (s : SessionState) → h ≡ A.world.geometry → is_outside h.block off len ≡ true → Answered A s (op.Get block off len) (Ok (say.wrong_bytes h.blocks s.own block)) s
   wrong_get h off len s is outside_is =
-      subst (λ k. Answered A s (op.Get block off len) (Ok (say.wrong_bytes k.blocks (handle.own s) block)) s) (sym is) (by (handle.own s) refl)
+      subst (λ k. Answered A s (op.Get block off len) (Ok (say.wrong_bytes k.blocks s.own block)) s) (sym is) (by s.own refl)
     where
       wrong : is_outside A.world.geometry.block off len ≡ true
       wrong = ap (λ k. is_outside k.block off len) (sym is) ∙ outside_is
@@ -220,7 +219,7 @@ module _ {D O : Type 0} (A : Start) (block : ℕ) where
           subst (λ v. WhereShown v (Fetches A.world.geometry o (op.Get block off len) block [] (Ok r) (Some o)) (Says A.world.geometry (Some o) (op.Get block off len) [] (Ok r) (Some o))) (sym answers)
           (subst (λ (T : Type 0). T) (sym other) (refl, ap (λ v. Ok v) (sym answers), sym leaves))
 
-      by : (was : Option Own) → handle.own s ≡ was → Answered A s (op.Get block off len) (Ok (say.wrong_bytes A.world.geometry.blocks (handle.own s) block)) s
+      by : (was : Option Own) → s.own ≡ was → Answered A s (op.Get block off len) (Ok (say.wrong_bytes A.world.geometry.blocks s.own block)) s
       by None is = subst (λ w. Answered A s (op.Get block off len) (Ok (say.wrong_bytes A.world.geometry.blocks w block)) s) (sym is) (by_none A s s (op.Get block off len) (Ok reply.NotInTx) None is refl (no_get A.world.geometry A.tells block off len))
       by (Some o) is = subst (λ w. Answered A s (op.Get block off len) (Ok (say.wrong_bytes A.world.geometry.blocks w block)) s) (sym is) (tests (nat_le A.world.geometry.blocks block) refl)
         where

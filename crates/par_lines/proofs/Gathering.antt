@@ -1,12 +1,12 @@
 -- What the clients of a run were told, from what their steps did.
-use Rattle.par_lines.proofs.Words.{◌≡◌, Bool, ⊎_elim, ℕ, zero, suc, ◌+◌, ◌<◌, cond, List, [], ◌∷◌, ◌++◌, Option, Some, None, length, take, map, reverse, get_or, refl, sym, ap, ◌∙◌, subst, arith, length-append, append_assoc, append-nil, map-append, reverse-append, take_at, slice_get, is_some, All, sum_by, Result, Ok, Err, get_or-append, get_or-append_seam, sum_by-append, sum_by-cons, Geometry, Line, Reply, Entry, Shared, Start, View, times, Go, Halt, Job, Went, Halted, JobRan, Part, Stop, Session, EndsWith, Log, Moves, count, device, own, seen, log_count, log_more, log_none, log_seen, moves_none, moves_on, Own, ClientLines, Did, Ran, StopsAtLast, Walk, last_abort, lines_of, lines_run, ParClient, IsClient, Stepped, Tells, part_of, units_in, AllTold, Finished, IsNew, IsPrefix}
+use Rattle.par_lines.proofs.Words.{◌≡◌, Bool, ⊎_elim, ℕ, zero, suc, ◌+◌, ◌<◌, cond, List, [], ◌∷◌, ◌++◌, Option, Some, None, length, take, map, reverse, get_or, refl, sym, ap, ◌∙◌, subst, arith, length-append, append_assoc, append-nil, map-append, reverse-append, take_at, slice_get, is_some, All, sum_by, Result, Ok, Err, get_or-append, get_or-append_seam, sum_by-append, sum_by-cons, Geometry, Line, Reply, Entry, Shared, Start, View, times, Go, Halt, Job, Went, Halted, JobRan, Part, Stop, EndsWith, Log, Moves, count, log_count, log_more, log_none, log_seen, moves_none, moves_on, Own, ClientLines, Did, Ran, StopsAtLast, Walk, last_abort, lines_of, lines_run, ParClient, IsClient, Stepped, Tells, part_of, units_in, AllTold, Finished, IsNew, IsPrefix, SessionState}
 use Rattle.iso_shared.specs.declared.entry.Entry.TheVariants as entry
 
 -- the entries of a session and its last abort
-pub finish_log : {D O : Type 0} (A : Start) (s : Session D O) (w : View Entry) (was : Option Own) → EndsWith A s was w → (F : List Entry) → Log (count s) (seen s) F → Log (λ p. times p w.mine) w.seen (F ++ last_abort was)
+pub finish_log : (A : Start) (s : SessionState) (w : View Entry) (was : Option Own) → EndsWith A s was w → (F : List Entry) → Log (count s) s.seen F → Log (λ p. times p w.mine) w.seen (F ++ last_abort was)
 finish_log A s w None h F l =
-    subst (Log (λ p. times p w.mine) w.seen) (sym (append-nil F)) (subst (λ E. Log (λ p. times p w.mine) E F) (sym h.0) (log_count (count s) (λ p. times p w.mine) (seen s) F h.1 l))
-finish_log A s w (Some o) h F l = log_more (count s) (λ p. times p w.mine) (seen s) h.before w.seen F (entry.Abort o.number) h.told h.known h.places l
+    subst (Log (λ p. times p w.mine) w.seen) (sym (append-nil F)) (subst (λ E. Log (λ p. times p w.mine) E F) (sym h.0) (log_count (count s) (λ p. times p w.mine) s.seen F h.1 l))
+finish_log A s w (Some o) h F l = log_more (count s) (λ p. times p w.mine) s.seen h.before w.seen F (entry.Abort o.number) h.told h.known h.places l
 
 -- what was told of a beginning is told of the list
 pub told_seen : (A : Start) (lines : List (ℕ × Line)) (E G : List Entry) (parts : List Part) (count : ℕ → ℕ) → IsPrefix E G → AllTold A lines E parts count → AllTold A lines G parts count
@@ -47,11 +47,11 @@ ran_stopped g tells lines xs q why made own' is same stops =
 module _ {D O : Type 0} (A : Start) where
   -- what a client's steps did
   pub record Stretch (c : ParClient D O) (ls : List (ℕ × Line)) (d : ParClient D O) : Type 0 where
-    pub of : device d.session ≡ device c.session
+    pub of : d.session.device ≡ c.session.device
     pub made : List Entry
     pub texts : List (ℕ × Reply)
     pub moves : Moves c.session d.session made
-    pub walk : Walk A.world.geometry A.tells (own c.session) ls made texts (own d.session)
+    pub walk : Walk A.world.geometry A.tells c.session.own ls made texts d.session.own
     pub said : d.told.items ≡ c.told.items ++ texts
     pub stop : d.stop ≡ c.stop
 
@@ -85,13 +85,13 @@ module _ {D O : Type 0} (A : Start) where
       let s : Stepped A c l.0 l.1 Go m = went.1 in
       let rest : Stretch m ls d = went_stretch m d ls went.2 in
       let t = step_text c m l.0 l.1 s in
-      let did : Did A.world.geometry A.tells (own c.session) l.1.op s.made.entries (Ok t.0) (own m.session) = subst (λ r. Did A.world.geometry A.tells (own c.session) l.1.op s.made.entries r (own m.session)) t.1 s.made.did in
+      let did : Did A.world.geometry A.tells c.session.own l.1.op s.made.entries (Ok t.0) m.session.own = subst (λ r. Did A.world.geometry A.tells c.session.own l.1.op s.made.entries r m.session.own) t.1 s.made.did in
       record {
         of = rest.of ∙ s.made.of;
         made = s.made.entries ++ rest.made;
         texts = (l.0, t.0) ∷ rest.texts;
         moves = moves_on c.session m.session d.session s.made.entries rest.made s.made.moves rest.moves;
-        walk = (s.made.entries, t.0, own m.session, rest.made, rest.texts, refl, refl, did, rest.walk);
+        walk = (s.made.entries, t.0, m.session.own, rest.made, rest.texts, refl, refl, did, rest.walk);
         said = rest.said ∙ (ap (λ v. v ++ rest.texts) t.2 ∙ append_assoc c.told.items ((l.0, t.0) ∷ []) rest.texts);
         stop = rest.stop ∙ t.3;
       }
@@ -100,16 +100,16 @@ module _ {D O : Type 0} (A : Start) where
   texts_new c d texts none said = sym (said ∙ ap (λ l. l ++ texts) none)
 
   -- the walk of a client that was new
-  walk_new : (c d : ParClient D O) (ls : List (ℕ × Line)) (s : Stretch c ls d) → own c.session ≡ None → c.told.items ≡ [] → Walk A.world.geometry A.tells None ls s.made d.told.items (own d.session)
+  walk_new : (c d : ParClient D O) (ls : List (ℕ × Line)) (s : Stretch c ls d) → c.session.own ≡ None → c.told.items ≡ [] → Walk A.world.geometry A.tells None ls s.made d.told.items d.session.own
   walk_new c d ls s none told =
-      subst (λ v. Walk A.world.geometry A.tells None ls s.made v (own d.session)) (texts_new c d s.texts told s.said) (subst (λ o. Walk A.world.geometry A.tells o ls s.made s.texts (own d.session)) none s.walk)
+      subst (λ v. Walk A.world.geometry A.tells None ls s.made v d.session.own) (texts_new c d s.texts told s.said) (subst (λ o. Walk A.world.geometry A.tells o ls s.made s.texts d.session.own) none s.walk)
 
   -- a job of a new client, after it was run
   pub finished_job : (l : Shared D O) (lines : List (ℕ × Line)) (j k : Job (ParClient D O)) → IsNew A l lines j → IsClient A k.client → JobRan (λ c n line flow d. Stepped A c n line flow d) j k → Finished A l lines k × (units_in k ≡ units_in j)
   finished_job l lines j k n fits r = ⊎_elim all halted r.ran
     where
-      start : Log (count j.client.session) (seen j.client.session) []
-      start = log_none (count j.client.session) (seen j.client.session) n.unmade
+      start : Log (count j.client.session) j.client.session.seen []
+      start = log_none (count j.client.session) j.client.session.seen n.unmade
 
       own_lines : j.lines.items ≡ lines_of k.id lines
       own_lines = n.asked ∙ ap (λ c. lines_of c lines) (sym r.id)
@@ -122,7 +122,7 @@ module _ {D O : Type 0} (A : Start) where
               client = fits;
               made = s.made;
               log = s.moves.log [] start;
-              ran = ran_all A.world.geometry A.tells lines j.lines.items (part_of k) s.made (own k.client.session) (s.stop ∙ n.stop) own_lines (walk_new j.client k.client j.lines.items s n.none n.told);
+              ran = ran_all A.world.geometry A.tells lines j.lines.items (part_of k) s.made k.client.session.own (s.stop ∙ n.stop) own_lines (walk_new j.client k.client j.lines.items s n.none n.told);
             },
             s.moves.units,
           )
@@ -132,24 +132,24 @@ module _ {D O : Type 0} (A : Start) where
           let s : Stretch j.client (take h.number j.lines.items) h.before = went_stretch j.client h.before (take h.number j.lines.items) h.went in
           let t : Stepped A h.before h.line.0 h.line.1 Halt k.client = h.halt in
           let stopped = step_stop h.before k.client h.line.0 h.line.1 t in
-          let walk : Walk A.world.geometry A.tells None (take h.number j.lines.items) s.made h.before.told.items (own h.before.session) = walk_new j.client h.before (take h.number j.lines.items) s n.none n.told in
+          let walk : Walk A.world.geometry A.tells None (take h.number j.lines.items) s.made h.before.told.items h.before.session.own = walk_new j.client h.before (take h.number j.lines.items) s n.none n.told in
           let next = take_next h.number j.lines.items h.line h.line_is in
-          let size : length k.client.told.items ≡ h.number = ap length stopped.2 ∙ walk_length A.world.geometry A.tells None (own h.before.session) (take h.number j.lines.items) s.made h.before.told.items walk ∙ next.1 in
+          let size : length k.client.told.items ≡ h.number = ap length stopped.2 ∙ walk_length A.world.geometry A.tells None h.before.session.own (take h.number j.lines.items) s.made h.before.told.items walk ∙ next.1 in
           let both = moves_on j.client.session h.before.session k.client.session s.made t.made.entries s.moves t.made.moves in (
             record {
               device = t.made.of ∙ s.of ∙ n.device;
               client = fits;
               made = s.made ++ t.made.entries;
               log = both.log [] start;
-              ran = ran_stopped A.world.geometry A.tells lines j.lines.items (part_of k) stopped.0 (s.made ++ t.made.entries) (own k.client.session) stopped.3 own_lines (record {
+              ran = ran_stopped A.world.geometry A.tells lines j.lines.items (part_of k) stopped.0 (s.made ++ t.made.entries) k.client.session.own stopped.3 own_lines (record {
                 first = take h.number j.lines.items;
                 last = h.line;
                 are = ap (λ m. take (m + 1) j.lines.items) size ∙ next.0;
                 walked = s.made;
-                mid = own h.before.session;
-                walk = subst (λ v. Walk A.world.geometry A.tells None (take h.number j.lines.items) s.made v (own h.before.session)) (sym stopped.2) walk;
+                mid = h.before.session.own;
+                walk = subst (λ v. Walk A.world.geometry A.tells None (take h.number j.lines.items) s.made v h.before.session.own) (sym stopped.2) walk;
                 entries = t.made.entries;
-                did = subst (λ v. Did A.world.geometry A.tells (own h.before.session) h.line.1.op t.made.entries v (own k.client.session)) stopped.1 t.made.did;
+                did = subst (λ v. Did A.world.geometry A.tells h.before.session.own h.line.1.op t.made.entries v k.client.session.own) stopped.1 t.made.did;
                 all = refl;
               });
             },
@@ -157,13 +157,13 @@ module _ {D O : Type 0} (A : Start) where
           )
 
   -- one client more, whose port was joined
-  pub gather_more : (l : Shared D O) (lines : List (ℕ × Line)) (j : Job (ParClient D O)) (v v' w : View Entry) (parts : List Part) → Finished A l lines j → EndsWith A j.client.session (own j.client.session) w
+  pub gather_more : (l : Shared D O) (lines : List (ℕ × Line)) (j : Job (ParClient D O)) (v v' w : View Entry) (parts : List Part) → Finished A l lines j → EndsWith A j.client.session j.client.session.own w
       → IsPrefix v.seen v'.seen → IsPrefix w.seen v'.seen → ((p : ℕ) → times p v'.mine ≡ times p v.mine + times p w.mine) → AllTold A lines v.seen parts (λ p. times p v.mine)
       → AllTold A lines v'.seen (parts ++ part_of j ∷ []) (λ p. times p v'.mine)
   gather_more l lines j v v' w parts f ends pre pre' places told =
-      told_snoc A lines v'.seen parts (part_of j) (λ p. times p v.mine) (λ p. times p w.mine) (λ p. times p v'.mine) (f.made ++ last_abort (own j.client.session)) (told_seen A lines v.seen v'.seen parts (λ p. times p v.mine) pre told)
-      (log_seen (λ p. times p w.mine) w.seen v'.seen (f.made ++ last_abort (own j.client.session)) pre' (finish_log A j.client.session w (own j.client.session) ends f.made f.log))
-      (record { made = f.made; own = own j.client.session; ran = f.ran; all = refl }) places
+      told_snoc A lines v'.seen parts (part_of j) (λ p. times p v.mine) (λ p. times p w.mine) (λ p. times p v'.mine) (f.made ++ last_abort j.client.session.own) (told_seen A lines v.seen v'.seen parts (λ p. times p v.mine) pre told)
+      (log_seen (λ p. times p w.mine) w.seen v'.seen (f.made ++ last_abort j.client.session.own) pre' (finish_log A j.client.session w j.client.session.own ends f.made f.log))
+      (record { made = f.made; own = j.client.session.own; ran = f.ran; all = refl }) places
 
 pub all_last : {X : Type 0} (P : X → Type 0) (xs ys : List X) (x : X) → xs ≡ ys ++ x ∷ [] → All P xs → P x × All P ys
 all_last {X} P xs ys x e all =

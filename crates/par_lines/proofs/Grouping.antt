@@ -1,5 +1,5 @@
 -- What a group line makes: its looks, and the end of the group.
-use Rattle.par_lines.proofs.{Words.{◌≡◌, ◌⊎◌, ℕ, ◌+◌, ◌<◌, ◌≤◌, List, [], ◌∷◌, ◌++◌, Option, Some, None, ap, inl, inr, get_or, length, map, refl, sym, subst, take, take_all, take_more, length-take-le, ◌∙◌, arith, append_assoc, append-nil, length-append, length-map, map-append, Result, Ok, Err, Session, Joined, MovesThrough, Split, own, own_in, own_of, moves_joined, moves_none, through_made, through_none, through_on, GroupReply, CoreError, Reply, Shared, Port, Entry, Member, Start, View, IsPort, IsTx, doing_of, number_of, port_view, posting_of_tx, tx_view, cause_of, members_of, replies_of, Stop, Own, Does, GroupEnds, GroupWants, Groups, found_ones, members_for, replies_to, AreMembers, HasGrouped, answered, found_in, group_of, marks_of, members_in, refused_by, spread, through_group, units_all, units_of, Answered, AreNew, HaveLooked, looks_for, told_of, IfNone, IfSome, MatchOption, units_of_port, PassMade}, Answering.refused_is}
+use Rattle.par_lines.proofs.{Words.{◌≡◌, ◌⊎◌, ℕ, ◌+◌, ◌<◌, ◌≤◌, List, [], ◌∷◌, ◌++◌, Option, Some, None, ap, inl, inr, get_or, length, map, refl, sym, subst, take, take_all, take_more, length-take-le, ◌∙◌, arith, append_assoc, append-nil, length-append, length-map, map-append, Result, Ok, Err, Joined, MovesThrough, Split, own_in, own_of, moves_joined, moves_none, through_made, through_none, through_on, GroupReply, CoreError, Reply, Shared, Port, Entry, Member, Start, View, IsPort, IsTx, doing_of, number_of, port_view, posting_of_tx, tx_view, cause_of, members_of, replies_of, Stop, Own, Does, GroupEnds, GroupWants, Groups, found_ones, members_for, replies_to, AreMembers, HasGrouped, answered, found_in, group_of, marks_of, members_in, refused_by, spread, through_group, units_all, units_of, Answered, AreNew, HaveLooked, looks_for, told_of, IfNone, IfSome, MatchOption, PassMade, SessionState, Bool, true, false, ◌-◌, cond, is_some, port_units}, Answering.refused_is}
 use Rattle.iso_shared.specs.declared.tx.Tx.{Tx}
 use Rattle.iso_model.specs.declared.core_error.CoreError.TheVariants as error
 use Rattle.script_model.specs.declared.script.Op.TheVariants as op
@@ -191,7 +191,7 @@ module _ {D O : Type 0} where
   wants_now : (found : List (Option Own)) (txs : List (Tx D O)) (e : CoreError) → found_ones found ≡ map own_in txs → e ≡ error.Memory → GroupWants found (commit.aborts_of txs) (say.refused e)
   wants_now found txs e are is = (aborts_are txs ∙ ap lines.aborts_of (sym are), ap say.refused is)
 
-module _ {D O : Type 0} (A : Start) (s t u : Session D O) (q seen r : Port D O) (labels : List (List ℕ)) (members : List (Option (Tx D O))) (cut : Split s q t) (looked : HaveLooked (port_view q) labels members (port_view seen)) (new : AreNew (found_in members))
+module _ {D O : Type 0} (A : Start) (s t u : SessionState) (q seen r : Port D O) (labels : List (List ℕ)) (members : List (Option (Tx D O))) (cut : Split s q t) (looked : HaveLooked (port_view q) labels members (port_view seen)) (new : AreNew (found_in members))
     (given : units_all (port_view seen) (found_in members) ≡ (port_view q).units) (back : (port_view r).units ≡ units_all (port_view seen) (found_in members)) (joined : Joined t r u) where
   by_entries : (es : List Entry) (said : Result Reply Stop) → commit.HasMade A (port_view seen) (found_in members) es (port_view r) → GroupEnds (told_of members) es said ⊎ GroupWants (told_of members) es said → Answered A s (op.Group labels) said u
   by_entries es said made ends =
@@ -200,8 +200,8 @@ module _ {D O : Type 0} (A : Start) (s t u : Session D O) (q seen r : Port D O) 
         entries = looks ++ es;
         moves = moves_joined s t u q r (looks ++ es) cut
             (through_on t (port_view q) (port_view seen) (port_view r) looks es (looked.made t) (through_group A t (port_view seen) (port_view r) (found_in members) es new made)) joined (back ∙ (given ∙ cut.given));
-        did = inl (does_group A (own s) (own u) labels (looks ++ es) said (joined.tx.is ∙ cut.tx.is) (groups_behind labels [] (told_of members) es said (length-map members own_of ∙ looked.count) ends));
-        of = ap (λ v. v.now) joined.of ∙ ap (λ v. v.now) cut.of;
+        did = inl (does_group A s.own u.own labels (looks ++ es) said (joined.tx.is ∙ cut.tx.is) (groups_behind labels [] (told_of members) es said (length-map members own_of ∙ looked.count) ends));
+        of = joined.of ∙ cut.of;
       }
 
   pub answers : (result : Result (List (Option GroupReply)) CoreError) → HasGrouped A (port_view seen) members result (port_view r) → Answered A s (op.Group labels) (say.grouped result) u
@@ -212,10 +212,13 @@ module _ {D O : Type 0} (A : Start) (s t u : Session D O) (q seen r : Port D O) 
   answers (Err e) (inr h) = by_entries (commit.aborts_of (found_in members)) (say.refused e) h.1 (inr (wants_now (told_of members) (found_in members) e (ones_are members) h.0))
 
 -- want of memory before the first look
-pub wants_memory : {D O : Type 0} (A : Start) (s : Session D O) (labels : List (List ℕ)) → Answered A s (op.Group labels) (Err stop.Memory) s
+pub wants_memory : (A : Start) (s : SessionState) (labels : List (List ℕ)) → Answered A s (op.Group labels) (Err stop.Memory) s
 wants_memory A s labels = record { entries = []; moves = moves_none s; did = inr (refl, refl, refl); of = refl }
 
 -- a session with more than 33 units has a port with more than 32
-pub port_units : {D O : Type 0} (v : View Entry) (tx : Option (Tx D O)) → IfSome tx (λ t. (tx_view t).units ≡ 1) → 33 < units_of_port v tx → 32 < v.units
-port_units v None one more = omega (arith, more)
-port_units v (Some t) one more = let one' : (tx_view t).units ≡ 1 = one in let more' : 33 < v.units + (tx_view t).units = more in omega (arith, one', more')
+pub more_units : (s : SessionState) → 33 < s.units → 32 < port_units s
+more_units s more = by (is_some s.own)
+  where
+    by : (b : Bool) → 32 < s.units - cond b 1 0
+    by true = omega (arith, more)
+    by false = omega (arith, more)

@@ -1,6 +1,5 @@
 -- Marks of a client's last access: what the rules answer, and what the session does.
-use Rattle.par_lines.proofs.{Words.{◌≡◌, Bool, ℕ, false, cond, eq-eqb, List, [], ◌∷◌, ◌++◌, Option, Some, None, ap, inl, refl, sym, subst, ◌∙◌, Result, Ok, Err, is_some, option_map, Session, accesses_of, mark_answer, with_mark, HasMarked, Rested, moves_rested, Access, Geometry, MarkError, Reply, TxError, is_outside, mark_fault, marked, marks_fault, mark_refused, mark_step, marked_step, step, World, Start, mark_refusal, marking, IsRefused, span_at, Own, Did, Does, alone, live_of, own_among, Answered}, Answering.{by_none, same_own}}
-use Rattle.handle_pass.specs.Sessions as handle
+use Rattle.par_lines.proofs.{Words.{◌≡◌, Bool, ℕ, false, cond, eq-eqb, List, [], ◌∷◌, ◌++◌, Option, Some, None, ap, inl, refl, sym, subst, ◌∙◌, Result, Ok, Err, is_some, option_map, accesses_of, mark_answer, with_mark, HasMarked, Rested, moves_rested, Access, Geometry, MarkError, Reply, TxError, is_outside, mark_fault, marked, marks_fault, mark_refused, mark_step, marked_step, step, World, Start, mark_refusal, marking, IsRefused, span_at, Own, Did, Does, alone, live_of, own_among, Answered, SessionState}, Answering.{by_none, same_own}}
 use Rattle.iso_model.specs.declared.access.MarkError.TheVariants as mark
 use Rattle.script_model.specs.declared.script.Op.TheVariants as op
 use Rattle.script_model.specs.declared.script.Reply.TheVariants as reply
@@ -39,24 +38,24 @@ with_last : (o : Own) (off len : ℕ) (g : Geometry) → own_among (marked_step 
 with_last o off len g = ap (λ b. own_among (cond b (record (live_of o) { accesses = marked (span_at off len) o.accesses }) (live_of o) ∷ [])) (eq-eqb o.number o.number refl)
 
 -- a mark that was not refused
-pub record Marked {D O : Type 0} (s : Session D O) (off len : ℕ) (r : Result (Unit {0}) TxError) (t : Session D O) : Type 0 where
+pub record Marked (s : SessionState) (off len : ℕ) (r : Result (Unit {0}) TxError) (t : SessionState) : Type 0 where
   pub answered : r ≡ Ok tt
   pub own : Own
-  pub was : handle.own s ≡ Some own
-  pub is : handle.own t ≡ Some (with_mark own off len)
+  pub was : s.own ≡ Some own
+  pub is : t.own ≡ Some (with_mark own off len)
   pub rested : Rested s t
 
-pub never_refused : {D O : Type 0} (s t : Session D O) (off len : ℕ) (r : Result (Unit {0}) TxError) → IsRefused None (λ e. ⊥) r → HasMarked s off len r t → Marked s off len r t
+pub never_refused : (s t : SessionState) (off len : ℕ) (r : Result (Unit {0}) TxError) → IsRefused None (λ e. ⊥) r → HasMarked s off len r t → Marked s off len r t
 never_refused s t off len (Ok done) cause did = record { answered = refl; own = did.0; was = did.1; is = did.2; rested = did.3 }
 never_refused s t off len (Err e) cause did = absurd cause
 
-module _ {D O : Type 0} (A : Start) (off len : ℕ) where
-  refused_so : (s t : Session D O) (was : Option Own) (e : TxError) (r : Result (Unit {0}) TxError) → handle.own s ≡ was → r ≡ Err e → HasMarked s off len r t
+module _ (A : Start) (off len : ℕ) where
+  refused_so : (s t : SessionState) (was : Option Own) (e : TxError) (r : Result (Unit {0}) TxError) → s.own ≡ was → r ≡ Err e → HasMarked s off len r t
       → Does A.world.geometry A.tells was (op.Mark off len) [] (say.accessed (Err e)) was → Answered A s (op.Mark off len) (say.accessed r) t
   refused_so s t was e r is so did does =
       subst (λ q. HasMarked s off len q t → Answered A s (op.Mark off len) (say.accessed q) t) (sym so) (λ same. by_none A s t (op.Mark off len) (say.accessed (Err e)) was is same does) did
 
-  marked_so : (s t : Session D O) (o : Own) (r : Result (Unit {0}) TxError) → handle.own s ≡ Some o → mark_fault A.world.geometry.block off len o.accesses ≡ None → Marked s off len r t
+  marked_so : (s t : SessionState) (o : Own) (r : Result (Unit {0}) TxError) → s.own ≡ Some o → mark_fault A.world.geometry.block off len o.accesses ≡ None → Marked s off len r t
       → Answered A s (op.Mark off len) (say.accessed r) t
   marked_so s t o r is fine m =
       let g : Geometry = A.world.geometry in
@@ -65,16 +64,16 @@ module _ {D O : Type 0} (A : Start) (off len : ℕ) where
       subst (λ q. Answered A s (op.Mark off len) (say.accessed q) t) (sym m.answered) (record {
         entries = [];
         moves = moves_rested s t m.rested;
-        did = subst (λ w. Did g A.tells w (op.Mark off len) [] (Ok reply.Done) (handle.own t)) (sym is)
-            (inl (says_mark g A.tells o (handle.own t) off len (marked_step (alone g [] (Some o)) (live_of o) (span_at off len) None) stepped (m.is ∙ ap (λ p. Some (with_mark p off len)) same ∙ sym (with_last o off len g))));
-        of = ap (λ v. v.now) m.rested.of;
+        did = subst (λ w. Did g A.tells w (op.Mark off len) [] (Ok reply.Done) t.own) (sym is)
+            (inl (says_mark g A.tells o t.own off len (marked_step (alone g [] (Some o)) (live_of o) (span_at off len) None) stepped (m.is ∙ ap (λ p. Some (with_mark p off len)) same ∙ sym (with_last o off len g))));
+        of = m.rested.of;
       })
 
   -- a line that marks
-  pub mark_line : (s t : Session D O) (r : Result (Unit {0}) TxError) → IsRefused (mark_answer A s off len) (λ e. ⊥) r → HasMarked s off len r t → Answered A s (op.Mark off len) (say.accessed r) t
-  mark_line s t r cause did = by (handle.own s) refl
+  pub mark_line : (s t : SessionState) (r : Result (Unit {0}) TxError) → IsRefused (mark_answer A s off len) (λ e. ⊥) r → HasMarked s off len r t → Answered A s (op.Mark off len) (say.accessed r) t
+  mark_line s t r cause did = by s.own refl
     where
-      by : (was : Option Own) → handle.own s ≡ was → Answered A s (op.Mark off len) (say.accessed r) t
+      by : (was : Option Own) → s.own ≡ was → Answered A s (op.Mark off len) (say.accessed r) t
       by None is = refused_so s t None error.NotInTx r is (subst (λ w. IsRefused (mark_refused_to A.world.geometry w off len) (λ e. ⊥) r) is cause) did (no_mark A.world.geometry A.tells off len)
       by (Some o) is = fault (mark_fault A.world.geometry.block off len o.accesses) refl
         where
@@ -92,5 +91,5 @@ module _ {D O : Type 0} (A : Start) (off len : ℕ) where
           fault None so = marked_so s t o r is so (never_refused s t off len r (at None so) did)
 
 -- a mark is not refused to a session whose transaction may take it
-pub mark_free : {D O : Type 0} (A : Start) (s : Session D O) (o : Own) (off len : ℕ) → handle.own s ≡ Some o → mark_fault A.world.geometry.block off len o.accesses ≡ None → mark_answer A s off len ≡ None
+pub mark_free : (A : Start) (s : SessionState) (o : Own) (off len : ℕ) → s.own ≡ Some o → mark_fault A.world.geometry.block off len o.accesses ≡ None → mark_answer A s off len ≡ None
 mark_free A s o off len is fine = ap (λ w. mark_refused_to A.world.geometry w off len) is ∙ ap (option_map marking) fine

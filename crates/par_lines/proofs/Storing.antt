@@ -1,8 +1,7 @@
 -- Lines that call a store: what the session did, and what the rules answer over the bytes that were fetched.
-use Rattle.par_lines.proofs.{Words.{◌≡◌, ◌≢◌, ℕ, ◌+◌, ◌-◌, ◌<◌, ◌≤◌, ◌==◌, ◌&&◌, Bool, true, false, cond, not, nat_lt, List, [], ◌∷◌, ◌++◌, Option, Some, None, length, map, ap, eq-eqb, inl, refl, sym, subst, ◌∙◌, arith, IfOk, IsTrue, Result, Ok, Err, AllByRecursion, nat_tests, ne_eqb, append_cancel_left, append-nil, Session, accesses_of, tx_on, Moves, Failed, IsVisit, Seen, Visited, base_in, base_of, begin_array, seen_by, blocks_append, Access, Geometry, Mode, Serial, Snapshot, Op, Reply, FileAreas, FsRegion, Array, block_at, Entry, Cause, is_serial, is_valid, store_areas_are, store_areas_fit, all_own, array_at, array_of, file_delete_step, file_move_step, file_new_step, file_read_step, file_write_step, hash_delete_step, hash_get_step, hash_put_step, in_store, step, store_step, tree_delete_step, tree_get_step, tree_put_step, tree_scan_step, World, Live, Start, state_at, Stop, ForSome, Tx, room_of, with_accesses, areas_of, HasCalled, AreStoreAreas, Stops, is_empty_scan, placed, store_areas, store_blocks, store_ended, AnswersOn, CallsStore, Did, Does, InStore, Own, Says, StopsBy, Where, alone, answer, blocks_read, live_of, own_after, own_among, Answered, IsOnStore, settled}, Answering.by_none, Fetching.no_take}
+use Rattle.par_lines.proofs.{Words.{◌≡◌, ◌≢◌, ℕ, ◌+◌, ◌-◌, ◌<◌, ◌≤◌, ◌==◌, ◌&&◌, Bool, true, false, cond, not, nat_lt, List, [], ◌∷◌, ◌++◌, Option, Some, None, length, map, ap, eq-eqb, inl, refl, sym, subst, ◌∙◌, arith, IfOk, IsTrue, Result, Ok, Err, AllByRecursion, nat_tests, ne_eqb, append_cancel_left, append-nil, accesses_of, tx_on, Moves, Failed, IsVisit, Seen, Visited, base_in, base_of, begin_array, seen_by, blocks_append, Access, Geometry, Mode, Serial, Snapshot, Op, Reply, FileAreas, FsRegion, Array, block_at, Entry, Cause, is_serial, is_valid, store_areas_are, store_areas_fit, all_own, array_at, array_of, file_delete_step, file_move_step, file_new_step, file_read_step, file_write_step, hash_delete_step, hash_get_step, hash_put_step, in_store, step, store_step, tree_delete_step, tree_get_step, tree_put_step, tree_scan_step, World, Live, Start, state_at, Stop, ForSome, Tx, room_of, with_accesses, areas_of, HasCalled, AreStoreAreas, Stops, is_empty_scan, placed, store_areas, store_blocks, store_ended, AnswersOn, CallsStore, Did, Does, InStore, Own, Says, StopsBy, Where, alone, answer, blocks_read, live_of, own_after, own_among, Answered, IsOnStore, settled, SessionState}, Answering.by_none, Fetching.no_take}
 use Rattle.std.proofs.Common.{option_map}
 use Rattle.handle_pass.specs.Visits as visits
-use Rattle.handle_pass.specs.Sessions as handle
 use Rattle.script_model.specs.declared.script.Op.TheVariants as op
 use Rattle.script_model.specs.declared.script.Reply.TheVariants as reply
 use Rattle.iso_model.specs.Effect.{own}
@@ -56,26 +55,26 @@ pub record IsServed (g : Geometry) (o : Own) (x : Op) (ended : (room : ℕ) → 
   pub answers : (B : Array) → answer g B (Some o) x ≡ (ended (4096 - length o.accesses) (own B o.accesses)).1
   pub leaves : (B : Array) → own_after g B (Some o) x ≡ Some (record o { accesses = o.accesses ++ (ended (4096 - length o.accesses) (own B o.accesses)).0 })
 
-module _ {D O : Type 0} (A : Start) (s t : Session D O) (o : Own) (was : handle.own s ≡ Some o) where
+module _ (A : Start) (s t : SessionState) (o : Own) (was : s.own ≡ Some o) where
   -- what the transaction is after the call
   module _ (done : List Access) (is : tx_on A t (base_in A s) ≡ with_accesses (tx_on A s (base_in A s)) done) (refused : Option (ℕ × Cause)) (v : Visited A s t refused) where
-    accesses_are : accesses_of (handle.own t) ≡ accesses_of (handle.own s) ++ done
+    accesses_are : accesses_of t.own ≡ accesses_of s.own ++ done
     accesses_are = ap (λ (w : Tx). w.accesses) is
 
-    left_is : handle.own t ≡ Some (record o { accesses = o.accesses ++ done })
-    left_is = v.keeps ∙ ap (option_map (λ (p : Own). record p { accesses = accesses_of (handle.own t) })) was
+    left_is : t.own ≡ Some (record o { accesses = o.accesses ++ done })
+    left_is = v.keeps ∙ ap (option_map (λ (p : Own). record p { accesses = accesses_of t.own })) was
         ∙ ap (λ l. Some (record o { accesses = l })) (accesses_are ∙ ap (λ w. accesses_of w ++ done) was)
 
     reads_are : blocks_read done ≡ map (λ f. f.0) v.fetched
     reads_are = sym (blocks_same done)
-        ∙ append_cancel_left (visits.blocks_read (accesses_of (handle.own s))) (visits.blocks_read done) (map (λ f. f.0) v.fetched)
-        (sym (blocks_append (accesses_of (handle.own s)) done) ∙ sym (ap visits.blocks_read accesses_are) ∙ v.reads)
+        ∙ append_cancel_left (visits.blocks_read (accesses_of s.own)) (visits.blocks_read done) (map (λ f. f.0) v.fetched)
+        (sym (blocks_append (accesses_of s.own) done) ∙ sym (ap visits.blocks_read accesses_are) ∙ v.reads)
 
   -- a call of a store made the line's entries
   pub called : (x : Op) (ended : (room : ℕ) → Array → List Access × Reply) (r : Result Reply Stop) (failures : ℕ) (is_down : Bool) → IsServed A.world.geometry o x ended
       → HasCalled ended (tx_on A s (base_in A s)) (tx_on A t (base_in A s)) r → Stops (record { faults = 0; is_down = false }) (record { faults = failures; is_down = is_down }) r
       → (refused : Option (ℕ × Cause)) (v : Visited A s t refused) → Failed refused failures is_down
-      → CallsStore A.world.geometry A.tells o x (visits.fetches o.number v.fetched ++ visits.refusals o.number refused) (settled failures is_down r) (handle.own t)
+      → CallsStore A.world.geometry A.tells o x (visits.fetches o.number v.fetched ++ visits.refusals o.number refused) (settled failures is_down r) t.own
   called x ended r failures is_down served has stops refused v failed = record {
     fetched = v.fetched;
     refused = refused;
@@ -88,17 +87,17 @@ module _ {D O : Type 0} (A : Start) (s t : Session D O) (o : Own) (was : handle.
   }
     where
       base : Array
-      base = visits.shaped A.world.geometry (array_at (state_at A (handle.seen s)).world.history o.begin)
+      base = visits.shaped A.world.geometry (array_at (state_at A s.seen).world.history o.begin)
 
       base_is : A.tells ≡ true → base_in A s ≡ Some base
       base_is tells = ap (λ b. cond b (begin_array A s) None) tells
-          ∙ ap (option_map (λ (p : Own). visits.shaped A.world.geometry (array_at (state_at A (handle.seen s)).world.history p.begin))) was
+          ∙ ap (option_map (λ (p : Own). visits.shaped A.world.geometry (array_at (state_at A s.seen).world.history p.begin))) was
 
-      told : (q : Result Reply Stop) → settled failures is_down r ≡ q → A.tells ≡ true → IfOk q (λ said. AnswersOn A.world.geometry o x v.fetched said (handle.own t))
+      told : (q : Result Reply Stop) → settled failures is_down r ≡ q → A.tells ≡ true → IfOk q (λ said. AnswersOn A.world.geometry o x v.fetched said t.own)
       told (Err e) is tells = tt
       told (Ok said) is tells =
           let r_is : r ≡ Ok said = settled_ok failures is_down r said is in
-          let so = subst (λ (q : Result Reply Stop). IfOk q (λ y. ForSome (base_in A s) (λ B. ended (room_of (tx_on A s (base_in A s))) (own B (accesses_of (handle.own s))) ≡ (has.done, y)))) r_is has.told in
+          let so = subst (λ (q : Result Reply Stop). IfOk q (λ y. ForSome (base_in A s) (λ B. ended (room_of (tx_on A s (base_in A s))) (own B (accesses_of s.own)) ≡ (has.done, y)))) r_is has.told in
           let ends : ended (4096 - length o.accesses) (own base o.accesses) ≡ (has.done, said) =
           sym (ap (λ w. ended (4096 - length (accesses_of w)) (own base (accesses_of w))) was) ∙ so base (base_is tells) in
           record {
@@ -189,18 +188,18 @@ pub has_own : (x : Option Own) (m : Mode) → option_map (λ (o : Own). o.mode) 
 has_own None m e = absurd (cc e)
 has_own (Some o) m e = (o, refl, cc e)
 
-module _ {D O : Type 0} (A : Start) (s : Session D O) (x : Op) (is : IsOnStore x) where
-  pub without_tx : handle.own s ≡ None → Answered A s x (Ok reply.NotInTx) s
+module _ (A : Start) (s : SessionState) (x : Op) (is : IsOnStore x) where
+  pub without_tx : s.own ≡ None → Answered A s x (Ok reply.NotInTx) s
   without_tx none = by_none A s s x (Ok reply.NotInTx) None none refl ((store_line A.world.geometry x is).no_tx A.tells)
 
-  pub without_store : (o : Own) → handle.own s ≡ Some o → (store_blocks A.world.geometry x) ≡ 0 → Answered A s x (Ok reply.NoStore) s
+  pub without_store : (o : Own) → s.own ≡ Some o → (store_blocks A.world.geometry x) ≡ 0 → Answered A s x (Ok reply.NoStore) s
   without_store o was none =
       by_none A s s x (Ok reply.NoStore) (Some o) was refl
       ((store_line A.world.geometry x is).does_in A.tells o [] (Ok reply.NoStore) (Some o)
       (not_in_store (CallsStore A.world.geometry A.tells o x [] (Ok reply.NoStore) (Some o)) (Says A.world.geometry (Some o) x [] (Ok reply.NoStore) (Some o)) (store_blocks A.world.geometry x) o none
       (says_by A.world.geometry o x reply.NoStore ((store_line A.world.geometry x is).stepped [] o ∙ no_store (alone A.world.geometry [] (Some o)) (live_of o) (store_blocks A.world.geometry x) _ none))))
 
-  pub without_mode : (o : Own) → handle.own s ≡ Some o → (store_blocks A.world.geometry x) ≢ 0 → o.mode ≡ Snapshot → Answered A s x (Ok reply.StoreMode) s
+  pub without_mode : (o : Own) → s.own ≡ Some o → (store_blocks A.world.geometry x) ≢ 0 → o.mode ≡ Snapshot → Answered A s x (Ok reply.StoreMode) s
   without_mode o was some mode =
       by_none A s s x (Ok reply.StoreMode) (Some o) was refl
       ((store_line A.world.geometry x is).does_in A.tells o [] (Ok reply.StoreMode) (Some o)
@@ -208,7 +207,7 @@ module _ {D O : Type 0} (A : Start) (s : Session D O) (x : Op) (is : IsOnStore x
       (says_by A.world.geometry o x reply.StoreMode ((store_line A.world.geometry x is).stepped [] o ∙ no_serial (alone A.world.geometry [] (Some o)) (live_of o) (store_blocks A.world.geometry x) _ some mode))))
 
   -- a scan that is to find no pair reads nothing
-  pub without_pairs : (o : Own) → handle.own s ≡ Some o → (store_blocks A.world.geometry x) ≢ 0 → o.mode ≡ Serial → is_empty_scan x ≡ true → Answered A s x (Ok reply.BadRange) s
+  pub without_pairs : (o : Own) → s.own ≡ Some o → (store_blocks A.world.geometry x) ≢ 0 → o.mode ≡ Serial → is_empty_scan x ≡ true → Answered A s x (Ok reply.BadRange) s
   without_pairs o was some mode empty =
       let g : Geometry = A.world.geometry in
       let whole : step (alone g [] (Some o)) 1 x ≡ (reply.BadRange, alone g [] (Some o)) =
@@ -232,7 +231,7 @@ module _ {D O : Type 0} (A : Start) (s : Session D O) (x : Op) (is : IsOnStore x
       })))
 
   -- the store was called
-  pub visited : (t : Session D O) (before : Option (Session D O)) (o : Own) (region : FsRegion) (failures : ℕ) (is_down : Bool) (r q : Result Reply Stop) (v w : Seen) → before ≡ Some s → handle.own s ≡ Some o → o.mode ≡ Serial
+  pub visited : (t : SessionState) (before : Option SessionState) (o : Own) (region : FsRegion) (failures : ℕ) (is_down : Bool) (r q : Result Reply Stop) (v w : Seen) → before ≡ Some s → s.own ≡ Some o → o.mode ≡ Serial
       → placed A.world.geometry.block region ≡ store_areas A.world.geometry x → 0 < region.files.size → is_empty_scan x ≡ false
       → v ≡ seen_by A before s 0 false → w ≡ seen_by A before t failures is_down → HasCalled (store_ended (areas_of v.tx region) x) v.tx w.tx r → Stops v.device w.device r → IsVisit A before t failures is_down
       → q ≡ settled failures is_down r → Answered A s x q t
@@ -242,7 +241,7 @@ module _ {D O : Type 0} (A : Start) (s : Session D O) (x : Op) (is : IsOnStore x
       let base : base_of A before ≡ base_in A s = ap (base_of A) begun in
       let same : visit.was ≡ s = same_session visit.was s (sym visit.is ∙ begun) in
       let made : Visited A s t visit.refused = subst (λ u. Visited A u t visit.refused) same visit.made in
-      let n : visits.number_in (handle.own s) ≡ o.number = ap visits.number_in was in
+      let n : visits.number_in s.own ≡ o.number = ap visits.number_in was in
       let calls = called A s t o was x (store_ended (store_areas g x) x) r failures is_down (served g o x is there mode full)
       (subst (λ (b : Option Array). HasCalled (store_ended (store_areas g x) x) (tx_on A s b) (tx_on A t b) r) base
       (subst (λ (a : FileAreas). HasCalled (store_ended a x) (tx_on A s (base_of A before)) (tx_on A t (base_of A before)) r) area
@@ -253,13 +252,13 @@ module _ {D O : Type 0} (A : Start) (s : Session D O) (x : Op) (is : IsOnStore x
       record {
         entries = visits.fetches o.number made.fetched ++ visits.refusals o.number visit.refused;
         moves = subst (λ (k : ℕ). Moves s t (visits.fetches k made.fetched ++ visits.refusals k visit.refused)) n made.moves;
-        did = subst (λ y. Did g A.tells y x (visits.fetches o.number made.fetched ++ visits.refusals o.number visit.refused) q (handle.own t)) (sym was)
-            (inl (subst (λ y. Does g A.tells (Some o) x (visits.fetches o.number made.fetched ++ visits.refusals o.number visit.refused) y (handle.own t)) (sym ends)
-            ((store_line g x is).does_in A.tells o (visits.fetches o.number made.fetched ++ visits.refusals o.number visit.refused) (settled failures is_down r) (handle.own t) (in_store_so (CallsStore g A.tells o x (visits.fetches o.number made.fetched ++ visits.refusals o.number visit.refused) (settled failures is_down r) (handle.own t)) (Says g (Some o) x (visits.fetches o.number made.fetched ++ visits.refusals o.number visit.refused) (settled failures is_down r) (handle.own t)) (store_blocks g x) o there mode calls))));
-        of = ap (λ y. y.now) made.of;
+        did = subst (λ y. Did g A.tells y x (visits.fetches o.number made.fetched ++ visits.refusals o.number visit.refused) q t.own) (sym was)
+            (inl (subst (λ y. Does g A.tells (Some o) x (visits.fetches o.number made.fetched ++ visits.refusals o.number visit.refused) y t.own) (sym ends)
+            ((store_line g x is).does_in A.tells o (visits.fetches o.number made.fetched ++ visits.refusals o.number visit.refused) (settled failures is_down r) t.own (in_store_so (CallsStore g A.tells o x (visits.fetches o.number made.fetched ++ visits.refusals o.number visit.refused) (settled failures is_down r) t.own) (Says g (Some o) x (visits.fetches o.number made.fetched ++ visits.refusals o.number visit.refused) (settled failures is_down r) t.own) (store_blocks g x) o there mode calls))));
+        of = made.of;
       }
     where
-      same_session : (a b : Session D O) → Some a ≡ Some b → a ≡ b
+      same_session : (a b : SessionState) → Some a ≡ Some b → a ≡ b
       same_session a b e = cc e
 
 pub no_own : (x : Option Own) → option_map (λ (o : Own). o.mode) x ≡ None → x ≡ None
@@ -277,7 +276,7 @@ pub some_blocks : (g : Geometry) (region : FsRegion) (x : Op) → placed g.block
 some_blocks g region x area some none = let size = blocks_at g region x area in absurd (omega (arith, none, size, some))
 
 -- a call of a store may be made there
-pub may_call : {D O : Type 0} (A : Start) (before : Option (Session D O)) (s : Session D O) (region : FsRegion) (x : Op) (v : Seen) → v ≡ seen_by A before s 0 false
+pub may_call : (A : Start) (before : Option SessionState) (s : SessionState) (region : FsRegion) (x : Op) (v : Seen) → v ≡ seen_by A before s 0 false
     → placed A.world.geometry.block region ≡ store_areas A.world.geometry x → 0 < region.files.size → IsTrue (is_valid A.world.geometry)
     → AreStoreAreas x (areas_of v.tx region) × (region.files.start + region.files.size ≤ v.tx.blocks)
 may_call A before s region x v is area some valid =

@@ -1,5 +1,5 @@
 -- Accesses that make no entry: what the rules answer the client, and what the session does.
-use Rattle.par_lines.proofs.Words.{◌≡◌, ℕ, ◌==◌, Bool, true, false, cond, List, [], ◌∷◌, ◌++◌, Option, Some, None, ap, inl, inr, length, refl, sym, subst, ◌∙◌, eq-eqb, nat_le, Result, Ok, Err, IfErr, is_some, slice_index, eqb-true, Session, access_answer, accesses_of, with_access, HasWritten, IsWriteCause, own, moves_none, moves_rested, Access, Geometry, MAX_ACCESSES, Op, Reply, TxError, access_step, fill_step, step, write_step, write_access, World, Start, Stop, access_refusal, IsRefused, Own, Did, Does, alone, answer, live_of, own_after, own_among, Answered}
+use Rattle.par_lines.proofs.Words.{◌≡◌, ℕ, ◌==◌, Bool, true, false, cond, List, [], ◌∷◌, ◌++◌, Option, Some, None, ap, inl, inr, length, refl, sym, subst, ◌∙◌, eq-eqb, nat_le, Result, Ok, Err, IfErr, is_some, slice_index, eqb-true, access_answer, accesses_of, with_access, HasWritten, IsWriteCause, moves_none, moves_rested, Access, Geometry, MAX_ACCESSES, Op, Reply, TxError, access_step, fill_step, step, write_step, write_access, World, Start, Stop, access_refusal, IsRefused, Own, Did, Does, alone, answer, live_of, own_after, own_among, Answered, SessionState}
 use Rattle.std.specs.Prelude.{not, replicate}
 use Rattle.script_model.specs.declared.script.Op.TheVariants as op
 use Rattle.script_model.specs.declared.script.Reply.TheVariants as reply
@@ -51,9 +51,9 @@ module _ (A : Start) (x : Op) (block : ℕ) (bytes : List ℕ) (parts : IsAccess
   stopped : (was : Option Own) → Did A.world.geometry A.tells was x [] (Err stop.Memory) was
   stopped was = inr (refl, refl, refl)
 
-module _ {D O : Type 0} (A : Start) (x : Op) (block : ℕ) (bytes : List ℕ) (parts : IsAccessing A.world.geometry x block false (write_access block bytes)) where
+module _ (A : Start) (x : Op) (block : ℕ) (bytes : List ℕ) (parts : IsAccessing A.world.geometry x block false (write_access block bytes)) where
   -- a line that answers so, and leaves the session
-  left : (s : Session D O) (was : Option Own) (r : Result Reply Stop) → own s ≡ was → Did A.world.geometry A.tells was x [] r was → Answered A s x r s
+  left : (s : SessionState) (was : Option Own) (r : Result Reply Stop) → s.own ≡ was → Did A.world.geometry A.tells was x [] r was → Answered A s x r s
   left s was r is did = record {
     entries = [];
     moves = moves_none s;
@@ -61,12 +61,12 @@ module _ {D O : Type 0} (A : Start) (x : Op) (block : ℕ) (bytes : List ℕ) (p
     of = refl;
   }
 
-  refused_by : (s t : Session D O) (was : Option Own) (e : TxError) (r : Result (Unit {0}) TxError) → own s ≡ was → r ≡ Err e → HasWritten s block bytes r t → Did A.world.geometry A.tells was x [] (say.accessed (Err e)) was
+  refused_by : (s t : SessionState) (was : Option Own) (e : TxError) (r : Result (Unit {0}) TxError) → s.own ≡ was → r ≡ Err e → HasWritten s block bytes r t → Did A.world.geometry A.tells was x [] (say.accessed (Err e)) was
       → Answered A s x (say.accessed r) t
   refused_by s t was e r is so did does =
       subst (λ q. HasWritten s block bytes q t → Answered A s x (say.accessed q) t) (sym so) (λ same. subst (λ u. Answered A s x (say.accessed (Err e)) u) (sym same) (left s was (say.accessed (Err e)) is does)) did
 
-  written_so : (s t : Session D O) (o : Own) (r : Result (Unit {0}) TxError) → own s ≡ Some o → nat_le A.world.geometry.blocks block ≡ false → nat_le MAX_ACCESSES (length o.accesses) ≡ false
+  written_so : (s t : SessionState) (o : Own) (r : Result (Unit {0}) TxError) → s.own ≡ Some o → nat_le A.world.geometry.blocks block ≡ false → nat_le MAX_ACCESSES (length o.accesses) ≡ false
       → IfErr r IsWriteCause → HasWritten s block bytes r t → Answered A s x (say.accessed r) t
   written_so s t o (Ok done) is within few cause did =
       let whole = parts.opened o ∙ added A.world.geometry o block reply.Done (write_access block bytes) within few in
@@ -74,10 +74,10 @@ module _ {D O : Type 0} (A : Start) (x : Op) (block : ℕ) (bytes : List ℕ) (p
       record {
         entries = [];
         moves = moves_rested s t did.3;
-        did = subst (λ w. Did A.world.geometry A.tells w x [] (Ok reply.Done) (own t)) (sym is)
-            (inl (parts.says A.tells (Some o) (own t) (Ok reply.Done) (ap (λ (w : Reply × World). Ok w.0) (sym whole))
+        did = subst (λ w. Did A.world.geometry A.tells w x [] (Ok reply.Done) t.own) (sym is)
+            (inl (parts.says A.tells (Some o) t.own (Ok reply.Done) (ap (λ (w : Reply × World). Ok w.0) (sym whole))
             (did.2 ∙ ap (λ p. Some (with_access p (write_access block bytes))) same ∙ sym (after A.world.geometry o block reply.Done (write_access block bytes)) ∙ ap (λ (w : Reply × World). own_among w.1.live) (sym whole))));
-        of = ap (λ v. v.now) did.3.of;
+        of = did.3.of;
       }
     where
       unwrap : Own → Option Own → Own
@@ -86,10 +86,10 @@ module _ {D O : Type 0} (A : Start) (x : Op) (block : ℕ) (bytes : List ℕ) (p
   written_so s t o (Err e) is within few cause did =
       subst (λ u. Answered A s x (say.accessed (Err e)) u) (sym did) (left s (Some o) (say.accessed (Err e)) is (subst (λ f. Did A.world.geometry A.tells (Some o) x [] (say.accessed (Err f)) (Some o)) (sym cause) (stopped A x block bytes parts (Some o))))
 
-  pub written : (s t : Session D O) (r : Result (Unit {0}) TxError) → IsRefused (access_answer A s block) IsWriteCause r → HasWritten s block bytes r t → Answered A s x (say.accessed r) t
-  written s t r cause did = by (own s) refl
+  pub written : (s t : SessionState) (r : Result (Unit {0}) TxError) → IsRefused (access_answer A s block) IsWriteCause r → HasWritten s block bytes r t → Answered A s x (say.accessed r) t
+  written s t r cause did = by s.own refl
     where
-      by : (was : Option Own) → own s ≡ was → Answered A s x (say.accessed r) t
+      by : (was : Option Own) → s.own ≡ was → Answered A s x (say.accessed r) t
       by None is =
           refused_by s t None error.NotInTx r is (subst (λ w. IsRefused (refusal A.world.geometry w block) IsWriteCause r) is cause) did
           (inl (parts.says A.tells None None (Ok reply.NotInTx) (ap (λ (w : Reply × World). Ok w.0) (sym parts.closed)) (ap (λ (w : Reply × World). own_among w.1.live) (sym parts.closed))))
@@ -126,8 +126,8 @@ module _ (A : Start) (x : Op) (block : ℕ) (a : Access) (parts : IsAccessing A.
       by true is = so reply.BadBlock (outside A.world.geometry o block reply.Done a true is)
       by false is = so reply.BadRange (wrong_range A.world.geometry o block reply.Done a is)
 
-  pub wrong_bytes : {D O : Type 0} (s : Session D O) → Answered A s x (Ok (say.wrong_bytes A.world.geometry.blocks (own s) block)) s
-  wrong_bytes s = record { entries = []; moves = moves_none s; did = inl (wrong_says (own s)); of = refl }
+  pub wrong_bytes : (s : SessionState) → Answered A s x (Ok (say.wrong_bytes A.world.geometry.blocks s.own block)) s
+  wrong_bytes s = record { entries = []; moves = moves_none s; did = inl (wrong_says s.own); of = refl }
 
 -- a write of a whole block
 pub write_parts : (g : Geometry) (block : ℕ) (bytes : List ℕ) (b : Bool) → not (length bytes == g.block) ≡ b → IsAccessing g (op.Write block bytes) block b (write_access block bytes)
@@ -149,13 +149,13 @@ differ_test m n differ = by (m == n) refl
     by true is = absurd (differ (eqb-true m n is))
     by false is = refl
 
-module _ {D O : Type 0} (A : Start) (block : ℕ) (bytes : List ℕ) where
-  pub wrong_write : (h : Geometry) (s : Session D O) → h ≡ A.world.geometry → (length bytes ≡ h.block → ⊥) → Answered A s (op.Write block bytes) (Ok (say.wrong_bytes h.blocks (own s) block)) s
+module _ (A : Start) (block : ℕ) (bytes : List ℕ) where
+  pub wrong_write : (h : Geometry) (s : SessionState) → h ≡ A.world.geometry → (length bytes ≡ h.block → ⊥) → Answered A s (op.Write block bytes) (Ok (say.wrong_bytes h.blocks s.own block)) s
   wrong_write h s is differ =
-      subst (λ k. (length bytes ≡ k.block → ⊥) → Answered A s (op.Write block bytes) (Ok (say.wrong_bytes k.blocks (own s) block)) s) (sym is)
+      subst (λ k. (length bytes ≡ k.block → ⊥) → Answered A s (op.Write block bytes) (Ok (say.wrong_bytes k.blocks s.own block)) s) (sym is)
       (λ apart. wrong_bytes A (op.Write block bytes) block (write_access block bytes) (write_parts A.world.geometry block bytes true (differ_test (length bytes) A.world.geometry.block apart)) s) differ
 
-  pub right_write : (h : Geometry) (s t : Session D O) (r : Result (Unit {0}) TxError) → h ≡ A.world.geometry → length bytes ≡ h.block → IsRefused (access_answer A s block) IsWriteCause r
+  pub right_write : (h : Geometry) (s t : SessionState) (r : Result (Unit {0}) TxError) → h ≡ A.world.geometry → length bytes ≡ h.block → IsRefused (access_answer A s block) IsWriteCause r
       → HasWritten s block bytes r t → Answered A s (op.Write block bytes) (say.accessed r) t
   right_write h s t r is same cause did =
       written A (op.Write block bytes) block bytes (write_parts A.world.geometry block bytes false (ap not (eq-eqb (length bytes) A.world.geometry.block (same ∙ ap (λ k. k.block) is)))) s t r cause did
@@ -173,18 +173,18 @@ fill_parts g block bytes b is = record {
     does tells None own' r said left = (refl, said, left)
     does tells (Some o) own' r said left = (refl, said, left)
 
-module _ {D O : Type 0} (A : Start) (block : ℕ) (bytes : List ℕ) where
-  pub wrong_fill : (h : Geometry) (s : Session D O) → h ≡ A.world.geometry → (length bytes ≡ 1 → ⊥) → Answered A s (op.Fill block bytes) (Ok (say.wrong_bytes h.blocks (own s) block)) s
+module _ (A : Start) (block : ℕ) (bytes : List ℕ) where
+  pub wrong_fill : (h : Geometry) (s : SessionState) → h ≡ A.world.geometry → (length bytes ≡ 1 → ⊥) → Answered A s (op.Fill block bytes) (Ok (say.wrong_bytes h.blocks s.own block)) s
   wrong_fill h s is differ =
-      subst (λ k. Answered A s (op.Fill block bytes) (Ok (say.wrong_bytes k.blocks (own s) block)) s) (sym is)
+      subst (λ k. Answered A s (op.Fill block bytes) (Ok (say.wrong_bytes k.blocks s.own block)) s) (sym is)
       (wrong_bytes A (op.Fill block bytes) block (write_access block (replicate A.world.geometry.block (slice_index bytes 0))) (fill_parts A.world.geometry block bytes true (differ_test (length bytes) 1 differ)) s)
 
-  pub right_fill : (h : Geometry) (s t : Session D O) (buffer : List ℕ) (r : Result (Unit {0}) TxError) → h ≡ A.world.geometry → length bytes ≡ 1 → buffer ≡ replicate h.block (slice_index bytes 0)
+  pub right_fill : (h : Geometry) (s t : SessionState) (buffer : List ℕ) (r : Result (Unit {0}) TxError) → h ≡ A.world.geometry → length bytes ≡ 1 → buffer ≡ replicate h.block (slice_index bytes 0)
       → IsRefused (access_answer A s block) IsWriteCause r → HasWritten s block buffer r t → Answered A s (op.Fill block bytes) (say.accessed r) t
   right_fill h s t buffer r is one full cause did =
       written A (op.Fill block bytes) block (replicate A.world.geometry.block (slice_index bytes 0)) (fill_parts A.world.geometry block bytes false (ap not (eq-eqb (length bytes) 1 one))) s t r cause
       (subst (λ v. HasWritten s block v r t) (full ∙ ap (λ k. replicate k.block (slice_index bytes 0)) is) did)
 
   -- without memory before it, a line stops the client
-  pub wants : (s : Session D O) (x : Op) → Answered A s x (Err stop.Memory) s
+  pub wants : (s : SessionState) (x : Op) → Answered A s x (Err stop.Memory) s
   wants s x = record { entries = []; moves = moves_none s; did = inr (refl, refl, refl); of = refl }

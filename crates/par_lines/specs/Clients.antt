@@ -4,8 +4,7 @@ use Rattle.script_model.specs.{declared.script.Line.Line, declared.script.Reply.
 use Rattle.iso_model.specs.Geometry.{is_valid}
 use Rattle.iso_shared.specs.States.{Start}
 use Rattle.par_runner.specs.{declared.job.Flow.Flow, declared.job.Flow.TheVariants.{Go, Halt}}
-use Rattle.handle_pass.specs.Sessions.{IsSession}
-use Rattle.handle_pass.specs.Sessions as handle
+use Rattle.handle_pass.specs.Sessions.{device_of}
 use Rattle.par_lines.specs.{declared.client.ParClient.ParClient, Answers.Answered}
 
 -- A line that was answered has its reply behind the others; one that was not leaves them, and says why the client stops.
@@ -18,10 +17,9 @@ Tells Halt number (Err why) told was told' now = (told' ≡ told) × (now ≡ So
 module _ {D O : Type 0} where
   -- it may make a step
   pub record IsClient (A : Start) (c : ParClient D O) : Type 0 where
-    pub session : IsSession A c.session
     -- enough for a transaction of its own and for the port of a group
-    pub units : 33 < handle.units c.session
-    pub device : handle.device c.session ≡ c.shared.now
+    pub units : 33 < c.session.units
+    pub device : c.session.device ≡ device_of c.shared.now
     pub geometry : c.geometry ≡ A.world.geometry
     pub small : c.geometry.block ≤ 4096
     pub valid : IsTrue (is_valid A.world.geometry)

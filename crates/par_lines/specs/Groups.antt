@@ -3,7 +3,7 @@ use Rattle.std.specs.{Prelude.{◌≡◌, ℕ, List, [], ◌∷◌, Option, leng
 use Rattle.turn_lock.specs.declared.view.View.{View}
 use Rattle.iso_shared.specs.{declared.entry.Entry.Entry, declared.tx.Tx.Tx, Ports.tx_view}
 use Rattle.iso_shared.specs.declared.entry.Entry.TheVariants as entry
-use Rattle.handle_pass.specs.{declared.session.Session.Session, Logs.MovesThrough, Sessions.own_of}
+use Rattle.handle_pass.specs.{Inside.own_of, Logs.MovesThrough, Sessions.SessionState}
 use Rattle.par_script.specs.Lines.{Own}
 
 -- a look for each label, in order, with what it found
@@ -24,4 +24,4 @@ module _ {D O : Type 0} where
   -- from the one view of a port to the other each label was looked for, in order, and no other entry was made
   pub record HaveLooked (v : View Entry) (labels : List (List ℕ)) (found : List (Option (Tx D O))) (w : View Entry) : Type 0 where
     pub count : length found ≡ length labels
-    pub made : (s : Session D O) → MovesThrough s v w (looks_for labels (told_of found))
+    pub made : (s : SessionState) → MovesThrough s v w (looks_for labels (told_of found))

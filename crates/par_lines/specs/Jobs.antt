@@ -5,16 +5,15 @@ use Rattle.iso_shared.specs.{declared.entry.Entry.Entry, declared.shared.Shared.
 use Rattle.turn_lock.specs.{declared.view.View.View, Lists.places}
 use Rattle.par_runner.specs.declared.job.Job.{Job}
 use Rattle.par_script.specs.{Lines.{ClientLines, Ran}, Told.{FoundSome, lines_of, lines_run}, declared.part.Part.Part}
-use Rattle.handle_pass.specs.{Logs.Log, Sessions.{count, device, own, seen}}
-use Rattle.handle_pass.specs.Sessions as handle
+use Rattle.handle_pass.specs.{Logs.Log, Sessions.{count, device_of}}
 use Rattle.par_lines.specs.{declared.client.ParClient.ParClient, Clients.IsClient}
 
 module _ {D O : Type 0} where
   -- a job of a client that was told nothing yet
   pub record IsNew (A : Start) (l : Shared D O) (lines : List (ℕ × Line)) (j : Job (ParClient D O)) : Type 0 where
-    pub device : device j.client.session ≡ l
+    pub device : j.client.session.device ≡ device_of l
     pub client : IsClient A j.client
-    pub none : own j.client.session ≡ None
+    pub none : j.client.session.own ≡ None
     pub unmade : (p : ℕ) → count j.client.session p ≡ 0
     pub told : j.client.told.items ≡ []
     pub stop : j.client.stop ≡ None
@@ -26,14 +25,14 @@ module _ {D O : Type 0} where
 
   -- a job whose lines were run
   pub record Finished (A : Start) (l : Shared D O) (lines : List (ℕ × Line)) (j : Job (ParClient D O)) : Type 0 where
-    pub device : device j.client.session ≡ l
+    pub device : j.client.session.device ≡ device_of l
     pub client : IsClient A j.client
     pub made : List Entry
-    pub log : Log (count j.client.session) (seen j.client.session) made
-    pub ran : Ran A.world.geometry A.tells (lines_run lines (part_of j)) j.client.told.items j.client.stop made (own j.client.session)
+    pub log : Log (count j.client.session) j.client.session.seen made
+    pub ran : Ran A.world.geometry A.tells (lines_run lines (part_of j)) j.client.told.items j.client.stop made j.client.session.own
 
   abbrev pub units_in : Job (ParClient D O) → ℕ
-  units_in j = handle.units j.client.session
+  units_in j = j.client.session.units
 
 -- each client was told its replies by the entries at its places; together they have the places that are counted
 abbrev pub AllTold : Start → (lines : List (ℕ × Line)) → List Entry → List Part → (ℕ → ℕ) → Type 0

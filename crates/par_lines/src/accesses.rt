@@ -1,7 +1,7 @@
 // The lines that write and mark, which make no entry.
 ghost use Rattle.std.specs.Prelude.{◌≡◌, ◌≤◌};
 ghost use Rattle.script_model.specs.declared.script.Op.TheVariants.{Fill, Put, Write};
-ghost use Rattle.handle_pass.specs.{Accesses.{mark_answer, HasMarked}, Sessions.{own, IsSession}};
+ghost use Rattle.handle_pass.specs.Accesses.{mark_answer, HasMarked};
 ghost use Rattle.tx_blocks.specs.Tx.{IsRefused};
 ghost use Rattle.par_lines.specs.Answers.{Answered};
 ghost use Rattle.par_lines.specs.Replies as spec;
@@ -20,7 +20,7 @@ pub(crate) fn wrong_bytes<'a, D: Disk + Drop, O: Origin>(
     geometry: &Geometry,
     block: u32,
 ) -> Reply
-    ensures { result ≡ spec.wrong_bytes geometry.now.blocks (own session.now) block }
+    ensures { result ≡ spec.wrong_bytes geometry.now.blocks session.now.own block }
 {
     if session.mode().is_none() {
         Reply::NotInTx
@@ -38,9 +38,7 @@ pub(crate) fn write<'a, D: Disk + Drop, O: Origin>(
     block: u32,
     bytes: &[u8],
 ) -> Result<Reply, Stop>
-    requires session { IsSession O.start session.old }
     requires geometry { geometry.now ≡ O.start.world.geometry }
-    ensures session { IsSession O.start session.new }
     ensures did { Answered O.start session.old (Write block bytes.now) result session.new }
 {
     if bytes.len() != geometry.block as usize {
@@ -57,9 +55,7 @@ pub(crate) fn fill<'a, D: Disk + Drop, O: Origin>(
     block: u32,
     bytes: &[u8],
 ) -> Result<Reply, Stop>
-    requires session { IsSession O.start session.old }
     requires geometry { geometry.now ≡ O.start.world.geometry }
-    ensures session { IsSession O.start session.new }
     ensures did { Answered O.start session.old (Fill block bytes.now) result session.new }
 {
     if bytes.len() != 1 {
@@ -73,7 +69,7 @@ pub(crate) fn fill<'a, D: Disk + Drop, O: Origin>(
 
 /// How a mark is refused whose bytes are outside a block.
 fn refused_mark<'a, D: Disk + Drop, O: Origin>(session: &Session<'a, D, O>) -> TxError
-    ensures { result ≡ spec.refused_mark (own session.now) }
+    ensures { result ≡ spec.refused_mark session.now.own }
 {
     if session.mode().is_none() {
         TxError::NotInTx
@@ -89,10 +85,8 @@ pub(crate) fn mark_range<'a, D: Disk + Drop, O: Origin>(
     off: u32,
     len: u32,
 ) -> Result<(), TxError>
-    requires session { IsSession O.start session.old }
     requires geometry { geometry.now ≡ O.start.world.geometry }
     requires small { geometry.now.block ≤ 4096 }
-    ensures session { IsSession O.start session.new }
     ensures cause { IsRefused (mark_answer O.start session.old off len) (λ e. ⊥) result }
     ensures did { HasMarked session.old off len result session.new }
 {
@@ -111,10 +105,8 @@ pub(crate) fn put<'a, D: Disk + Drop, O: Origin>(
     off: u32,
     bytes: &[u8],
 ) -> Result<Reply, Stop>
-    requires session { IsSession O.start session.old }
     requires geometry { geometry.now ≡ O.start.world.geometry }
     requires small { geometry.now.block ≤ 4096 }
-    ensures session { IsSession O.start session.new }
     ensures did { Answered O.start session.old (Put block off bytes.now) result session.new }
 {
     if is_outside(geometry.block, off, bytes.len()) {

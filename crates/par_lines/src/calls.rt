@@ -1,7 +1,6 @@
 // The line that ends a client's transaction.
 ghost use Rattle.std.specs.Prelude.{◌≡◌, ◌<◌};
 ghost use Rattle.script_model.specs.declared.script.Op.TheVariants.{End};
-ghost use Rattle.handle_pass.specs.Sessions.{IsSession};
 ghost use Rattle.par_lines.specs.Answers.{Answered};
 
 use crate::replies::{ended, not_ended};
@@ -22,8 +21,6 @@ pub(crate) fn end<'a, L: Ledger, D: Disk + Drop, O: Origin, R: Wait>(
     requires name { blank.name ≡ L.name }
     requires parts { blank.parts ≡ L.parts }
     requires some { 0 < L.parts }
-    requires session { IsSession O.start session.old }
-    ensures session { IsSession O.start session.new }
     ensures did { Answered O.start session.old End result session.new }
 {
     let mut steps = Steps::<L>::start(blank);

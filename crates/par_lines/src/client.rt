@@ -1,7 +1,7 @@
 // A client: its session, and what it was told.
 ghost use Rattle.std.specs.Prelude.{◌≡◌, ◌<◌, ◌≤◌, IsTrue};
 ghost use Rattle.iso_model.specs.Geometry.{is_valid};
-ghost use Rattle.handle_pass.specs.Sessions.{device, units, IsSession};
+ghost use Rattle.handle_pass.specs.Sessions.{device_of};
 ghost use Rattle.par_lines.specs.Answers.{Answered};
 
 use crate::accesses::{fill, mark_range, put, write};
@@ -34,13 +34,11 @@ pub(crate) fn answer<'a, D: Disk + Drop, O: Origin, R: Wait>(
     buffer: &mut Vec<u8>,
     op: &Op,
 ) -> Result<Reply, Stop>
-    requires session { IsSession O.start session.old }
-    requires device { device session.old ≡ shared.now }
-    requires units { 33 < units session.old }
+    requires device { session.old.device ≡ device_of shared.now }
+    requires units { 33 < session.old.units }
     requires geometry { geometry.now ≡ O.start.world.geometry }
     requires small { geometry.now.block ≤ 4096 }
     requires valid { IsTrue (is_valid O.start.world.geometry) }
-    ensures session { IsSession O.start session.new }
     ensures did { Answered O.start session.old op.now result session.new }
 {
     match op {

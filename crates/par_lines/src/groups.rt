@@ -2,7 +2,7 @@
 ghost use Rattle.std.specs.Prelude.{◌≡◌, ◌+◌, ◌<◌, ◌≤◌, [], length, IfOk, vec_capacity};
 ghost use Rattle.script_model.specs.declared.script.Op.TheVariants.{Group};
 ghost use Rattle.iso_shared.specs.Ports.{IsPort, port_view};
-ghost use Rattle.handle_pass.specs.Sessions.{device, units, IsSession};
+ghost use Rattle.handle_pass.specs.Sessions.{device_of};
 ghost use Rattle.group_commit.specs.Groups.{found_in, units_all, AreMembers};
 ghost use Rattle.par_lines.specs.{Answers.Answered, Groups.{AreNew, HaveLooked}};
 
@@ -64,10 +64,8 @@ pub(crate) fn group<'a, D: Disk + Drop, O: Origin, R: Wait>(
     session: &mut Session<'a, D, O>,
     labels: &[Label],
 ) -> Result<Reply, Stop>
-    requires session { IsSession O.start session.old }
-    requires device { device session.old ≡ shared.now }
-    requires units { 33 < units session.old }
-    ensures session { IsSession O.start session.new }
+    requires device { session.old.device ≡ device_of shared.now }
+    requires units { 33 < session.old.units }
     ensures did { Answered O.start session.old (Group labels.now) result session.new }
 {
     // A script has no such line.

@@ -1,7 +1,6 @@
 // The line that waits for a transaction under a label.
 ghost use Rattle.std.specs.Prelude.{◌<◌};
 ghost use Rattle.script_model.specs.declared.script.Op.TheVariants.{Await};
-ghost use Rattle.handle_pass.specs.Sessions.{units, IsSession};
 ghost use Rattle.par_lines.specs.Answers.{Answered};
 
 use handle_pass::Session;
@@ -19,9 +18,7 @@ pub(crate) fn await_label<'a, D: Disk + Drop, O: Origin, R: Wait>(
     session: &mut Session<'a, D, O>,
     label: &Label,
 ) -> Result<Reply, Stop>
-    requires session { IsSession O.start session.old }
-    requires units { 1 < units session.old }
-    ensures session { IsSession O.start session.new }
+    requires units { 1 < session.old.units }
     ensures did { Answered O.start session.old (Await label.now) result session.new }
 {
     if session.mode().is_some() {

@@ -1,7 +1,7 @@
 // The lines that read.
 ghost use Rattle.std.specs.Prelude.{◌≡◌, ◌≤◌, length, vec_len};
 ghost use Rattle.script_model.specs.declared.script.Op.TheVariants.{Get, Read};
-ghost use Rattle.handle_pass.specs.{Accesses.{access_answer, HasRead, IsReadCause}, Sessions.IsSession};
+ghost use Rattle.handle_pass.specs.Accesses.{access_answer, HasRead, IsReadCause};
 ghost use Rattle.tx_blocks.specs.Tx.{IsRefused};
 ghost use Rattle.par_lines.specs.Answers.{Answered};
 ghost use Rattle.par_lines.specs.Replies as spec;
@@ -24,9 +24,7 @@ fn read_into<'a, D: Disk + Drop, O: Origin, R: Wait>(
     bytes: &mut Vec<u8>,
     block: u32,
 ) -> Result<(), TxError>
-    requires session { IsSession O.start session.old }
     requires size { length bytes.old.items ≡ O.start.world.geometry.block }
-    ensures session { IsSession O.start session.new }
     ensures cause { IsRefused (access_answer O.start session.old block) IsReadCause result }
     ensures did { HasRead O.start session.old block result bytes.new.items session.new }
     ensures length { vec_len bytes.new ≡ O.start.world.geometry.block }
@@ -52,9 +50,7 @@ pub(crate) fn read<'a, D: Disk + Drop, O: Origin, R: Wait>(
     geometry: &Geometry,
     block: u32,
 ) -> Result<Reply, Stop>
-    requires session { IsSession O.start session.old }
     requires geometry { geometry.now ≡ O.start.world.geometry }
-    ensures session { IsSession O.start session.new }
     ensures did { Answered O.start session.old (Read block) result session.new }
 {
     match zeros(alloc, geometry.block) {
@@ -77,10 +73,8 @@ pub(crate) fn get<'a, D: Disk + Drop, O: Origin, R: Wait>(
     off: u32,
     len: u32,
 ) -> Result<Reply, Stop>
-    requires session { IsSession O.start session.old }
     requires geometry { geometry.now ≡ O.start.world.geometry }
     requires small { geometry.now.block ≤ 4096 }
-    ensures session { IsSession O.start session.new }
     ensures did { Answered O.start session.old (Get block off len) result session.new }
 {
     if is_outside(geometry.block, off, len as usize) {

@@ -1,7 +1,6 @@
 // The lines that call a store.
 ghost use Rattle.std.specs.Prelude.{◌≡◌, ◌<◌, IsTrue, Some, false, option_map};
 ghost use Rattle.iso_model.specs.{declared.access.Mode.TheVariants.{Serial as IsSerial}, Geometry.is_valid};
-ghost use Rattle.handle_pass.specs.Sessions.{own, IsSession};
 ghost use Rattle.store_calls.specs.Calls.{is_empty_scan, placed, store_areas};
 ghost use Rattle.par_lines.specs.{Answers.Answered, Stores.{IsOnStore, settled}};
 
@@ -30,7 +29,7 @@ fn settle(failures: u64, is_down: bool, answer: Result<Reply, Stop>) -> Result<R
 }
 
 /// A call of a store on a serial transaction of a session, which is handed back.
-fn visit<'s, 'a, D: Disk + Drop, O: Origin, R: Wait, V: Visit<D, O>>(
+fn visit<'s, 'a, D: Disk + Drop, O: Origin, R: Wait, V: Visit>(
     rt: &'s R,
     alloc: Global,
     session: &'s mut Session<'a, D, O>,
@@ -38,17 +37,15 @@ fn visit<'s, 'a, D: Disk + Drop, O: Origin, R: Wait, V: Visit<D, O>>(
     op: &Op,
     answer: &mut Result<Reply, Stop>,
 ) -> &'s mut Session<'a, D, O>
-    requires session { IsSession O.start session.old }
     requires valid { IsTrue (is_valid O.start.world.geometry) }
     requires name { session.ghost_name ≡ V.name }
     requires before { V.before ≡ Some session.old }
-    requires mode { option_map (λ o. o.mode) (own session.old) ≡ Some IsSerial }
+    requires mode { option_map (λ o. o.mode) session.old.own ≡ Some IsSerial }
     requires op { IsOnStore op.now }
     requires region { placed O.start.world.geometry.block region ≡ store_areas O.start.world.geometry op.now }
     requires there { 0 < region.files.size }
     requires some { is_empty_scan op.now ≡ false }
     ensures name { result.ghost_name ≡ session.entry.ghost_name }
-    ensures session { IsSession O.start result.now }
     ensures did { Answered O.start session.old op.now answer.new result.now }
 {
     let mut blocks = session.blocks::<R, V>(rt);
@@ -70,11 +67,9 @@ pub(crate) fn store<'a, D: Disk + Drop, O: Origin, R: Wait>(
     geometry: &Geometry,
     op: &Op,
 ) -> Result<Reply, Stop>
-    requires session { IsSession O.start session.old }
     requires geometry { geometry.now ≡ O.start.world.geometry }
     requires valid { IsTrue (is_valid O.start.world.geometry) }
     requires op { IsOnStore op.now }
-    ensures session { IsSession O.start session.new }
     ensures did { Answered O.start session.old op.now result session.new }
 {
     let region = store_region(geometry, op);

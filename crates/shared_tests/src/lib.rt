@@ -1,10 +1,12 @@
-//! The tests of `turn_lock` and `iso_shared`.
+//! The tests of `ask_desk`, `turn_lock` and `iso_shared`.
 #![tactic(auto)]
 
 #[cfg(test)]
 mod answer_tests;
 #[cfg(test)]
 mod crowd_tests;
+#[cfg(test)]
+mod desk_tests;
 #[cfg(test)]
 mod gate_tests;
 #[cfg(test)]

@@ -1,8 +1,5 @@
-use Rattle.accounts.proofs.{Words.{List, Ok, subst, ℕ, area_of, IsTakenFor, to_be_bytes, w64, HashPuts, HasCalled, passed, opening_of}, Filling.{completes, may_put}, Keeping.{aborted, took_over, visited}}
+use Rattle.accounts.proofs.{Words.{List, Ok, subst, ℕ, area_of, IsTakenFor, to_be_bytes, w64, HashPuts, HasCalled, opening_of}, Filling.{completes, may_put}, Keeping.{aborted, took_over, visited}}
 use Rattle.accounts.proofs.sessions.end_half.Goals as goal
-
-pub takeover_tx-requires-clause-handle : goal.takeover_tx-requires-clause-handle
-takeover_tx-requires-clause-handle g c = (c.requires.half.tx, c.requires.half.one)
 
 pub hash_put-requires-clause-area : goal.hash_put-requires-clause-area
 hash_put-requires-clause-area g c = (may_put g.O.Origin.start c.args.region c.requires.store).0
@@ -20,13 +17,12 @@ end-requires-clause-session g c =
     let t = c.takeover_tx.new.self in
     let u = c.hash_put.new.session in
     let took = c.in_default.ensures.did in
-    let held = took_over accounts A (IsTakenFor to more) s t c.args.half.handle c.in_default.field-0 took c.takeover_tx.ensures.session c.requires.session c.requires.half in
+    let held = took_over accounts A (IsTakenFor to more) s t c.args.half.handle c.in_default.field-0 took c.requires.session c.requires.half.1 in
     let did : HasCalled A t u (λ x y before now. HashPuts (area_of x c.args.region) to (to_be_bytes w64 more) (Ok tt) x y before now) =
     subst (λ (v : List ℕ). HasCalled A t u (λ x y before now. HashPuts (area_of x c.args.region) to v (Ok tt) x y before now)) c.to_be_bytes.ensures c.in-Ok.ensures.did in
     record {
-      session = c.hash_put.ensures.session;
       covers = (visited accounts A t u did.refused did.visited held.covers).0;
-      filled = completes accounts A c.args.region c.requires.store t u to more (passed c.args.half.handle) took.is did held;
+      filled = completes accounts A c.args.region c.requires.store t u to more c.args.half.handle.own took.is did held;
     }
 
 pub returns-in-Err-hash_put-clause-session : goal.returns-in-Err-hash_put-clause-session
@@ -36,5 +32,5 @@ returns-in-Err-hash_put-clause-session g c =
     let t = c.takeover_tx.new.self in
     let u = c.hash_put.new.session in
     let did = c.hash_put.ensures.did in
-    let held = took_over accounts A (IsTakenFor c.args.half.to c.args.half.more) c.args.session.now t c.args.half.handle c.in_default.field-0 c.in_default.ensures.did c.takeover_tx.ensures.session c.requires.session c.requires.half in
-    (aborted accounts A u c.abort_tx.new.self c.abort_tx.result c.abort_tx.ensures.did c.abort_tx.ensures.session (visited accounts A t u did.refused did.visited held.covers).0).0
+    let held = took_over accounts A (IsTakenFor c.args.half.to c.args.half.more) c.args.session.now t c.args.half.handle c.in_default.field-0 c.in_default.ensures.did c.requires.session c.requires.half.1 in
+    (aborted accounts A u c.abort_tx.new.self c.abort_tx.result c.abort_tx.ensures.did (visited accounts A t u did.refused did.visited held.covers).0).0

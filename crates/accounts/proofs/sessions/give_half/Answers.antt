@@ -1,19 +1,18 @@
-use Rattle.accounts.proofs.{Words.{arith, subst, IsTakenFor, tx_of, Shared, IsGiven, opening_of}, Keeping.{given, let_go}}
+use Rattle.accounts.proofs.{Words.{arith, ◌∙◌, IsTakenFor, opening_of}, Keeping.{given, let_go}}
 
 pub returns-in-Ok-release_tx-clause-session : Rattle.accounts.proofs.sessions.give_half.Goals.returns-in-Ok-release_tx-clause-session
 returns-in-Ok-release_tx-clause-session g c =
     let accounts = opening_of c.args.accounts.now in
     let Is = IsTakenFor c.args.transfer.now.to c.in-Ok.more in
-    (given accounts g.O.Origin.start Is c.fill.new.session c.release_tx.new.self c.in-Ok-release_tx.handle c.in-Ok-release_tx.ensures.did c.release_tx.ensures.session c.in-Ok.ensures.filled).0
+    (given accounts g.O.Origin.start Is c.fill.new.session c.release_tx.new.self c.in-Ok-release_tx.handle c.in-Ok-release_tx.ensures.did c.in-Ok.ensures.filled).0
 
 pub returns-in-Ok-release_tx-clause-half : Rattle.accounts.proofs.sessions.give_half.Goals.returns-in-Ok-release_tx-clause-half
 returns-in-Ok-release_tx-clause-half g c =
     let A = g.O.Origin.start in
     let accounts = opening_of c.args.accounts.now in
     let Is = IsTakenFor c.args.transfer.now.to c.in-Ok.more in
-    let h = c.in-Ok-release_tx.handle in
-    subst (λ (l : Shared g.row.D.Denot g.row.O.Denot). IsGiven accounts Is A l (tx_of h)) c.fill.ensures.stays.of
-    (given accounts A Is c.fill.new.session c.release_tx.new.self h c.in-Ok-release_tx.ensures.did c.release_tx.ensures.session c.in-Ok.ensures.filled).1
+    let did = c.in-Ok-release_tx.ensures.did in
+    (did.of.1 ∙ c.fill.ensures.stays.of, (given accounts A Is c.fill.new.session c.release_tx.new.self c.in-Ok-release_tx.handle did c.in-Ok.ensures.filled).1)
 
 pub returns-in-Err-release_tx-clause-session : Rattle.accounts.proofs.sessions.give_half.Goals.returns-in-Err-release_tx-clause-session
 returns-in-Err-release_tx-clause-session g c =
@@ -23,7 +22,6 @@ returns-in-Err-release_tx-clause-session g c =
 pub returns-in-Ok-release_tx-clause-left : Rattle.accounts.proofs.sessions.give_half.Goals.returns-in-Ok-release_tx-clause-left
 returns-in-Ok-release_tx-clause-left g c =
     let did = c.in-Ok-release_tx.ensures.did in
-    let one = did.handle.1 in
     let sum = did.units in
     let same = c.fill.ensures.stays.units in
-    omega (arith, one, sum, same)
+    omega (arith, sum, same)

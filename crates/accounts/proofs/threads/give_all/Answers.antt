@@ -1,9 +1,9 @@
-use Rattle.accounts.proofs.{Words.{◌≡◌, ◌∙◌, ◌+◌, ◌≤◌, ◌++◌, ◌∷◌, [], ap, arith, length, List, Option, subst, sym, ℕ, length-append, found_in, device, units, Shared, units_of, AreGiven, IsWhole, opening_of}, Giving.{given_more, units_few, units_more}}
+use Rattle.accounts.proofs.{Words.{◌≡◌, ◌∙◌, ◌+◌, ◌≤◌, ◌++◌, ◌∷◌, [], ap, arith, length, List, Option, subst, sym, ℕ, length-append, found_in, units_of, AreGiven, IsWhole, opening_of, DeviceId}, Giving.{given_more, units_few, units_more}}
 use Rattle.iso_shared.specs.declared.tx.Tx.{Tx}
 
 pub give-member-requires-clause-units : Rattle.accounts.proofs.threads.give_all.Goals.give-member-requires-clause-units
 give-member-requires-clause-units g c =
-    let few = units_few (opening_of c.args.accounts.now) g.O.Origin.start (device c.args.session.now) c.loop-transfer.members.items c.loop-transfer.invariant.given in
+    let few = units_few (opening_of c.args.accounts.now) g.O.Origin.start c.args.session.now.device c.loop-transfer.members.items c.loop-transfer.invariant.given in
     let sum = c.loop-transfer.invariant.sum in
     let count = c.loop-transfer.invariant.count in
     let most = c.requires.few in
@@ -17,9 +17,9 @@ loop-transfer-preserved g c =
     let accounts = opening_of c.args.accounts.now in
     let xs : List (Option (Tx g.row.D.Denot g.row.O.Denot)) = c.loop-transfer.members.items in
     let m = c.give-member.result in
-    let all : AreGiven accounts A (device c.args.session.now) (xs ++ m ∷ []) =
-    given_more accounts A (device c.args.session.now) xs m c.loop-transfer.invariant.given
-    (subst (λ (l : Shared g.row.D.Denot g.row.O.Denot). Rattle.std.specs.Prelude.IfSome m (IsWhole accounts A l)) c.loop-transfer.invariant.same c.give-member.ensures.given) in
+    let all : AreGiven accounts A c.args.session.now.device (xs ++ m ∷ []) =
+    given_more accounts A c.args.session.now.device xs m c.loop-transfer.invariant.given
+    (subst (λ (d : DeviceId). Rattle.std.specs.Prelude.IfSome m (IsWhole accounts A d)) c.loop-transfer.invariant.same c.give-member.ensures.given) in
     let more = units_more xs m in
     let sum = c.loop-transfer.invariant.sum in
     let one = c.give-member.ensures.units in
@@ -29,15 +29,15 @@ loop-transfer-preserved g c =
     record {
       kept = c.give-member.ensures.session;
       same = c.give-member.ensures.device ∙ c.loop-transfer.invariant.same;
-      sum = subst (λ (ys : List (Option (Tx g.row.D.Denot g.row.O.Denot))). units c.give-member.new.session + units_of (found_in ys) ≡ units c.args.session.now) (sym items) (omega (arith, more, sum, one));
+      sum = subst (λ (ys : List (Option (Tx g.row.D.Denot g.row.O.Denot))). c.give-member.new.session.units + units_of (found_in ys) ≡ c.args.session.now.units) (sym items) (omega (arith, more, sum, one));
       count = ap length items ∙ longer ∙ ap (λ (n : ℕ). n + 1) count;
       room = subst (λ (n : ℕ). length c.args.transfers.now ≤ n) (sym c.push_reserved.ensures.capacity) c.loop-transfer.invariant.room;
-      given = subst (λ (ys : List (Option (Tx g.row.D.Denot g.row.O.Denot))). AreGiven accounts A (device c.args.session.now) ys) (sym items) all;
+      given = subst (λ (ys : List (Option (Tx g.row.D.Denot g.row.O.Denot))). AreGiven accounts A c.args.session.now.device ys) (sym items) all;
     }
 
 pub returns-clause-left : Rattle.accounts.proofs.threads.give_all.Goals.returns-clause-left
 returns-clause-left g c =
-    let few = units_few (opening_of c.args.accounts.now) g.O.Origin.start (device c.args.session.now) c.loop-transfer.members.items c.loop-transfer.invariant.given in
+    let few = units_few (opening_of c.args.accounts.now) g.O.Origin.start c.args.session.now.device c.loop-transfer.members.items c.loop-transfer.invariant.given in
     let sum = c.loop-transfer.invariant.sum in
     let count = c.loop-transfer.invariant.count in
     let most = c.requires.few in

@@ -1,4 +1,4 @@
-use Rattle.group_commit.proofs.{Words.{[], ◌∷◌, ◌≡◌, ◌∙◌, ap, arith, length, nat_tests, Ok, refl, subst, sym, List, Tx, port_view, prefix_self, AreTxs, HasEnded, found_in}, Grouping.{found_are, found_few, nothing_left}}
+use Rattle.group_commit.proofs.{Words.{[], ◌≡◌, ◌∙◌, ap, arith, length, nat_tests, Ok, refl, subst, sym, List, Tx, port_view, prefix_self, AreTxs, HasEnded, found_in}, Grouping.{found_are, found_few, nothing_left}}
 use Rattle.group_commit.proofs.each.commit_each.Goals as goal
 
 pub returns-then-is_empty-clause-did : goal.returns-then-is_empty-clause-did

@@ -1,7 +1,6 @@
-use Rattle.par_lines.proofs.{Words.IsSession, Awaiting.Looking}
+use Rattle.par_lines.proofs.Awaiting.{Looking}
 
 abbrev pub invariant-loop-round : Rattle.par_lines.proofs.labels.await_label.Given.invariant-loop-round
 invariant-loop-round g l = record {
-  session : IsSession g.O.Origin.start l.session;
   looking : Looking l.initial.session l.label l.round l.session;
 }

@@ -1,14 +1,9 @@
-use Rattle.par_lines.proofs.{Words.{◌≡◌, ◌-◌, ◌++◌, ◌∷◌, [], ap, arith, length, length-append, map, refl, reverse, subst, sym, ◌∙◌, sum_by, times, WithRoom, IsPort, port_view, Part, part_of, units_in, AllTold, Finished}, Gathering.{all_last, clients_more, gather_more, joined_units, units_more}}
-
-pub finish-from-requires : Rattle.par_lines.proofs.run.gather.Goals.finish-from-requires
-finish-from-requires g c =
-    let f = (all_last (Finished g.O.Origin.start c.args.shared.now c.args.lines.now.value.items) c.loop-job.jobs.items c.pop.new.self.items c.in-Some.job c.in-Some.ensures.items c.loop-job.invariant.jobs).0 in
-    record { session = f.client.session }
+use Rattle.par_lines.proofs.{Words.{◌≡◌, ◌-◌, ◌++◌, ◌∷◌, [], ap, arith, length, length-append, map, refl, reverse, subst, sym, ◌∙◌, sum_by, times, WithRoom, IsPortAt, port_view, Part, part_of, units_in, AllTold, Finished}, Gathering.{all_last, clients_more, gather_more, joined_units, units_more}}
 
 pub join-requires-clause-from : Rattle.par_lines.proofs.run.gather.Goals.join-requires-clause-from
 join-requires-clause-from g c =
     let f = (all_last (Finished g.O.Origin.start c.args.shared.now c.args.lines.now.value.items) c.loop-job.jobs.items c.pop.new.self.items c.in-Some.job c.in-Some.ensures.items c.loop-job.invariant.jobs).0 in
-    subst (λ l. IsPort l c.finish-from.result) f.device c.finish-from.ensures.port
+    subst (λ d. IsPortAt d c.finish-from.result) f.device c.finish-from.ensures.port
 
 pub loop-job-preserved : Rattle.par_lines.proofs.run.gather.Goals.loop-job-preserved
 loop-job-preserved g c =

@@ -1,4 +1,4 @@
-use Rattle.par_lines.proofs.{Words.{own, Serial}, Storing.{has_own, may_call, visited}}
+use Rattle.par_lines.proofs.{Words.{Serial}, Storing.{has_own, may_call, visited}}
 
 pub call-called-requires-clause-areas : Rattle.par_lines.proofs.stores.visit.Goals.call-called-requires-clause-areas
 call-called-requires-clause-areas g c =
@@ -10,7 +10,7 @@ call-called-requires-clause-fits g c =
 
 pub returns-clause-did : Rattle.par_lines.proofs.stores.visit.Goals.returns-clause-did
 returns-clause-did g c =
-    let o = has_own (own c.args.session.now) Serial c.requires.mode in
+    let o = has_own c.args.session.now.own Serial c.requires.mode in
     let left = c.leave-session.result in
     visited g.O.Origin.start c.args.session.now c.args.op.now c.requires.op left.session.now g.V.Visit.before o.0 c.args.region left.failures left.is_down c.call-called.result c.settle.result c.blocks-blocks.result.visitor
     c.call-called.new.tx.visitor c.requires.before o.1 o.2 c.requires.region c.requires.there c.requires.some c.blocks-blocks.ensures c.leave-session.ensures.seen c.call-called.ensures.called c.call-called.ensures.stops

@@ -3,4 +3,4 @@ use Rattle.handle_pass.proofs.Entering.{made_port}
 pub returns-clause-did : Rattle.handle_pass.proofs.session.Session.compact.Goals.returns-clause-did
 returns-clause-did g c =
     let m = c.compact.ensures.made in
-    (m.0, m.1, made_port g.O.Origin.start c.args.self.now c.compact.new.port _ c.requires.session m.2 c.compact.ensures.units)
+    rw (← c.self.view_is) (m.0, m.1, made_port g.O.Origin.start c.self.inside c.compact.new.port _ c.self.invariant m.2 c.compact.ensures.units)

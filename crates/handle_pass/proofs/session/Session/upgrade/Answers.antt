@@ -3,4 +3,4 @@ use Rattle.handle_pass.proofs.Entering.{made_port}
 pub returns-clause-did : Rattle.handle_pass.proofs.session.Session.upgrade.Goals.returns-clause-did
 returns-clause-did g c =
     let m = c.upgrade.ensures.made in
-    (m.0, m.1, made_port g.O.Origin.start c.args.self.now c.upgrade.new.port _ c.requires.session m.2 c.upgrade.ensures.units)
+    rw (← c.self.view_is) (m.0, m.1, made_port g.O.Origin.start c.self.inside c.upgrade.new.port _ c.self.invariant m.2 c.upgrade.ensures.units)

@@ -1,7 +1,7 @@
 use Rattle.handle_pass.proofs.{Words.{ap, sym, ◌∙◌, Seen}, Looking.tried}
 
-pub read_block-answer-requires-clause-size : Rattle.handle_pass.proofs.visitor.Visitor.fetch.Goals.read_block-answer-requires-clause-size
-read_block-answer-requires-clause-size g c = c.requires.size ∙ sym (ap (λ (v : Seen). v.tx.size) c.self.view_is)
+pub read_block-answer-requires : Rattle.handle_pass.proofs.visitor.Visitor.fetch.Goals.read_block-answer-requires
+read_block-answer-requires g c = record { size = c.requires.size ∙ sym (ap (λ (v : Seen). v.tx.size) c.self.view_is) }
 
 pub invariant_of-self : Rattle.handle_pass.proofs.visitor.Visitor.fetch.Goals.invariant_of-self
 invariant_of-self g c =
@@ -9,7 +9,7 @@ invariant_of-self g c =
     let size = r.auto.into ∙ c.requires.size ∙ sym (ap (λ (v : Seen). v.tx.size) c.self.view_is) in (
       c.self.invariant.0,
       (tried g.O.Origin.start g.V.Visit.before c.self.inside.session.now r.new.self c.self.inside.failures c.self.inside.is_down c.failures_of-self-inside.result c.sets_down-self-inside.result c.args.self.now c.args.block r.result
-          r.new.into c.self.view_is c.requires.sound c.self.invariant.1 r.ensures.session r.ensures.cause r.ensures.did size c.failures_of-self-inside.ensures c.sets_down-self-inside.ensures).0,
+          r.new.into c.self.view_is c.requires.sound c.self.invariant.1 r.ensures.cause r.ensures.did size c.failures_of-self-inside.ensures c.sets_down-self-inside.ensures).0,
     )
 
 pub returns : Rattle.handle_pass.proofs.visitor.Visitor.fetch.Goals.returns
@@ -18,5 +18,5 @@ returns g c =
     let size = r.auto.into ∙ c.requires.size ∙ sym (ap (λ (v : Seen). v.tx.size) c.self.view_is) in
     record {
       did = (tried g.O.Origin.start g.V.Visit.before c.self.inside.session.now r.new.self c.self.inside.failures c.self.inside.is_down c.failures_of-self-inside.result c.sets_down-self-inside.result c.args.self.now c.args.block r.result
-          r.new.into c.self.view_is c.requires.sound c.self.invariant.1 r.ensures.session r.ensures.cause r.ensures.did size c.failures_of-self-inside.ensures c.sets_down-self-inside.ensures).1;
+          r.new.into c.self.view_is c.requires.sound c.self.invariant.1 r.ensures.cause r.ensures.did size c.failures_of-self-inside.ensures c.sets_down-self-inside.ensures).1;
     }

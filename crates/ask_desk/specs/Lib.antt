@@ -1,0 +1,4 @@
+pub mod Rule
+pub mod Sides
+pub mod Steps
+pub mod Views

@@ -1,0 +1,50 @@
+-- How the transaction of a session ends together with those of other threads: by an entry that another caller made.
+use Rattle.std.specs.Prelude.{◌≡◌, ◌⊎◌, ℕ, ◌+◌, ◌++◌, List, [], ◌∷◌, Some, None, Result, Ok, Err}
+use mathlib.Core.List.{IsPrefix}
+use Rattle.iso_model.specs.{declared.access.EndReply.EndReply, declared.access.GroupReply.GroupReply, declared.core_error.CoreError.CoreError}
+use Rattle.iso_model.specs.declared.core_error.CoreError.TheVariants as error
+use Rattle.iso_shared.specs.{declared.entry.Call.Call, declared.entry.Entry.Entry, declared.entry.MemberEnd.MemberEnd, declared.shared.Shared.Shared, declared.tx.Tx.Tx, Legal.IsLegal, Ports.tx_view, States.Start, Told.cause_of}
+use Rattle.iso_shared.specs.declared.entry.Entry.TheVariants as entry
+use Rattle.handle_pass.specs.{Inside.own_in, Sessions.{Own, SessionState, count}}
+use Rattle.group_commit.specs.{declared.session_end.EndWithError.EndWithError, Each.IsAmong, Outcomes.{IsEndOf, MayEnd, as_member}}
+use Rattle.group_commit.specs.declared.session_end.EndWithError.TheVariants as end
+
+-- the entry ends the transaction, by itself or as a member of a group, and answers it so
+abbrev pub IsAnswer : Own → GroupReply → Entry → Type 0
+IsAnswer o r e =
+    ((members : List MemberEnd) × (e ≡ entry.EndGroup members) × IsAmong o.number o.accesses r members)
+    ⊎ ((reply : EndReply) × (e ≡ entry.End o.number o.accesses reply) × (r ≡ as_member reply))
+
+-- the entry refuses its end so
+abbrev pub IsRefusal : Own → CoreError → Entry → Type 0
+IsRefusal o e r = (asked : Call) × (faults : ℕ) × (now : ℕ) × (r ≡ entry.Refused asked (cause_of faults now e)) × IsEndOf o.number o.accesses asked
+
+-- the entry was made behind all that had been seen, and has been seen then; it is legal there
+pub record Follows (A : Start) (old : List Entry) (e : Entry) (new : List Entry) : Type 0 where
+  pub before : List Entry
+  pub told : IsPrefix old before
+  pub known : IsPrefix (before ++ e ∷ []) new
+  pub legal : IsLegal A (before ++ e ∷ [])
+
+-- the session made no entry, and keeps its places; its transaction has left it
+pub record Parted (s t : SessionState) : Type 0 where
+  pub left : t.own ≡ None
+  pub known : IsPrefix s.seen t.seen
+  pub places : (p : ℕ) → count t p ≡ count s p
+  pub of : t.device ≡ s.device
+
+module _ {D O : Type 0} (shared : Shared D O) (A : Start) where
+  -- this is the transaction, with one unit; the session's places stayed, and the transaction knows what the session did
+  pub record IsHandedOut (s : SessionState) (u : Tx D O) (t : SessionState) : Type 0 where
+    pub tx : MayEnd shared A u
+    pub was : s.own ≡ Some (own_in u)
+    pub told : IsPrefix s.seen (tx_view u).seen
+    pub parted : Parted s t
+    pub units : t.units + 1 ≡ s.units
+
+  abbrev pub HasEndedWith : SessionState → Result GroupReply (EndWithError D O) → SessionState → Type 0
+  HasEndedWith s (Ok reply) t = (o : Own) × (s.own ≡ Some o) × Parted s t × (t.units ≡ s.units) × (e : Entry) × IsAnswer o reply e × Follows A s.seen e t.seen
+  HasEndedWith s (Err end.NotInTx) t = (s.own ≡ None) × (t ≡ s)
+  HasEndedWith s (Err (end.Refused why u)) t =
+      (s.own ≡ Some (own_in u)) × Parted s t × (t.units + 1 ≡ s.units) × MayEnd shared A u × (e : Entry) × IsRefusal (own_in u) why e × Follows A s.seen e (tx_view u).seen
+  HasEndedWith s (Err end.Lost) t = (o : Own) × (s.own ≡ Some o) × Parted s t × (t.units ≡ s.units) × (e : Entry) × IsRefusal o error.Disk e × Follows A s.seen e t.seen

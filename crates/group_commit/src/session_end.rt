@@ -1,0 +1,81 @@
+// The end of a session's transaction, together with those of other threads.
+ghost use Rattle.std.specs.Prelude.{◌≡◌, ◌<◌, IsSome, Some};
+ghost use Rattle.ask_desk.specs.Sides.{IsClient, Rests};
+ghost use Rattle.handle_pass.specs.{Sessions.device_of, Splits.port_units};
+ghost use Rattle.group_commit.specs.Together.{HasEndedWith, IsHandedOut};
+
+use crate::committer::Committer;
+use crate::each::Ended;
+use crate::ends::{Ends, OfDevice, Outcome, hand_in};
+use ask_desk::{Client, Desk};
+use handle_pass::Session;
+use iso_disk::Disk;
+use iso_model::{CoreError, GroupReply};
+use iso_shared::{Origin, Shared, Tx};
+use std::sync::Wait;
+
+/// Why the transaction of a session has not ended with a reply.
+pub enum EndWithError<D: Disk + Drop, O: Origin> {
+    /// The session has no transaction.
+    NotInTx,
+    /// The device refuses it. The transaction is live as it was, and is handed back: the session has it no more.
+    Refused(CoreError, Tx<D, O>),
+    /// A fault of the disk has ended it.
+    Lost,
+}
+
+/// Ends the transaction of a session together with those that other threads hand in at these desks at the same time. The session
+/// keeps its places and its units, and knows the entry of the end.
+pub fn end_with<'a, D: Disk + Drop, O: Origin, P: OfDevice<D, O>, R: Wait>(
+    rt: &R,
+    shared: &Shared<D, O>,
+    session: &mut Session<'a, D, O>,
+    committer: &Committer<D, O, P>,
+    desks: &[Desk<Ends<D, O, P>>],
+    desk: &Desk<Ends<D, O, P>>,
+    client: &mut Client<Ends<D, O, P>>,
+) -> Result<GroupReply, EndWithError<D, O>>
+    requires device { (P.device ≡ Some shared.now) × (session.old.device ≡ device_of shared.now) }
+    requires units { 32 < port_units session.old }
+    requires client { IsClient desk.now client.old × Rests client.old }
+    ensures client { IsClient desk.now client.new × Rests client.new }
+    ensures did { HasEndedWith shared.now O.start session.old result session.new }
+{
+    if session.mode().is_none() {
+        return Err(EndWithError::NotInTx);
+    }
+    let tx = hand_out(shared, session);
+    hand_in(shared, desk, client, tx);
+    match committer.outcome(rt, shared, desks, desk, client) {
+        Outcome::Ended(ended) => {
+            let Ended { reply, port } = ended;
+            session.join_port(port);
+            Ok(reply)
+        }
+        Outcome::Refused(error, tx) => Err(EndWithError::Refused(error, tx)),
+        Outcome::Lost(port) => {
+            session.join_port(port);
+            Err(EndWithError::Lost)
+        }
+    }
+}
+
+// The transaction of a session, with one unit. Its places stay with the session.
+fn hand_out<'a, D: Disk + Drop, O: Origin>(
+    shared: &Shared<D, O>,
+    session: &mut Session<'a, D, O>,
+) -> Tx<D, O>
+    requires device { session.old.device ≡ device_of shared.now }
+    requires own { IsSome session.old.own }
+    requires units { 32 < port_units session.old }
+    ensures out { IsHandedOut shared.now O.start session.old result session.new }
+{
+    let mut port = session.split_port();
+    let Ok(handle) = session.release_tx() else {
+        unreachable!()
+    };
+    let mut tx = handle.into_tx();
+    shared.leave_places(&mut port, &mut tx);
+    session.join_port(port);
+    tx
+}
