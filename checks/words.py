@@ -26,7 +26,7 @@ BUDGETS = {
     "docs/script.md": 3900,
     "docs/image.md": 2400,
     "docs/stores.md": 2600,
-    "docs/threads.md": 2100,
+    "docs/threads.md": 2350,
     "docs/library.md": 2400,
     "docs/sqlite.md": 600,
     "docs/promises.md": 4600,
