@@ -86,7 +86,7 @@ else
 fi
 
 if [ "$bench" = bench ]; then
-  for _ in 1 2 3 4 5; do
+  for _ in $(seq 10); do
     "$test" bench "$(image bench 'blocks=4096&log=16777216')" isotope 10000
     for mode in wal delete; do rm -f "$work/bench.db"*; "$test" bench "$work/bench.db" $mode 10000; done
   done
