@@ -1,5 +1,5 @@
 -- A device that is taken out of its slot, asked, and put back.
-use Rattle.std.proofs.Common.{◌≡◌, ◌∙◌, sym, ap, refl, subst, ℕ, ℤ, pos, List, [], Option, None, Some, Result, Ok, Err, false, SFits, w32, to_z, of_z, to_z-of_z}
+use Rattle.std.proofs.Common.{◌≡◌, ◌∙◌, sym, ap, subst, ℕ, ℤ, List, [], Option, None, Some, Result, Err, false, SFits, w32, to_z, of_z, to_z-of_z}
 use Rattle.iso_model.specs.World.{World}
 use Rattle.script_model.specs.{declared.script.Op.Op, declared.script.Reply.Reply, declared.stop.Stop.Stop}
 use Rattle.script_model.specs.declared.stop.Stop.TheVariants as stop

@@ -1,5 +1,5 @@
 // The numbers of statuses, which stay as they are.
-ghost use Rattle.std.specs.Prelude.{◌≡◌, pos};
+ghost use Rattle.std.specs.Prelude.{◌≡◌};
 ghost use Rattle.isotope_c.specs.{Codes.{code_of, code_of_open}, Told.{code as answer_code}};
 
 use device_desk::{Status, status_of};

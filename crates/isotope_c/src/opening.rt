@@ -1,5 +1,5 @@
 // Devices that are made, opened and closed. An image is laid into memory piece by piece, so that it is there once.
-ghost use Rattle.std.specs.Prelude.{◌≡◌, ◌≢◌, ◌⊎◌, ◌+◌, ◌<◌, ◌≤◌, ℕ, List, None, Some, IsSome, length, pos, replicate};
+ghost use Rattle.std.specs.Prelude.{◌≡◌, ◌≢◌, ◌+◌, ◌<◌, ◌≤◌, ℕ, List, None, Some, IsSome, length, pos, replicate};
 ghost use Rattle.iso_disk.specs.Disk.{spliced};
 ghost use Rattle.iso_model.specs.{declared.access.Geometry.Geometry, Geometry.image_size, History.History, Image.Shows};
 ghost use Rattle.isotope_c.specs.{Exports.{HasMade, HasOpened, HasRefused, HasReopened, IsEmpty, bytes_in}, Told.{geometry_named, geometry_status}};

@@ -1,6 +1,6 @@
 // What C is told of an answer.
 ghost use Rattle.std.specs.Prelude.{◌≡◌, ◌++◌, IfOk, OnOk, map, pos};
-ghost use Rattle.isotope_c.specs.Told.{IsScanned, begun, ended_of, ended_so, filled, fitted, found, group_told, laid, member_ended, over, pairs_text, part_text, reply_ended, scanned, shown, stop_code, waited_told};
+ghost use Rattle.isotope_c.specs.Told.{IsScanned, begun, ended_of, ended_so, filled, fitted, found, group_told, laid, member_ended, over, pairs_text, part_text, reply_ended, shown, stop_code, waited_told};
 
 use crate::code::{MEMORY, NO_TRANSACTION, TOO_SMALL, code, code_of};
 use crate::records::Ended;

@@ -1,5 +1,4 @@
 // Upkeep of a whole image.
-ghost use Rattle.std.specs.Prelude.{◌≡◌};
 ghost use Rattle.script_model.specs.declared.script.Op.TheVariants.{Compact, Trim, Upgrade};
 ghost use Rattle.isotope_c.specs.Exports.{Says, Serves};
 

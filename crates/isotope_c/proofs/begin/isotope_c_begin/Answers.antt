@@ -1,6 +1,6 @@
-use Rattle.std.proofs.Common.{◌≡◌, ◌∙◌, sym, subst, ℕ, ℤ, Option, SFits, rules, w32, of_z, to_z}
+use Rattle.std.proofs.Common.{◌≡◌, ◌∙◌, sym, subst, Option, SFits, rules, w32, of_z, to_z}
 use Rattle.iso_machine.specs.Answering.{Always}
-use Rattle.iso_model.specs.{declared.access.Mode.Mode, World.World}
+use Rattle.iso_model.specs.{declared.access.Mode.Mode}
 use Rattle.script_model.specs.{declared.script.Op.TheVariants.Begin, Step.step}
 use Rattle.isotope_c.specs.{Exports.Steps, Told.begun}
 use Rattle.isotope_c.proofs.{Serving.stepped, Telling.begun_told}

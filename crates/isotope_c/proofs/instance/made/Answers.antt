@@ -1,4 +1,4 @@
-use Rattle.std.proofs.Common.{◌≡◌, ◌∙◌, sym, ap, refl, subst, ℕ, Some, replicate}
+use Rattle.std.proofs.Common.{◌∙◌, sym, ap, refl, subst, ℕ, Some, replicate}
 use Rattle.isotope_c.specs.{declared.instance.Instance.Instance, Exports.HasMade}
 use Rattle.isotope_c.proofs.instance.made.Goals as goal
 

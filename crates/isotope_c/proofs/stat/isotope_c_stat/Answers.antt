@@ -21,5 +21,5 @@ returns-clause-counts c d W was stands done =
     let did : Answered state_of c.in-Open.desk c.stat-answer.new.self W 0 op.Stat c.stat-answer.result = c.stat-answer.ensures.did W stood in
     let told : IsSome (state_at state_of c.in-Open.desk).contents = refl in
     let reply : c.stat-answer.result ≡ Ok (numbers W) =
-        replied {P = IsSome (state_at state_of c.in-Open.desk).contents} c.stat-answer.result {r = numbers W} (sym c.code_of.ensures ∙ (sym (to_z-of_z fits) ∙ done)) told did.reply in
+    replied {P = IsSome (state_at state_of c.in-Open.desk).contents} c.stat-answer.result {r = numbers W} (sym c.code_of.ensures ∙ (sym (to_z-of_z fits) ∙ done)) told did.reply in
     c.count.ensures W reply (c.geometry-image.ensures W stood) (c.oldest-first.ensures.oldest W stood)

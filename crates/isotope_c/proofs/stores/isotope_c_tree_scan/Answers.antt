@@ -1,4 +1,4 @@
-use Rattle.std.proofs.Common.{◌≡◌, Result, SFits, rules, w32, ℤ}
+use Rattle.std.proofs.Common.{Result, SFits, rules, w32, ℤ}
 use Rattle.script_model.specs.{declared.script.Reply.Reply, declared.stop.Stop.Stop}
 use Rattle.script_model.specs.declared.script.Op.TheVariants as op
 use Rattle.isotope_c.specs.Told.{IsScanned}

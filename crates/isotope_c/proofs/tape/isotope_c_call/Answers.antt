@@ -1,4 +1,4 @@
-use Rattle.std.proofs.Common.{◌≡◌, ◌∙◌, sym, ap, subst, ℕ, ℤ, List, SFits, rules, w32, of_z, to_z, to_z-of_z, slice_get}
+use Rattle.std.proofs.Common.{◌≡◌, ◌∙◌, sym, ap, subst, ℤ, List, SFits, rules, w32, to_z-of_z, slice_get}
 use Rattle.iso_memdisk.specs.declared.record.Call.{Call}
 use Rattle.queued_disk.specs.{declared.queued.QueuedDisk.QueuedDisk, Queued.tape_of}
 use Rattle.device_desk.specs.Device.{Device, disk_under}

@@ -9,19 +9,19 @@ use prog.Memory.{Memory}
 use prog.Routine.{Routine}
 use prog.Wp.{WpFn, Tables}
 use types.Logic.{Logic}
-use contract.Monad.{Fun, fact}
+use contract.Monad.{Fun}
 use contract.Running.{tables, tables_of}
 use sound.WpLaws.{WpFn-mono}
 use types.Kit.{Item, ‵, raw, ◌⊛◌, ◌$◌, ◌∵◌, !, qed, by, move, drop, use1, join, split, fsplit, fjoin, fpack, feq_i, suffices, done}
-use types.Part.{whole, sub, agg}
-use types.Run.{stop, fld, lit, no_more, and_then, of_opd, returns, enter}
-use types.ByLocal.{alloc_all, pass_all, free_all, look_at, get, get_in, sets}
+use types.Part.{agg}
+use types.Run.{lit, no_more, and_then, returns, enter}
+use types.ByLocal.{alloc_all, pass_all, free_all, look_at, get, sets}
 use denote.Exit.{yes}
 use denote.Builtin.{RawPtr}
 use denote.RattleType.{Valss}
-use denote.RawPtr.{Ptr, null_ptr, ptr_val}
+use denote.RawPtr.{null_ptr, ptr_val}
 use denote.Signature.{type_at, plain}
-use denote.Steps.{nothing, heard}
+use denote.Steps.{nothing}
 use denote.Struct.Struct.{within}
 use denote.Struct.Owning.{shape}
 use denote.Triple.Spec.{triple_of}
@@ -32,7 +32,7 @@ use lib.Dec.{T}
 use mir.Val.{has_ty, WT}
 use Rattle.core.proofs.alloc.Calls.{α, Fits, handle_tells}
 use Rattle.std.proofs.Common.{lit<}
-use Rattle.std.specs.Prelude.{Option, None, Some}
+use Rattle.std.specs.Prelude.{None}
 use Rattle.std_alloc.proofs.BoxSteps.Form.{P, owning}
 use Rattle.std_alloc.proofs.ResultValues.{and_tt}
 use Rattle.std_heap.specs.contracts.Global as Heap
