@@ -68,7 +68,13 @@ fn front_of(geometry: &Geometry, half: u8, header: &[u8]) -> Result<Front, OpenE
     })
 }
 
-/// What the current half of an image of this geometry says, whose halves have these headers, or the first test that it fails.
+/// What the current half of an image of this geometry says, whose halves have these headers.
+///
+/// # Errors
+///
+/// The first test that they fail:
+/// - `NoHalf`: the gates of both are closed.
+/// - `UnknownForm`, `Damaged`: the current one is of no known form, or is wrong at this place of the image.
 pub fn current_front(geometry: &Geometry, first: &[u8], second: &[u8]) -> Result<Front, OpenError>
     requires valid { IsTrue (is_valid geometry.now) }
     requires first { length first.now ≡ 32 }

@@ -59,8 +59,13 @@ impl<D: Disk + Drop, O: Origin> Shared<D, O> {
         result
     }
 
-    /// Ends a transaction, as the core does at this turn. Where it is refused, the transaction is handed back as it was; after
-    /// a fault of the disk there is none, and its units go to the port, as after an answer.
+    /// Ends a transaction, as the core does at this turn. Its units go to the port.
+    ///
+    /// # Errors
+    ///
+    /// As those of `Core::end`.
+    /// - After `Disk` there is no transaction, and its units go to the port too.
+    /// - After any other it is handed back as it was, and the port is as before.
     pub fn end<L: Ledger, R: Wait>(
         &self,
         rt: &R,

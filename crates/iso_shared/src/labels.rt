@@ -16,8 +16,13 @@ use std::sync::Wait;
 use tx_table::PostError;
 
 impl<D: Disk + Drop, O: Origin> Shared<D, O> {
-    /// Puts a transaction under a label, and its units go to the port. It hands the transaction back where the label is held,
-    /// and where memory is wanting.
+    /// Puts a transaction under a label, and its units go to the port.
+    ///
+    /// # Errors
+    ///
+    /// The transaction is handed back as it was, and the port is as before.
+    /// - `LabelTaken`: another transaction is under the label.
+    /// - `Memory`: want of memory.
     pub fn post<R: Wait>(
         &self,
         rt: &R,

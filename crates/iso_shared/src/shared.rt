@@ -35,8 +35,12 @@ pub struct Port<D: Disk + Drop, O: Origin> {
 impl<D: Disk + Drop, O: Origin> Shared<D, O> {
     ghost use Rattle.iso_shared.specs.Ports.{IsGiven, IsIsolatedAt, IsOf, IsPort, IsSameTx, IsTx, doing_of, first_geometry, port_moments, port_view, tx_view};
 
-    /// A device over a core that is up and has no live transaction, and its first port, which has all units. It takes all
-    /// memory of the lock.
+    /// A device over a core that is up and has no live transaction, and its first port, which has all units. It takes
+    /// all memory of the lock.
+    ///
+    /// # Errors
+    ///
+    /// Want of memory. The core is handed back.
     pub fn new(
         alloc: Global,
         core: Core<D>,

@@ -17,6 +17,10 @@ use tx_table::Work;
 
 impl<D: Disk + Drop, O: Origin> Shared<D, O> {
     /// Begins a transaction in the mode that is named, or else in the image's. It gets one of the port's units.
+    ///
+    /// # Errors
+    ///
+    /// As those of `Core::begin`, at this turn. The port keeps its units.
     pub fn begin<R: Wait>(
         &self,
         rt: &R,
@@ -59,7 +63,11 @@ impl<D: Disk + Drop, O: Origin> Shared<D, O> {
         }
     }
 
-    /// Reads a block as it stood when the transaction began. It takes no memory.
+    /// Reads a block as it was when the transaction began, without its own writes. It takes no memory.
+    ///
+    /// # Errors
+    ///
+    /// As those of `Core::fetch`: `Down` and `Disk`. What the transaction has done stays.
     pub fn fetch<R: Wait>(
         &self,
         rt: &R,
