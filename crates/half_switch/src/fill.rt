@@ -16,9 +16,13 @@ use iso_image::{HalfPlace, base_size};
 use iso_model::Memory;
 use std::alloc::Global;
 
-/// Fills the half `to` from the half `from`: the base at the plan's number, the header without its gate, and the records
-/// above that number with a closed gate after them. It takes its memory before its first call of the disk. After a fault
-/// the new half may have any bytes after its gate, which is closed still.
+/// Fills the half `to` from the half `from`: the base at the plan's number, the header without its gate, and the
+/// records above that number with a closed gate after them. It takes its memory before its first call of the disk.
+///
+/// # Errors
+///
+/// - `Memory`: want of memory. The disk is as before.
+/// - `Disk`: a call of the disk failed. The new half may have any bytes after its gate, which is closed still.
 pub fn fill_half<D: Disk>(
     alloc: Global,
     disk: &mut D,

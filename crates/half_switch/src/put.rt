@@ -8,6 +8,10 @@ use iso_disk::{Disk, DiskFault};
 use iso_image::HalfPlace;
 
 /// Writes the base, the header but for its gate, and the records, and syncs.
+///
+/// # Errors
+///
+/// A call of the disk failed. The half may have any bytes after its gate.
 pub fn put_half<D: Disk>(
     disk: &mut D,
     to: &HalfPlace,

@@ -146,8 +146,11 @@ fn record_of<'a>(
     Ok(view_record(input))
 }
 
-/// The record at the front of the bytes, which go on to the end of the log, or the first test that they fail. Its gate
-/// is not tested.
+/// The record at the front of the bytes, which go on to the end of the log. Its gate is not tested.
+///
+/// # Errors
+///
+/// The first test that the bytes fail.
 pub fn read_record<'a>(
     input: &'a [u8],
     geometry: &Geometry,

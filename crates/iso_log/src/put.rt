@@ -10,6 +10,10 @@ use iso_disk::{Disk, DiskFault};
 
 /// Puts bytes after their closed gate and opens it. The first of them is the open gate. It makes one write, one sync, a
 /// write of one byte and one sync.
+///
+/// # Errors
+///
+/// A call of the disk failed. Each image that a crash leaves has the bytes as a whole, or a closed gate.
 pub fn put_group<D: Disk>(disk: &mut D, gate: u64, bytes: &[u8]) -> Result<(), DiskFault>
     requires fits { gate + length bytes.now ≤ (D.state disk.old).size }
     requires some { 1 ≤ length bytes.now }

@@ -51,8 +51,14 @@ fn test_front(
     }
 }
 
-/// Finds the record at a gate, where `rest` bytes of the log are left. It answers how many bytes it has, the gate after it
-/// among them, and none where the gate is closed.
+/// Finds the record at a gate, where `rest` bytes of the log are left. It answers how many bytes it has, the gate after
+/// it among them, and none where the gate is closed. It writes nothing.
+///
+/// # Errors
+///
+/// - `Damaged`: where in the image the record is wrong, and the first test that it fails.
+/// - `Disk`: a call of the disk failed.
+/// - `Memory`: want of memory for what is read ahead.
 pub fn find_record<D: Disk>(
     disk: &mut D,
     gate: u64,

@@ -136,8 +136,12 @@ fn store_grown<T: TxBlocks>(
     store_next(tx, area.start + block, into)
 }
 
-/// The writes from a node of a level up, which gets a new cell; the path begins with that node, and the nodes' bytes stand from
-/// block `i` on. Only memory may be wanted.
+/// The writes from a node of a level up, which gets a new cell; the path begins with that node, and the nodes' bytes
+/// stand from block `i` on.
+///
+/// # Errors
+///
+/// `Tx`: want of memory. The writes before it stay.
 pub fn climb<T: TxBlocks>(
     tx: &mut T,
     area: Area,

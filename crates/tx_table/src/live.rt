@@ -71,6 +71,12 @@ impl Live {
     }
 
     /// Enters a transaction, last of all.
+    ///
+    /// # Errors
+    ///
+    /// The list is as before.
+    /// - `TooManyTx` exactly where `MAX_LIVE` transactions are live.
+    /// - `Memory`: want of memory.
     pub fn enter(&mut self, tx: u64, at: u64, mode: Mode) -> Result<(), EnterError>
         requires { AreBefore tx at self.old }
         ensures ok { OnOk result (self.new ≡ self.old ++ (tx, record { at = at; mode = mode }) ∷ []) }

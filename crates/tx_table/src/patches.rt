@@ -116,6 +116,10 @@ impl Patches {
     }
 
     /// Makes room for a patch of a block. Where there is one, or room for it, it takes no memory.
+    ///
+    /// # Errors
+    ///
+    /// Want of memory. All is as before.
     pub fn reserve(&mut self, block: u32) -> Result<(), Memory>
         ensures size { self.new.size ≡ self.old.size }
         ensures entries { self.new.entries ≡ self.old.entries }

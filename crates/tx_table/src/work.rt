@@ -135,8 +135,12 @@ impl Work {
         self.blocks
     }
 
-    /// Makes room for one more access to a block, with its bytes and its marks, and for a patch of the block.
-    /// Where the room is there already it takes no memory.
+    /// Makes room for one more access to a block, with its bytes and its marks, and for a patch of the block. Where the
+    /// room is there already it takes no memory.
+    ///
+    /// # Errors
+    ///
+    /// Want of memory. The work is as before.
     pub fn reserve(&mut self, block: u32) -> Result<(), Memory>
         requires { block < self.old.blocks }
         ensures ok { OnOk result (self.new ≡ record self.old { ready = Some block }) }
@@ -185,6 +189,13 @@ impl Work {
     }
 
     /// Marks a range of the last access: the first mark takes the place of the whole block, and further ones add to it.
+    ///
+    /// # Errors
+    ///
+    /// The first of these, and the work is as before:
+    /// - `BadRange`: the range is empty or passes the end of the block.
+    /// - `NoAccess`: there is no access.
+    /// - `TooManyMarks`: the last access has `MAX_SPANS` marks.
     pub fn mark(&mut self, off: u16, len: u16) -> Result<(), MarkError>
         ensures ok { OnOk result ((mark_fault self.old.size off len self.old.accesses ≡ None)
             × (self.new ≡ record self.old { accesses = marked (span_at off len) self.old.accesses; settled = false })) }
@@ -235,7 +246,12 @@ impl Work {
         false
     }
 
-    /// Brings what is touched and what is written up to date with the last accesses and marks.
+    /// Brings what is touched and what is written up to date with the last accesses and marks. Where it was, it takes
+    /// no memory.
+    ///
+    /// # Errors
+    ///
+    /// Want of memory. The accesses stay, and it may be called again.
     pub fn settle(&mut self) -> Result<(), Memory>
         ensures ok { OnOk result (self.new ≡ record self.old { settled = true }) }
         ensures err { OnErr result (self.new ≡ record self.old { settled = self.new.settled }) }
