@@ -56,7 +56,11 @@ impl Marks {
         }
     }
 
-    /// Adds the bytes of a span. It takes no memory up to eight runs; without memory the set stays as it is.
+    /// Adds the bytes of a span. It takes no memory up to eight runs.
+    ///
+    /// # Errors
+    ///
+    /// Want of memory. The set stays as it is.
     pub fn add(&mut self, span: Span) -> Result<(), Memory>
         requires some { 0 < span.len }
         requires inside { span.off + span.len ≤ 4096 }
@@ -95,7 +99,11 @@ impl Marks {
         Ok(())
     }
 
-    /// Adds the bytes of another set. Without memory the set stays as it is.
+    /// Adds the bytes of another set. It takes no memory where both together have at most eight runs.
+    ///
+    /// # Errors
+    ///
+    /// Want of memory. The set stays as it is.
     pub fn union(&mut self, other: &Marks) -> Result<(), Memory>
         ensures set { OnOk result ((p : ℕ) → has self.new p ≡ (has self.old p || has other.now p)) }
         ensures err { OnErr result (self.new ≡ self.old) }
@@ -136,6 +144,10 @@ impl Marks {
     }
 
     /// The same set once more. It takes no memory up to eight runs.
+    ///
+    /// # Errors
+    ///
+    /// Want of memory.
     pub fn copy(&self) -> Result<Marks, Memory>
         ensures same { IfOk result (λ copy. copy ≡ self.now) }
         ensures full { OnErr result (8 < run_count self.now) }

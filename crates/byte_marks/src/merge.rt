@@ -77,6 +77,10 @@ fn first_of<'a>(a: &'a [Extent], b: &'a [Extent]) -> Option<(Extent, &'a [Extent
 }
 
 /// The maximal runs of the bytes of both. It takes no memory where both together have at most eight.
+///
+/// # Errors
+///
+/// Want of memory.
 pub fn merged<'a>(
     alloc: Global,
     mut a: &'a [Extent],

@@ -103,7 +103,11 @@ impl Touched {
         self.entries.clear();
     }
 
-    /// Adds bytes of a block. Without memory all stays as it is.
+    /// Adds bytes of a block.
+    ///
+    /// # Errors
+    ///
+    /// Want of memory. All stays as it is.
     pub fn add(&mut self, block: u32, marks: &Marks) -> Result<(), Memory>
         ensures set { OnOk result ((b p : ℕ) → touches self.new b p ≡ (touches self.old b p || ((block == b) && has marks.now p))) }
         ensures err { OnErr result (self.new ≡ self.old) }
@@ -111,7 +115,11 @@ impl Touched {
         self.put(block, marks.copy()?)
     }
 
-    /// Adds bytes of a block, which are handed over. Without memory all stays as it is.
+    /// Adds bytes of a block, which are handed over.
+    ///
+    /// # Errors
+    ///
+    /// Want of memory. All stays as it is.
     pub fn put(&mut self, block: u32, marks: Marks) -> Result<(), Memory>
         ensures set { OnOk result ((b p : ℕ) → touches self.new b p ≡ (touches self.old b p || ((block == b) && has marks p))) }
         ensures err { OnErr result (self.new ≡ self.old) }
@@ -136,6 +144,10 @@ impl Touched {
     }
 
     /// The same bytes once more.
+    ///
+    /// # Errors
+    ///
+    /// Want of memory.
     pub fn copy(&self) -> Result<Touched, Memory>
         ensures { IfOk result (λ copy. copy ≡ self.now) }
     {
@@ -146,7 +158,11 @@ impl Touched {
         Ok(Touched { entries })
     }
 
-    /// Has the bytes of another set, in the memory that it has as far as that does. Without memory it has none.
+    /// Has the bytes of another set, in the memory that it has as far as that does.
+    ///
+    /// # Errors
+    ///
+    /// Want of memory. It has no bytes then.
     pub fn copy_from(&mut self, other: &Touched) -> Result<(), Memory>
         ensures { OnOk result (self.new ≡ other.now) }
     {

@@ -16,7 +16,11 @@ use std::marker::Brand;
 use std::sync::ledger::{Blank, Ledger};
 use tx_table::Work;
 
-/// Ends a transaction of a core, of which nothing was checked ahead.
+/// Ends a transaction of a core that is up, of which nothing was checked ahead.
+///
+/// # Errors
+///
+/// As those of `Core::end`.
 pub fn end_whole<L: Ledger, D: Disk>(
     blank: Blank,
     core: &mut Core<D>,

@@ -37,6 +37,10 @@ fn nothing_taken(alloc: Global, labels: usize) -> Taken
 }
 
 /// Makes places for `count` members.
+///
+/// # Errors
+///
+/// Want of memory. There may be fewer places.
 pub fn make_places(
     alloc: Global,
     ends: &mut Vec<GroupEnd>,

@@ -88,7 +88,11 @@ impl Failures {
         }
     }
 
-    /// Counts a call, which fails exactly where the plan names it.
+    /// Counts a call.
+    ///
+    /// # Errors
+    ///
+    /// The plan names the call, and exactly then.
     pub fn count_call(&mut self, kind: CallKind) -> Result<(), DiskFault>
         ensures named { IsErr result ↔ IsNamed kind self.old }
         ensures counted { self.new ≡ record (counted kind self.old) { faults = faults_after self.old.faults result } }

@@ -55,8 +55,12 @@ impl<T> Items<T> {
         Items { items }
     }
 
-    /// Makes room for `more` more items, so that adding them takes no memory. The items stay. Contracts do not see the
-    /// room of a list that is data of the model; with `with_room` they do.
+    /// Makes room for `more` more items, so that adding them takes no memory. Contracts do not see the room of a list
+    /// that is data of the model; with `with_room` they do.
+    ///
+    /// # Errors
+    ///
+    /// Want of memory. The items stay, as they do at Ok.
     pub fn reserve(&mut self, more: u32) -> Result<(), Memory>
         ensures { self.new ≡ self.old }
     {
@@ -64,8 +68,11 @@ impl<T> Items<T> {
         Ok(())
     }
 
-    /// The list with room for `more` more items, within which a push takes no memory; `into_items` is the way back. Without
-    /// memory the list is handed back.
+    /// The list with room for `more` more items, within which a push takes no memory; `into_items` is the way back.
+    ///
+    /// # Errors
+    ///
+    /// Want of memory. The list is handed back.
     pub fn with_room(self, more: u32) -> Result<Reserved<T>, Items<T>>
         ensures ok { IfOk result (λ r. (r.items ≡ self) × (more ≤ r.room)) }
         ensures err { IfErr result (λ list. list ≡ self) }
@@ -77,7 +84,11 @@ impl<T> Items<T> {
         }
     }
 
-    /// Adds an item at the end. Without memory the list stays as it is.
+    /// Adds an item at the end.
+    ///
+    /// # Errors
+    ///
+    /// Want of memory. The list stays as it is.
     pub fn push(&mut self, item: T) -> Result<(), Memory>
     where
         T: Drop,

@@ -32,7 +32,11 @@ impl PartList {
         }
     }
 
-    /// Adds a part at the end, with a copy of its bytes. Without memory the list stays as it is.
+    /// Adds a part at the end, with a copy of its bytes.
+    ///
+    /// # Errors
+    ///
+    /// Want of memory. The list stays as it is.
     pub fn push(&mut self, block: u32, off: u16, bytes: &[u8]) -> Result<(), Memory>
         ensures ok { OnOk result (self.new ≡ self.old ++ record { block = block; off = off; bytes = bytes.now } ∷ []) }
         ensures err { OnErr result (self.new ≡ self.old) }

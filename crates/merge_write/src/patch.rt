@@ -32,6 +32,10 @@ impl Model for Patch {
 
 impl Patch {
     /// A patch of a block size that sets no byte.
+    ///
+    /// # Errors
+    ///
+    /// Want of memory.
     pub fn blank(alloc: Global, block: u32) -> Result<Patch, Memory>
         requires { IsTrue (is_block_size block) }
         ensures { IfOk result (λ patch. patch ≡ replicate block None) }

@@ -17,6 +17,14 @@ pub trait ScriptMachine {
 
     /// Does what a client asks for, and answers it. At each moment of the call a crash leaves an image that shows the
     /// world before it or the world after it.
+    ///
+    /// # Errors
+    ///
+    /// There is no reply. The machine represents the same world, but for the accesses that a store's call has made;
+    /// nothing is promised of it after each error of a group, and after `Disk` of an end, a compaction or an upgrade.
+    /// - `Memory`: want of memory. An image shows the last commit before the call.
+    /// - `Disk`: the disk failed in this call.
+    /// - `Down` never comes.
     fn step(&mut self, client: u8, op: &Op) -> Result<Reply, Stop>
         requires stands { (W : World) × stands self.old W }
         requires client { (1 ≤ client) × (client ≤ 64) }

@@ -12,6 +12,10 @@ use std::alloc::Global;
 
 /// The line in words with one space between them, numbers in decimal and bytes in hexadecimal in lower case, without a
 /// line feed. A line that can be said and is not too long is read from that as it is.
+///
+/// # Errors
+///
+/// Want of memory.
 #[tactic(auto, unfolding(crate::specs::Spelling::line_text))]
 pub fn print_line(alloc: Global, line: &Line) -> Result<Vec<u8>, Memory>
     ensures text { IfOk result (λ v. v.items ≡ line_text line.now) }

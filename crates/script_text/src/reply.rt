@@ -17,7 +17,11 @@ const USUAL_LINE: usize = 64;
 /// The most bytes that are shown in a line which is made in place.
 pub const MOST_SHOWN: usize = 64;
 
-/// The line that tells a client its reply.
+/// The line of a client's reply.
+///
+/// # Errors
+///
+/// Want of memory.
 pub fn print_reply(alloc: Global, client: u8, reply: &Reply) -> Result<Vec<u8>, Memory>
     ensures { IfOk result (λ v. v.items ≡ reply_line client reply.now) }
 {
@@ -26,7 +30,11 @@ pub fn print_reply(alloc: Global, client: u8, reply: &Reply) -> Result<Vec<u8>, 
     Ok(line)
 }
 
-/// Adds the line that tells a client its reply. Without memory nothing is added.
+/// Adds the line of a client's reply.
+///
+/// # Errors
+///
+/// Want of memory. Nothing is added.
 pub fn push_reply(out: &mut Vec<u8>, client: u8, reply: &Reply) -> Result<(), Memory>
     ensures ok { OnOk result (out.new.items ≡ out.old.items ++ reply_line client reply.now) }
     ensures err { OnErr result (out.new.items ≡ out.old.items) }

@@ -70,6 +70,10 @@ impl<V: Stands + Drop> TurnLock<V> {
     ghost use Rattle.turn_lock.specs.{Lock.{lock_id, turn_value, turn_number}, Pass.{view, IsSamePass, HasNoTurn, HasTurn, KeepsTurn, IsAlike}};
 
     /// A lock round a value that represents the empty list, and the first pass, which has all units.
+    ///
+    /// # Errors
+    ///
+    /// Want of memory. The value is handed back.
     pub fn new(alloc: Global, value: V) -> Result<(TurnLock<V>, Pass<V>), (Memory, V)>
         requires { V.stands value [] }
         ensures ok { IfOk result (λ r. (r.1.table_id ≡ lock_id r.0) × HasNoTurn r.1 × (view r.1 ≡ fresh)) }
