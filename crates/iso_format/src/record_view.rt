@@ -86,6 +86,7 @@ impl<'a> Model for RecordView<'a> {
 impl<'a> RecordView<'a> {
     ghost use Rattle.std.specs.Prelude.{◌≡◌};
 
+    /// The number of the commit.
     pub fn number(&self) -> u64
         ensures { result ≡ self.now.number }
     {
@@ -99,6 +100,7 @@ impl<'a> RecordView<'a> {
         self.kind
     }
 
+    /// The parts of the record, in order.
     pub fn parts(&self) -> PartIter<'a>
         ensures { result ≡ self.now.parts }
     {

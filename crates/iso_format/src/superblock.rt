@@ -11,7 +11,9 @@ use iso_model::{Geometry, Mode};
 /// 4 log bytes, 5 mode, 6 zero bytes, 7 regions.
 #[derive(Clone, Copy, Debug, PartialEq, Eq)]
 pub enum SuperError {
+    /// The name is another one, or the gate is closed.
     NotIsotope,
+    /// The first field that is wrong.
     BadGeometry { field: u8 },
 }
 

@@ -45,12 +45,14 @@ impl PartList {
         self.parts.push(Run { block, off, bytes })
     }
 
+    /// How many parts there are.
     pub fn len(&self) -> usize
         ensures { result ≡ length self.now }
     {
         self.parts.len()
     }
 
+    /// Whether there are none.
     pub fn is_empty(&self) -> bool
         ensures { result ≡ (length self.now == 0) }
     {

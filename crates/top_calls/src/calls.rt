@@ -12,10 +12,13 @@ use std::thread::Threads;
 /// The words that make a small image.
 pub const SMALL: &str = "isotope new t.img --block-size 64 --blocks 4 --log 256";
 
+/// The words that run a script on it.
 pub const RUN: &str = "isotope run t.img";
 
+/// The words that run its clients in threads.
 pub const PAR: &str = "isotope par t.img";
 
+/// The words that open it and show its last commit.
 pub const RECOVER: &str = "isotope recover t.img";
 
 /// The words of a command line.

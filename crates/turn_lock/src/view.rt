@@ -28,8 +28,11 @@ pub trait Names<E> {
 
 /// Where a pass stands in the queue: in none, with a ticket, or at its turn with one.
 pub enum Stage {
+    /// In none.
     Idle,
+    /// It waits with this ticket.
     Waits(u64),
+    /// It has the turn of this ticket.
     Turns(u64),
 }
 

@@ -11,7 +11,9 @@ use std::marker::Model;
 /// Why a transaction is not entered.
 #[derive(Clone, Copy, Debug, PartialEq, Eq)]
 pub enum EnterError {
+    /// `MAX_LIVE` transactions are live.
     TooManyTx,
+    /// Want of memory.
     Memory,
 }
 

@@ -9,7 +9,9 @@ use std::marker::Model;
 /// Why an item is not posted.
 #[derive(Clone, Copy, Debug, PartialEq, Eq)]
 pub enum PostError {
+    /// An item is held under the label.
     LabelTaken,
+    /// Want of memory.
     Memory,
 }
 
