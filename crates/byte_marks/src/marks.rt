@@ -82,7 +82,7 @@ impl Marks {
         self.weave(added)
     }
 
-    // Adds an extent that does not stand behind all others.
+    // Adds an extent that does not come after all others.
     #[inline(never)]
     fn weave(&mut self, added: Extent) -> Result<(), Memory>
         requires some { added.from < added.to }

@@ -25,7 +25,7 @@ impl Model for Touched {
     ghost invariant = { λ a. RisesFrom 0 a.entries.items };
 }
 
-// Whether the block is behind those of all entries.
+// Whether the block is after those of all entries.
 fn is_behind(entries: &[(u32, Marks)], block: u32) -> bool
     requires { RisesFrom 0 entries.now }
     ensures { OnTrue result ((k : ℕ) → k < length entries.now → (d : ℕ × List Extent) → (slice_index_or entries.now k d).0 < block) }

@@ -49,7 +49,7 @@ impl Sides {
         }
     }
 
-    /// Whether both have the same bytes behind the headers of a mirror.
+    /// Whether both have the same bytes after the headers of a mirror.
     pub(crate) fn are_alike(&self) -> bool {
         self.first.get(64..) == self.second.get(64..)
     }

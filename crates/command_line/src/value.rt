@@ -16,7 +16,7 @@ pub(crate) fn text_of<'a>(matches: &ArgMatches<'a>, name: &str) -> Option<&'a st
     matches.get_str(name)
 }
 
-/// The number that a word spells, or what stands where there is no word.
+/// The number that a word spells, or what is taken where there is no word.
 pub(crate) fn number_or(otherwise: u32, word: Option<&str>) -> Option<u32>
     ensures { result ≡ number_or otherwise (option_map (λ s. s.now) word.entry) }
 {

@@ -1,4 +1,4 @@
-// The disk over a real file. It tells no contents, so its clauses are on sizes, counts, causes and what is bound: what
+// The disk over a real file. It is opaque, so its clauses are on sizes, counts, causes and what is bound: what
 // the file holds is trusted.
 ghost use Rattle.std.specs.{Prelude.{◌≡◌, ◌^◌, ◌<◌, ◌≤◌, None}, Option.option_map};
 ghost use Rattle.counts.specs.Count.{HasCause, Rose};

@@ -1,4 +1,4 @@
-// The bytes of a half, written behind its gate.
+// The bytes of a half that follow its gate.
 ghost use Rattle.std.specs.Prelude.{◌≡◌, ◌+◌, ◌≤◌, ℕ, List, length, OnOk, OnErr};
 ghost use Rattle.iso_disk.specs.Disk.{IsSettled, LeavesOnly, StaysTold, TellsTorn, TornFrom};
 ghost use Rattle.counts.specs.Count.{HasCause};

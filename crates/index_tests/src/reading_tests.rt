@@ -153,7 +153,7 @@ fn a_read_that_fails_is_told(rt: HostRuntime) -> Result<(), Fail> {
     Ok(())
 }
 
-// The index of one record whose gate stands at this place.
+// The index of one record whose gate is at this place.
 fn index_of(alloc: Global, view: &RecordView<'_>, gate: u64) -> Result<MvIndex, Memory>
     requires runs { AreRuns small view.now.parts }
     requires gate { gate < 2 ^ 32 }

@@ -24,7 +24,7 @@ use iso_model::{CoreError, EndReply, Geometry, GroupReply, Mode};
 use std::alloc::Global;
 use tx_table::Work;
 
-/// An open image with its live transactions. A core stands for a world of the model.
+/// An open image with its live transactions. A core represents a world of the model.
 #[derive(Drop)]
 pub struct Core<D: Disk> {
     disk: D,

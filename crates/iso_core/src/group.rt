@@ -13,7 +13,7 @@ use crate::taking::{leave_members, reserve_plan, take_plan};
 use iso_disk::Disk;
 use iso_model::{CoreError, GroupReply, Memory};
 
-// Puts a closed gate behind records.
+// Puts a closed gate after records.
 fn close(bytes: &mut Vec<u8>) -> Result<(), Memory>
     ensures { OnOk result (bytes.new.items ≡ bytes.old.items ++ 0 ∷ []) }
 {

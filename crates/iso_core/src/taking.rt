@@ -57,7 +57,7 @@ pub(crate) fn reserve_plan(kept: &mut Kept, plan: &Plan) -> Result<(), Memory>
     Ok(())
 }
 
-/// Adds the versions of staged records with these parts to the index of a half behind which they stand, the first of which has
+/// Adds the versions of staged records with these parts to the index of a half whose records they follow; the first of them has
 /// this number; the gate is that of the first one of all.
 fn take_staged(index: &mut MvIndex, number: u64, gate: u64, staged: &[Staged], parts: &[PartSpan])
     requires follow { (g : Geometry) × (x : Half) × (t : ℕ) × (at : ℕ) × (commits : List Commit) × MayTakeAll g x t at commits number gate staged.now parts.now index.old }

@@ -60,7 +60,7 @@ pub trait Disk {
     ghost lawful: { (d : Self) → IsLawful (state d) };
 }
 
-/// A disk that stands for what a name names, once it is bound to it.
+/// A disk that is the device of a name, once it is bound to it.
 pub trait Image: Disk {
     /// With a size, makes a blank device of that size: zeros. With none, takes the existing device with the contents
     /// that it has and makes them stable. What the disk promises of crashes begins at Ok.

@@ -1,4 +1,4 @@
-// Records that are spelled one behind another, for one write.
+// Records that are spelled one after another, for one write.
 ghost use Rattle.std.specs.Prelude.{◌≡◌, ◌+◌, ◌<◌, ◌≤◌, ◌^◌, ◌++◌, length, take, drop, OnOk, OnErr};
 ghost use Rattle.iso_model.specs.Image.{part};
 ghost use Rattle.iso_format.specs.Writing.{head};
@@ -15,7 +15,7 @@ use std::marker::Model;
 #[derive(Drop)]
 pub struct RecordBuffer {
     bytes: Vec<u8>,
-    // Where the record begins that is not finished. Its head stands there already, as zeros: its gate is the closed one.
+    // Where the record begins that is not finished. Its head is there already, as zeros: its gate is the closed one.
     start: usize,
     count: usize,
 }

@@ -63,8 +63,8 @@ pub fn put_all<K: Sink>(sink: &mut K, bytes: &[u8]) -> Result<(), PutError>
     ensures ok { OnOk result (Wrote (K.state sink.old) (K.state sink.new) bytes.now) }
     ensures err { OnErr result (WroteFront (K.state sink.old) (K.state sink.new) bytes.now) }
 
-    // Each error has its cause in this call, and no other: the count that it does not tell of stands where it stood. No
-    // count falls, and after Ok each stands.
+    // Each error has its cause in this call, and no other: the count of the other one stays. No
+    // count falls, and after Ok each stays.
     ensures failed { IsErrOf result PutError.Failed → Rose (K.state sink.old).faults (K.state sink.new).faults }
     ensures took_nothing { IsErrOf result PutError.TookNothing → Rose (K.state sink.old).refusals (K.state sink.new).refusals }
     ensures not_refused { IsErrOf result PutError.Failed → (K.state sink.new).refusals ≡ (K.state sink.old).refusals }

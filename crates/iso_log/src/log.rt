@@ -9,7 +9,7 @@ use iso_disk::Disk;
 use iso_model::{Geometry, LAST};
 use std::marker::Model;
 
-/// A log: where it stands, how many bytes it has, how many of them its records take, and the number of its last record.
+/// A log: where it is, how many bytes it has, how many of them its records take, and the number of its last record.
 #[derive(Drop)]
 pub struct Log {
     place: u64,
@@ -99,7 +99,7 @@ impl Log {
         requires next { (g : Geometry) × (more : List Written) × IsNext self.old g more bytes.now }
         requires told { (g : Geometry) × (first : ℕ) × (told : List Written) × HasTold self.old g first told (D.state disk.old).now }
 
-        // At each moment an image is one from before the call, with the records whole or behind a closed gate.
+        // At each moment an image is one from before the call, with the records whole or after a closed gate.
         ensures moments { LeavesOnly (D.state disk.old) (D.state disk.new) (AppendingFrom (next_place self.old) bytes.now (D.state disk.old).now) }
         ensures whole { OnOk result ((c : List ℕ) → (D.state disk.new).now c → AppendedTo (next_place self.old) bytes.now (D.state disk.old).now c) }
         // So its log has all of them or none, and on Ok all.

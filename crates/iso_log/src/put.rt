@@ -1,4 +1,4 @@
-// Bytes that are put behind a gate, and then the gate.
+// The bytes that follow a gate are put, and then the gate.
 ghost use Rattle.std.specs.Prelude.{◌≡◌, ◌+◌, ◌≤◌, ℕ, List, length, slice_index, OnOk};
 ghost use Rattle.iso_disk.specs.Disk.{IsSettled, LeavesOnly, StaysTold};
 ghost use Rattle.counts.specs.Count.{HasCause};

@@ -15,7 +15,7 @@ use iso_model::Geometry;
 // How many bytes of a record come before its parts.
 const HEAD: u32 = 20;
 
-// The answer where a record that stands at this place fails a test.
+// The answer where a record at this place fails a test.
 fn damaged(gate: u64, fault: FormatError) -> LogError
     requires { gate + offset_of fault < 2 ^ 64 }
     ensures { result ≡ LogError.Damaged (gate + offset_of fault) (test_number fault) }

@@ -51,7 +51,7 @@ pub fn end_whole<L: Ledger, D: Disk>(
     core.end(tx, work, &checked, &mut steps)
 }
 
-/// The reply that the end of a transaction stands for.
+/// The reply for the end of a transaction.
 fn ended(reply: EndReply) -> Reply
     ensures { result ≡ as_reply (reply_of reply) }
 {

@@ -17,7 +17,7 @@ use std::alloc::Global;
 use std::mem;
 use tx_table::Work;
 
-/// What was found under the labels so far. An answer stands for each label, which the group's reply takes the place of where a
+/// What was found under the labels so far. There is an answer for each label, which the group's reply takes the place of where a
 /// transaction was found; `count` were found, and they are the first members.
 #[derive(Drop)]
 struct Taken {
@@ -71,7 +71,7 @@ fn fill_place(place: &mut GroupEnd, spare: &mut Vec<Box<Work>>, gone: Attached)
     keep_spare(spare, work);
 }
 
-/// Makes a transaction the member behind the first ones.
+/// Makes a transaction the member after the first ones.
 fn add_member(ends: &mut [GroupEnd], count: usize, spare: &mut Vec<Box<Work>>, gone: Attached)
     requires { count < length ends.old }
     ensures { take (count + 1) ends.new ≡ take count ends.old ++ member_of gone ∷ [] }

@@ -18,7 +18,7 @@ pub trait Origin {
     /// What the transaction did.
     ghost doing: { Doing };
 
-    /// The array at its begin, where the disk tells it.
+    /// The array at its begin, where the disk's bytes are known.
     ghost array: { Option Array };
 
     /// Where the core is.

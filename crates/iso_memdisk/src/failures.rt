@@ -51,7 +51,7 @@ impl KindPlan {
     }
 }
 
-/// The plan of a disk's failures, and its counts. A count stands still at its last value.
+/// The plan of a disk's failures, and its counts. A count stays at its last value.
 #[derive(Debug, Drop)]
 pub struct Failures {
     /// How many calls pass before all fail.

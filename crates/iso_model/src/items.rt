@@ -20,7 +20,7 @@ impl<T> Model for Items<T> {
     ghost view = { λ a. a.items.items };
 }
 
-/// The spans of an access; none stands for the whole block.
+/// The spans of an access; no span means the whole block.
 pub type SpanList = Items<Span>;
 
 /// A text, or the bytes of a block.

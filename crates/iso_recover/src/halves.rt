@@ -11,7 +11,7 @@ use iso_format::{read_half, unclean_place};
 use iso_image::{OpenError, half_place};
 use iso_model::{Geometry, LAST};
 
-// The first test that the header of a half fails, which stands at this place of the image.
+// The first test that the header of a half fails, which is at this place of the image.
 fn header_refusal(place: u64, header: &[u8]) -> Option<OpenError>
     requires size { length header.now ≡ 32 }
     requires place { place + 32 < 2 ^ 64 }

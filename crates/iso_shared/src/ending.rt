@@ -17,7 +17,7 @@ use std::snapshot::Snapshot;
 use std::sync::Wait;
 use tx_table::Work;
 
-// Settles the work ahead of the turn. Where memory is wanting, the end tells so.
+// Settles the work ahead of the turn. Where memory is wanting, the end says so.
 fn settle(work: &mut Work)
     ensures work { work.new ≡ record work.old { settled = work.new.settled } }
     ensures within { AreWithin work.new.size work.new.blocks work.new.accesses }

@@ -1,4 +1,4 @@
-// The entries of the list that a shared device stands for. No value of them is made.
+// The entries of the list that a shared device represents. No value of them is made.
 
 use iso_model::{Access, EndReply, GroupReply, Label, Mode};
 use std::collections::LinkedList;

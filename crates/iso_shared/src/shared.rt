@@ -18,7 +18,7 @@ use std::snapshot::Snapshot;
 use turn_lock::{Names, Pass, Turn};
 use tx_table::Rack;
 
-/// A core and its labels behind a turn lock. Each call of a core adds one entry to one legal list.
+/// A core and its labels under a turn lock. Each call of a core adds one entry to one legal list.
 #[derive(Drop)]
 pub struct Shared<D: Disk + Drop, O: Origin> {
     pub(crate) lock: Turns<D, O>,
@@ -83,7 +83,7 @@ impl<D: Disk + Drop, O: Origin> Shared<D, O> {
         self.geometry
     }
 
-    // Gives the turn back, with an entry that tells what the call did, and the moment of now.
+    // Gives the turn back, with an entry that says what the call did, and the moment of now.
     fn give_as<N: Names<Stamped>>(
         &self,
         pass: &mut Pass<Guarded<D, O>>,
@@ -120,7 +120,7 @@ impl<D: Disk + Drop, O: Origin> Shared<D, O> {
         self.give_as::<Brand>(pass, turn, before, told);
     }
 
-    // Tells one pass what another has seen, by a note without a unit.
+    // Makes one pass know what another has seen, by a note without a unit.
     pub(crate) fn tell(&self, from: &mut Pass<Guarded<D, O>>, to: &mut Pass<Guarded<D, O>>)
         requires from { IsOf self.now.lock from.old }
         requires to { IsOf self.now.lock to.old }
@@ -161,7 +161,7 @@ impl<D: Disk + Drop, O: Origin> Shared<D, O> {
         self.lock.join(&mut into.pass, pass);
     }
 
-    /// Tells a transaction what a port has seen. It makes no entry, and waits for nobody.
+    /// Makes a transaction know what a port has seen. It makes no entry, and waits for nobody.
     pub fn tell_tx(&self, port: &mut Port<D, O>, tx: &mut Tx<D, O>)
         requires port { IsPort self.now port.old }
         requires tx { IsTx self.now O.start tx.old }
@@ -174,7 +174,7 @@ impl<D: Disk + Drop, O: Origin> Shared<D, O> {
         self.tell(&mut port.pass, &mut tx.pass);
     }
 
-    /// Tells a port what a transaction has seen. It makes no entry, and waits for nobody.
+    /// Makes a port know what a transaction has seen. It makes no entry, and waits for nobody.
     pub fn tell_port(&self, tx: &mut Tx<D, O>, port: &mut Port<D, O>)
         requires tx { IsTx self.now O.start tx.old }
         requires port { IsPort self.now port.old }

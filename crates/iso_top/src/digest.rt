@@ -35,7 +35,7 @@ pub fn digest_of<D: Disk>(alloc: Global, core: &mut Core<D>) -> Result<[u8; 32],
         (λ _. digest ≡ sha256 (array_bytes (array_at W.history (last W.history))))) }
     ensures unwritten { WritesNothing (D.state (disk_of core.old)) (D.state (disk_of core.new)) }
 
-    // But for the next number the core stands for the same world.
+    // But for the next number the core represents the same world.
     ensures world { (W : World) → StandsFor D.state core.old W up → W.live ≡ [] → OnOk result (StandsFor D.state core.new (record W { next = W.next + 1 }) up) }
     ensures failed { (W : World) → StandsFor D.state core.old W up → W.live ≡ [] → IsErrOf result DigestError.Disk
         → StandsFor D.state core.new (record W { next = W.next + 1 }) up }

@@ -13,7 +13,7 @@ use std::alloc::Global;
 const LONGEST: usize = 65_536;
 
 /// A disk over another one, of which it keeps the pages that were read last: 2,048 of 4 KiB. It is at each moment what
-/// the other is, and each page that it holds has the bytes that the other tells there.
+/// the other is, and each page that it holds has the bytes that the other has there.
 ///
 /// The memory for the pages is taken at the first bind; where there is none, each call goes past them.
 #[derive(Drop)]

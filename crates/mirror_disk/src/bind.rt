@@ -163,7 +163,7 @@ fn bind_sides<A: Image, B: Image>(
     }
 }
 
-/// Binds the first side alone, or both under a name of a mirror, and says how the mirror stands then.
+/// Binds the first side alone, or both under a name of a mirror, and says which sides are in use then.
 fn bind_parts<A: Image, B: Image>(
     first: &mut A,
     second: &mut B,

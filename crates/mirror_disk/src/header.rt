@@ -16,10 +16,10 @@ const LENGTH: usize = 64;
 /// What a header begins with.
 const WORD: [u8; 8] = *b"ISOMIRR1";
 
-/// Where the zeros behind that word begin.
+/// Where the zeros after that word begin.
 const GAP: usize = 8;
 
-/// Where the zeros behind the slots begin.
+/// Where the zeros after the slots begin.
 const END: usize = 48;
 
 /// The byte of a gate that is open.

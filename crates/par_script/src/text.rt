@@ -32,7 +32,7 @@ fn push_all_told(out: &mut Vec<u8>, parts: &[Part]) -> Result<(), Memory>
     Ok(())
 }
 
-// Adds the line that tells of a commit.
+// Adds the line of a commit.
 fn push_commit(alloc: Global, out: &mut Vec<u8>, commit: &CommitLine) -> Result<(), Memory>
     ensures ok { OnOk result (out.new.items ≡ out.old.items ++ commit_line commit.now) }
     ensures err { OnErr result (out.new.items ≡ out.old.items) }

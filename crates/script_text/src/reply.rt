@@ -57,7 +57,7 @@ fn push_other(out: &mut Vec<u8>, client: u8, reply: &Reply) -> Result<(), Memory
     }
 }
 
-/// The bytes that a reply tells, where they are too many for a line that is made in place.
+/// The bytes that a reply shows, where they are too many for a line that is made in place.
 pub(crate) fn many_shown(reply: &Reply) -> Option<&[u8]>
     requires { IsOther reply.now }
     ensures { MatchOption result (IsShort reply.now) (λ bytes. IsLong reply.now bytes.now) }
@@ -220,7 +220,7 @@ fn put_numbered(line: &mut Ending, text: &[u8], number: u64)
     line.put(text);
 }
 
-/// Puts two texts, each with a number in decimal behind it, before the text.
+/// Puts two texts, each with a number in decimal after it, before the text.
 fn put_two(line: &mut Ending, text: &[u8], number: u64, next_text: &[u8], next_number: u64)
     requires { length text.now + length next_text.now + 40 ≤ line.old.room }
     ensures text { line.new.text ≡ text.now ++ decimal number ++ next_text.now ++ decimal next_number ++ line.old.text }

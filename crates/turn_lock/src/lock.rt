@@ -14,7 +14,7 @@ use std::marker::Brand;
 use std::snapshot::Snapshot;
 use std::sync::Wait;
 
-// The words of the table, and its slot. Behind the first two stand the gate before the tickets, how many wait at it, and how many
+// The words of the table, and its slot. After the first two come the gate before the tickets, how many wait at it, and how many
 // turns in a row went past them.
 const TICKETS: usize = 0;
 
@@ -29,7 +29,7 @@ const PAST: usize = 4;
 const VALUE: usize = 0;
 
 // The gate is open, or shut, or shut while some may sleep at it. It is kept for one of those who wait where its last two bits are
-// these: the ticket that is served then stands before them, so that no keeping is taken for another one.
+// these: the ticket that is served then is before them, so that no keeping is taken for another one.
 const OPEN: u64 = 0;
 
 const SHUT: u64 = 1;
@@ -58,7 +58,7 @@ impl<V: Stands> TableRule<Option<V>, View<V::Entry>, ()> for Ticketed {
 /// A caller's place at a lock: what it has seen of the list, and what it alone may do. It has no bytes.
 pub type Pass<V> = Seat<Option<V>, View<<V as Stands>::Entry>>;
 
-/// A lock that serves its callers in the order of their tickets. Before these stands a gate, at which who runs comes before those who
+/// A lock that serves its callers in the order of their tickets. Before these is a gate, at which who runs comes before those who
 /// sleep, but for a few turns in a row.
 #[derive(Drop)]
 pub struct TurnLock<V: Stands + Drop> {
@@ -102,7 +102,7 @@ impl<V: Stands + Drop> TurnLock<V> {
         ensures turn { HasTurn pass.new result }
         ensures same { IsAlike (view pass.old) (view pass.new) }
 
-        // The value stands for a list that begins with what the pass had seen. It has as many entries as tickets were served.
+        // The value represents a list that begins with what the pass had seen. It has as many entries as tickets were served.
         ensures value { V.stands (turn_value result) (view pass.new).seen }
         ensures seen { IsPrefix (view pass.old).seen (view pass.new).seen }
         ensures served { turn_number result ≡ length (view pass.new).seen }

@@ -24,7 +24,8 @@ pub struct Begun {
     pub mode: Mode,
 }
 
-/// The live transactions in the order of their begins, which is that of their numbers. Contracts see the list of their numbers, each with what it began with.
+/// The live transactions in the order of their begins, which is that of their numbers. Contracts see the list of their
+/// numbers, each with what it began with.
 #[derive(Drop)]
 pub struct Live {
     begins: IndexMap<u64, Begun>,
@@ -183,7 +184,7 @@ fn pass_first(begins: &mut IndexMap<u64, Begun>, past: &mut usize)
     *past = 0;
 }
 
-// The only live one leaves, or one behind the first.
+// The only live one leaves, or one after the first.
 fn take_later(begins: &mut IndexMap<u64, Begun>, past: &mut usize, tx: u64)
     requires order { AreInOrder past.old begins.old.entries }
     requires live { IsSome (begin_of tx (drop past.old begins.old.entries)) }

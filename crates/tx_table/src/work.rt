@@ -89,7 +89,8 @@ impl Work {
         }
     }
 
-    /// Begins anew: a transaction that has done nothing, in blocks of the same size. It takes no memory, and keeps what the one before took.
+    /// Begins anew: a transaction that has done nothing, in blocks of the same size. It takes no memory, and keeps what
+    /// the one before took.
     pub fn restart(&mut self, begin: u64, geometry: &Geometry)
         requires { geometry.now.block ≡ self.old.size }
         ensures { self.new ≡ record { begin = begin; mode = geometry.now.mode; size = geometry.now.block; blocks = geometry.now.blocks; accesses = []; ready = None; settled = true } }
