@@ -12,7 +12,7 @@ use smallvec::SmallVec;
 use std::alloc::Global;
 use std::marker::Model;
 
-/// A set of bytes of one block of at most 4,096, kept as its maximal runs. Up to eight of them stand in the value itself.
+/// A set of bytes of one block of at most 4,096, kept as its maximal runs. Up to eight of them are in the value itself.
 #[derive(Drop)]
 pub struct Marks {
     extents: Extents,
@@ -143,7 +143,7 @@ impl Marks {
         has_all(self.extents.as_slice(), span)
     }
 
-    /// The same set once more. It takes no memory up to eight runs.
+    /// A copy of the set. It takes no memory up to eight runs.
     ///
     /// # Errors
     ///

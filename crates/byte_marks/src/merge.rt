@@ -7,7 +7,7 @@ use iso_model::Memory;
 use smallvec::SmallVec;
 use std::alloc::Global;
 
-/// Extents of which eight stand in the value itself.
+/// Extents of which eight are in the value itself.
 pub type Extents = SmallVec<Extent, 8>;
 
 /// The first byte from which on one more run may lie after them.

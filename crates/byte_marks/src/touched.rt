@@ -92,7 +92,7 @@ impl Touched {
         ensures none { OnTrue result ((b p : ℕ) → touches self.now b p ≡ false) }
         ensures some { OnFalse result ((b : ℕ) × (p : ℕ) × IsTrue (touches self.now b p)) }
     {
-        // A block may stand there with no byte, so the list alone does not tell.
+        // A block may be there with no byte, so the list alone does not say it.
         self.first_meet(self).is_none()
     }
 
@@ -143,7 +143,7 @@ impl Touched {
         least_common_byte(self.entries.as_slice(), other.entries.as_slice())
     }
 
-    /// The same bytes once more.
+    /// A copy of the set.
     ///
     /// # Errors
     ///

@@ -164,7 +164,7 @@ impl Book {
         Ok(())
     }
 
-    /// A line with what its braces stand for.
+    /// A line with the texts of its braces.
     fn spelled(&self, line: &str) -> Result<String, Trouble> {
         let mut bytes = Vec::new(self.alloc);
         let names = Names {

@@ -1,4 +1,4 @@
-// The values of options and of words that have to stand.
+// The values of options and of words that have to be there.
 ghost use Rattle.std.specs.Prelude.{◌≡◌, ◌≤◌, IfSome, option_map};
 ghost use Rattle.clap.specs.Words.{first_of, found_of, rows_of};
 ghost use Rattle.command_line.specs.Values.{count_of, mode_or_serial, number_or};

@@ -146,7 +146,7 @@ impl Notes {
         }
     }
 
-    /// The notes of the commits above a number, once more.
+    /// A copy of the notes of the commits above a number.
     ///
     /// # Errors
     ///

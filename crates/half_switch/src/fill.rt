@@ -37,7 +37,7 @@ pub fn fill_half<D: Disk>(
     requires used { plan.now.used < plan.now.geometry.log }
     requires closed { (c : List ℕ) → (D.state disk.old).now c → IsClosed to.now.header c }
 
-    // At each moment an image is one from before the call but for what follows the new half's gate. So that is closed, and
+    // At each moment an image is one from before the call but for the bytes after the new half's gate. So the gate is closed, and
     // the image holds the half that it held.
     ensures moments { LeavesOnly (D.state disk.old) (D.state disk.new) (TornFrom (to.now.header + 1) (half_size plan.now.geometry - 1) (D.state disk.old).now) }
     ensures closed { LeavesOnly (D.state disk.old) (D.state disk.new) (IsClosed to.now.header) }

@@ -33,7 +33,7 @@ fn disk(alloc: Global) -> Result<MemDisk, AllocError>
     Ok(MemDisk::new(alloc, numbers(alloc)?))
 }
 
-// Whether the versions have bytes of a block of 64 that stand on the disk.
+// Whether the versions have bytes of a block of 64 that are on the disk.
 fn lie(versions: &[Version]) -> bool
     ensures { result ≡ true → AllLie 64 512 versions.now }
 {
@@ -48,7 +48,7 @@ fn lie(versions: &[Version]) -> bool
     true
 }
 
-// The block whose base bytes stand at 64.
+// The block whose base bytes are at 64.
 fn read(disk: &mut MemDisk, versions: &[Version]) -> Result<[u8; 64], DiskFault>
     requires { (state_of disk.old).size ≡ 512 }
     ensures { (state_of disk.new).size ≡ (state_of disk.old).size }

@@ -71,7 +71,7 @@ fn prepare_group(
     Ok(())
 }
 
-/// Ends members whose works are settled, while the core is up: all their commits stand in one append, or none. The replies
+/// Ends members whose works are settled, while the core is up: all their commits are in one append, or none. The replies
 /// are handed out in order. Of the plan the memory alone is used.
 pub(crate) fn end_ready<D: Disk>(
     kept: &mut Kept,

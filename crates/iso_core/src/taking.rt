@@ -1,4 +1,4 @@
-// The commits of a group are taken in, once their records stand.
+// The commits of a group are taken in, once their records are written.
 ghost use Rattle.std.specs.{Prelude.{◌≡◌, ℕ, ◌+◌, ◌++◌, [], ◌∷◌, List, IfNone, IfOk, IfSome, OnOk, map}, List.Sorted.{IsNonDecreasingBy, IsPermutation}};
 ghost use Rattle.iso_image.specs.Half.{Half};
 ghost use Rattle.iso_model.specs.{declared.access.Commit.Commit, declared.access.Geometry.Geometry, Geometry.log_place, Image.written, World.{World, Live}, Group.{ahead, leave_all}};

@@ -129,7 +129,7 @@ fn take_members(
     take_members(finder, live, spare, taken, ends, others)
 }
 
-/// Puts the members' replies in the place of the answers that stand for them.
+/// Puts the members' replies in the place of the answers that are there for them.
 pub fn fill_answers(answers: &mut [Option<GroupReply>], ends: &[GroupEnd])
     ensures { answers.new ≡ filled answers.old (map reply_in ends.now) }
 {

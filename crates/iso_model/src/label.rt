@@ -38,7 +38,7 @@ impl Label {
         })
     }
 
-    /// The same label once more.
+    /// A copy of the label.
     pub fn copy(&self) -> Label
         ensures { result ≡ self.now }
     {

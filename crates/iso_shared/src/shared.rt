@@ -219,7 +219,7 @@ impl<D: Disk + Drop, O: Origin> Shared<D, O> {
     }
 
     /// Ends the device, and gives the core back, which represents the whole list. The port has all units. It waits for nobody.
-    /// The list's commits stand in one order, in which each is serial or snapshot, as its mode says. The disk is bound as it was.
+    /// The list's commits are in one order, in which each is serial or snapshot, as its mode says. The disk is bound as it was.
     /// What a caller was told is there: from the moment at which the turn of its call ended on, each image that a crash might have left
     /// shows the commits of the list up to that turn.
     pub fn close(self, port: Port<D, O>) -> Core<D>

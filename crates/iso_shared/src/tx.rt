@@ -77,7 +77,7 @@ impl<D: Disk + Drop, O: Origin> Tx<D, O> {
         self.work.reserve(block)
     }
 
-    /// A read of a block, which is lent as it stood at the begin: the own writes are laid over it. It takes no memory.
+    /// A read of a block, which is lent as it was at the begin: the own writes are laid over it. It takes no memory.
     pub fn read(&mut self, block: u32, into: &mut [u8])
         requires ready { (doing_of self.old).ready ≡ Some block }
         requires room { length (doing_of self.old).accesses < 4096 }

@@ -137,7 +137,7 @@ fn store_grown<T: TxBlocks>(
 }
 
 /// The writes from a node of a level up, which gets a new cell; the path begins with that node, and the nodes' bytes
-/// stand from block `i` on.
+/// are there from block `i` on.
 ///
 /// # Errors
 ///

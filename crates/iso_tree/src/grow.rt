@@ -44,7 +44,7 @@ fn is_usable(size: usize, block: &[u8], count: u32) -> bool
     count_of(keys) == count as usize && 1 <= count && count as usize <= cell_count(size)
 }
 
-/// Reads the nodes of a path once more, unmarked; their bytes stand from block `i` on. The descent has tested them, and
+/// Reads the nodes of a path again, unmarked; their bytes come from block `i` on. The descent has tested them, and
 /// no test is asked here: a disk whose bytes are known shows the same ones.
 ///
 /// # Errors

@@ -38,7 +38,7 @@ pub fn put_value<T: TxBlocks>(
     last_store(tx, area.start + block, &[span], into, ())
 }
 
-/// Writes the bytes of a leaf with other cells. The leaf is read once more, unmarked, so that the call depends on all
+/// Writes the bytes of a leaf with other cells. The leaf is read again, unmarked, so that the call depends on all
 /// of it: its bytes are those that the descent has read.
 ///
 /// # Errors
@@ -69,7 +69,7 @@ pub fn store_leaf<T: TxBlocks, R: Copy>(
     }
 }
 
-/// Writes the leaf with a new cell; the buffer of its bytes is read into once more.
+/// Writes the leaf with a new cell; the buffer of its bytes is read into again.
 ///
 /// # Errors
 ///

@@ -117,7 +117,7 @@ fn read_slot(header: &[u8; 64], gate: usize) -> Option<u64>
     Some(epoch)
 }
 
-/// Whether these bytes stand there.
+/// Whether these bytes are there.
 fn has_bytes(header: &[u8; 64], at: usize, bytes: &[u8]) -> bool
     requires { at + length bytes.now ≤ 64 }
     ensures has { result ≡ true → take (length bytes.now) (drop at header.now) ≡ bytes.now }

@@ -9,7 +9,7 @@ use crate::slot::Slot;
 use commit_gate::{open_gate, put_body, shut_gate, stands_closed};
 use iso_disk::{Disk, DiskFault};
 
-/// How many zeros stand between a gate and its epoch.
+/// How many zeros are between a gate and its epoch.
 pub(crate) const ZEROS: usize = 7;
 
 /// How many bytes come after a gate.

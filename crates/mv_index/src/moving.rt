@@ -1,4 +1,4 @@
-// Versions whose bytes stand elsewhere.
+// Versions whose bytes are elsewhere.
 ghost use Rattle.std.specs.Prelude.{◌≡◌, ◌+◌, ◌-◌, ◌^◌, ◌<◌, ◌≤◌, ℕ, length, slice_index_or, take, vec_capacity, vec_len};
 ghost use Rattle.mv_index.specs.{Moves.moved_to, Versions.no_version};
 

@@ -13,7 +13,7 @@ const LINE: usize = 16_384;
 /// Lines of comments, one after the other. As a source it is opaque.
 #[derive(Drop)]
 struct Comments {
-    /// How many bytes stand before the next line feed.
+    /// How many bytes come before the next line feed.
     left: usize,
 }
 

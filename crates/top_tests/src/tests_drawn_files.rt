@@ -247,7 +247,7 @@ fn ended<R: Threads + Wait + Sync>(
     if other.is_some() {
         return Ok((known.ends, other));
     }
-    // The files stand in the next run.
+    // The files are there in the next run.
     let lines = closing();
     let script = spelled(alloc, &lines)?;
     let outcome = run_image(rt, alloc, outcome.image(alloc, 0)?, script.as_bytes())?;

@@ -151,7 +151,7 @@ fn is_survived<R: Threads + Wait + Sync>(
     Ok(true)
 }
 
-/// Whether a stop after each call of a script is survived, until the script is done, and then all of its commits stand.
+/// Whether a stop after each call of a script is survived, until the script is done, and then all of its commits are there.
 fn each_stop_is_survived<R: Threads + Wait + Sync>(
     rt: &R,
     alloc: Global,

@@ -193,7 +193,7 @@ impl<V: Stands + Drop> TurnLock<V> {
         unreachable!()
     }
 
-    // Whether the gate stood so, and was changed.
+    // Whether the gate was so, and was changed.
     fn changes_gate(&self, pass: &mut Pass<V>, from: u64, to: u64) -> bool
         requires { pass.old.table_id ≡ lock_id self.now }
         ensures lock { IsSamePass pass.old pass.new }

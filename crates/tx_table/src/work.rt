@@ -155,7 +155,7 @@ impl Work {
         Ok(())
     }
 
-    /// A read of a block, which is lent as it stood at the begin: the own writes are laid over it. It takes no memory.
+    /// A read of a block, which is lent as it was at the begin: the own writes are laid over it. It takes no memory.
     pub fn read(&mut self, block: u32, into: &mut [u8])
         requires ready { self.old.ready ≡ Some block }
         requires room { length self.old.accesses < 4096 }
