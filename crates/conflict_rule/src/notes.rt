@@ -79,7 +79,7 @@ impl Notes {
         Ok(())
     }
 
-    /// Adds a commit with the bytes that it wrote.
+    /// Adds a commit with the bytes that it wrote. There is room for it, and its number is above those that are held.
     pub fn add(&mut self, number: u64, writes: Touched)
         requires room { length self.old.notes < self.old.room }
         requires number { All (λ note. note.0 < number) self.old.notes }

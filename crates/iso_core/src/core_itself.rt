@@ -112,7 +112,8 @@ impl<D: Disk> Core<D> {
         begin(&mut self.kept, mode)
     }
 
-    /// Reads a block as it was when the transaction began, without its own writes. It takes no memory.
+    /// Reads a block as it was when the transaction began, without its own writes, into a slice as long as it. It takes
+    /// no memory.
     ///
     /// # Errors
     ///
@@ -215,9 +216,9 @@ impl<D: Disk> Core<D> {
         end_tx(&mut self.kept, &mut self.disk, tx, work, checked, steps)
     }
 
-    /// Ends different transactions that are live, one after the other, with one append for all their commits, and gives
-    /// each its reply. A member that the log has no room or no number for is aborted. All memory is taken before the
-    /// first call of the disk.
+    /// Ends 1 to `MAX_GROUP` different transactions that are live, one after the other, with one append for all their
+    /// commits, and gives each its reply. A member that the log has no room or no number for is aborted. All memory is
+    /// taken before the first call of the disk.
     ///
     /// # Errors
     ///

@@ -72,8 +72,8 @@ impl<D: Disk + Drop, O: Origin> Shared<D, O> {
         }
     }
 
-    /// Takes the transaction under a label, with one of the port's units, and none exactly where the label is not held. Nothing
-    /// of it is checked ahead. It takes no memory.
+    /// Takes the transaction under a label, with one of the units of the port, which has two at least; none exactly
+    /// where the label is not held. Nothing of it is checked ahead. It takes no memory.
     pub fn look<R: Wait>(&self, rt: &R, port: &mut Port<D, O>, label: &Label) -> Option<Tx<D, O>>
         requires port { IsPort self.now port.old × (1 < (port_view port.old).units) }
         ensures port { IsPort self.now port.new }

@@ -134,7 +134,7 @@ impl<D: Disk + Drop, O: Origin> Shared<D, O> {
         self.lock.join(to, note);
     }
 
-    /// Another port, which gets these units.
+    /// Another port, which gets these units, one at least; at least one stays with `from`.
     pub fn port(&self, from: &mut Port<D, O>, units: u64) -> Port<D, O>
         requires from { IsPort self.now from.old }
         requires units { (0 < units) × (units < (port_view from.old).units) }

@@ -16,7 +16,8 @@ use std::sync::Wait;
 use tx_table::Work;
 
 impl<D: Disk + Drop, O: Origin> Shared<D, O> {
-    /// Begins a transaction in the mode that is named, or else in the image's. It gets one of the port's units.
+    /// Begins a transaction in the mode that is named, or else in the image's. It gets one of the units of the port,
+    /// which has two at least.
     ///
     /// # Errors
     ///
@@ -63,7 +64,8 @@ impl<D: Disk + Drop, O: Origin> Shared<D, O> {
         }
     }
 
-    /// Reads a block as it was when the transaction began, without its own writes. It takes no memory.
+    /// Reads a block as it was when the transaction began, without its own writes, into a slice as long as it. It takes
+    /// no memory.
     ///
     /// # Errors
     ///

@@ -77,7 +77,9 @@ impl<D: Disk + Drop, O: Origin> Tx<D, O> {
         self.work.reserve(block)
     }
 
-    /// A read of a block, which is lent as it was at the begin: the own writes are laid over it. It takes no memory.
+    /// A read of a block, the one for which room was made last; fewer than `MAX_ACCESSES` accesses were made. The slice
+    /// is as long as a block and has the block's bytes at the begin: the own writes are laid over them. It takes no
+    /// memory.
     pub fn read(&mut self, block: u32, into: &mut [u8])
         requires ready { (doing_of self.old).ready ≡ Some block }
         requires room { length (doing_of self.old).accesses < 4096 }
@@ -92,7 +94,8 @@ impl<D: Disk + Drop, O: Origin> Tx<D, O> {
         self.uncheck();
     }
 
-    /// A write of a block. It takes no memory.
+    /// A write of a block, the one for which room was made last, with as many bytes as a block has; fewer than
+    /// `MAX_ACCESSES` accesses were made. It takes no memory.
     pub fn write(&mut self, block: u32, bytes: &[u8])
         requires ready { (doing_of self.old).ready ≡ Some block }
         requires room { length (doing_of self.old).accesses < 4096 }

@@ -94,7 +94,7 @@ impl<V: Stands + Drop> TurnLock<V> {
         }
     }
 
-    /// Waits until it is this pass's turn.
+    /// Waits until it is this pass's turn. The pass has a unit, and no turn yet.
     pub fn take<R: Wait>(&self, rt: &R, pass: &mut Pass<V>) -> Turn<V>
         requires lock { pass.old.table_id ≡ lock_id self.now }
         requires free { HasNoTurn pass.old × (0 < (view pass.old).units) }
@@ -311,7 +311,7 @@ impl<V: Stands + Drop> TurnLock<V> {
         self.table.shared.split_seat::<Cut<M>>(pass)
     }
 
-    /// Takes another pass into this one. It waits for nobody.
+    /// Takes another pass, which has no turn, into this one, with its units and its numbers. It waits for nobody.
     pub fn join(&self, pass: &mut Pass<V>, other: Pass<V>)
         requires lock { (pass.old.table_id ≡ lock_id self.now) × (other.table_id ≡ lock_id self.now) }
         requires units { 0 < (view pass.old).units }
@@ -333,7 +333,7 @@ impl<V: Stands + Drop> TurnLock<V> {
         self.table.shared.load::<Settle>(pass, SERVED);
     }
 
-    /// Ends the lock, and gives its value back. It waits for nobody.
+    /// Ends the lock, and gives its value back. The pass has all units, and no turn. It waits for nobody.
     pub fn close(self, pass: Pass<V>) -> V
         requires lock { pass.table_id ≡ lock_id self }
         requires free { HasNoTurn pass }

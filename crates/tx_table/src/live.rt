@@ -96,7 +96,7 @@ impl Live {
         Ok(())
     }
 
-    /// Takes a transaction out.
+    /// Takes a live transaction out.
     pub fn leave(&mut self, tx: u64)
         requires { IsSome (begin_of tx self.old) }
         ensures { self.new ≡ remove_entry (nat_eq tx) self.old }

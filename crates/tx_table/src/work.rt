@@ -155,7 +155,9 @@ impl Work {
         Ok(())
     }
 
-    /// A read of a block, which is lent as it was at the begin: the own writes are laid over it. It takes no memory.
+    /// A read of a block, the one for which room was made last; fewer than `MAX_ACCESSES` accesses were made. The slice
+    /// is as long as a block and has the block's bytes at the begin: the own writes are laid over them. It takes no
+    /// memory.
     pub fn read(&mut self, block: u32, into: &mut [u8])
         requires ready { self.old.ready ≡ Some block }
         requires room { length self.old.accesses < 4096 }
@@ -172,7 +174,8 @@ impl Work {
             .push_reserved(Row::unmarked(Kind::Read, block, bytes));
     }
 
-    /// A write of a block. It takes no memory.
+    /// A write of a block, the one for which room was made last, with as many bytes as a block has; fewer than
+    /// `MAX_ACCESSES` accesses were made. It takes no memory.
     pub fn write(&mut self, block: u32, bytes: &[u8])
         requires ready { self.old.ready ≡ Some block }
         requires room { length self.old.accesses < 4096 }
@@ -276,7 +279,7 @@ impl Work {
         Ok(())
     }
 
-    /// The bytes that the reads cover.
+    /// The bytes that the reads cover. The work has to be settled.
     pub fn reads(&self) -> &Touched
         requires { self.now.settled ≡ true }
         ensures { AreTouched self.now.size self.now.blocks Read self.now.accesses result.now }
@@ -284,7 +287,7 @@ impl Work {
         &self.reads
     }
 
-    /// The bytes that the writes cover.
+    /// The bytes that the writes cover. The work has to be settled.
     pub fn writes(&self) -> &Touched
         requires { self.now.settled ≡ true }
         ensures { AreTouched self.now.size self.now.blocks Write self.now.accesses result.now }
@@ -292,7 +295,8 @@ impl Work {
         &self.writes
     }
 
-    /// The written blocks, rising, each with its patch: together they are what the accesses write.
+    /// The written blocks, rising, each with its patch: together they are what the accesses write. The work has to be
+    /// settled.
     pub fn patches(&self) -> PatchIter<'_>
         requires { self.now.settled ≡ true }
         ensures rising { RisesFrom 0 result }
