@@ -95,7 +95,7 @@ fn fill(generator: &mut Generator, rounds: &mut u32, round: &mut Round, at: &mut
     }
 }
 
-/// Copies what is behind a place, as much as there is room for, and says how much.
+/// Copies what is after a place, as much as there is room for, and says how much.
 fn give(text: &[u8], at: usize, into: &mut [u8]) -> usize
     requires { at ≤ length text.now }
     ensures count { result ≡ min (length (drop at text.now)) (length into.new) }

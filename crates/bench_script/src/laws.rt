@@ -37,7 +37,7 @@ pub fn replies_are_one_a_line()
     ensures text { (W : World) (lines : List (ℕ × Line)) → text_of lines (answers_to W lines) ≡ replies W lines }
 {}
 
-/// Replies that are the same but for the bytes that they show tell of as many commits, and of as many conflicts.
+/// Replies that are the same but for the bytes that they show have as many commits, and as many conflicts.
 pub fn shown_bytes_are_not_counted()
     ensures commits { (xs ys : List Reply) → AreSameButShown xs ys → length (filter is_committed xs) ≡ length (filter is_committed ys) }
     ensures conflicts { (xs ys : List Reply) → AreSameButShown xs ys → length (filter is_conflict xs) ≡ length (filter is_conflict ys) }

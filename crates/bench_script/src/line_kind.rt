@@ -1,4 +1,4 @@
-// What the line of a reply tells.
+// What the line of a reply says.
 ghost use Rattle.std.specs.Prelude.{◌≡◌, ℕ, ◌∷◌, ◌++◌, decimal};
 ghost use Rattle.script_model.specs.{declared.script.Reply.Reply, Text.reply_text};
 ghost use Rattle.bench_script.specs.Kinds.{kind_of};
@@ -13,7 +13,7 @@ pub(crate) enum LineKind {
     Other,
 }
 
-/// What the line of a reply tells, without its line feed.
+/// What the line of a reply says, without its line feed.
 pub(crate) fn kind_of_line(line: &[u8]) -> LineKind
     ensures { (client : ℕ) (reply : Reply) → line.now ≡ decimal client ++ 32 ∷ reply_text reply → result ≡ kind_of reply }
 {
@@ -23,7 +23,7 @@ pub(crate) fn kind_of_line(line: &[u8]) -> LineKind
     }
 }
 
-/// What the text of a reply tells: no other begins as that of a commit or of a conflict does.
+/// What the text of a reply says: no other begins as that of a commit or of a conflict does.
 fn kind_of_text(text: &[u8]) -> LineKind
     ensures { (reply : Reply) → text.now ≡ reply_text reply → result ≡ kind_of reply }
 {

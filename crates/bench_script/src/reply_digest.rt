@@ -70,7 +70,7 @@ impl ReplyDigest {
         self.waiting.truncate(left);
     }
 
-    /// What the replies tell, and the digest of all bytes taken.
+    /// What the replies say, and the digest of all bytes taken.
     pub fn finish(self) -> (Tally, [u8; 32])
         ensures commits { (lines : List (ℕ × Line)) (given : List Reply) → length given ≡ length lines → self.text ≡ text_of lines given
             → result.0.commits ≡ length (filter is_committed given) }

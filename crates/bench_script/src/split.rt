@@ -14,7 +14,7 @@ pub(crate) fn split_at_byte(byte: u8, text: &[u8]) -> Option<(&[u8], &[u8])>
     Some((front, &rest[1..]))
 }
 
-/// The same, for a byte that stands near the front: one byte is looked at after the other.
+/// The same, for a byte near the front: one byte is looked at after the other.
 pub(crate) fn split_near(byte: u8, text: &[u8]) -> Option<(&[u8], &[u8])>
     ensures split { IfSome result (λ found. text.now ≡ found.0.now ++ byte ∷ found.1.now) }
     ensures before { IfSome result (λ found. ¬ Contains found.0.now byte) }

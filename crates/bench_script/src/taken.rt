@@ -28,7 +28,7 @@ impl Taken {
         Taken {}
     }
 
-    /// These bytes behind the others.
+    /// These bytes after the others.
     pub(crate) fn with(&self, _more: &Piece<'_>) -> Taken
         ensures { result.text ≡ self.now.text ++ _more.now.bytes.now }
     {

@@ -12,7 +12,7 @@ use smallvec::SmallVec;
 use std::alloc::Global;
 use std::marker::Model;
 
-/// A set of bytes of one block of at most 4,096, kept as its maximal runs. Up to eight of them stand in the value itself.
+/// A set of bytes of one block of at most 4,096, kept as its maximal runs. Up to eight of them are in the value itself.
 #[derive(Drop)]
 pub struct Marks {
     extents: Extents,
@@ -56,7 +56,11 @@ impl Marks {
         }
     }
 
-    /// Adds the bytes of a span. It takes no memory up to eight runs; without memory the set stays as it is.
+    /// Adds the bytes of a span. It takes no memory up to eight runs.
+    ///
+    /// # Errors
+    ///
+    /// Want of memory. The set stays as it is.
     pub fn add(&mut self, span: Span) -> Result<(), Memory>
         requires some { 0 < span.len }
         requires inside { span.off + span.len ≤ 4096 }
@@ -78,7 +82,7 @@ impl Marks {
         self.weave(added)
     }
 
-    // Adds an extent that does not stand behind all others.
+    // Adds an extent that does not come after all others.
     #[inline(never)]
     fn weave(&mut self, added: Extent) -> Result<(), Memory>
         requires some { added.from < added.to }
@@ -95,7 +99,11 @@ impl Marks {
         Ok(())
     }
 
-    /// Adds the bytes of another set. Without memory the set stays as it is.
+    /// Adds the bytes of another set. It takes no memory where both together have at most eight runs.
+    ///
+    /// # Errors
+    ///
+    /// Want of memory. The set stays as it is.
     pub fn union(&mut self, other: &Marks) -> Result<(), Memory>
         ensures set { OnOk result ((p : ℕ) → has self.new p ≡ (has self.old p || has other.now p)) }
         ensures err { OnErr result (self.new ≡ self.old) }
@@ -135,7 +143,11 @@ impl Marks {
         has_all(self.extents.as_slice(), span)
     }
 
-    /// The same set once more. It takes no memory up to eight runs.
+    /// A copy of the set. It takes no memory up to eight runs.
+    ///
+    /// # Errors
+    ///
+    /// Want of memory.
     pub fn copy(&self) -> Result<Marks, Memory>
         ensures same { IfOk result (λ copy. copy ≡ self.now) }
         ensures full { OnErr result (8 < run_count self.now) }

@@ -7,7 +7,7 @@ use iso_model::Memory;
 use smallvec::SmallVec;
 use std::alloc::Global;
 
-/// Extents of which eight stand in the value itself.
+/// Extents of which eight are in the value itself.
 pub type Extents = SmallVec<Extent, 8>;
 
 /// The first byte from which on one more run may lie after them.
@@ -77,6 +77,10 @@ fn first_of<'a>(a: &'a [Extent], b: &'a [Extent]) -> Option<(Extent, &'a [Extent
 }
 
 /// The maximal runs of the bytes of both. It takes no memory where both together have at most eight.
+///
+/// # Errors
+///
+/// Want of memory.
 pub fn merged<'a>(
     alloc: Global,
     mut a: &'a [Extent],

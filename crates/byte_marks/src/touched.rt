@@ -25,7 +25,7 @@ impl Model for Touched {
     ghost invariant = { λ a. RisesFrom 0 a.entries.items };
 }
 
-// Whether the block is behind those of all entries.
+// Whether the block is after those of all entries.
 fn is_behind(entries: &[(u32, Marks)], block: u32) -> bool
     requires { RisesFrom 0 entries.now }
     ensures { OnTrue result ((k : ℕ) → k < length entries.now → (d : ℕ × List Extent) → (slice_index_or entries.now k d).0 < block) }
@@ -92,7 +92,7 @@ impl Touched {
         ensures none { OnTrue result ((b p : ℕ) → touches self.now b p ≡ false) }
         ensures some { OnFalse result ((b : ℕ) × (p : ℕ) × IsTrue (touches self.now b p)) }
     {
-        // A block may stand there with no byte, so the list alone does not tell.
+        // A block may be there with no byte, so the list alone does not say it.
         self.first_meet(self).is_none()
     }
 
@@ -103,7 +103,11 @@ impl Touched {
         self.entries.clear();
     }
 
-    /// Adds bytes of a block. Without memory all stays as it is.
+    /// Adds bytes of a block.
+    ///
+    /// # Errors
+    ///
+    /// Want of memory. All stays as it is.
     pub fn add(&mut self, block: u32, marks: &Marks) -> Result<(), Memory>
         ensures set { OnOk result ((b p : ℕ) → touches self.new b p ≡ (touches self.old b p || ((block == b) && has marks.now p))) }
         ensures err { OnErr result (self.new ≡ self.old) }
@@ -111,7 +115,11 @@ impl Touched {
         self.put(block, marks.copy()?)
     }
 
-    /// Adds bytes of a block, which are handed over. Without memory all stays as it is.
+    /// Adds bytes of a block, which are handed over.
+    ///
+    /// # Errors
+    ///
+    /// Want of memory. All stays as it is.
     pub fn put(&mut self, block: u32, marks: Marks) -> Result<(), Memory>
         ensures set { OnOk result ((b p : ℕ) → touches self.new b p ≡ (touches self.old b p || ((block == b) && has marks p))) }
         ensures err { OnErr result (self.new ≡ self.old) }
@@ -135,7 +143,11 @@ impl Touched {
         least_common_byte(self.entries.as_slice(), other.entries.as_slice())
     }
 
-    /// The same bytes once more.
+    /// A copy of the set.
+    ///
+    /// # Errors
+    ///
+    /// Want of memory.
     pub fn copy(&self) -> Result<Touched, Memory>
         ensures { IfOk result (λ copy. copy ≡ self.now) }
     {
@@ -146,7 +158,11 @@ impl Touched {
         Ok(Touched { entries })
     }
 
-    /// Has the bytes of another set, in the memory that it has as far as that does. Without memory it has none.
+    /// Has the bytes of another set, in the memory that it has as far as that does.
+    ///
+    /// # Errors
+    ///
+    /// Want of memory. It has no bytes then.
     pub fn copy_from(&mut self, other: &Touched) -> Result<(), Memory>
         ensures { OnOk result (self.new ≡ other.now) }
     {

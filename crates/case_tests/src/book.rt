@@ -164,7 +164,7 @@ impl Book {
         Ok(())
     }
 
-    /// A line with what its braces stand for.
+    /// A line with the texts of its braces.
     fn spelled(&self, line: &str) -> Result<String, Trouble> {
         let mut bytes = Vec::new(self.alloc);
         let names = Names {
@@ -206,7 +206,7 @@ impl Book {
         Ok(true)
     }
 
-    /// Whether a line is one behind which other rows begin.
+    /// Whether a line is one after which other rows begin.
     fn lays(&mut self, word: &str, rest: &str) -> Result<bool, Trouble> {
         if !matches!(word, "step" | "reached" | "or" | "shows" | "then" | "for") {
             return Ok(false);
@@ -271,7 +271,7 @@ impl Book {
         Ok(true)
     }
 
-    /// Whether a line makes an image, changes the one that stands, or asks for its bytes.
+    /// Whether a line makes an image, changes the one that is there, or asks for its bytes.
     fn is_of_image(
         &mut self,
         number: usize,
@@ -357,7 +357,7 @@ impl Book {
         Ok(())
     }
 
-    /// Makes the call that stands, if one does.
+    /// Makes the call that was read, if one is due.
     pub(crate) fn settle<R: Threads + Wait + Sync>(&mut self, rt: &R) -> Result<(), Trouble> {
         if !matches!(self.way, Way::ForEachRow | Way::Refused) {
             self.lay_rows()?;

@@ -20,20 +20,20 @@ pub(crate) struct Then {
 /// A call, and what is wanted of it.
 #[derive(Drop)]
 pub(crate) struct Call {
-    /// Where it stands in the file.
+    /// Where it is in the file.
     pub(crate) line: usize,
     pub(crate) words: String,
     pub(crate) plan: Plan,
     /// The first call of the disk that fails, where each does.
     pub(crate) from: u64,
-    /// Behind how many calls of each side a failure of one side ends nothing.
+    /// After how many calls of each side a failure of one side ends nothing.
     pub(crate) lasting: Option<(u64, u64)>,
     pub(crate) status: u64,
     /// How many calls of the disk are wanted, or of the first side, and of the second one.
     pub(crate) calls: Option<u64>,
     pub(crate) second_calls: Option<u64>,
     pub(crate) script: Script,
-    /// What the image shows behind no step, one, and so on.
+    /// What the image shows after no step, one, and so on.
     pub(crate) shows: Vec<Script>,
     pub(crate) then: Option<Then>,
 }
@@ -176,7 +176,7 @@ pub(crate) fn each_row<R: Threads + Wait + Sync>(
     Ok(())
 }
 
-/// Changes bytes of an image: places and bytes, one behind the other.
+/// Changes bytes of an image: places and bytes, one after the other.
 pub(crate) fn change_all(alloc: Global, image: &mut Vec<u8>, text: &str) -> Result<(), Trouble> {
     let mut words = text.split_whitespace();
     while let Some(word) = words.next() {

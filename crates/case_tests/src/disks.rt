@@ -49,7 +49,7 @@ impl Sides {
         }
     }
 
-    /// Whether both have the same bytes behind the headers of a mirror.
+    /// Whether both have the same bytes after the headers of a mirror.
     pub(crate) fn are_alike(&self) -> bool {
         self.first.get(64..) == self.second.get(64..)
     }
@@ -135,7 +135,7 @@ pub(crate) struct Outcome {
     pub(crate) second: MemDisk,
 }
 
-/// The image that a crash leaves of a disk for this pick: for 0 what stood at the last sync, and for 1 all that was written.
+/// The image that a crash leaves of a disk for this pick: for 0 what it was at the last sync, and for 1 all that was written.
 pub(crate) fn image(alloc: Global, disk: &MemDisk, pick: u64) -> Result<Vec<u8>, Trouble> {
     disk.crash(alloc, pick).or(Err(Trouble::Memory))
 }

@@ -26,7 +26,7 @@ pub(crate) struct Each {
     pub(crate) of: Of,
 }
 
-/// What stands behind `at each`.
+/// What comes after `at each`.
 pub(crate) fn each_of(text: &str) -> Result<Each, Trouble> {
     let (what, of) = text.split_once(" of ").unwrap_or((text, ""));
     let of = match of {
@@ -123,7 +123,7 @@ fn name_of(side: Side, way: Failing) -> &'static str {
     }
 }
 
-/// Behind how many calls of a side its failure ends nothing.
+/// After how many calls of a side its failure ends nothing.
 fn lasting_of(call: &Call, side: Side) -> u64 {
     match (call.lasting, side) {
         (Some((calls, _)), Side::First) => calls,

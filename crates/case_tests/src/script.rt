@@ -2,14 +2,14 @@
 use crate::text::{Names, Trouble, number_of, push_text};
 use std::alloc::Global;
 
-/// A row, and the line of the file where it stands.
+/// A row, and the line of the file where it is.
 #[derive(Drop)]
 pub(crate) struct Row {
     pub(crate) line: usize,
     pub(crate) text: String,
 }
 
-/// A line of replies: where it stands in the file, and how many calls of the disk are made before it is told.
+/// A line of replies: where it is in the file, and how many calls of the disk are made before it is told.
 #[derive(Clone, Copy)]
 pub(crate) struct Place {
     pub(crate) line: usize,
@@ -88,7 +88,7 @@ impl Told {
         }
     }
 
-    /// Adds a text that stands there.
+    /// Adds a text of that line.
     pub(crate) fn push(&mut self, text: &[u8], place: Place) -> Result<(), Trouble> {
         for byte in text {
             if *byte == b'\n' {
@@ -128,7 +128,7 @@ impl Script {
         }
     }
 
-    /// Adds a reply that stands on this line.
+    /// Adds a reply of this line.
     fn expect(
         &mut self,
         alloc: Global,
@@ -154,7 +154,7 @@ impl Script {
         Ok(())
     }
 
-    /// Says that a step ends here, where a line is told, or behind some calls of the disk.
+    /// Says that a step ends here, where a line is told, or after some calls of the disk.
     pub(crate) fn end_step(&mut self, alloc: Global, rest: &str) -> Result<(), Trouble> {
         let step = if rest.is_empty() {
             Step::Behind(self.told.text.len())

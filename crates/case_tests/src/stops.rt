@@ -31,7 +31,7 @@ struct Left {
     sides: Sides,
 }
 
-/// How many steps an image shows at least and at most: what stands in it for certain, and what was written to it.
+/// How many steps an image shows at least and at most: what is in it for certain, and what was written to it.
 #[derive(Clone, Copy)]
 struct Reached {
     stable: usize,
@@ -61,7 +61,7 @@ fn has_line(output: &[u8], line: &[u8]) -> bool {
     false
 }
 
-/// Whether an output has each line that tells of a step.
+/// Whether an output has the line of each step.
 fn tells_steps(script: &Script, output: &[u8]) -> bool {
     let mut is_right = true;
     for step in &script.steps {
@@ -98,7 +98,7 @@ fn steps_reached(script: &Script, output: &[u8], len: usize, calls: u64) -> Reac
     found
 }
 
-/// How many bytes an output has in front of the line that tells of the fault. None where no such line is its last.
+/// How many bytes an output has in front of the line of the fault. None where no such line is its last.
 fn front_of(output: &[u8]) -> Option<usize> {
     let front = output.strip_suffix(FAULT)?;
     if front.is_empty() || front.ends_with(b"\n") {
@@ -128,7 +128,7 @@ fn is_untold(moment: Moment, outcome: &Outcome, is_mirror: bool) -> bool {
 }
 
 impl Again<'_> {
-    /// What is wanted of the output at a moment, where the rows say behind how many calls each is told.
+    /// What is wanted of the output at a moment, where the rows say after how many calls each is told.
     fn is_told_exactly(
         self,
         telling: &mut Telling,
@@ -152,7 +152,7 @@ impl Again<'_> {
         Ok(false)
     }
 
-    /// How many bytes of the replies were told: all of them, or whole lines in front of the one that tells of the fault. None where it
+    /// How many bytes of the replies were told: all of them, or whole lines in front of the one of the fault. None where it
     /// was told anything else.
     fn told_of(self, moment: Moment, outcome: &Outcome) -> Option<usize> {
         let script = &self.call.script;
@@ -237,7 +237,7 @@ impl Again<'_> {
     }
 
     /// Whether the second call, stopped at each of its calls on these images, leaves what they show. Where one in some stops is tried, it
-    /// is another one behind another moment.
+    /// is not the same one after each moment.
     fn stays<R: Threads + Wait + Sync>(
         self,
         rt: &R,
@@ -290,7 +290,7 @@ impl Again<'_> {
         Ok(true)
     }
 
-    /// Tells of an image that shows anything else.
+    /// Reports an image that shows anything else.
     fn tell_image(
         self,
         telling: &mut Telling,
@@ -354,7 +354,7 @@ impl Again<'_> {
         Ok(Some(outcome.status))
     }
 
-    /// A disk that fails at each call, until none fails. Where the rows say behind how many calls each is told, up to two behind the last.
+    /// A disk that fails at each call, until none fails. Where the rows say after how many calls each is told, up to two after the last.
     fn over_a_disk<R: Threads + Wait + Sync>(
         self,
         rt: &R,

@@ -91,7 +91,7 @@ impl Telling {
         }
     }
 
-    /// Tells of a line of the file.
+    /// Reports a line of the file.
     pub(crate) fn tell(&mut self, line: usize, what: &str) -> Result<(), Trouble> {
         self.failed = self.failed.saturating_add(1);
         writeln!(
@@ -103,7 +103,7 @@ impl Telling {
         Ok(())
     }
 
-    /// Tells of the line where a case begins.
+    /// Reports the line where a case begins.
     pub(crate) fn tell_of_case(&mut self, what: &str) -> Result<(), Trouble> {
         let line = self.line;
         self.tell(line, what)
@@ -116,7 +116,7 @@ impl Telling {
         Ok(())
     }
 
-    /// Tells the first line in which an output differs from these replies.
+    /// Reports the first line in which an output differs from these replies.
     pub(crate) fn tell_difference(
         &mut self,
         alloc: Global,
@@ -134,7 +134,7 @@ impl Telling {
         self.show(alloc, "found ", line_at(found, at))
     }
 
-    /// Whether an output is the replies of a script, in one of its ways; where it is not, tells the first line that differs.
+    /// Whether an output is the replies of a script, in one of its ways; where it is not, reports the first line that differs.
     pub(crate) fn is_told(
         &mut self,
         alloc: Global,

@@ -1,4 +1,4 @@
-// The text of a row of a case: escapes, and what stands in braces.
+// The text of a row of a case: escapes, and what is in braces.
 use std::alloc::{AllocError, AllocFailed, Global};
 use std::fmt::Write;
 
@@ -21,7 +21,7 @@ impl<T: Drop> From<AllocFailed<T>> for Trouble {
     }
 }
 
-/// A name that stands for a text in braces.
+/// A name for a text, used in braces.
 #[derive(Drop)]
 pub(crate) struct Short {
     pub(crate) name: String,
@@ -78,7 +78,7 @@ pub(crate) fn number_of(text: &str) -> Result<u64, Trouble> {
     Ok(number)
 }
 
-/// The byte that an escape stands for, which begins behind a backslash, and how long it is.
+/// The byte of an escape, which begins after a backslash, and how long it is.
 fn escaped(bytes: &[u8]) -> Option<(u8, usize)> {
     match bytes {
         [b'n', ..] => Some((b'\n', 1)),
@@ -90,7 +90,7 @@ fn escaped(bytes: &[u8]) -> Option<(u8, usize)> {
     }
 }
 
-/// Adds a text of which the first bytes behind each backslash are an escape.
+/// Adds a text of which the first bytes after each backslash are an escape.
 fn push_plain(out: &mut Vec<u8>, text: &str) -> Result<(), Trouble> {
     for (i, piece) in text.as_bytes().split(|b| *b == b'\\').enumerate() {
         if i == 0 {
@@ -122,7 +122,7 @@ fn push_round(alloc: Global, out: &mut Vec<u8>, round: u64) -> Result<(), Troubl
     Ok(())
 }
 
-/// The text that a name stands for.
+/// The text of a name.
 fn named<'a>(shorts: &'a [Short], name: &str) -> Option<&'a str> {
     for short in shorts {
         if short.name.as_str() == name {

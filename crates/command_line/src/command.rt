@@ -15,7 +15,7 @@ fn valued<'a>(alloc: Global, name: &'a str) -> Arg<'a>
     Arg::new(alloc, name).long(name).action(ArgAction::Set)
 }
 
-/// A word that has to stand.
+/// A word that has to be there.
 fn placed<'a>(alloc: Global, name: &'a str) -> Arg<'a>
     ensures rule { rule_of result ≡ placed_rule name.entry.now }
     ensures local { result.global ≡ false }

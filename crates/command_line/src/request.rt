@@ -15,8 +15,12 @@ pub struct Request<'a> {
     pub task: Task,
 }
 
-/// What the words of the command line ask for, the program's name first. None exactly where they are
-/// outside the grammar.
+/// What the words of the command line ask for, the program's name first. None exactly where they are outside the
+/// grammar.
+///
+/// # Errors
+///
+/// Want of memory.
 #[tactic(auto, unfolding(crate::specs::Requests::request_of))]
 pub fn read_words<'a>(alloc: Global, words: &'a [String]) -> Result<Option<Request<'a>>, Memory>
     ensures request { IfOk result (λ found.

@@ -1,4 +1,4 @@
-// What a command is to do, from what clap found behind it.
+// What a command is to do, from what clap found after it.
 ghost use Rattle.std.specs.Prelude.{◌≡◌, IfSome, IsTrue};
 ghost use Rattle.clap.specs.Words.{found_of, rows_of};
 ghost use Rattle.iso_model.specs.Geometry.{is_valid};

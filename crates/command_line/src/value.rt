@@ -1,4 +1,4 @@
-// The values of options and of words that have to stand.
+// The values of options and of words that have to be there.
 ghost use Rattle.std.specs.Prelude.{◌≡◌, ◌≤◌, IfSome, option_map};
 ghost use Rattle.clap.specs.Words.{first_of, found_of, rows_of};
 ghost use Rattle.command_line.specs.Values.{count_of, mode_or_serial, number_or};
@@ -16,7 +16,7 @@ pub(crate) fn text_of<'a>(matches: &ArgMatches<'a>, name: &str) -> Option<&'a st
     matches.get_str(name)
 }
 
-/// The number that a word spells, or what stands where there is no word.
+/// The number that a word spells, or what is taken where there is no word.
 pub(crate) fn number_or(otherwise: u32, word: Option<&str>) -> Option<u32>
     ensures { result ≡ number_or otherwise (option_map (λ s. s.now) word.entry) }
 {

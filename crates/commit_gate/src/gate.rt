@@ -11,6 +11,10 @@ const OPEN: u8 = 1;
 const CLOSED: u8 = 0;
 
 /// Puts a body after a closed gate: writes it from `gate + 1` on, and syncs.
+///
+/// # Errors
+///
+/// A call of the disk failed. The body's range may have any bytes, on the disk and in an image; the gate is closed.
 pub fn put_body<D: Disk>(disk: &mut D, gate: u64, body: &[u8]) -> Result<(), DiskFault>
     requires fits { gate + 1 + length body.now ≤ (D.state disk.old).size }
     requires closed { (c : List ℕ) → (D.state disk.old).now c → IsClosed gate c }
@@ -30,6 +34,10 @@ pub fn put_body<D: Disk>(disk: &mut D, gate: u64, body: &[u8]) -> Result<(), Dis
 }
 
 /// Opens a gate: writes the byte 1, and syncs.
+///
+/// # Errors
+///
+/// A call of the disk failed. The gate may have any byte, on the disk and in an image.
 pub fn open_gate<D: Disk>(disk: &mut D, gate: u64) -> Result<(), DiskFault>
     requires { gate < (D.state disk.old).size }
 
@@ -47,6 +55,10 @@ pub fn open_gate<D: Disk>(disk: &mut D, gate: u64) -> Result<(), DiskFault>
 }
 
 /// Shuts a gate: writes the byte 0, and syncs.
+///
+/// # Errors
+///
+/// A call of the disk failed. The gate may have any byte, on the disk and in an image.
 pub fn shut_gate<D: Disk>(disk: &mut D, gate: u64) -> Result<(), DiskFault>
     requires { gate < (D.state disk.old).size }
 
@@ -64,6 +76,10 @@ pub fn shut_gate<D: Disk>(disk: &mut D, gate: u64) -> Result<(), DiskFault>
 }
 
 /// Whether a gate is closed: reads its byte, and writes nothing.
+///
+/// # Errors
+///
+/// The disk failed.
 pub fn stands_closed<D: Disk>(disk: &mut D, gate: u64) -> Result<bool, DiskFault>
     requires { gate < (D.state disk.old).size }
     ensures closed { IfOk result (λ closed. ForSome (D.state disk.old).contents (λ c. IsTrue closed ↔ IsClosed gate c)) }

@@ -65,7 +65,11 @@ impl Notes {
         }
     }
 
-    /// Makes room for one more commit.
+    /// Makes room for one more commit. Where the room is there already it takes no memory.
+    ///
+    /// # Errors
+    ///
+    /// Want of memory. The notes stay.
     pub fn reserve(&mut self) -> Result<(), Memory>
         ensures same { self.new.notes ≡ self.old.notes }
         ensures room { OnOk result (length self.new.notes < self.new.room) }
@@ -75,7 +79,7 @@ impl Notes {
         Ok(())
     }
 
-    /// Adds a commit with the bytes that it wrote.
+    /// Adds a commit with the bytes that it wrote. There is room for it, and its number is above those that are held.
     pub fn add(&mut self, number: u64, writes: Touched)
         requires room { length self.old.notes < self.old.room }
         requires number { All (λ note. note.0 < number) self.old.notes }
@@ -85,6 +89,10 @@ impl Notes {
     }
 
     /// Makes room for `count` more commits.
+    ///
+    /// # Errors
+    ///
+    /// Want of memory. The notes stay.
     pub fn reserve_more(&mut self, count: usize) -> Result<(), Memory>
         ensures same { self.new.notes ≡ self.old.notes }
         ensures room { OnOk result (length self.new.notes + count ≤ self.new.room) }
@@ -94,6 +102,10 @@ impl Notes {
     }
 
     /// Makes room for as many more commits as others hold.
+    ///
+    /// # Errors
+    ///
+    /// Want of memory. The notes stay.
     pub fn reserve_for(&mut self, others: &Notes) -> Result<(), Memory>
         ensures same { self.new.notes ≡ self.old.notes }
         ensures room { OnOk result (length self.new.notes + length others.now.notes ≤ self.new.room) }
@@ -134,7 +146,11 @@ impl Notes {
         }
     }
 
-    /// The notes of the commits above a number, once more.
+    /// A copy of the notes of the commits above a number.
+    ///
+    /// # Errors
+    ///
+    /// Want of memory.
     pub fn copy_after(&self, number: u64) -> Result<Notes, Memory>
         ensures { IfOk result (λ copy. copy.notes ≡ above number self.now.notes) }
     {

@@ -1,4 +1,4 @@
-// Counts that stand still at their last value.
+// Counts that stay at their last value.
 ghost use Rattle.std.specs.Prelude.{◌≡◌, ◌≤◌, ◌↔◌, IsTrue};
 ghost use Rattle.counts.specs.Count.{one_more, FailsNext, Rose};
 

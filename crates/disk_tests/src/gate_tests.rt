@@ -1,4 +1,4 @@
-// The device calls that each call makes, over eight bytes that count them. Of its bytes the disk tells nothing.
+// The device calls that each call makes, over eight bytes that count them. The disk is opaque: its bytes are not known.
 ghost use Rattle.std.{specs.Prelude.None, proofs.Common.lit<};
 ghost use Rattle.counts.specs.Count.{HasCause};
 ghost use Rattle.iso_disk.specs.Untold.{untold, untold_is_lawful};

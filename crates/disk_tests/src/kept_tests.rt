@@ -121,7 +121,7 @@ fn a_failed_write_leaves_no_page(rt: HostRuntime) -> Result<(), Fail> {
     same(&rt, write_at(&mut kept, 2, &[5, 6]), Err(DiskFault));
     read_at(&mut kept, 0, &mut bytes)?;
     same(&rt, bytes, [0; 4]);
-    // the bind, the write, and a read before it and behind it
+    // the bind, the write, and a read before it and after it
     same(&rt, kept.disk().calls(), 4);
     Ok(())
 }

@@ -1,4 +1,4 @@
-// A disk that tells nothing, as a real file: the trait asks of it only sizes, counts and causes.
+// An opaque disk, as a real file: the trait asks of it only sizes, counts and causes.
 ghost use Rattle.std.specs.{Prelude.{◌≡◌, ◌^◌, ◌<◌}, Option.option_map};
 ghost use Rattle.counts.specs.Count.{HasCause};
 ghost use Rattle.iso_disk.specs.Untold.{untold, untold_is_lawful};

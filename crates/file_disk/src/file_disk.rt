@@ -1,4 +1,4 @@
-// The disk over a real file. It tells no contents, so its clauses are on sizes, counts, causes and what is bound: what
+// The disk over a real file. It is opaque, so its clauses are on sizes, counts, causes and what is bound: what
 // the file holds is trusted.
 ghost use Rattle.std.specs.{Prelude.{◌≡◌, ◌^◌, ◌<◌, ◌≤◌, None}, Option.option_map};
 ghost use Rattle.counts.specs.Count.{HasCause, Rose};
@@ -114,11 +114,16 @@ impl<R: Files<File = File> + Drop> Disk for FileDisk<R> {
 }
 
 impl<R: Files<File = File> + Drop> Image for FileDisk<R> {
-    /// Lets the last file go, and with it its lock. With a size, makes a new file: a name that exists is an error, and
-    /// after any other error there is no file of that name. With none, opens the file that is there: it is an error
-    /// that there is none, or that it may not be read and written. In both ways it is an error that another program has
-    /// the file open as an image, of which nothing is read or written then, and that memory for the name is wanting.
-    /// After an error the disk is not bound, and has the size that it had.
+    /// Lets the last file go, and with it its lock. With a size, makes a new file of zeros. With none, opens the file
+    /// that is there.
+    ///
+    /// # Errors
+    ///
+    /// The disk is not bound then, and has the size that it had.
+    /// - With a size: the name exists. After any other error the file that was made is removed again.
+    /// - With none: there is no file of that name, or it may not be read and written.
+    /// - Another program has the file open as an image. Nothing of it is read or written then.
+    /// - Want of memory for the name, or a call of the system failed.
     fn bind(&mut self, name: &str, want: Option<u64>) -> Result<(), DiskFault> {
         raise(&mut self.binds);
         self.name = None;

@@ -19,7 +19,7 @@ pub(crate) fn new_file<R: Files<File = File>>(rt: &R, name: &str, size: u64) -> 
     match make_stable(rt, &file, name, size) {
         Ok(()) => Ok(file),
         Err(error) => {
-            // Left behind, it would make the next try fail.
+            // If it stayed, the next try would fail.
             let _ = fs::remove_file(rt, name);
             Err(error)
         }

@@ -1,4 +1,4 @@
-// The half that is not the current one, filled behind its closed gate.
+// The half that is not the current one, filled while its gate is closed.
 ghost use Rattle.std.specs.Prelude.{◌≡◌, ◌+◌, ◌*◌, ◌-◌, ◌<◌, ◌≤◌, ℕ, List, length, IsTrue, OnOk, OnErr, IfOk, IsErrOf};
 ghost use Rattle.iso_model.specs.{declared.access.Geometry.Geometry, Geometry.{half_size, image_size, is_valid}};
 ghost use Rattle.iso_disk.specs.Disk.{IsSettled, LeavesOnly, StaysTold, TellsTorn, TornFrom};
@@ -16,9 +16,13 @@ use iso_image::{HalfPlace, base_size};
 use iso_model::Memory;
 use std::alloc::Global;
 
-/// Fills the half `to` from the half `from`: the base at the plan's number, the header without its gate, and the records
-/// above that number with a closed gate after them. It takes its memory before its first call of the disk. After a fault
-/// the new half may have any bytes after its gate, which is closed still.
+/// Fills the half `to` from the half `from`: the base at the plan's number, the header without its gate, and the
+/// records above that number with a closed gate after them. It takes its memory before its first call of the disk.
+///
+/// # Errors
+///
+/// - `Memory`: want of memory. The disk is as before.
+/// - `Disk`: a call of the disk failed. The new half may have any bytes after its gate, which is closed still.
 pub fn fill_half<D: Disk>(
     alloc: Global,
     disk: &mut D,
@@ -33,7 +37,7 @@ pub fn fill_half<D: Disk>(
     requires used { plan.now.used < plan.now.geometry.log }
     requires closed { (c : List ℕ) → (D.state disk.old).now c → IsClosed to.now.header c }
 
-    // At each moment an image is one from before the call but for the new half behind its gate. So the gate is closed, and
+    // At each moment an image is one from before the call but for the bytes after the new half's gate. So the gate is closed, and
     // the image holds the half that it held.
     ensures moments { LeavesOnly (D.state disk.old) (D.state disk.new) (TornFrom (to.now.header + 1) (half_size plan.now.geometry - 1) (D.state disk.old).now) }
     ensures closed { LeavesOnly (D.state disk.old) (D.state disk.new) (IsClosed to.now.header) }

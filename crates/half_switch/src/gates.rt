@@ -11,8 +11,12 @@ use commit_gate::{open_gate, shut_gate, stands_closed};
 use iso_disk::{Disk, DiskFault};
 use iso_image::HalfPlace;
 
-/// Closes a half that is not the current one. Where its gate is closed, nothing is written. After a fault the gate may
-/// have any byte, on the disk and in an image, and each image holds what it held.
+/// Closes a half that is not the current one. Where its gate is closed, nothing is written.
+///
+/// # Errors
+///
+/// A call of the disk failed. The gate may have any byte, on the disk and in an image, and each image holds what it
+/// held.
 pub fn close_half<D: Disk>(disk: &mut D, place: &HalfPlace) -> Result<(), DiskFault>
     requires fits { place.now.header < (D.state disk.old).size }
     requires settled { IsSettled (D.state disk.old) }
@@ -39,8 +43,11 @@ pub fn close_half<D: Disk>(disk: &mut D, place: &HalfPlace) -> Result<(), DiskFa
     shut_gate(disk, place.header)
 }
 
-/// Opens a half that was filled. It is the current one then. After a fault the gate may have any byte, so an image holds the
-/// one half or the other.
+/// Opens a half that was filled. It is the current one then.
+///
+/// # Errors
+///
+/// A call of the disk failed. The gate may have any byte, so an image holds the one half or the other.
 pub fn open_half<D: Disk>(disk: &mut D, place: &HalfPlace) -> Result<(), DiskFault>
     requires { place.now.header < (D.state disk.old).size }
 

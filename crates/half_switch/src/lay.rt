@@ -15,7 +15,7 @@ fn lay_run(into: &mut [u8], at: usize, bytes: &[u8])
     into[at..at + bytes.len()].copy_from_slice(bytes);
 }
 
-// Where a run stands among the bytes of blocks of this size.
+// Where a run is among the bytes of blocks of this size.
 fn run_place(block: u32, size: u32, off: u16) -> usize
     requires { size ≤ 4096 }
     ensures place { result ≡ block * size + off }

@@ -16,7 +16,7 @@ pub struct FillPlan {
 /// Why a half was not filled.
 #[derive(Clone, Copy, Debug, PartialEq, Eq)]
 pub enum SwitchError {
-    /// A call of the disk failed. The disk may have any bytes in the new half, behind its gate.
+    /// A call of the disk failed. The disk may have any bytes after the gate of the new half, which is closed.
     Disk,
     /// Memory ran out, before the first call of the disk.
     Memory,

@@ -1,4 +1,4 @@
-// The bytes of a half, written behind its gate.
+// The bytes of a half that follow its gate.
 ghost use Rattle.std.specs.Prelude.{◌≡◌, ◌+◌, ◌≤◌, ℕ, List, length, OnOk, OnErr};
 ghost use Rattle.iso_disk.specs.Disk.{IsSettled, LeavesOnly, StaysTold, TellsTorn, TornFrom};
 ghost use Rattle.counts.specs.Count.{HasCause};
@@ -8,6 +8,10 @@ use iso_disk::{Disk, DiskFault};
 use iso_image::HalfPlace;
 
 /// Writes the base, the header but for its gate, and the records, and syncs.
+///
+/// # Errors
+///
+/// A call of the disk failed. The half may have any bytes after its gate.
 pub fn put_half<D: Disk>(
     disk: &mut D,
     to: &HalfPlace,

@@ -200,7 +200,7 @@ fn least_common_byte_of_two_sets(rt: HostRuntime) -> Result<(), Fail> {
     Ok(())
 }
 
-// The least common bytes of two sets, before and behind 60 bytes of block 4 that are added to the first; then those of a copy that was
+// The least common bytes of two sets, before and after 60 bytes of block 4 that are added to the first; then those of a copy that was
 // made in between, with the second set and with an empty one.
 fn meets(
     alloc: Global,

@@ -33,7 +33,7 @@ fn disk(alloc: Global) -> Result<MemDisk, AllocError>
     Ok(MemDisk::new(alloc, numbers(alloc)?))
 }
 
-// Whether the versions have bytes of a block of 64 that stand on the disk.
+// Whether the versions have bytes of a block of 64 that are on the disk.
 fn lie(versions: &[Version]) -> bool
     ensures { result ≡ true → AllLie 64 512 versions.now }
 {
@@ -48,7 +48,7 @@ fn lie(versions: &[Version]) -> bool
     true
 }
 
-// The block whose base bytes stand at 64.
+// The block whose base bytes are at 64.
 fn read(disk: &mut MemDisk, versions: &[Version]) -> Result<[u8; 64], DiskFault>
     requires { (state_of disk.old).size ≡ 512 }
     ensures { (state_of disk.new).size ≡ (state_of disk.old).size }
@@ -153,7 +153,7 @@ fn a_read_that_fails_is_told(rt: HostRuntime) -> Result<(), Fail> {
     Ok(())
 }
 
-// The index of one record whose gate stands at this place.
+// The index of one record whose gate is at this place.
 fn index_of(alloc: Global, view: &RecordView<'_>, gate: u64) -> Result<MvIndex, Memory>
     requires runs { AreRuns small view.now.parts }
     requires gate { gate < 2 ^ 32 }

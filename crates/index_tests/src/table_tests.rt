@@ -86,7 +86,7 @@ fn blocks(alloc: Global, work: &mut Work) -> Result<Vec<u32>, Fail> {
     Ok(blocks)
 }
 
-// The steps of a test stand in a function that borrows its work: one that owns it drops it at each of its exits, and each of
+// The steps of a test are in a function that borrows its work: one that owns it drops it at each of its exits, and each of
 // these drops is proved.
 fn marked_write_writes_its_marks_alone_in(rt: &impl Abort, work: &mut Work) -> Result<(), Fail> {
     write(rt, work, 2, &[0x61; 64])?;

@@ -85,7 +85,7 @@ impl OneBlock {
         }
     }
 
-    // Where the byte stands by the pieces. It is in one of them at most.
+    // Where the byte is by the pieces. It is in one of them at most.
     fn shown(&self, rt: &impl Abort, at: u16) -> Option<u64> {
         let mut place = None;
         for piece in self.index.showing(0) {
@@ -273,7 +273,7 @@ fn each_block_has_its_own_versions(rt: HostRuntime) -> Result<(), Fail> {
     Ok(())
 }
 
-// An index of one block with two versions, before and behind the place 150.
+// An index of one block with two versions, before and after the place 150.
 fn two(alloc: Global) -> Result<MvIndex, Memory>
     ensures blocks { IfOk result (λ index. length index ≡ 1) }
     ensures split { IfOk result (λ index. (b : ℕ) → AreSplit 150 (versions_in index b)) }

@@ -7,6 +7,10 @@ use std::alloc::Global;
 use store_model::StoreError;
 
 /// A buffer of `size` bytes.
+///
+/// # Errors
+///
+/// `Memory`: want of memory.
 pub fn buffer(alloc: Global, size: usize) -> Result<Vec<u8>, StoreError>
     ensures size { IfOk result (λ v. length v.items ≡ size) }
     ensures memory { IfErr result (λ e. e ≡ StoreError.Memory) }

@@ -69,7 +69,7 @@ pub fn key_part(keys: &[u8], cell: usize) -> &[u8]
     piece(keys, 64 + 31 * cell, 31)
 }
 
-/// Whether the key part of a cell is a length of at most 28, so many bytes, and zeros. All of it is looked at at once, with the byte
+/// Whether the key part of a cell is a length of at most 28, as many bytes, and zeros. All of it is looked at at once, with the byte
 /// before it.
 pub fn is_key_part(keys: &[u8], cell: usize) -> bool
     requires { 64 + 31 * cell + 31 ≤ length keys.now }
@@ -80,7 +80,7 @@ pub fn is_key_part(keys: &[u8], cell: usize) -> bool
         .simd_ne(u8x32::splat(0))
         .to_bitmask();
     let len = keys[at];
-    // Bit i + 1 stands for byte i of the part.
+    // Bit i + 1 is for byte i of the part.
     len <= 28 && other >> (len + 2) == 0
 }
 

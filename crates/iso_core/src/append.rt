@@ -35,7 +35,7 @@ pub(crate) fn append<D: Disk>(kept: &mut Kept, disk: &mut D) -> Result<u64, Disk
     }
 }
 
-/// Appends records, one or more, with a closed gate behind them: at each moment an image has all of them or none.
+/// Appends records, one or more, with a closed gate after them: at each moment an image has all of them or none.
 pub(crate) fn append_all<D: Disk>(
     kept: &mut Kept,
     disk: &mut D,

@@ -24,7 +24,7 @@ use iso_model::{CoreError, EndReply, Geometry, GroupReply, Mode};
 use std::alloc::Global;
 use tx_table::Work;
 
-/// An open image with its live transactions. A core stands for a world of the model.
+/// An open image with its live transactions. A core represents a world of the model.
 #[derive(Drop)]
 pub struct Core<D: Disk> {
     disk: D,
@@ -87,6 +87,15 @@ impl<D: Disk> Core<D> {
     }
 
     /// Begins a transaction in the mode that is named, or else in the image's. It begins at the last commit.
+    ///
+    /// # Errors
+    ///
+    /// The first of these, and the core is as before:
+    /// - `Down`: an earlier fault set the core down.
+    /// - `ModeFixed`: the image is of form 1, and the mode is not its own.
+    /// - `TooManyTx`: `MAX_LIVE` transactions are live.
+    /// - `Worn`: the number of the next transaction would pass `LAST`.
+    /// - `Memory`: want of memory.
     pub fn begin(&mut self, mode: Option<Mode>) -> Result<Begun, CoreError>
         requires { (W : World) × (standing : Standing) × StandsFor D.state self.old W standing }
         ensures begun { (W : World) → StandsFor D.state self.old W up → IfOk result (λ b. (b.tx ≡ W.next) × (b.mode ≡ mode_named W mode)
@@ -103,8 +112,14 @@ impl<D: Disk> Core<D> {
         begin(&mut self.kept, mode)
     }
 
-    /// Reads a block as it stood when the transaction began. It takes no memory. On a fault any bytes may be in the slice, and
-    /// all else stays.
+    /// Reads a block as it was when the transaction began, without its own writes, into a slice as long as it. It takes
+    /// no memory.
+    ///
+    /// # Errors
+    ///
+    /// All stays as it is, but any bytes may be in the slice.
+    /// - `Down`: an earlier fault set the core down.
+    /// - `Disk`: the disk failed in this call.
     pub fn fetch(&mut self, tx: u64, block: u32, into: &mut [u8]) -> Result<(), CoreError>
         requires { (W : World) × (standing : Standing) × (t : Live) × StandsFor D.state self.old W standing × IsTx W tx t × (block < W.geometry.blocks) × (length into.old ≡ W.geometry.block) }
         ensures block { (W : World) (t : Live) → StandsFor D.state self.old W up → IsTx W tx t → OnOk result (ForSome (D.state (disk_of self.old)).contents
@@ -119,9 +134,12 @@ impl<D: Disk> Core<D> {
         self.fetch_range(tx, block, 0, len, into)
     }
 
-    /// Reads `len` bytes of a block from `off` on, as they stood when the transaction began, into their place in a slice as
-    /// long as the block, whose other bytes are any. It takes no memory. On a fault any bytes may be in the slice, and all
-    /// else stays.
+    /// Reads `len` bytes of a block from `off` on, as they were when the transaction began, into their place in a slice
+    /// as long as the block, whose other bytes are any. It takes no memory.
+    ///
+    /// # Errors
+    ///
+    /// As those of `fetch`.
     pub fn fetch_range(
         &mut self,
         tx: u64,
@@ -149,9 +167,17 @@ impl<D: Disk> Core<D> {
         }
     }
 
-    /// Ends a transaction: it commits where it has a write and no commit after its begin conflicts with it. What was checked
-    /// of it ahead is not looked at again. All memory is taken before the first call of the disk. After a fault the core is
-    /// down, and the commit may stand or not.
+    /// Ends a transaction: it commits where it has a write and no commit after its begin conflicts with it. What was
+    /// checked of it ahead is not looked at again. All memory is taken before the first call of the disk.
+    ///
+    /// # Errors
+    ///
+    /// After any error but `Disk` the transaction is live as before, and the disk is untouched.
+    /// - `Down`: an earlier fault set the core down.
+    /// - `Worn`: it would commit, and the last commit has the number `LAST`.
+    /// - `LogFull`: it would commit, and record and next gate need more bytes than the log has free.
+    /// - `Memory`: want of memory.
+    /// - `Disk`: the disk failed. The core is down, the transaction is live no more, and its commit is made or not.
     pub fn end<L: Ledger>(
         &mut self,
         tx: u64,
@@ -190,10 +216,17 @@ impl<D: Disk> Core<D> {
         end_tx(&mut self.kept, &mut self.disk, tx, work, checked, steps)
     }
 
-    /// Ends different transactions that are live, one after the other, with one append for all their commits, and gives each
-    /// its reply. A member that the log has no room or no number for is aborted. All memory is taken before the first call of
-    /// the disk. Want of memory and a core that is down leave all as before, and no member has a reply. After a fault the core
-    /// is down, no member is live or has a reply, and all their commits stand or none.
+    /// Ends 1 to `MAX_GROUP` different transactions that are live, one after the other, with one append for all their
+    /// commits, and gives each its reply. A member that the log has no room or no number for is aborted. All memory is
+    /// taken before the first call of the disk.
+    ///
+    /// # Errors
+    ///
+    /// No member has a reply. After `Down` and `Memory` all is as before.
+    /// - `Down`: an earlier fault set the core down.
+    /// - `Memory`: want of memory.
+    /// - `Disk`: the disk failed, which it does for a commit alone. The core is down, no member is live, and all their
+    ///   commits are made or none.
     pub fn end_group(&mut self, ends: &mut [GroupEnd]) -> Result<(), CoreError>
         requires ready { (W : World) × (standing : Standing) × (members : List Live) × StandsFor D.state self.old W standing × AreEach (IsMember W) ends.old members }
         requires some { 0 < length ends.old }
@@ -244,8 +277,12 @@ impl<D: Disk> Core<D> {
         leave(&mut self.kept, tx);
     }
 
-    /// Lets the versions go that no transaction can be shown any more, and answers the floor: the least live begin, or the
-    /// last commit's number. It takes no memory.
+    /// Lets the versions go that no transaction can be shown any more, and answers the floor: the least live begin, or
+    /// the last commit's number. It takes no memory.
+    ///
+    /// # Errors
+    ///
+    /// `Down`: an earlier fault set the core down. It is as before.
     pub fn trim(&mut self) -> Result<u64, CoreError>
         requires { (W : World) × (standing : Standing) × StandsFor D.state self.old W standing }
         ensures trimmed { (W : World) → StandsFor D.state self.old W up → (result ≡ Ok (floor W)) × StandsFor D.state self.new (after_trim W) up }
@@ -258,8 +295,16 @@ impl<D: Disk> Core<D> {
         Ok(trim(&mut self.kept))
     }
 
-    /// Moves the base to the floor, in the other half, and answers the floor. What live transactions are shown stays. A stop at
-    /// any moment leaves the same commits. Want of memory may come after the other half was closed; all else is then as before.
+    /// Moves the base to the floor, in the other half, and answers the floor. What live transactions are shown stays. A
+    /// stop at any moment leaves the same commits.
+    ///
+    /// # Errors
+    ///
+    /// After any error but `Disk` the core represents the same world.
+    /// - `Down`: an earlier fault set the core down.
+    /// - `Worn`: the image's generation is `LAST`. The disk is untouched.
+    /// - `Memory`: want of memory, which may come after the other half was closed.
+    /// - `Disk`: the disk failed. The core is down, and the image has the same commits.
     pub fn compact(&mut self) -> Result<u64, CoreError>
         requires { (W : World) × (standing : Standing) × StandsFor D.state self.old W standing }
         ensures switched { (W : World) → StandsFor D.state self.old W up → IfOk result (λ n. (n ≡ floor W) × ((answer : CoreReply) → switch_step W W.geometry.form answer ≡ (answer, after_switch W W.geometry.form))
@@ -287,6 +332,10 @@ impl<D: Disk> Core<D> {
     }
 
     /// Compacts into an image of form 2, in which transactions of either mode may begin, and answers the floor.
+    ///
+    /// # Errors
+    ///
+    /// As those of `compact`. After `Disk` the image has the form that it had, or form 2.
     pub fn upgrade(&mut self) -> Result<u64, CoreError>
         requires { (W : World) × (standing : Standing) × StandsFor D.state self.old W standing }
         ensures switched { (W : World) → StandsFor D.state self.old W up → IfOk result (λ n. (n ≡ floor W) × ((answer : CoreReply) → switch_step W 2 answer ≡ (answer, after_switch W 2))
@@ -313,6 +362,11 @@ impl<D: Disk> Core<D> {
     }
 
     /// The commits above a number, from the transaction's begin on, each with the bytes that it wrote.
+    ///
+    /// # Errors
+    ///
+    /// - `Down`: an earlier fault set the core down.
+    /// - `Memory`: want of memory.
     pub fn recent(&self, tx: u64, after: u64) -> Result<Recent, CoreError>
         requires { (W : World) × (standing : Standing) × (t : Live) × StandsFor D.state self.now W standing × IsTx W tx t × (t.begin ≤ after) × (after ≤ last W.history) }
         ensures notes { (W : World) (t : Live) → StandsFor D.state self.now W up → IsTx W tx t → t.begin ≤ after

@@ -10,7 +10,7 @@ pub trait Errand<D: Disk> {
     /// What it makes of itself and of the disk.
     ghost did: { Self → D → Self → D → Type 0 };
 
-    /// Does it.
+    /// Runs it on the disk.
     fn run(&mut self, disk: &mut D)
         ensures did { Self.did self.old disk.old self.new disk.new }
         ensures unwritten { WritesNothing (D.state disk.old) (D.state disk.new) }

@@ -79,7 +79,7 @@ fn read_by<D: Disk>(
     Ok(())
 }
 
-/// Reads `len` bytes of a block from `off` on, as they stood when a transaction began, into their place in a slice as long as
+/// Reads `len` bytes of a block from `off` on, as they were when a transaction began, into their place in a slice as long as
 /// the block. It takes no memory, and on a fault any bytes may be in the slice.
 pub(crate) fn fetch<D: Disk>(
     kept: &Kept,

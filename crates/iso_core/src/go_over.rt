@@ -7,7 +7,7 @@ ghost use Rattle.iso_core.specs.Kept.{IsOf};
 
 use crate::kept::Kept;
 
-/// Goes over to the other half, which has the base at the floor and is the current one now. The logs of both stand at these
+/// Goes over to the other half, which has the base at the floor and is the current one now. The logs of both are at these
 /// places. The records above the floor keep their bytes, so their versions move with them.
 pub(crate) fn go_over(kept: &mut Kept, form: u8, old_log: u64, new_log: u64, floor: u64)
     requires { (W : World) × IsOf kept.old W × (floor ≡ model.floor W) × (old_log ≡ log_place W.geometry kept.old.half)

@@ -13,7 +13,7 @@ use crate::taking::{leave_members, reserve_plan, take_plan};
 use iso_disk::Disk;
 use iso_model::{CoreError, GroupReply, Memory};
 
-// Puts a closed gate behind records.
+// Puts a closed gate after records.
 fn close(bytes: &mut Vec<u8>) -> Result<(), Memory>
     ensures { OnOk result (bytes.new.items ≡ bytes.old.items ++ 0 ∷ []) }
 {
@@ -71,7 +71,7 @@ fn prepare_group(
     Ok(())
 }
 
-/// Ends members whose works are settled, while the core is up: all their commits stand in one append, or none. The replies
+/// Ends members whose works are settled, while the core is up: all their commits are in one append, or none. The replies
 /// are handed out in order. Of the plan the memory alone is used.
 pub(crate) fn end_ready<D: Disk>(
     kept: &mut Kept,

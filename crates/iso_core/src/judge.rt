@@ -120,7 +120,7 @@ pub(crate) fn judge(kept: &mut Kept, plan: &Plan, member: &GroupEnd) -> Result<G
     room_for(kept, plan, &member.work)
 }
 
-// The records of a buffer, without the gate behind them.
+// The records of a buffer, without the gate after them.
 fn records_in(buffer: &RecordBuffer) -> &[u8]
     ensures { result.now ≡ buffer.now.records }
 {
@@ -149,7 +149,7 @@ fn push_staged(staged: &mut Vec<Staged>, at: u64, count: usize) -> Result<(), Me
     Ok(())
 }
 
-/// Puts the record that is spelled behind those of the plan, as that of a commit with this work.
+/// Adds the spelled record to those of the plan, as that of a commit with this work.
 fn stage(kept: &mut Kept, plan: &mut Plan, work: &Work) -> Result<(), Memory>
     requires { (W : World) × (more : List Commit) × (tx : ℕ) × (t : Live) × IsOf kept.old W × IsAhead W more plan.old × IsSettledOf W t work.now × IsNextStaged (ahead W more) tx t kept.old }
     ensures same { kept.new ≡ kept.old }
@@ -175,7 +175,7 @@ fn commits(reply: &GroupReply) -> bool
     matches!(reply, GroupReply::Committed(_))
 }
 
-/// Puts the record that is spelled behind those of the plan, where the reply is a commit.
+/// Adds the spelled record to those of the plan, where the reply is a commit.
 fn stage_if(kept: &mut Kept, plan: &mut Plan, work: &Work, reply: &GroupReply) -> Result<(), Memory>
     requires { (W : World) × (more : List Commit) × (tx : ℕ) × (t : Live) × IsOf kept.old W × IsAhead W more plan.old × IsSettledOf W t work.now × IfCommits reply.now (IsNextStaged (ahead W more) tx t kept.old) }
     ensures same { kept.new ≡ kept.old }
@@ -195,7 +195,7 @@ fn push_reply(replies: &mut Vec<GroupReply>, reply: GroupReply) -> Result<(), Me
     Ok(())
 }
 
-/// Decides one member more, and puts its reply behind the others.
+/// Decides one member more, and adds its reply to the others.
 pub(crate) fn plan_member(
     kept: &mut Kept,
     plan: &mut Plan,

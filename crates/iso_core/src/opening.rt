@@ -13,7 +13,7 @@ use std::alloc::Global;
 use tx_table::Live;
 
 /// What is known of an image once its current half was read or made: its numbers, the half (0 or 1) with its generation and
-/// base number, the half's log behind its last record, and the versions in it. The buffer is the core's, for the records of
+/// base number, the half's log after its last record, and the versions in it. The buffer is the core's, for the records of
 /// its commits.
 #[derive(Drop)]
 pub struct Opened {

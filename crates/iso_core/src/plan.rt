@@ -5,14 +5,14 @@ use conflict_rule::Notes;
 use std::alloc::Global;
 use version_read::PartSpan;
 
-/// A record that is to be appended: where its gate stands behind the first one, and how many parts it has.
+/// A record that is to be appended: where its gate is after the first one, and how many parts it has.
 #[derive(Drop)]
 pub(crate) struct Staged {
     pub(crate) at: u64,
     pub(crate) count: usize,
 }
 
-/// The records of a group, spelled one behind another, with the parts of all of them, and what each wrote.
+/// The records of a group, spelled one after another, with the parts of all of them, and what each wrote.
 #[derive(Drop)]
 pub(crate) struct Plan {
     pub(crate) bytes: Vec<u8>,

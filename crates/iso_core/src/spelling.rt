@@ -51,7 +51,7 @@ fn push_work(
     Ok(())
 }
 
-/// Spells the record of a transaction with a write behind those of the buffer, and lists its parts.
+/// Adds the record of a transaction with a write to those of the buffer, and lists its parts.
 pub(crate) fn spell(
     buffer: &mut RecordBuffer,
     parts: &mut Vec<PartSpan>,

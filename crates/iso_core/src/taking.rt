@@ -1,4 +1,4 @@
-// The commits of a group are taken in, once their records stand.
+// The commits of a group are taken in, once their records are written.
 ghost use Rattle.std.specs.{Prelude.{◌≡◌, ℕ, ◌+◌, ◌++◌, [], ◌∷◌, List, IfNone, IfOk, IfSome, OnOk, map}, List.Sorted.{IsNonDecreasingBy, IsPermutation}};
 ghost use Rattle.iso_image.specs.Half.{Half};
 ghost use Rattle.iso_model.specs.{declared.access.Commit.Commit, declared.access.Geometry.Geometry, Geometry.log_place, Image.written, World.{World, Live}, Group.{ahead, leave_all}};
@@ -57,7 +57,7 @@ pub(crate) fn reserve_plan(kept: &mut Kept, plan: &Plan) -> Result<(), Memory>
     Ok(())
 }
 
-/// Adds the versions of staged records with these parts to the index of a half behind which they stand, the first of which has
+/// Adds the versions of staged records with these parts to the index of a half whose records they follow; the first of them has
 /// this number; the gate is that of the first one of all.
 fn take_staged(index: &mut MvIndex, number: u64, gate: u64, staged: &[Staged], parts: &[PartSpan])
     requires follow { (g : Geometry) × (x : Half) × (t : ℕ) × (at : ℕ) × (commits : List Commit) × MayTakeAll g x t at commits number gate staged.now parts.now index.old }

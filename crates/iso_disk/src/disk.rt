@@ -17,7 +17,11 @@ pub trait Disk {
     fn size(&self) -> u64
         ensures { result ≡ (state self.now).size };
 
-    /// Reads the bytes from `at` on. It changes nothing, also where it fails.
+    /// Reads the bytes from `at` on into the whole slice. It writes nothing.
+    ///
+    /// # Errors
+    ///
+    /// The disk failed in this call. Any bytes may be in the slice; the disk's bytes stay as they were.
     fn read(&mut self, at: u64, into: &mut [u8]) -> Result<(), DiskFault>
         requires { at + length into.old ≤ (state self.old).size }
         ensures bytes { OnOk result (ForSome (state self.old).contents (λ c. into.new ≡ slice_range c at (at + length into.old))) }
@@ -26,7 +30,11 @@ pub trait Disk {
         ensures cause { HasCause (state self.old).faults (state self.new).faults result };
 
     /// Writes bytes from `at` on. Until a sync succeeds, a crash may leave any bytes in their range.
-    /// Where it fails, a read may give any bytes there too.
+    ///
+    /// # Errors
+    ///
+    /// The disk failed in this call. A read, and an image after a crash, may then give any bytes in that range; those
+    /// outside stay.
     fn write(&mut self, at: u64, bytes: &[u8]) -> Result<(), DiskFault>
         requires { at + length bytes.now ≤ (state self.old).size }
         ensures written { OnOk result (Splices at bytes.now (state self.old) (state self.new)) }
@@ -34,7 +42,11 @@ pub trait Disk {
         ensures crash { Elapses (state self.old) (state self.new) (TornFrom at (length bytes.now) (state self.old).now) }
         ensures cause { HasCause (state self.old).faults (state self.new).faults result };
 
-    /// Makes what was written stable: a crash leaves what a read gives. Where it fails, nothing is known to be stable.
+    /// Makes what was written stable: a crash leaves what a read gives.
+    ///
+    /// # Errors
+    ///
+    /// The disk failed in this call. A read gives what it gave, and nothing is known to be stable.
     fn sync(&mut self) -> Result<(), DiskFault>
         ensures settled { OnOk result (IsSettled (state self.new)) }
         ensures contents { (state self.new).contents ≡ (state self.old).contents }
@@ -48,10 +60,14 @@ pub trait Disk {
     ghost lawful: { (d : Self) → IsLawful (state d) };
 }
 
-/// A disk that stands for what a name names, once it is bound to it.
+/// A disk that is the device of a name, once it is bound to it.
 pub trait Image: Disk {
     /// With a size, makes a blank device of that size: zeros. With none, takes the existing device with the contents
     /// that it has and makes them stable. What the disk promises of crashes begins at Ok.
+    ///
+    /// # Errors
+    ///
+    /// The disk failed in this call. Nothing is bound then; what it leaves under the name is not said.
     fn bind(&mut self, name: &str, want: Option<u64>) -> Result<(), DiskFault>
         ensures size { OnOk result (IfSome want (λ w. (Self.state self.new).size ≡ w)) }
         ensures blank { OnOk result (IfSome want (λ w. ForSome (Self.state self.new).contents (λ c. c ≡ replicate w 0))) }

@@ -10,6 +10,7 @@ use iso_model::{Geometry, LAST};
 /// How many bytes of a part come before those of its run.
 pub const PART_HEAD: usize = 8;
 
+/// How many bytes the part has that a body begins with.
 pub fn part_size(body: &[u8]) -> usize
     requires { 8 ≤ length body.now }
     ensures { result ≡ part_size body.now }

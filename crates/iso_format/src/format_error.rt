@@ -3,7 +3,7 @@
 /// The first test that the bytes of a record fail, and the place of its field from the record's gate on.
 #[derive(Clone, Copy, Debug, PartialEq, Eq)]
 pub enum FormatError {
-    /// The bytes end before the record and the gate behind it.
+    /// The bytes end before the record and the gate after it.
     Short(u64),
     /// The kind is none of the image's form.
     Kind(u64),
@@ -11,11 +11,11 @@ pub enum FormatError {
     NotZero(u64),
     /// There are no parts, or more than fit the body.
     Count(u64),
-    /// A part does not come behind the one before it.
+    /// A part does not come after the one before it.
     Order(u64),
     /// A part does not lie in a block of the array.
     Range(u64),
-    /// A part passes the end of the body, or the body goes on behind the last part.
+    /// A part passes the end of the body, or the body goes on after the last part.
     Length(u64),
     /// The number is not the one that was expected.
     Number(u64),

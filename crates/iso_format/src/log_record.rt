@@ -30,6 +30,10 @@ pub fn record_length(parts: &PartList) -> u64
 }
 
 /// The record of commit `number`, with an open gate. Its kind, 1 or 2, gives the commit's mode.
+///
+/// # Errors
+///
+/// Want of memory.
 pub fn write_record(
     alloc: Global,
     number: u64,

@@ -1,4 +1,4 @@
-// Records that are spelled one behind another, for one write.
+// Records that are spelled one after another, for one write.
 ghost use Rattle.std.specs.Prelude.{◌≡◌, ◌+◌, ◌<◌, ◌≤◌, ◌^◌, ◌++◌, length, take, drop, OnOk, OnErr};
 ghost use Rattle.iso_model.specs.Image.{part};
 ghost use Rattle.iso_format.specs.Writing.{head};
@@ -15,7 +15,7 @@ use std::marker::Model;
 #[derive(Drop)]
 pub struct RecordBuffer {
     bytes: Vec<u8>,
-    // Where the record begins that is not finished. Its head stands there already, as zeros: its gate is the closed one.
+    // Where the record begins that is not finished. Its head is there already, as zeros: its gate is the closed one.
     start: usize,
     count: usize,
 }
@@ -36,6 +36,10 @@ impl RecordBuffer {
     ghost use Rattle.iso_format.specs.Writing.{LieInAnImage};
 
     /// No records.
+    ///
+    /// # Errors
+    ///
+    /// Want of memory.
     pub fn new(alloc: Global) -> Result<Self, Memory>
         ensures { IfOk result (λ b. b ≡ record { records = []; parts = [] }) }
     {
@@ -58,7 +62,11 @@ impl RecordBuffer {
         self.count = 0;
     }
 
-    /// Adds a part to the record that is begun. Without memory nothing is added.
+    /// Adds a part to the record that is begun.
+    ///
+    /// # Errors
+    ///
+    /// Want of memory. Nothing is added.
     pub fn push_part(&mut self, block: u32, off: u16, bytes: &[u8]) -> Result<(), Memory>
         requires { length bytes.now < 2 ^ 16 }
         ensures ok { OnOk result (self.new ≡ record self.old { parts = self.old.parts ++ record { block = block; off = off; bytes = bytes.now } ∷ [] }) }
@@ -69,7 +77,11 @@ impl RecordBuffer {
         Ok(())
     }
 
-    /// Finishes the record that is begun, as that of commit `number`. Without memory it stays as it is.
+    /// Finishes the record that is begun, as that of commit `number`.
+    ///
+    /// # Errors
+    ///
+    /// Want of memory. The record stays as it is.
     pub fn finish(&mut self, number: u64, kind: u8) -> Result<(), Memory>
         requires number { number ≤ LAST }
         requires kind { (kind ≡ 1) ⊎ (kind ≡ 2) }

@@ -86,6 +86,7 @@ impl<'a> Model for RecordView<'a> {
 impl<'a> RecordView<'a> {
     ghost use Rattle.std.specs.Prelude.{◌≡◌};
 
+    /// The number of the commit.
     pub fn number(&self) -> u64
         ensures { result ≡ self.now.number }
     {
@@ -99,6 +100,7 @@ impl<'a> RecordView<'a> {
         self.kind
     }
 
+    /// The parts of the record, in order.
     pub fn parts(&self) -> PartIter<'a>
         ensures { result ≡ self.now.parts }
     {
@@ -146,8 +148,11 @@ fn record_of<'a>(
     Ok(view_record(input))
 }
 
-/// The record at the front of the bytes, which go on to the end of the log, or the first test that they fail. Its gate
-/// is not tested.
+/// The record at the front of the bytes, which go on to the end of the log. Its gate is not tested.
+///
+/// # Errors
+///
+/// The first test that the bytes fail.
 pub fn read_record<'a>(
     input: &'a [u8],
     geometry: &Geometry,

@@ -11,7 +11,9 @@ use iso_model::{Geometry, Mode};
 /// 4 log bytes, 5 mode, 6 zero bytes, 7 regions.
 #[derive(Clone, Copy, Debug, PartialEq, Eq)]
 pub enum SuperError {
+    /// The name is another one, or the gate is closed.
     NotIsotope,
+    /// The first field that is wrong.
     BadGeometry { field: u8 },
 }
 
@@ -161,8 +163,11 @@ fn super_of(input: &[u8]) -> Result<Geometry, SuperError>
     }
 }
 
-/// The geometry that a superblock spells, or the first test that the bytes fail. No superblock gives the form,
-/// which is 1 in the geometry.
+/// The geometry that a superblock spells. No superblock gives the form, which is 1 in the geometry.
+///
+/// # Errors
+///
+/// The first test that the bytes fail, `NotIsotope` before `BadGeometry`.
 pub fn read_super(input: &[u8]) -> Result<Geometry, SuperError>
     requires { length input.now ≡ 64 }
     ensures exact { result ≡ super_of input.now }

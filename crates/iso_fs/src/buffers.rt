@@ -27,7 +27,11 @@ pub fn areas_of<T: TxBlocks>(tx: &T, at: FsRegion) -> FileAreas
     }
 }
 
-/// The same for a call at a name, which is one that a file may have.
+/// The same for a call at a name.
+///
+/// # Errors
+///
+/// `BadName` exactly where the name does not have 1 to 28 bytes.
 pub fn named_areas<T: TxBlocks>(tx: &T, at: FsRegion, name: &[u8]) -> Result<FileAreas, FsError>
     ensures areas { IfOk result (λ a. a ≡ areas_of (T.state tx.now) at) }
     ensures name { IfOk result (λ a. is_key name.now ≡ true) }
@@ -40,6 +44,10 @@ pub fn named_areas<T: TxBlocks>(tx: &T, at: FsRegion, name: &[u8]) -> Result<Fil
 }
 
 /// Two buffers of `size` bytes, and a third one of `last`.
+///
+/// # Errors
+///
+/// `Memory`: want of memory.
 pub fn buffers(
     alloc: Global,
     size: usize,

@@ -76,7 +76,13 @@ fn look_found<T: TxBlocks>(
     }
 }
 
-/// The number of the file block of a name, whose bytes are put into `file`; none where the name has no file.
+/// The number of the file block of a name, whose bytes are put into `file`; none where the name has no file. It writes
+/// nothing.
+///
+/// # Errors
+///
+/// - `Store(Broken)`: the tree answers it, its value names no file block, or that is not well formed.
+/// - `Store`, else: the tree or the transaction refuses.
 pub fn find<T: TxBlocks>(
     alloc: Global,
     tx: &mut T,

@@ -55,6 +55,10 @@ fn give_data(area: Area, file: &[u8], count: usize, map: &mut [u8])
 }
 
 /// Gives the blocks of a file back, and writes the bytes of the map that change.
+///
+/// # Errors
+///
+/// The transaction refuses the write, and is as before.
 pub fn store_left<T: TxBlocks>(
     tx: &mut T,
     area: Area,

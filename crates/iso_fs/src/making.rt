@@ -83,9 +83,17 @@ fn create_with<T: TxBlocks>(
     }
 }
 
-/// Makes an empty file. `BadName` comes exactly where the name does not have 1 to 28 bytes, `Exists` where it has a file, `NoBlocks`
-/// where no block is free for the file, or in the tree; `Broken` where a call of the tree answers it. But where the transaction
-/// refuses an access, a refusal has written nothing.
+/// Makes an empty file.
+///
+/// # Errors
+///
+/// Nothing was written, but where `Tx` comes after a write.
+/// - `BadName` exactly where the name does not have 1 to 28 bytes.
+/// - `Exists`: the name has a file.
+/// - `Store(NoBlocks)`: no block is free for the file, or in the tree.
+/// - `Store(Broken)`: a call of the tree answers it.
+/// - `Store(Memory)`: want of memory for a buffer.
+/// - `Store(Tx)`: the transaction refuses an access, or wants memory.
 pub fn create<T: TxBlocks>(
     alloc: Global,
     tx: &mut T,

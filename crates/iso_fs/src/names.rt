@@ -13,6 +13,10 @@ use store_model::{Area, StoreError};
 use tx_blocks::TxBlocks;
 
 /// The value of a name.
+///
+/// # Errors
+///
+/// As those of `iso_tree::get`.
 pub fn value_of<T: TxBlocks>(
     alloc: Global,
     tx: &mut T,
@@ -31,6 +35,10 @@ pub fn value_of<T: TxBlocks>(
 }
 
 /// Puts a value at a name.
+///
+/// # Errors
+///
+/// As those of `iso_tree::put`.
 pub fn put_value<T: TxBlocks>(
     alloc: Global,
     tx: &mut T,
@@ -51,6 +59,10 @@ pub fn put_value<T: TxBlocks>(
 }
 
 /// Removes a name.
+///
+/// # Errors
+///
+/// As those of `iso_tree::del`. Nothing was written.
 pub fn remove_name<T: TxBlocks>(
     alloc: Global,
     tx: &mut T,

@@ -159,10 +159,17 @@ fn bytes_read(found: Option<u32>, mut room: Vec<u8>) -> Option<Bytes>
     Some(Items::of(room))
 }
 
-/// Bytes of a file from `off` on, at most `len` of them; the answer ends where the file does. None exactly where the name has no
-/// file. `BadName` comes exactly where the name does not have 1 to 28 bytes, else `BadRange` where `len` is not 1 to 4,096, or `off`
-/// is above the file's size; `Broken` where a call of the tree answers it, its value names no file block, or that is not well
-/// formed. It writes nothing, and takes all its memory before its first read.
+/// Bytes of a file from `off` on, at most `len` of them; the answer ends where the file does. None exactly where the
+/// name has no file. It writes nothing, and takes all its own memory before its first read.
+///
+/// # Errors
+///
+/// - `BadName` exactly where the name does not have 1 to 28 bytes.
+/// - `BadRange`: the name is good, and `len` is not 1 to 4,096, which is seen before any read, or `off` is above the
+///   file's size.
+/// - `Store(Broken)`: a call of the tree answers it, its value names no file block, or that is not well formed.
+/// - `Store(Memory)`: want of memory for a buffer.
+/// - `Store(Tx)`: the transaction refuses an access, or wants memory.
 pub fn read<T: TxBlocks>(
     alloc: Global,
     tx: &mut T,

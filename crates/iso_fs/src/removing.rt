@@ -67,9 +67,15 @@ fn remove_with<T: TxBlocks>(
     }
 }
 
-/// Removes a file with all its blocks, and says whether the name had one. `BadName` comes exactly where the name does not have 1 to
-/// 28 bytes; `Broken` where a call of the tree answers it, the value names no file block, or that is not well formed. But where the
-/// transaction refuses an access, a refusal has written nothing.
+/// Removes a file with all its blocks, and says whether the name had one.
+///
+/// # Errors
+///
+/// Nothing was written, but where `Tx` comes after a write.
+/// - `BadName` exactly where the name does not have 1 to 28 bytes.
+/// - `Store(Broken)`: a call of the tree answers it, the value names no file block, or that is not well formed.
+/// - `Store(Memory)`: want of memory for a buffer.
+/// - `Store(Tx)`: the transaction refuses an access, or wants memory.
 pub fn remove<T: TxBlocks>(
     alloc: Global,
     tx: &mut T,

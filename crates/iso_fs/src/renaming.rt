@@ -57,10 +57,18 @@ fn rename_in<T: TxBlocks>(
     }
 }
 
-/// Gives a file another name, and says whether there is one. `BadName` comes exactly where one of the names does not have 1 to 28
-/// bytes, `Exists` where the new one has a file, which may be the same; `NoBlocks` where the tree has too few free blocks, `Broken`
-/// where a call of the tree answers it. A refusal has written nothing, but where the transaction refuses an access, or the removal
-/// of the old name wants memory or finds a broken block after the put of the new one.
+/// Gives a file another name, and says whether there is one.
+///
+/// # Errors
+///
+/// Nothing was written, but where `Tx` comes after a write, or `Memory` or `Broken` comes of the removal of the old
+/// name, after the put of the new one.
+/// - `BadName` exactly where one of the names does not have 1 to 28 bytes.
+/// - `Exists`: the old name has a file, and the new one too, which may be the same.
+/// - `Store(NoBlocks)`: the tree has too few free blocks.
+/// - `Store(Broken)`: a call of the tree answers it.
+/// - `Store(Memory)`: want of memory for a buffer.
+/// - `Store(Tx)`: the transaction refuses an access, or wants memory.
 pub fn rename<T: TxBlocks>(
     alloc: Global,
     tx: &mut T,

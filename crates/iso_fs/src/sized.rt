@@ -16,7 +16,7 @@ fn start_file(into: &mut [u8], bytes: u32)
     lay(into, 4, &spelled(bytes));
 }
 
-// Adds the number of a data block behind `i` others.
+// Adds the number of a data block after `i` others.
 fn add_entry(into: &mut [u8], i: usize, number: u32)
     requires { 64 + 4 * i + 4 ≤ length into.old }
     ensures { (bytes : ℕ) → (es : List ℕ) → length es ≡ i → into.old ≡ file_block (length into.old) bytes es → into.new ≡ file_block (length into.old) bytes (es ++ number ∷ []) }
@@ -35,7 +35,7 @@ fn add_old(into: &mut [u8], file: &[u8], count: usize)
     }
 }
 
-// Adds numbers behind `count` others.
+// Adds numbers after `count` others.
 fn add_news(into: &mut [u8], count: usize, news: &[u32])
     requires { 64 + 4 * (count + length news.now) ≤ length into.old }
     ensures { (bytes : ℕ) → (es : List ℕ) → length es ≡ count → into.old ≡ file_block (length into.old) bytes es → into.new ≡ file_block (length into.old) bytes (es ++ news.now) }

@@ -14,7 +14,7 @@ use iso_model::Span;
 use store_model::{Area, FsError, StoreError, TxError};
 use tx_blocks::{TxBlocks, store};
 
-// The number of the data block at a place, where the first `old` ones stand in the file block and the others are new.
+// The number of the data block at a place, where the first `old` ones are in the file block and the others are new.
 fn number_at(area: Area, file: &[u8], old: usize, news: &[u32], place: usize) -> u32
     requires least { 256 ≤ area.size }
     requires file { is_file area file.now ≡ true }

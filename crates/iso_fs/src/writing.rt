@@ -246,11 +246,18 @@ fn write_with<T: TxBlocks>(
     }
 }
 
-/// Writes bytes into a file from `off` on, which grows where they pass its end, and says whether the name has a file. `BadName` comes
-/// exactly where the name does not have 1 to 28 bytes, else `BadRange` where there are not 1 to 4,096 bytes, `off` is above the
-/// file's size, or the file would have more bytes than it may; `NoBlocks` where fewer blocks are free than are needed; `Broken` where
-/// a call of the tree answers it, the value names no file block, or that is not well formed. But where the transaction refuses an
-/// access, a refusal has written nothing.
+/// Writes bytes into a file from `off` on, which grows where they pass its end, and says whether the name has a file.
+///
+/// # Errors
+///
+/// Nothing was written, but where `Tx` comes after a write.
+/// - `BadName` exactly where the name does not have 1 to 28 bytes.
+/// - `BadRange`: the name is good, and there are not 1 to 4,096 bytes, which is seen before any read, or `off` is above
+///   the file's size, or the file would have more bytes than it may.
+/// - `Store(NoBlocks)`: fewer blocks are free than are needed.
+/// - `Store(Broken)`: a call of the tree answers it, the value names no file block, or that is not well formed.
+/// - `Store(Memory)`: want of memory for a buffer.
+/// - `Store(Tx)`: the transaction refuses an access, or wants memory.
 pub fn write<T: TxBlocks>(
     alloc: Global,
     tx: &mut T,

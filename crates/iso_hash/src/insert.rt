@@ -67,9 +67,17 @@ fn put_with<T: TxBlocks>(
     }
 }
 
-/// Puts a value at a key: the region's map has it then. `BadKey` comes exactly where the key does not have 1 to 28 bytes, else
-/// `BadValue` exactly where the value has more than 32; `Broken` where a block of the walk fails a test; `NoBlocks` where a block is
-/// needed and none is free. A refusal has written nothing, but where the transaction wants memory between two writes.
+/// Puts a value at a key: the region's map has it then.
+///
+/// # Errors
+///
+/// Nothing was written, but where the transaction wants memory between two writes.
+/// - `BadKey` exactly where the key does not have 1 to 28 bytes.
+/// - `BadValue` exactly where the key is good, and the value has more than 32 bytes.
+/// - `NoBlocks`: a block is needed and none is free.
+/// - `Broken`: a block of the walk fails a test.
+/// - `Memory`: want of memory for a buffer. The transaction is as before.
+/// - `Tx`: the transaction refuses an access.
 pub fn put<T: TxBlocks>(
     alloc: Global,
     tx: &mut T,

@@ -77,7 +77,12 @@ fn grow<T: TxBlocks>(
     }
 }
 
-/// Puts a key into a new block after the last one of its chain. `NoBlocks` comes exactly where none is free.
+/// Puts a key into a new block after the last one of its chain.
+///
+/// # Errors
+///
+/// - `NoBlocks`: none is free.
+/// - `Tx`: the transaction refuses an access. Nothing was written, but where it wants memory between two writes.
 pub fn put_block<T: TxBlocks>(
     tx: &mut T,
     area: Area,
@@ -134,6 +139,10 @@ fn shrink<T: TxBlocks>(
 }
 
 /// Gives the last block of a chain back.
+///
+/// # Errors
+///
+/// `Tx`: the transaction refuses an access. Nothing was written, but where it wants memory between the two writes.
 pub fn del_block<T: TxBlocks>(
     tx: &mut T,
     area: Area,

@@ -46,8 +46,14 @@ fn get_with<T: TxBlocks>(
     }
 }
 
-/// The value of a key, and none where the region's map has none. `BadKey` comes exactly where the key does not have 1 to 28 bytes,
-/// `Broken` where a block of the walk or the value part fails a test. It writes nothing.
+/// The value of a key, and none where the region's map has none. It writes nothing.
+///
+/// # Errors
+///
+/// - `BadKey` exactly where the key does not have 1 to 28 bytes.
+/// - `Broken`: a block of the walk or the value part fails a test.
+/// - `Memory`: want of memory for a buffer. The transaction is as before.
+/// - `Tx`: the transaction refuses an access, or wants memory.
 pub fn get<T: TxBlocks>(
     alloc: Global,
     tx: &mut T,

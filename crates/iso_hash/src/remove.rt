@@ -49,9 +49,15 @@ fn del_with<T: TxBlocks>(
     }
 }
 
-/// Removes a key, and says whether the region's map had it. `BadKey` comes exactly where the key does not have 1 to 28 bytes,
-/// `Broken` where a block of the walk fails a test. A refusal has written nothing, but where the transaction wants memory between
-/// two writes.
+/// Removes a key, and says whether the region's map had it.
+///
+/// # Errors
+///
+/// Nothing was written, but where the transaction wants memory between two writes.
+/// - `BadKey` exactly where the key does not have 1 to 28 bytes.
+/// - `Broken`: a block of the walk fails a test.
+/// - `Memory`: want of memory for a buffer. The transaction is as before.
+/// - `Tx`: the transaction refuses an access.
 pub fn del<T: TxBlocks>(
     alloc: Global,
     tx: &mut T,

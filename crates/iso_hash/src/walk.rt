@@ -43,7 +43,12 @@ fn first_spare(spare: Option<Spot>, block: u32, unused: Option<usize>) -> Option
     }
 }
 
-/// Walks to the cell that has the key.
+/// Walks to the cell that has the key, and writes nothing.
+///
+/// # Errors
+///
+/// - `Broken`: a block of the chain fails a test, or the chain does not end where it must.
+/// - `Tx`: the transaction refuses a read.
 pub fn walk<T: TxBlocks>(
     tx: &mut T,
     area: Area,

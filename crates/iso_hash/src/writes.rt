@@ -26,6 +26,10 @@ pub fn lay_cell(into: &mut [u8], cell: usize, key: &[u8], value: &[u8])
 }
 
 /// Writes the value of a cell that has the key.
+///
+/// # Errors
+///
+/// `Tx`: the transaction refuses the write.
 pub fn put_value<T: TxBlocks>(
     tx: &mut T,
     area: Area,
@@ -68,6 +72,10 @@ fn cell_marks(size: usize, cell: u32) -> [Span; 2]
 }
 
 /// Writes key and value of an unused cell.
+///
+/// # Errors
+///
+/// `Tx`: the transaction refuses the write.
 pub fn put_cell<T: TxBlocks>(
     tx: &mut T,
     area: Area,
@@ -90,6 +98,10 @@ pub fn put_cell<T: TxBlocks>(
 }
 
 /// Makes a cell zero.
+///
+/// # Errors
+///
+/// `Tx`: the transaction refuses the write.
 pub fn clear_cell<T: TxBlocks>(
     tx: &mut T,
     area: Area,

@@ -1,4 +1,4 @@
-// Sizes of an image, and where things stand in it.
+// Sizes of an image, and where things are in it.
 ghost use Rattle.std.specs.Prelude.{◌≡◌, ◌≤◌, ◌*◌, IsTrue};
 ghost use Rattle.iso_model.specs.Geometry.{base_place, half_size, header_place, image_size, is_valid, log_place};
 

@@ -161,7 +161,7 @@ impl Sink for MemSink {
         ensures broken { self.old.is_broken ≡ true → IsErr result }
         ensures cause { HasCause self.old.faults self.new.faults result }
 
-        // It holds nothing back, and fails exactly where it is told to and behind that.
+        // It holds nothing back, and fails exactly where it is told to and after that.
         ensures named { IsErr result ↔ ((one_more self.old.handed ≡ self.old.breaking) ⊎ (self.old.is_broken ≡ true)) }
         ensures after { self.new ≡ record self.old {
           handed = one_more self.old.handed;

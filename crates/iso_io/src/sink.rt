@@ -13,6 +13,10 @@ pub trait Sink {
     ghost state: { Self → SinkState };
 
     /// Takes bytes from the front of a piece, and says how many. It may take none.
+    ///
+    /// # Errors
+    ///
+    /// The sink failed in this call, as a broken one does in each. It took nothing, and this call did not break it.
     fn put(&mut self, bytes: &[u8]) -> Result<usize, SinkFault>
         ensures count { IfOk result (λ n. n ≤ length bytes.now) }
         ensures bytes { IfOk result (λ n. Wrote (state self.old) (state self.new) (take n bytes.now)) }
@@ -25,8 +29,12 @@ pub trait Sink {
         ensures broken { (state self.old).is_broken ≡ true → IsErr result }
         ensures cause { HasCause (state self.old).faults (state self.new).faults result };
 
-    /// Hands on what the sink holds back of the bytes that it took. Where that fails, bytes that it took may never come out:
-    /// the sink is broken, and each later call fails.
+    /// Hands on what the sink holds back of the bytes that it took.
+    ///
+    /// # Errors
+    ///
+    /// The sink failed in this call, as a broken one does in each. It is broken from now on, and bytes that it took may
+    /// never come out.
     fn hand_on(&mut self) -> Result<(), SinkFault>
         ensures stands { OnOk result (state self.new ≡ state self.old) }
         ensures breaks { OnErr result (Broke (state self.old) (state self.new)) }
@@ -43,14 +51,20 @@ pub enum PutError {
     TookNothing,
 }
 
-/// Puts a whole piece. At an error the sink has taken a front of it.
+/// Puts a whole piece.
+///
+/// # Errors
+///
+/// The sink has taken a front of the piece.
+/// - `Failed`: a call of the sink failed.
+/// - `TookNothing`: the sink took nothing of bytes that were left.
 #[tactic(auto, using(crate::proofs::Told::steps))]
 pub fn put_all<K: Sink>(sink: &mut K, bytes: &[u8]) -> Result<(), PutError>
     ensures ok { OnOk result (Wrote (K.state sink.old) (K.state sink.new) bytes.now) }
     ensures err { OnErr result (WroteFront (K.state sink.old) (K.state sink.new) bytes.now) }
 
-    // Each error has its cause in this call, and no other: the count that it does not tell of stands where it stood. No
-    // count falls, and after Ok each stands.
+    // Each error has its cause in this call, and no other: the count of the other one stays. No
+    // count falls, and after Ok each stays.
     ensures failed { IsErrOf result PutError.Failed → Rose (K.state sink.old).faults (K.state sink.new).faults }
     ensures took_nothing { IsErrOf result PutError.TookNothing → Rose (K.state sink.old).refusals (K.state sink.new).refusals }
     ensures not_refused { IsErrOf result PutError.Failed → (K.state sink.new).refusals ≡ (K.state sink.old).refusals }

@@ -17,8 +17,12 @@ pub trait Source {
     /// What the source is at this moment.
     ghost state: { Self → SourceState };
 
-    /// Gives the first of the bytes that are left, and says how many. With room, it gives none
-    /// exactly at the end. It may write any bytes behind them.
+    /// Gives the first of the bytes that are left, and says how many. With room, it gives none exactly at the end. It
+    /// may write any bytes after them.
+    ///
+    /// # Errors
+    ///
+    /// The source failed in this call. No byte is taken from those that are left.
     fn take(&mut self, into: &mut [u8]) -> Result<usize, SourceFault>
         ensures count { IfOk result (λ n. n ≤ length into.new) }
         ensures bytes { IfOk result (λ n. Took (state self.old) (state self.new) (take n into.new)) }
@@ -56,6 +60,12 @@ impl From<AllocError> for TakeError {
 }
 
 /// Takes all bytes that are left, up to a limit. Fewer came exactly where the end was met.
+///
+/// # Errors
+///
+/// At most `limit` bytes were taken, and are lost.
+/// - `Failed`: a call of the source failed.
+/// - `Memory`: want of memory, and no call failed.
 #[tactic(auto, using(crate::proofs::Told::steps))]
 pub fn take_all<S: Source>(alloc: Global, source: &mut S, limit: u64) -> Result<Vec<u8>, TakeError>
     ensures bytes { IfOk result (λ bytes. Took (S.state source.old) (S.state source.new) bytes.items) }

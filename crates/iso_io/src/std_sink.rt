@@ -8,8 +8,9 @@ use counts::raise;
 use std::io::Write;
 use std::marker::Model;
 
-/// A sink over a writer, such as standard output. As a sink it tells no bytes, and each error is a fault. What a writer
-/// holds back is flushed where the sink hands on; once that has failed, each call fails.
+/// A sink over a writer, such as standard output. As a sink it is opaque: the clauses of `Sink` say none of its bytes.
+/// Each error is a fault. What a writer holds back is flushed where the sink hands on; once that has failed, each call
+/// fails.
 #[derive(Drop)]
 pub struct StdSink<T> {
     writer: T,
@@ -50,10 +51,10 @@ impl<T: Write> Sink for StdSink<T> {
         ensures cause { HasCause self.old.faults self.new.faults result }
         ensures faults { self.new.faults ≡ faults_after self.old.faults result }
 
-        // The writer took as many bytes as were said, where it tells them.
+        // The writer took as many bytes as were said, where its bytes are known.
         ensures writer { WriteAppends (T.contents self.old.writer) (T.contents self.new.writer) result bytes.now }
 
-        // Behind a failure to hand on nothing is taken.
+        // After a failure to hand on nothing is taken.
         ensures broken { self.old.is_broken ≡ true → IsErr result }
         ensures whole { self.new.is_broken ≡ self.old.is_broken }
     {
@@ -80,7 +81,7 @@ impl<T: Write> Sink for StdSink<T> {
         ensures breaks { OnErr result (Broke (sink_state self.old) (sink_state self.new)) }
         ensures cause { HasCause self.old.faults self.new.faults result }
 
-        // Behind a failure to hand on it fails each time.
+        // After a failure to hand on it fails each time.
         ensures broken { self.old.is_broken ≡ true → IsErr result }
     {
         if self.broken || self.writer.flush().is_err() {

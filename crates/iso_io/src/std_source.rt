@@ -8,7 +8,8 @@ use counts::raise;
 use std::io::Read;
 use std::marker::Model;
 
-/// A source over a reader, such as standard input. As a source it tells no bytes, and each error is a fault.
+/// A source over a reader, such as standard input. As a source it is opaque: the clauses of `Source` say none of its
+/// bytes. Each error is a fault.
 #[derive(Drop)]
 pub struct StdSource<T> {
     reader: T,
@@ -46,7 +47,7 @@ impl<T: Read> Source for StdSource<T> {
         ensures cause { HasCause self.old.faults self.new.faults result }
         ensures faults { self.new.faults ≡ faults_after self.old.faults result }
 
-        // The bytes are those that the reader had next, where it tells them.
+        // The bytes are those that the reader had next, where its bytes are known.
         ensures reader { ReadConsumes (T.remaining self.old.reader) (T.remaining self.new.reader) result into.new }
     {
         match self.reader.read(into) {

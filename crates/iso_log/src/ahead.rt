@@ -16,7 +16,7 @@ const FIRST: u32 = 69_632;
 /// piece, or for the longest record, and each byte is read from the disk once.
 #[derive(Drop)]
 pub struct ReadAhead {
-    // What lies behind `end` was read before, or never: memory that is taken is kept, and cleared once.
+    // What lies after `end` was read before, or never: memory that is taken is kept, and cleared once.
     bytes: Vec<u8>,
     // Where those begin that the scan has not passed, and where they end.
     from: usize,

@@ -1,4 +1,4 @@
-// How many records stand one behind another.
+// How many records come one after another.
 ghost use Rattle.std.specs.Prelude.{◌≡◌, ◌++◌, ◌^◌, ◌<◌, [], ◌∷◌, ℕ, List, length};
 ghost use Rattle.iso_model.specs.{declared.access.Geometry.Geometry, Image.{Written, records}};
 

@@ -9,7 +9,7 @@ use iso_disk::Disk;
 use iso_model::{Geometry, LAST};
 use std::marker::Model;
 
-/// A log: where it stands, how many bytes it has, how many of them its records take, and the number of its last record.
+/// A log: where it is, how many bytes it has, how many of them its records take, and the number of its last record.
 #[derive(Drop)]
 pub struct Log {
     place: u64,
@@ -88,12 +88,18 @@ impl Log {
 
     /// Adds records, as they are spelled one after another with open gates and a closed gate after the last. It answers
     /// the place of the first. It makes one write, one sync, a write of one byte and one sync, and takes no memory.
+    ///
+    /// # Errors
+    ///
+    /// The log is as before.
+    /// - `LogFull` exactly where the bytes do not fit, which is tried first. The disk is untouched.
+    /// - `Disk`: a call of the disk failed. Each image that a crash leaves has all of the records or none.
     pub fn append_group<D: Disk>(&mut self, disk: &mut D, bytes: &[u8]) -> Result<u64, LogError>
         requires fits { self.old.place + self.old.room ≤ (D.state disk.old).size }
         requires next { (g : Geometry) × (more : List Written) × IsNext self.old g more bytes.now }
         requires told { (g : Geometry) × (first : ℕ) × (told : List Written) × HasTold self.old g first told (D.state disk.old).now }
 
-        // At each moment an image is one from before the call, with the records whole or behind a closed gate.
+        // At each moment an image is one from before the call, with the records whole or after a closed gate.
         ensures moments { LeavesOnly (D.state disk.old) (D.state disk.new) (AppendingFrom (next_place self.old) bytes.now (D.state disk.old).now) }
         ensures whole { OnOk result ((c : List ℕ) → (D.state disk.new).now c → AppendedTo (next_place self.old) bytes.now (D.state disk.old).now c) }
         // So its log has all of them or none, and on Ok all.
@@ -139,6 +145,10 @@ impl Log {
     }
 
     /// Adds one record, in the same way.
+    ///
+    /// # Errors
+    ///
+    /// As those of `append_group`.
     pub fn append<D: Disk>(&mut self, disk: &mut D, bytes: &[u8]) -> Result<u64, LogError>
         requires fits { self.old.place + self.old.room ≤ (D.state disk.old).size }
         requires next { (g : Geometry) × (w : Written) × IsNext self.old g (w ∷ []) bytes.now }
@@ -171,9 +181,16 @@ impl Log {
         self.append_group(disk, bytes)
     }
 
-    /// Finds the next record, and answers how many bytes it has with the gate after it: the first of those that are read ahead.
-    /// It answers none where that record's gate is closed. Bytes are read a piece of the log at once, so a log costs one call
-    /// of the disk a piece; `ReadAhead::view_front` returns what the record says, and `pass` passes it.
+    /// Finds the next record, and answers how many bytes it has with the gate after it: the first of those that are
+    /// read ahead. It answers none where that record's gate is closed. Bytes are read a piece of the log at once, so a
+    /// log costs one call of the disk a piece; `ReadAhead::view_front` returns what the record says, and `pass` passes
+    /// it. It writes nothing.
+    ///
+    /// # Errors
+    ///
+    /// - `Damaged`: where in the image the record is wrong, and the first test that it fails.
+    /// - `Disk`: a call of the disk failed.
+    /// - `Memory`: want of memory for what is read ahead.
     pub fn find_ahead<D: Disk>(
         &self,
         disk: &mut D,
@@ -217,6 +234,10 @@ impl Log {
     }
 
     /// Reads bytes of the image from a place on.
+    ///
+    /// # Errors
+    ///
+    /// `Disk`: the disk failed. Any bytes may be in the slice.
     pub fn read_at<D: Disk>(&self, disk: &mut D, at: u64, into: &mut [u8]) -> Result<(), LogError>
         requires { at + length into.old ≤ (D.state disk.old).size }
         ensures bytes { OnOk result (ForSome (D.state disk.old).contents (λ c. into.new ≡ slice_range c at (at + length into.old))) }

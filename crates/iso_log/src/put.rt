@@ -1,4 +1,4 @@
-// Bytes that are put behind a gate, and then the gate.
+// The bytes that follow a gate are put, and then the gate.
 ghost use Rattle.std.specs.Prelude.{◌≡◌, ◌+◌, ◌≤◌, ℕ, List, length, slice_index, OnOk};
 ghost use Rattle.iso_disk.specs.Disk.{IsSettled, LeavesOnly, StaysTold};
 ghost use Rattle.counts.specs.Count.{HasCause};
@@ -10,6 +10,10 @@ use iso_disk::{Disk, DiskFault};
 
 /// Puts bytes after their closed gate and opens it. The first of them is the open gate. It makes one write, one sync, a
 /// write of one byte and one sync.
+///
+/// # Errors
+///
+/// A call of the disk failed. Each image that a crash leaves has the bytes as a whole, or a closed gate.
 pub fn put_group<D: Disk>(disk: &mut D, gate: u64, bytes: &[u8]) -> Result<(), DiskFault>
     requires fits { gate + length bytes.now ≤ (D.state disk.old).size }
     requires some { 1 ≤ length bytes.now }

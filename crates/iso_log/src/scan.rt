@@ -15,7 +15,7 @@ use iso_model::Geometry;
 // How many bytes of a record come before its parts.
 const HEAD: u32 = 20;
 
-// The answer where a record that stands at this place fails a test.
+// The answer where a record at this place fails a test.
 fn damaged(gate: u64, fault: FormatError) -> LogError
     requires { gate + offset_of fault < 2 ^ 64 }
     ensures { result ≡ LogError.Damaged (gate + offset_of fault) (test_number fault) }
@@ -51,8 +51,14 @@ fn test_front(
     }
 }
 
-/// Finds the record at a gate, where `rest` bytes of the log are left. It answers how many bytes it has, the gate after it
-/// among them, and none where the gate is closed.
+/// Finds the record at a gate, where `rest` bytes of the log are left. It answers how many bytes it has, the gate after
+/// it among them, and none where the gate is closed. It writes nothing.
+///
+/// # Errors
+///
+/// - `Damaged`: where in the image the record is wrong, and the first test that it fails.
+/// - `Disk`: a call of the disk failed.
+/// - `Memory`: want of memory for what is read ahead.
 pub fn find_record<D: Disk>(
     disk: &mut D,
     gate: u64,

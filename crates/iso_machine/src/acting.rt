@@ -25,7 +25,14 @@ fn or_stop(given: Result<Reply, Memory>) -> Result<Reply, Stop>
     }
 }
 
-/// An access or a mark of a transaction; any other operation is refused.
+/// An access or a mark of a transaction; any other operation is refused by its reply.
+///
+/// # Errors
+///
+/// There is no reply, and the accesses stay as they are.
+/// - `Memory`: want of memory.
+/// - `Disk`: the disk failed in this call.
+/// - `Down` never comes.
 pub fn act<D: Disk>(
     alloc: Global,
     core: &mut Core<D>,

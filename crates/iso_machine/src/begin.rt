@@ -13,6 +13,10 @@ use std::alloc::Global;
 use tx_table::Work;
 
 /// Memory for the work of one more transaction in blocks of this size: that of one that has left, where there is some.
+///
+/// # Errors
+///
+/// Want of memory.
 pub fn take_work(
     alloc: Global,
     spare: &mut Vec<Box<Work>>,

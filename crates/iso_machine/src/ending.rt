@@ -16,7 +16,11 @@ use std::marker::Brand;
 use std::sync::ledger::{Blank, Ledger};
 use tx_table::Work;
 
-/// Ends a transaction of a core, of which nothing was checked ahead.
+/// Ends a transaction of a core that is up, of which nothing was checked ahead.
+///
+/// # Errors
+///
+/// As those of `Core::end`.
 pub fn end_whole<L: Ledger, D: Disk>(
     blank: Blank,
     core: &mut Core<D>,
@@ -47,7 +51,7 @@ pub fn end_whole<L: Ledger, D: Disk>(
     core.end(tx, work, &checked, &mut steps)
 }
 
-/// The reply that the end of a transaction stands for.
+/// The reply for the end of a transaction.
 fn ended(reply: EndReply) -> Reply
     ensures { result ≡ as_reply (reply_of reply) }
 {

@@ -17,7 +17,7 @@ use std::alloc::Global;
 use std::mem;
 use tx_table::Work;
 
-/// What was found under the labels so far. An answer stands for each label, which the group's reply takes the place of where a
+/// What was found under the labels so far. There is an answer for each label, which the group's reply takes the place of where a
 /// transaction was found; `count` were found, and they are the first members.
 #[derive(Drop)]
 struct Taken {
@@ -37,6 +37,10 @@ fn nothing_taken(alloc: Global, labels: usize) -> Taken
 }
 
 /// Makes places for `count` members.
+///
+/// # Errors
+///
+/// Want of memory. There may be fewer places.
 pub fn make_places(
     alloc: Global,
     ends: &mut Vec<GroupEnd>,
@@ -67,7 +71,7 @@ fn fill_place(place: &mut GroupEnd, spare: &mut Vec<Box<Work>>, gone: Attached)
     keep_spare(spare, work);
 }
 
-/// Makes a transaction the member behind the first ones.
+/// Makes a transaction the member after the first ones.
 fn add_member(ends: &mut [GroupEnd], count: usize, spare: &mut Vec<Box<Work>>, gone: Attached)
     requires { count < length ends.old }
     ensures { take (count + 1) ends.new ≡ take count ends.old ++ member_of gone ∷ [] }
@@ -125,7 +129,7 @@ fn take_members(
     take_members(finder, live, spare, taken, ends, others)
 }
 
-/// Puts the members' replies in the place of the answers that stand for them.
+/// Puts the members' replies in the place of the answers that are there for them.
 pub fn fill_answers(answers: &mut [Option<GroupReply>], ends: &[GroupEnd])
     ensures { answers.new ≡ filled answers.old (map reply_in ends.now) }
 {

@@ -9,7 +9,7 @@ pub trait Origin {
     ghost use Rattle.iso_model.specs.{Array.Array, World.World};
     ghost use Rattle.tx_table.specs.Work.{Doing};
 
-    /// The worlds that the core stood for.
+    /// The worlds that the core represented.
     ghost stood: { World → Type 0 };
 
     /// The disk.
@@ -18,7 +18,7 @@ pub trait Origin {
     /// What the transaction did.
     ghost doing: { Doing };
 
-    /// The array at its begin, where the disk tells it.
+    /// The array at its begin, where the disk's bytes are known.
     ghost array: { Option Array };
 
     /// Where the core is.

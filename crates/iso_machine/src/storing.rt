@@ -93,6 +93,13 @@ fn call_on<D: Disk>(
 }
 
 /// An operation on a store by a transaction.
+///
+/// # Errors
+///
+/// There is no reply, and the accesses that the call has made stay.
+/// - `Memory`: want of memory.
+/// - `Disk`: the disk failed in this call.
+/// - `Down` never comes.
 pub fn store<D: Disk>(
     alloc: Global,
     core: &mut Core<D>,

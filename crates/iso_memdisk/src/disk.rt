@@ -162,11 +162,15 @@ impl MemDisk {
         self.history.clear();
     }
 
-    /// An image that a crash now may leave. Pick 0 gives the bytes as the last sync left them, and pick 1 those that a read gives.
-    /// A pick from 2 on lays a byte of its own draws in the place of each byte of each write since the last sync: in the order of the
-    /// writes, one draw a byte, whatever was written or was there, and a later write lies over an earlier one. The seed of the
-    /// draws is the pick. The clauses promise of such an image only that a crash may leave it; which bytes are drawn, and that
-    /// they are drawn anew, tests alone promise.
+    /// An image that a crash now may leave. Pick 0 gives the bytes as the last sync left them, and pick 1 those that a
+    /// read gives. A pick from 2 on lays a byte of its own draws in the place of each byte of each write since the last
+    /// sync: in the order of the writes, one draw a byte, whatever was written or was there, and a later write lies
+    /// over an earlier one. The seed of the draws is the pick. The clauses promise of such an image only that a crash
+    /// may leave it; which bytes are drawn, and that they are drawn anew, tests alone promise.
+    ///
+    /// # Errors
+    ///
+    /// Want of memory.
     pub fn crash(&self, alloc: Global, pick: u64) -> Result<Vec<u8>, Memory>
         ensures image { IfOk result (λ image. now_of self.now image.items) }
         ensures synced { pick ≡ 0 → IfOk result (λ image. image.items ≡ synced_of self.now) }

@@ -8,12 +8,14 @@ pub struct Draws {
 }
 
 impl Draws {
+    /// The row that begins with this seed.
     pub fn new(seed: u64) -> Self
         ensures { result.x ≡ seed }
     {
         Draws { x: seed }
     }
 
+    /// The next byte.
     pub fn next(&mut self) -> u8
         ensures number { self.new.x ≡ (self.old.x * 6364136223846793005 + 1442695040888963407) % 2 ^ 64 }
         ensures byte { result ≡ self.new.x / 2 ^ 32 % 2 ^ 8 }

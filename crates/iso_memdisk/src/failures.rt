@@ -51,7 +51,7 @@ impl KindPlan {
     }
 }
 
-/// The plan of a disk's failures, and its counts. A count stands still at its last value.
+/// The plan of a disk's failures, and its counts. A count stays at its last value.
 #[derive(Debug, Drop)]
 pub struct Failures {
     /// How many calls pass before all fail.
@@ -88,7 +88,11 @@ impl Failures {
         }
     }
 
-    /// Counts a call, which fails exactly where the plan names it.
+    /// Counts a call.
+    ///
+    /// # Errors
+    ///
+    /// The plan names the call, and exactly then.
     pub fn count_call(&mut self, kind: CallKind) -> Result<(), DiskFault>
         ensures named { IsErr result ↔ IsNamed kind self.old }
         ensures counted { self.new ≡ record (counted kind self.old) { faults = faults_after self.old.faults result } }

@@ -67,8 +67,11 @@ pub struct Geometry {
 /// How a transaction ended.
 #[derive(Clone, Copy, Debug, PartialEq, Eq)]
 pub enum EndReply {
+    /// Its writes are the commit of this number.
     Committed(u64),
+    /// It had no write.
     ReadOnly,
+    /// A commit after its begin conflicts with it.
     Conflict(Clash),
 }
 
@@ -77,15 +80,17 @@ pub enum EndReply {
 pub enum GroupReply {
     /// Its writes are this commit.
     Committed(u64),
+    /// It had no write.
     ReadOnly,
+    /// A commit after its begin conflicts with it.
     Conflict(Clash),
-    /// Its record and the next gate need more bytes than the log has free behind the members before it.
+    /// Its record and the next gate need more bytes than the log has free after the members before it.
     Full { need: u64, free: u64 },
     /// There is no number for it.
     Worn,
 }
 
-/// Bytes that stand one behind the other in a block, from `off` on.
+/// Bytes that follow one another in a block, from `off` on.
 #[derive(Debug, Drop)]
 pub struct Run {
     pub block: u32,

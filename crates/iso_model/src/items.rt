@@ -20,7 +20,7 @@ impl<T> Model for Items<T> {
     ghost view = { λ a. a.items.items };
 }
 
-/// The spans of an access; none stands for the whole block.
+/// The spans of an access; no span means the whole block.
 pub type SpanList = Items<Span>;
 
 /// A text, or the bytes of a block.
@@ -55,8 +55,12 @@ impl<T> Items<T> {
         Items { items }
     }
 
-    /// Makes room for `more` more items, so that adding them takes no memory. The items stay. Contracts do not see the
-    /// room of a list that is data of the model; with `with_room` they do.
+    /// Makes room for `more` more items, so that adding them takes no memory. Contracts do not see the room of a list
+    /// that is data of the model; with `with_room` they do.
+    ///
+    /// # Errors
+    ///
+    /// Want of memory. The items stay, as they do at Ok.
     pub fn reserve(&mut self, more: u32) -> Result<(), Memory>
         ensures { self.new ≡ self.old }
     {
@@ -64,8 +68,11 @@ impl<T> Items<T> {
         Ok(())
     }
 
-    /// The list with room for `more` more items, within which a push takes no memory; `into_items` is the way back. Without
-    /// memory the list is handed back.
+    /// The list with room for `more` more items, within which a push takes no memory; `into_items` is the way back.
+    ///
+    /// # Errors
+    ///
+    /// Want of memory. The list is handed back.
     pub fn with_room(self, more: u32) -> Result<Reserved<T>, Items<T>>
         ensures ok { IfOk result (λ r. (r.items ≡ self) × (more ≤ r.room)) }
         ensures err { IfErr result (λ list. list ≡ self) }
@@ -77,7 +84,11 @@ impl<T> Items<T> {
         }
     }
 
-    /// Adds an item at the end. Without memory the list stays as it is.
+    /// Adds an item at the end.
+    ///
+    /// # Errors
+    ///
+    /// Want of memory. The list stays as it is.
     pub fn push(&mut self, item: T) -> Result<(), Memory>
     where
         T: Drop,
@@ -88,12 +99,14 @@ impl<T> Items<T> {
         Ok(())
     }
 
+    /// How many items there are.
     pub fn len(&self) -> usize
         ensures { result ≡ length self.now }
     {
         self.items.len()
     }
 
+    /// Whether there are none.
     pub fn is_empty(&self) -> bool
         ensures { result ≡ (length self.now == 0) }
     {

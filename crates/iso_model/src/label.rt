@@ -38,7 +38,7 @@ impl Label {
         })
     }
 
-    /// The same label once more.
+    /// A copy of the label.
     pub fn copy(&self) -> Label
         ensures { result ≡ self.now }
     {
@@ -55,7 +55,7 @@ impl Label {
         &self.bytes[..self.len as usize]
     }
 
-    /// A number that tells it from every other label.
+    /// A number that no other label has.
     pub fn key(&self) -> u128
         ensures key { result ≡ key_of self.now }
         ensures label { IsTrue (is_label self.now) }

@@ -32,7 +32,11 @@ impl PartList {
         }
     }
 
-    /// Adds a part at the end, with a copy of its bytes. Without memory the list stays as it is.
+    /// Adds a part at the end, with a copy of its bytes.
+    ///
+    /// # Errors
+    ///
+    /// Want of memory. The list stays as it is.
     pub fn push(&mut self, block: u32, off: u16, bytes: &[u8]) -> Result<(), Memory>
         ensures ok { OnOk result (self.new ≡ self.old ++ record { block = block; off = off; bytes = bytes.now } ∷ []) }
         ensures err { OnErr result (self.new ≡ self.old) }
@@ -41,12 +45,14 @@ impl PartList {
         self.parts.push(Run { block, off, bytes })
     }
 
+    /// How many parts there are.
     pub fn len(&self) -> usize
         ensures { result ≡ length self.now }
     {
         self.parts.len()
     }
 
+    /// Whether there are none.
     pub fn is_empty(&self) -> bool
         ensures { result ≡ (length self.now == 0) }
     {

@@ -42,6 +42,10 @@ impl<T> Reserved<T> {
     }
 
     /// Makes room for `more` more items. Where there is room for them already it takes no memory.
+    ///
+    /// # Errors
+    ///
+    /// Want of memory. The list stays as it is.
     pub fn reserve(&mut self, more: u32) -> Result<(), Memory>
         ensures ok { OnOk result (more ≤ self.new.room) }
         ensures items { self.new.items ≡ self.old.items }
@@ -54,6 +58,10 @@ impl<T> Reserved<T> {
     }
 
     /// Adds an item at the end. Where there is room it takes no memory.
+    ///
+    /// # Errors
+    ///
+    /// Want of memory. The list stays as it is.
     pub fn push(&mut self, item: T) -> Result<(), Memory>
     where
         T: Drop,
@@ -103,12 +111,14 @@ impl<T> Reserved<T> {
         self.items.clear();
     }
 
+    /// How many items there are.
     pub fn len(&self) -> usize
         ensures { result ≡ length self.now.items }
     {
         self.items.len()
     }
 
+    /// Whether there are none.
     pub fn is_empty(&self) -> bool
         ensures { result ≡ (length self.now.items == 0) }
     {

@@ -15,8 +15,15 @@ use iso_image::OpenError;
 use iso_model::Geometry;
 use std::alloc::Global;
 
-/// Makes an image of the geometry's form on which nothing was committed of a blank disk, by five calls of the disk, and a
-/// core over it. An error hands the disk back; want of memory comes before the first call.
+/// Makes an image of the geometry's form on which nothing was committed of a blank disk, by five calls of the disk, and
+/// a core over it.
+///
+/// # Errors
+///
+/// The disk is handed back.
+/// - `Memory`: want of memory. No call of the disk was made.
+/// - `Disk`: a call of the disk failed. Each image that a crash leaves is refused as none of this project, or holds no
+///   commit.
 pub fn format_image<D: Disk>(
     alloc: Global,
     disk: D,
@@ -44,8 +51,15 @@ pub fn format_image<D: Disk>(
     }
 }
 
-/// Opens an image, or finds the first test that it fails: a core that is up, without transactions. It begins with a sync,
-/// and writes nothing. An error hands the disk back.
+/// Opens an image, or finds the first test that it fails: a core that is up, without transactions. It begins with a
+/// sync, and writes nothing.
+///
+/// # Errors
+///
+/// The disk is handed back, and nothing was written to it.
+/// - `Disk`: a call of the disk failed.
+/// - `Memory`: want of memory.
+/// - Any other: the first test that the image fails.
 pub fn open_image<D: Disk>(alloc: Global, disk: D) -> Result<Core<D>, (OpenError, D)>
     ensures opened { IfOk result (λ core. HasOpened D.state core (D.state disk).contents) }
     ensures refused { IfErr result (λ e. IsTest e.0 → ForSome (D.state disk).contents (λ c. refusal c ≡ Some e.0)) }

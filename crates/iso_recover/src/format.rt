@@ -16,6 +16,10 @@ const GATE: u64 = 63;
 
 /// Writes an image of the geometry's form on which nothing was committed over a blank disk. It makes five calls of the
 /// disk: it writes the superblock but for its gate and the header of the first half, syncs, writes the gate, and syncs.
+///
+/// # Errors
+///
+/// A call of the disk failed. Each image that a crash leaves is refused as none of this project, or holds no commit.
 pub fn put_front<D: Disk>(disk: &mut D, geometry: &Geometry) -> Result<(), DiskFault>
     requires valid { IsTrue (is_valid geometry.now) }
     requires size { (D.state disk.old).size ≡ image_size geometry.now }

@@ -21,9 +21,14 @@ pub struct Front {
     pub log: u64,
 }
 
-/// Reads the front of an image, or finds the first test that it fails before its log. It begins with a sync, makes three
-/// reads, writes nothing and takes no memory. After any answer but a fault of the disk, each image that a crash may leave
-/// is what a read gives.
+/// Reads the front of an image, or finds the first test that it fails before its log. It begins with a sync, makes
+/// three reads, writes nothing and takes no memory. After any answer but a fault of the disk, each image that a crash
+/// may leave is what a read gives.
+///
+/// # Errors
+///
+/// - `Disk`: a call of the disk failed.
+/// - Any other but `Memory`: the first test that the image fails.
 pub fn read_front<D: Disk>(disk: &mut D) -> Result<Front, OpenError>
     ensures front { IfOk result (λ f. IsFront f (D.state disk.old).size) }
     ensures told { IfOk result (λ f. ForSome (D.state disk.old).contents (HasFront f)) }

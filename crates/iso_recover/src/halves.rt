@@ -11,7 +11,7 @@ use iso_format::{read_half, unclean_place};
 use iso_image::{OpenError, half_place};
 use iso_model::{Geometry, LAST};
 
-// The first test that the header of a half fails, which stands at this place of the image.
+// The first test that the header of a half fails, which is at this place of the image.
 fn header_refusal(place: u64, header: &[u8]) -> Option<OpenError>
     requires size { length header.now ≡ 32 }
     requires place { place + 32 < 2 ^ 64 }
@@ -68,7 +68,13 @@ fn front_of(geometry: &Geometry, half: u8, header: &[u8]) -> Result<Front, OpenE
     })
 }
 
-/// What the current half of an image of this geometry says, whose halves have these headers, or the first test that it fails.
+/// What the current half of an image of this geometry says, whose halves have these headers.
+///
+/// # Errors
+///
+/// The first test that they fail:
+/// - `NoHalf`: the gates of both are closed.
+/// - `UnknownForm`, `Damaged`: the current one is of no known form, or is wrong at this place of the image.
 pub fn current_front(geometry: &Geometry, first: &[u8], second: &[u8]) -> Result<Front, OpenError>
     requires valid { IsTrue (is_valid geometry.now) }
     requires first { length first.now ≡ 32 }

@@ -13,9 +13,15 @@ use iso_format::RecordBuffer;
 use iso_image::OpenError;
 use std::alloc::Global;
 
-/// Reads an image that is opened, or finds the first test that it fails. It begins with a sync, writes nothing, and reads the
-/// front and then the log; it takes memory in proportion to the parts of records. After any answer but a fault of the disk,
-/// each image that a crash may leave is what a read gives.
+/// Reads an image that is opened. It begins with a sync, writes nothing, and reads the front and then the log; it takes
+/// memory in proportion to the parts of records. After any answer but a fault of the disk, each image that a crash may
+/// leave is what a read gives.
+///
+/// # Errors
+///
+/// - `Disk`: a call of the disk failed.
+/// - `Memory`: want of memory.
+/// - Any other: the first test that the image fails.
 pub fn read_image<D: Disk>(alloc: Global, disk: &mut D) -> Result<Opened, OpenError>
     ensures opened { IfOk result (λ o. (H : History) × IsOpened o H (D.state disk.new)) }
     ensures refused { IfErr result (λ e. IsTest e → ForSome (D.state disk.old).contents (λ c. refusal c ≡ Some e)) }

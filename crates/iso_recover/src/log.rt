@@ -17,8 +17,14 @@ use version_read::take_parts;
 /// How many bytes of a log are read at once, which lie in a cache of the processor.
 const PIECE: u32 = 1 << 17;
 
-/// Reads the log of an image whose front was read, up to its first closed gate, or finds the first test that it fails. It
-/// writes nothing, reads a piece of the log at once, and takes memory for a piece, the longest record and the versions.
+/// Reads the log of an image whose front was read, up to its first closed gate. It writes nothing, reads a piece of the
+/// log at once, and takes memory for a piece, the longest record and the versions.
+///
+/// # Errors
+///
+/// - `Disk`: a call of the disk failed.
+/// - `Memory`: want of memory.
+/// - `Damaged`: where the first record that is wrong is so, and the test that it fails.
 pub fn read_log<D: Disk>(
     alloc: Global,
     disk: &mut D,

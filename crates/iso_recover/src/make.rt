@@ -43,8 +43,13 @@ fn new_image(alloc: Global, geometry: &Geometry) -> Result<Opened, Memory>
     })
 }
 
-/// Makes an image of the geometry's form on which nothing was committed of a blank disk, as `put_front` does. Want of memory
-/// comes before the first call of the disk.
+/// Makes an image of the geometry's form on which nothing was committed of a blank disk, as `put_front` does.
+///
+/// # Errors
+///
+/// - `Memory`: want of memory. No call of the disk was made.
+/// - `Disk`: a call of the disk failed. Each image that a crash leaves is refused as none of this project, or holds no
+///   commit.
 pub fn make_image<D: Disk>(
     alloc: Global,
     disk: &mut D,

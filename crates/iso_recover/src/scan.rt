@@ -22,6 +22,12 @@ fn opening(error: LogError) -> OpenError
 }
 
 /// Finds the next record of a log, as `Log::find_ahead` does, with the errors of an opening.
+///
+/// # Errors
+///
+/// - `Disk`: a call of the disk failed.
+/// - `Memory`: want of memory.
+/// - `Damaged`: where in the image the record is wrong, and the test that it fails.
 pub fn find_on<D: Disk>(
     disk: &mut D,
     geometry: &Geometry,

@@ -12,6 +12,10 @@ use iso_image::{OpenError, image_size};
 use iso_model::Geometry;
 
 /// Reads bytes of the image from a place on.
+///
+/// # Errors
+///
+/// `Disk`: the disk failed. Any bytes may be in the slice.
 pub fn read_bytes<D: Disk>(disk: &mut D, at: u64, into: &mut [u8]) -> Result<(), OpenError>
     requires { at + length into.old ≤ (D.state disk.old).size }
     ensures told { OnOk result (ForSome (D.state disk.old).contents (λ c. into.new ≡ take (length into.old) (drop at c))) }
@@ -49,6 +53,11 @@ fn tested_geometry(block: &[u8], have: u64) -> Result<Geometry, OpenError>
 }
 
 /// Reads the geometry of an image, which is of form 1 as a superblock gives no form.
+///
+/// # Errors
+///
+/// - `Disk`: a call of the disk failed.
+/// - `NotIsotope`, `BadGeometry`, `WrongSize`: the first test that the superblock and the size fail.
 pub fn read_geometry<D: Disk>(disk: &mut D) -> Result<Geometry, OpenError>
     ensures refused { IfErr result (λ e. IsTest e → ForSome (D.state disk.old).contents (λ c. refusal c ≡ Some e)) }
     ensures shape { IfErr result (IsShaped (D.state disk.old).size) }

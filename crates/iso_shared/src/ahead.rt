@@ -22,6 +22,10 @@ use tx_table::Work;
 
 impl<D: Disk + Drop, O: Origin> Shared<D, O> {
     /// The commits after those that the transaction was checked against, for a check ahead of the turn of its end.
+    ///
+    /// # Errors
+    ///
+    /// As those of `Core::recent`: `Down` and `Memory`. What the transaction has done and was checked against stays.
     pub fn recent<R: Wait>(&self, rt: &R, tx: &mut Tx<D, O>) -> Result<Recent, CoreError>
         requires tx { IsTx self.now O.start tx.old }
         ensures tx { IsTx self.now O.start tx.new }

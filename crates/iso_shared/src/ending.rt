@@ -17,7 +17,7 @@ use std::snapshot::Snapshot;
 use std::sync::Wait;
 use tx_table::Work;
 
-// Settles the work ahead of the turn. Where memory is wanting, the end tells so.
+// Settles the work ahead of the turn. Where memory is wanting, the end says so.
 fn settle(work: &mut Work)
     ensures work { work.new ≡ record work.old { settled = work.new.settled } }
     ensures within { AreWithin work.new.size work.new.blocks work.new.accesses }
@@ -59,8 +59,13 @@ impl<D: Disk + Drop, O: Origin> Shared<D, O> {
         result
     }
 
-    /// Ends a transaction, as the core does at this turn. Where it is refused, the transaction is handed back as it was; after
-    /// a fault of the disk there is none, and its units go to the port, as after an answer.
+    /// Ends a transaction, as the core does at this turn. Its units go to the port.
+    ///
+    /// # Errors
+    ///
+    /// As those of `Core::end`.
+    /// - After `Disk` there is no transaction, and its units go to the port too.
+    /// - After any other it is handed back as it was, and the port is as before.
     pub fn end<L: Ledger, R: Wait>(
         &self,
         rt: &R,

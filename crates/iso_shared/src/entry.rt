@@ -1,4 +1,4 @@
-// The entries of the list that a shared device stands for. No value of them is made.
+// The entries of the list that a shared device represents. No value of them is made.
 
 use iso_model::{Access, EndReply, GroupReply, Label, Mode};
 use std::collections::LinkedList;
@@ -47,13 +47,21 @@ pub enum Call {
 
 /// Why it is refused. A fault of the disk has the counts of faults before and after the call.
 pub enum Cause {
+    /// An earlier fault set the core down.
     Down,
+    /// As many transactions are live as may be.
     TooManyTx,
+    /// The record and the next gate need more bytes than the log has free.
     LogFull { need: u64, free: u64 },
+    /// The disk failed in the call, which raised the count of its faults.
     Disk { before: u64, after: u64 },
+    /// Want of memory.
     Memory,
+    /// The number that must rise is the last one.
     Worn,
+    /// The image has transactions of its own mode alone.
     ModeFixed,
+    /// A transaction is under the label.
     LabelTaken,
 }
 

@@ -228,10 +228,15 @@ impl<D: Disk + Drop, O: Origin> Shared<D, O> {
         }
     }
 
-    /// Ends different transactions one after the other, as the core does at this turn, with one append for all their commits, and
-    /// answers how each ended, in order. A member that the log has no room or no number for is aborted. Their passes go to the port,
-    /// through which the call is made. Where the core is down, and where memory is wanting, each is handed back as it was, with one
-    /// unit. After a fault of the disk there is none.
+    /// Ends different transactions one after the other, as the core does at this turn, with one append for all their
+    /// commits, and answers how each ended, in order. A member that the log has no room or no number for is aborted.
+    /// Their passes go to the port, through which the call is made.
+    ///
+    /// # Errors
+    ///
+    /// As those of `Core::end_group`.
+    /// - `Down`, `Memory`: each is handed back as it was, with one unit.
+    /// - `Disk`: there is none any more.
     pub fn end_group<R: Wait>(
         &self,
         rt: &R,

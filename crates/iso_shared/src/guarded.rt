@@ -29,7 +29,7 @@ impl Origin for Brand {
     ghost disk = { untold 0 0 0 None };
 }
 
-/// An entry of the list, and the moment at which its turn ended, as the clock of the disk tells it. No value of it is made.
+/// An entry of the list, and the moment at which its turn ended, by the clock of the disk. No value of it is made.
 pub struct Stamped {
     pub entry: Entry,
     pub moment: u64,

@@ -16,8 +16,13 @@ use std::sync::Wait;
 use tx_table::PostError;
 
 impl<D: Disk + Drop, O: Origin> Shared<D, O> {
-    /// Puts a transaction under a label, and its units go to the port. It hands the transaction back where the label is held,
-    /// and where memory is wanting.
+    /// Puts a transaction under a label, and its units go to the port.
+    ///
+    /// # Errors
+    ///
+    /// The transaction is handed back as it was, and the port is as before.
+    /// - `LabelTaken`: another transaction is under the label.
+    /// - `Memory`: want of memory.
     pub fn post<R: Wait>(
         &self,
         rt: &R,
@@ -67,8 +72,8 @@ impl<D: Disk + Drop, O: Origin> Shared<D, O> {
         }
     }
 
-    /// Takes the transaction under a label, with one of the port's units, and none exactly where the label is not held. Nothing
-    /// of it is checked ahead. It takes no memory.
+    /// Takes the transaction under a label, with one of the units of the port, which has two at least; none exactly
+    /// where the label is not held. Nothing of it is checked ahead. It takes no memory.
     pub fn look<R: Wait>(&self, rt: &R, port: &mut Port<D, O>, label: &Label) -> Option<Tx<D, O>>
         requires port { IsPort self.now port.old × (1 < (port_view port.old).units) }
         ensures port { IsPort self.now port.new }

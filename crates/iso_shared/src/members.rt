@@ -11,7 +11,7 @@ use iso_disk::Disk;
 use std::mem;
 
 impl<D: Disk + Drop, O: Origin> Shared<D, O> {
-    // Joins the pass of a member into the port. A note without a unit stands in its place.
+    // Joins the pass of a member into the port. A note without a unit takes its place.
     fn join_member(&self, port: &mut Port<D, O>, tx: &mut Tx<D, O>)
         requires port { IsPort self.now port.old }
         requires tx { IsTx self.now O.start tx.old }

@@ -18,7 +18,7 @@ use std::snapshot::Snapshot;
 use turn_lock::{Names, Pass, Turn};
 use tx_table::Rack;
 
-/// A core and its labels behind a turn lock. Each call of a core adds one entry to one legal list.
+/// A core and its labels under a turn lock. Each call of a core adds one entry to one legal list.
 #[derive(Drop)]
 pub struct Shared<D: Disk + Drop, O: Origin> {
     pub(crate) lock: Turns<D, O>,
@@ -35,8 +35,12 @@ pub struct Port<D: Disk + Drop, O: Origin> {
 impl<D: Disk + Drop, O: Origin> Shared<D, O> {
     ghost use Rattle.iso_shared.specs.Ports.{IsGiven, IsIsolatedAt, IsOf, IsPort, IsSameTx, IsTx, doing_of, first_geometry, port_moments, port_view, tx_view};
 
-    /// A device over a core that is up and has no live transaction, and its first port, which has all units. It takes all
-    /// memory of the lock.
+    /// A device over a core that is up and has no live transaction, and its first port, which has all units. It takes
+    /// all memory of the lock.
+    ///
+    /// # Errors
+    ///
+    /// Want of memory. The core is handed back.
     pub fn new(
         alloc: Global,
         core: Core<D>,
@@ -79,7 +83,7 @@ impl<D: Disk + Drop, O: Origin> Shared<D, O> {
         self.geometry
     }
 
-    // Gives the turn back, with an entry that tells what the call did, and the moment of now.
+    // Gives the turn back, with an entry that says what the call did, and the moment of now.
     fn give_as<N: Names<Stamped>>(
         &self,
         pass: &mut Pass<Guarded<D, O>>,
@@ -116,7 +120,7 @@ impl<D: Disk + Drop, O: Origin> Shared<D, O> {
         self.give_as::<Brand>(pass, turn, before, told);
     }
 
-    // Tells one pass what another has seen, by a note without a unit.
+    // Makes one pass know what another has seen, by a note without a unit.
     pub(crate) fn tell(&self, from: &mut Pass<Guarded<D, O>>, to: &mut Pass<Guarded<D, O>>)
         requires from { IsOf self.now.lock from.old }
         requires to { IsOf self.now.lock to.old }
@@ -130,7 +134,7 @@ impl<D: Disk + Drop, O: Origin> Shared<D, O> {
         self.lock.join(to, note);
     }
 
-    /// Another port, which gets these units.
+    /// Another port, which gets these units, one at least; at least one stays with `from`.
     pub fn port(&self, from: &mut Port<D, O>, units: u64) -> Port<D, O>
         requires from { IsPort self.now from.old }
         requires units { (0 < units) × (units < (port_view from.old).units) }
@@ -157,7 +161,7 @@ impl<D: Disk + Drop, O: Origin> Shared<D, O> {
         self.lock.join(&mut into.pass, pass);
     }
 
-    /// Tells a transaction what a port has seen. It makes no entry, and waits for nobody.
+    /// Makes a transaction know what a port has seen. It makes no entry, and waits for nobody.
     pub fn tell_tx(&self, port: &mut Port<D, O>, tx: &mut Tx<D, O>)
         requires port { IsPort self.now port.old }
         requires tx { IsTx self.now O.start tx.old }
@@ -170,7 +174,7 @@ impl<D: Disk + Drop, O: Origin> Shared<D, O> {
         self.tell(&mut port.pass, &mut tx.pass);
     }
 
-    /// Tells a port what a transaction has seen. It makes no entry, and waits for nobody.
+    /// Makes a port know what a transaction has seen. It makes no entry, and waits for nobody.
     pub fn tell_port(&self, tx: &mut Tx<D, O>, port: &mut Port<D, O>)
         requires tx { IsTx self.now O.start tx.old }
         requires port { IsPort self.now port.old }
@@ -215,7 +219,7 @@ impl<D: Disk + Drop, O: Origin> Shared<D, O> {
     }
 
     /// Ends the device, and gives the core back, which represents the whole list. The port has all units. It waits for nobody.
-    /// The list's commits stand in one order, in which each is serial or snapshot, as its mode says. The disk is bound as it was.
+    /// The list's commits are in one order, in which each is serial or snapshot, as its mode says. The disk is bound as it was.
     /// What a caller was told is there: from the moment at which the turn of its call ended on, each image that a crash might have left
     /// shows the commits of the list up to that turn.
     pub fn close(self, port: Port<D, O>) -> Core<D>

@@ -1,4 +1,4 @@
-// What a call did, for contracts alone: it tells which entry the call leaves.
+// What a call did, for contracts alone: it says which entry the call leaves.
 
 use crate::guarded::Posted;
 use iso_core::{Begun, GroupEnd, Recent, Stat};

@@ -16,7 +16,12 @@ use std::sync::Wait;
 use tx_table::Work;
 
 impl<D: Disk + Drop, O: Origin> Shared<D, O> {
-    /// Begins a transaction in the mode that is named, or else in the image's. It gets one of the port's units.
+    /// Begins a transaction in the mode that is named, or else in the image's. It gets one of the units of the port,
+    /// which has two at least.
+    ///
+    /// # Errors
+    ///
+    /// As those of `Core::begin`, at this turn. The port keeps its units.
     pub fn begin<R: Wait>(
         &self,
         rt: &R,
@@ -59,7 +64,12 @@ impl<D: Disk + Drop, O: Origin> Shared<D, O> {
         }
     }
 
-    /// Reads a block as it stood when the transaction began. It takes no memory.
+    /// Reads a block as it was when the transaction began, without its own writes, into a slice as long as it. It takes
+    /// no memory.
+    ///
+    /// # Errors
+    ///
+    /// As those of `Core::fetch`: `Down` and `Disk`. What the transaction has done stays.
     pub fn fetch<R: Wait>(
         &self,
         rt: &R,

@@ -19,7 +19,7 @@ pub struct Turns<D: Disk + Drop, O: Origin> {
 }
 
 impl<D: Disk + Drop, O: Origin> Turns<D, O> {
-    // A lock round a core that stands for the empty list, and the first pass, which has all units.
+    // A lock round a core that represents the empty list, and the first pass, which has all units.
     pub(crate) fn new(
         alloc: Global,
         value: Guarded<D, O>,
@@ -34,7 +34,7 @@ impl<D: Disk + Drop, O: Origin> Turns<D, O> {
         }
     }
 
-    // Waits until it is this pass's turn. The value stands for the whole list, each of whose turns has ended at its moment.
+    // Waits until it is this pass's turn. The value represents the whole list, each of whose turns has ended at its moment.
     pub(crate) fn take<R: Wait>(
         &self,
         rt: &R,
@@ -54,7 +54,7 @@ impl<D: Disk + Drop, O: Origin> Turns<D, O> {
         self.lock.take(rt, pass)
     }
 
-    // Gives the turn back, with the entry and the moment that `N` names. The moment is that of now, and the value stands for the list
+    // Gives the turn back, with the entry and the moment that `N` names. The moment is that of now, and the value represents the list
     // with both.
     pub(crate) fn give<N: Names<Stamped>>(
         &self,

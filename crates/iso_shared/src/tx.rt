@@ -62,6 +62,10 @@ impl<D: Disk + Drop, O: Origin> Tx<D, O> {
     }
 
     /// Makes room for one more access to a block. Where the room is there already it takes no memory.
+    ///
+    /// # Errors
+    ///
+    /// Want of memory. The transaction is as before.
     pub fn reserve(&mut self, block: u32) -> Result<(), Memory>
         requires block { block < (doing_of self.old).blocks }
         requires tx { IsTxOf O.start self.old }
@@ -73,7 +77,9 @@ impl<D: Disk + Drop, O: Origin> Tx<D, O> {
         self.work.reserve(block)
     }
 
-    /// A read of a block, which is lent as it stood at the begin: the own writes are laid over it. It takes no memory.
+    /// A read of a block, the one for which room was made last; fewer than `MAX_ACCESSES` accesses were made. The slice
+    /// is as long as a block and has the block's bytes at the begin: the own writes are laid over them. It takes no
+    /// memory.
     pub fn read(&mut self, block: u32, into: &mut [u8])
         requires ready { (doing_of self.old).ready ≡ Some block }
         requires room { length (doing_of self.old).accesses < 4096 }
@@ -88,7 +94,8 @@ impl<D: Disk + Drop, O: Origin> Tx<D, O> {
         self.uncheck();
     }
 
-    /// A write of a block. It takes no memory.
+    /// A write of a block, the one for which room was made last, with as many bytes as a block has; fewer than
+    /// `MAX_ACCESSES` accesses were made. It takes no memory.
     pub fn write(&mut self, block: u32, bytes: &[u8])
         requires ready { (doing_of self.old).ready ≡ Some block }
         requires room { length (doing_of self.old).accesses < 4096 }
@@ -103,6 +110,13 @@ impl<D: Disk + Drop, O: Origin> Tx<D, O> {
     }
 
     /// Marks a range of the last access: the first mark takes the place of the whole block, and further ones add to it.
+    ///
+    /// # Errors
+    ///
+    /// The first of these, and the transaction is as before:
+    /// - `BadRange`: the range is empty or passes the end of the block.
+    /// - `NoAccess`: there is no access.
+    /// - `TooManyMarks`: the last access has `MAX_SPANS` marks.
     pub fn mark(&mut self, off: u16, len: u16) -> Result<(), MarkError>
         requires tx { IsTxOf O.start self.old }
         ensures tx { IsTxOf O.start self.new }
@@ -120,7 +134,12 @@ impl<D: Disk + Drop, O: Origin> Tx<D, O> {
         }
     }
 
-    /// Compares what it did with later commits, ahead of the turn of its end, and answers up to which one it is then checked.
+    /// Compares what it did with later commits, ahead of the turn of its end, and answers up to which one it is then
+    /// checked.
+    ///
+    /// # Errors
+    ///
+    /// Want of memory. It is checked as far as before.
     pub fn check(&mut self, recent: Recent) -> Result<u64, Memory>
         requires tx { IsTxOf O.start self.old }
         requires recent { IsRecent (state_of O.start self.old) (check_of self.old) recent }

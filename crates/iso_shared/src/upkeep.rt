@@ -13,6 +13,10 @@ use std::sync::Wait;
 
 impl<D: Disk + Drop, O: Origin> Shared<D, O> {
     /// Lets the versions go that no transaction can be shown any more, and answers the floor.
+    ///
+    /// # Errors
+    ///
+    /// As those of `Core::trim`, at this turn: `Down`.
     pub fn trim<R: Wait>(&self, rt: &R, port: &mut Port<D, O>) -> Result<u64, CoreError>
         requires port { IsPort self.now port.old }
         ensures port { IsPort self.now port.new }
@@ -28,6 +32,10 @@ impl<D: Disk + Drop, O: Origin> Shared<D, O> {
     }
 
     /// Moves the base to the floor, in the other half, and answers the floor.
+    ///
+    /// # Errors
+    ///
+    /// As those of `Core::compact`, at this turn.
     pub fn compact<R: Wait>(&self, rt: &R, port: &mut Port<D, O>) -> Result<u64, CoreError>
         requires port { IsPort self.now port.old }
         ensures port { IsPort self.now port.new }
@@ -43,6 +51,10 @@ impl<D: Disk + Drop, O: Origin> Shared<D, O> {
     }
 
     /// Compacts into an image of form 2, in which transactions of either mode may begin, and answers the floor.
+    ///
+    /// # Errors
+    ///
+    /// As those of `Core::upgrade`, at this turn.
     pub fn upgrade<R: Wait>(&self, rt: &R, port: &mut Port<D, O>) -> Result<u64, CoreError>
         requires port { IsPort self.now port.old }
         ensures port { IsPort self.now port.new }

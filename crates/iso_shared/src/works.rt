@@ -11,7 +11,7 @@ use std::alloc::Global;
 use std::mem;
 use tx_table::Work;
 
-// A work that has done nothing, which stands in the place of another one.
+// A work that has done nothing, which takes the place of another one.
 fn blank_for(alloc: Global, geometry: &Geometry, work: &Work) -> Work {
     let image = Geometry {
         block: work.block_size(),
@@ -36,7 +36,7 @@ fn take_work<D: Disk + Drop, O: Origin>(
     }
 }
 
-/// Takes the works of all members, behind those that were taken.
+/// Takes the works of all members, after those that were taken.
 pub(crate) fn take_works<D: Disk + Drop, O: Origin>(
     alloc: Global,
     geometry: &Geometry,
@@ -77,7 +77,7 @@ pub(crate) fn give_works<D: Disk + Drop, O: Origin>(group: &mut [Tx<D, O>], ends
     give_works(rest, others);
 }
 
-/// Puts the replies of all members behind the others.
+/// Puts the replies of all members after the others.
 pub(crate) fn put_replies(ends: &[GroupEnd], replies: &mut Vec<GroupReply>)
     requires { vec_len replies.old + length ends.now ≤ vec_capacity replies.old }
     ensures { replies.new.items ≡ replies.old.items ++ replies_of (ends_at ends.now) }

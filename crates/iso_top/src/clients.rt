@@ -53,7 +53,7 @@ fn run_over<I: Image + Drop + Send, O: Origin + Send + Sync, G: Gate, R: Threads
     }
 }
 
-/// Puts what the clients were told, and behind it why they ended early, if they did.
+/// Puts what the clients were told, and after it why they ended early, if they did.
 fn put_end<K: Sink>(output: &mut K, end: &ParEnd) -> u8
     ensures done { end.now.status ≡ 0 → ((result ≡ 0) × WroteWhole (K.state output.old) (K.state output.new) end.now.text)
         ⊎ ((result ≡ 7) × WasCut (K.state output.old) (K.state output.new) end.now.text) }

@@ -22,15 +22,20 @@ pub enum DigestError {
     Memory,
 }
 
-/// The SHA-256 of the array after the last commit, block after block, of a core without transactions. It reads each block
-/// in a transaction that it begins and aborts. After want of memory the core is as before.
+/// The SHA-256 of the array after the last commit, block after block, of a core without transactions. It reads each
+/// block in a transaction that it begins and aborts.
+///
+/// # Errors
+///
+/// - `Memory`: want of memory. The core is as before.
+/// - `Disk`: the disk failed. The core represents the same world but for the number of the next transaction.
 pub fn digest_of<D: Disk>(alloc: Global, core: &mut Core<D>) -> Result<[u8; 32], DigestError>
     requires { (W : World) × StandsFor D.state core.old W up × (W.live ≡ []) × (W.next ≤ LAST) }
     ensures digest { (W : World) → StandsFor D.state core.old W up → IfOk result (λ digest. ForSome (D.state (disk_of core.old)).contents
         (λ _. digest ≡ sha256 (array_bytes (array_at W.history (last W.history))))) }
     ensures unwritten { WritesNothing (D.state (disk_of core.old)) (D.state (disk_of core.new)) }
 
-    // But for the next number the core stands for the same world.
+    // But for the next number the core represents the same world.
     ensures world { (W : World) → StandsFor D.state core.old W up → W.live ≡ [] → OnOk result (StandsFor D.state core.new (record W { next = W.next + 1 }) up) }
     ensures failed { (W : World) → StandsFor D.state core.old W up → W.live ≡ [] → IsErrOf result DigestError.Disk
         → StandsFor D.state core.new (record W { next = W.next + 1 }) up }

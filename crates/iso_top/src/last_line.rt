@@ -27,7 +27,7 @@ pub(crate) fn put_last<K: Sink>(output: &mut K, line: &[u8])
     let _ = put_all(output, line);
 }
 
-/// Puts a text, and a last line behind it. Where the sink fails, it has taken a front of both.
+/// Puts a text, and a last line after it. Where the sink fails, it has taken a front of both.
 pub(crate) fn put_behind<K: Sink>(output: &mut K, text: &[u8], line: &[u8])
     ensures { Printed (K.state output.old) (K.state output.new) (text.now ++ line.now) }
 {
@@ -71,7 +71,7 @@ fn line_with(text: &[u8], number: u64) -> ArrayVec<u8, ROOM>
     line
 }
 
-/// Two texts, each with a number behind it, and a line feed.
+/// Two texts, each with a number after it, and a line feed.
 fn line_with_two(first: &[u8], number: u64, second: &[u8], other: u64) -> ArrayVec<u8, ROOM>
     requires { (length first.now ≤ 32) × (length second.now ≤ 32) }
     ensures { result.items ≡ first.now ++ decimal number ++ second.now ++ decimal other ++ 10 ∷ [] }

@@ -40,7 +40,7 @@ fn put_digest<K: Sink>(
     }
 }
 
-/// Tells the last commit of a core's image, and the digest of the array after it. It writes nothing to the image.
+/// Puts the number of the last commit of a core's image, and the digest of the array after it. It writes nothing to the image.
 pub(crate) fn tell_last<I: Image, K: Sink>(alloc: Global, core: Core<I>, output: &mut K) -> Ended<I>
     requires { (W : World) × StandsFor I.state core W up × (W.live ≡ []) × (W.next ≤ LAST) }
     ensures printed { (W : World) → StandsFor I.state core W up → W.base + 1 ≡ W.history.first

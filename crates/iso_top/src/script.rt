@@ -29,7 +29,7 @@ fn put_end<K: Sink>(output: &mut K, end: &RunEnd)
     }
 }
 
-/// The disk of a machine behind a run that ended so. What is live is aborted, unless the machine stopped.
+/// The disk of a machine after a run that ended so. What is live is aborted, unless the machine stopped.
 pub(crate) fn disk_behind<D: Disk>(machine: Machine<D>, end: &RunEnd) -> D
     requires { IfUp end.now ((W : World) × IsMachineOf D.state machine W) }
     ensures { result ≡ disk_of (core_of machine) }

@@ -44,7 +44,7 @@ fn meet<I: Image + Drop, S: Source, K: Sink>(
     }
 }
 
-/// Tells what words are in the grammar. The image and the input are as they were.
+/// Puts the text of the grammar. The image and the input are as they were.
 fn tell_usage<I, K: Sink>(output: &mut K, image: I) -> Ended<I>
     ensures status { result.status ≡ 2 }
     ensures image { result.image ≡ image }
@@ -54,7 +54,7 @@ fn tell_usage<I, K: Sink>(output: &mut K, image: I) -> Ended<I>
     Ended { status: 2, image }
 }
 
-/// Tells that memory for the words was wanting. The image and the input are as they were.
+/// Puts a line that says that memory for the words was wanting. The image and the input are as they were.
 fn tell_memory<I, K: Sink>(output: &mut K, image: I) -> Ended<I>
     ensures status { result.status ≡ 8 }
     ensures image { result.image ≡ image }

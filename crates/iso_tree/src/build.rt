@@ -47,7 +47,7 @@ pub fn add_cell(into: &mut [u8], count: usize, key: &[u8], part: &[u8])
     add_parts(into, count, 1, &key_part, part);
 }
 
-/// Adds so many cells of a node, from one on, behind so many others.
+/// Adds `many` cells of a node, from cell `first` on, to the `count` that are there.
 pub fn add_cells(into: &mut [u8], count: usize, node: &[u8], first: usize, many: usize)
     requires size { IsBlock (length node.now) }
     requires least { 256 ≤ length node.now }

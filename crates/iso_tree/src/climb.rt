@@ -9,7 +9,7 @@ use iso_alloc::{cell_count, piece};
 use store_model::{Area, StoreError, TxError};
 use tx_blocks::{TxBlocks, store};
 
-// Where a new cell comes in a node: behind the last one whose key is not above the searched one. An inner node's first cell stays.
+// Where a new cell comes in a node: after the last one whose key is not above the searched one. An inner node's first cell stays.
 fn place_in(size: usize, level: u8, key: &[u8], node: &[u8]) -> usize
     requires size { IsBlock size }
     requires least { 256 ≤ size }
@@ -136,8 +136,12 @@ fn store_grown<T: TxBlocks>(
     store_next(tx, area.start + block, into)
 }
 
-/// The writes from a node of a level up, which gets a new cell; the path begins with that node, and the nodes' bytes stand from
-/// block `i` on. Only memory may be wanted.
+/// The writes from a node of a level up, which gets a new cell; the path begins with that node, and the nodes' bytes
+/// are there from block `i` on.
+///
+/// # Errors
+///
+/// `Tx`: want of memory. The writes before it stay.
 pub fn climb<T: TxBlocks>(
     tx: &mut T,
     area: Area,

@@ -60,6 +60,11 @@ pub fn value_part(size: u32, block: &[u8], cell: u32) -> &[u8]
 }
 
 /// Root and level of the region's tree; the root is 0 where there is none.
+///
+/// # Errors
+///
+/// - `Broken`: the head fails a test.
+/// - `Tx`: the transaction refuses the read.
 pub fn read_head<T: TxBlocks>(
     tx: &mut T,
     area: Area,
@@ -160,6 +165,11 @@ fn read_leaf<T: TxBlocks>(
 }
 
 /// The leaf of a key below a root, with the inner nodes on the way. The buffer has the leaf's block then.
+///
+/// # Errors
+///
+/// - `Broken`: a node on the way fails a test.
+/// - `Tx`: the transaction refuses a read.
 pub fn descend<T: TxBlocks>(
     tx: &mut T,
     area: Area,

@@ -171,8 +171,14 @@ pub fn map_mark(area: Area) -> Span
     map_span(area.blocks)
 }
 
-/// Puts a key that is in no leaf, once its leaf is full, or where the tree is empty; the path has the leaf first. It takes a buffer for
-/// the nodes of the path.
+/// Puts a key that is in no leaf, once its leaf is full, or where the tree is empty; the path has the leaf first. It
+/// takes a buffer for the nodes of the path.
+///
+/// # Errors
+///
+/// - `NoBlocks`: fewer blocks are free than are needed.
+/// - `Tx`: the transaction refuses an access, or wants memory. Nothing was written, but where it wants memory between
+///   two writes.
 pub fn put_new<T: TxBlocks>(
     alloc: Global,
     tx: &mut T,

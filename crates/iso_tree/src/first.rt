@@ -51,8 +51,12 @@ fn changed_mark(low: u32, high: u32) -> Span
     }
 }
 
-/// Writes the first block, once the blocks of `news` are taken in `map`: the bytes of the map from the first to the last of them,
-/// and root and level where there is a new root.
+/// Writes the first block, once the blocks of `news` are taken in `map`: the bytes of the map from the first to the
+/// last of them, and root and level where there is a new root.
+///
+/// # Errors
+///
+/// The transaction refuses the write, where an access fits for want of memory alone, and is as before.
 pub fn store_first<T: TxBlocks>(
     tx: &mut T,
     area: Area,

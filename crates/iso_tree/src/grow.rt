@@ -44,9 +44,13 @@ fn is_usable(size: usize, block: &[u8], count: u32) -> bool
     count_of(keys) == count as usize && 1 <= count && count as usize <= cell_count(size)
 }
 
-/// Reads the nodes of a path once more, unmarked; their bytes stand from block `i` on. The descent has tested them, and no test is
-/// asked here: a disk whose bytes are known shows the same ones. Where another one shows a node that cannot be split, the put would
-/// need the bytes that the descent has read, for which there is no memory: it is never `Broken`.
+/// Reads the nodes of a path again, unmarked; their bytes come from block `i` on. The descent has tested them, and
+/// no test is asked here: a disk whose bytes are known shows the same ones.
+///
+/// # Errors
+///
+/// `Tx`, never `Broken`: the transaction refuses a read, or the disk shows another node, which cannot be split. The put
+/// would then need the bytes that the descent has read, and wants memory for them.
 pub fn look_nodes<T: TxBlocks>(
     tx: &mut T,
     area: Area,

@@ -76,10 +76,17 @@ fn put_with<T: TxBlocks>(
     }
 }
 
-/// Puts a value at a key: the region's map has it then. `BadKey` comes exactly where the key does not have 1 to 28 bytes, else
-/// `BadValue` exactly where the value has more than 32; `Broken` where the head or a node of the descent fails a test; `NoBlocks`
-/// where fewer blocks are free than are needed. A refusal has written nothing, but where the transaction wants memory between two
-/// writes.
+/// Puts a value at a key: the region's map has it then.
+///
+/// # Errors
+///
+/// Nothing was written, but where the transaction wants memory between two writes.
+/// - `BadKey` exactly where the key does not have 1 to 28 bytes.
+/// - `BadValue` exactly where the key is good, and the value has more than 32 bytes.
+/// - `NoBlocks`: fewer blocks are free than are needed.
+/// - `Broken`: the head or a node of the descent fails a test.
+/// - `Memory`: want of memory for a buffer. The transaction is as before.
+/// - `Tx`: the transaction refuses an access, or wants memory.
 pub fn put<T: TxBlocks>(
     alloc: Global,
     tx: &mut T,

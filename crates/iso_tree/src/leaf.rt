@@ -11,6 +11,10 @@ use store_model::{Area, StoreError};
 use tx_blocks::{TxBlocks, last_store, look_whole, store};
 
 /// Writes the value of the cell that has the key.
+///
+/// # Errors
+///
+/// `Tx`: the transaction refuses the write.
 pub fn put_value<T: TxBlocks>(
     tx: &mut T,
     area: Area,
@@ -34,8 +38,12 @@ pub fn put_value<T: TxBlocks>(
     last_store(tx, area.start + block, &[span], into, ())
 }
 
-/// Writes the bytes of a leaf with other cells. The leaf is read once more, unmarked, so that the call depends on all of it: its
-/// bytes are those that the descent has read.
+/// Writes the bytes of a leaf with other cells. The leaf is read again, unmarked, so that the call depends on all
+/// of it: its bytes are those that the descent has read.
+///
+/// # Errors
+///
+/// `Tx`: the transaction refuses the read or the write. Nothing was written.
 pub fn store_leaf<T: TxBlocks, R: Copy>(
     tx: &mut T,
     area: Area,
@@ -61,7 +69,11 @@ pub fn store_leaf<T: TxBlocks, R: Copy>(
     }
 }
 
-/// Writes the leaf with a new cell; the buffer of its bytes is read into once more.
+/// Writes the leaf with a new cell; the buffer of its bytes is read into again.
+///
+/// # Errors
+///
+/// As those of `store_leaf`.
 pub fn put_cell<T: TxBlocks>(
     tx: &mut T,
     area: Area,

@@ -85,7 +85,11 @@ impl<'a> NodeView<'a> {
         Some(cell as u32)
     }
 
-    /// The cell that has the key, or else the place where it would stand.
+    /// The cell that has the key.
+    ///
+    /// # Errors
+    ///
+    /// No cell has it: the place where its cell would be.
     pub fn find(&self, key: &[u8]) -> Result<u32, u32>
         ensures { result ≡ find_in key.now self.now }
     {

@@ -214,10 +214,16 @@ fn scan_with<T: TxBlocks>(
     }
 }
 
-/// The first pairs of the region's map whose key is at least `from` and below `to`, in order, at most `max`. `BadKey` comes
-/// exactly where one of the keys does not have 1 to 28 bytes, `Broken` where the head, a node or a value part that is read fails
-/// a test. Want of memory for the pairs is that of the transaction: the reads that came before it stay, the last one too where the
-/// pairs are its own. It writes nothing.
+/// The first pairs of the region's map whose key is at least `from` and below `to`, in order, at most `max`. It writes
+/// nothing.
+///
+/// # Errors
+///
+/// - `BadKey` exactly where one of the keys does not have 1 to 28 bytes.
+/// - `Broken`: the head, a node or a value part that is read fails a test.
+/// - `Memory`: want of memory for a buffer. The transaction is as before.
+/// - `Tx`: the transaction refuses an access, or wants memory, also for the pairs. The reads that came before stay, the
+///   last one too where the pairs are its own.
 pub fn scan<T: TxBlocks>(
     alloc: Global,
     tx: &mut T,

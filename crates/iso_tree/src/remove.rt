@@ -89,8 +89,15 @@ fn remove_with<T: TxBlocks>(
     }
 }
 
-/// Removes a key, and says whether the region's map had it. `BadKey` comes exactly where the key does not have 1 to 28 bytes,
-/// `Broken` where the head or a node of the descent fails a test; never `NoBlocks`. A refusal has written nothing.
+/// Removes a key, and says whether the region's map had it.
+///
+/// # Errors
+///
+/// Nothing was written.
+/// - `BadKey` exactly where the key does not have 1 to 28 bytes.
+/// - `Broken`: the head or a node of the descent fails a test.
+/// - `Memory`: want of memory for a buffer. The transaction is as before.
+/// - `Tx`: the transaction refuses an access, or wants memory.
 pub fn del<T: TxBlocks>(
     alloc: Global,
     tx: &mut T,

@@ -30,6 +30,10 @@ impl Unread {
     }
 
     /// Puts a node before all others.
+    ///
+    /// # Errors
+    ///
+    /// Want of memory, as that of the transaction.
     pub fn push(&mut self, level: u8, block: u32) -> Result<(), StoreError>
         ensures ok { OnOk result (self.new ≡ (level, block) ∷ self.old) }
         ensures memory { IfErr result (λ e. e ≡ StoreError.Tx TxError.Memory) }

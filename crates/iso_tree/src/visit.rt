@@ -106,7 +106,13 @@ pub fn values(block: &[u8], visit: Visit) -> &[u8]
     piece(block, at, 33 * visit.many)
 }
 
-/// Reads a node of a level, and marks the value parts of the cells that a scan visits. The buffer has the node's block then.
+/// Reads a node of a level, and marks the value parts of the cells that a scan visits. The buffer has the node's block
+/// then.
+///
+/// # Errors
+///
+/// - `Broken`: the node fails a test.
+/// - `Tx`: the transaction refuses the read.
 pub fn read_node<T: TxBlocks>(
     tx: &mut T,
     area: Area,

@@ -13,7 +13,7 @@ use std::alloc::Global;
 const LONGEST: usize = 65_536;
 
 /// A disk over another one, of which it keeps the pages that were read last: 2,048 of 4 KiB. It is at each moment what
-/// the other is, and each page that it holds has the bytes that the other tells there.
+/// the other is, and each page that it holds has the bytes that the other has there.
 ///
 /// The memory for the pages is taken at the first bind; where there is none, each call goes past them.
 #[derive(Drop)]
@@ -63,9 +63,12 @@ impl<D: Disk> Disk for Kept<D> {
         self.disk.size()
     }
 
-    /// Where pages hold the whole range, it makes no call of the disk below and does not fail. Else it reads the pages
-    /// that are not held as wholes, which are then held; where one of these reads fails, so does this one, and that page
-    /// is not held.
+    /// Where pages hold the whole range, of at most 64 KiB, it makes no call of the disk below. Else it reads the pages
+    /// that are not held as wholes, which are then held; a longer range is read past the pages.
+    ///
+    /// # Errors
+    ///
+    /// A read of the disk below failed, so never where pages hold the whole range. The page of that read is not held.
     fn read(&mut self, at: u64, into: &mut [u8]) -> Result<(), DiskFault>
         requires { at + length into.old ≤ (D.state self.old.disk).size }
         ensures bytes { OnOk result (ForSome (D.state self.old.disk).contents (λ c. into.new ≡ slice_range c at (at + length into.old))) }
@@ -81,7 +84,11 @@ impl<D: Disk> Disk for Kept<D> {
         read_parts(&mut self.disk, &mut self.pages, at, into)
     }
 
-    /// Writes to the disk below, and then into the pages that are held. Where it fails, no page is held.
+    /// Writes to the disk below, and then into the pages that are held.
+    ///
+    /// # Errors
+    ///
+    /// The write of the disk below failed. No page is held then.
     fn write(&mut self, at: u64, bytes: &[u8]) -> Result<(), DiskFault>
         requires { at + length bytes.now ≤ (D.state self.old.disk).size }
         ensures written { OnOk result (Splices at bytes.now (D.state self.old.disk) (D.state self.new.disk)) }
@@ -100,6 +107,10 @@ impl<D: Disk> Disk for Kept<D> {
 
 impl<D: Image> Image for Kept<D> {
     /// Binds the disk below. Whatever comes of it, no page is held.
+    ///
+    /// # Errors
+    ///
+    /// The bind of the disk below failed.
     fn bind(&mut self, name: &str, want: Option<u64>) -> Result<(), DiskFault>
         ensures size { OnOk result (IfSome want (λ w. (D.state self.new.disk).size ≡ w)) }
         ensures blank { OnOk result (IfSome want (λ w. ForSome (D.state self.new.disk).contents (λ c. c ≡ replicate w 0))) }

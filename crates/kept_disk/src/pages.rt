@@ -216,7 +216,7 @@ fn fill<D: Disk>(
     Ok(())
 }
 
-// Where the bytes of a place begin. Where it had none, they stand behind the others from now on, in memory that was taken for them.
+// Where the bytes of a place begin. Where it had none, they come after the others from now on, in memory that was taken for them.
 fn reach(ends: &mut Vec<usize>, bytes: &mut Vec<u8>, place: usize) -> usize
     requires inside { place < length ends.old.items }
     requires laid { AreLaid ends.old.items bytes.old.items (vec_capacity bytes.old) }
@@ -233,7 +233,7 @@ fn reach(ends: &mut Vec<usize>, bytes: &mut Vec<u8>, place: usize) -> usize
     ends[place] - PAGE
 }
 
-// Lays the bytes of a place that has none behind the others.
+// Lays the bytes of a place that has none after the others.
 fn add_page(ends: &mut Vec<usize>, bytes: &mut Vec<u8>, place: usize)
     requires inside { place < length ends.old.items }
     requires none { slice_index ends.old.items place ≡ 0 }

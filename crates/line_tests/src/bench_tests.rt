@@ -4,7 +4,7 @@ use bench_script::{DrawnScript, ReplyDigest, Tally};
 use iso_io::{Sink, Source};
 use std::test::Fail;
 
-/// The first round of seed 0, as it stands in the examples of the language.
+/// The first round of seed 0, as it is in the examples of the language.
 const FIRST_ROUND: &[u8] =
     b"1 begin\n2 begin\n1 get 62 8 4\n1 put 17 36 da\n2 get 17 8 4\n2 put 62 8 36\n1 end\n2 end\n";
 
@@ -31,7 +31,7 @@ fn a_script_is_taken_piece_by_piece(rt: HostRuntime) -> Result<(), Fail> {
     Ok(())
 }
 
-/// The digest of a text and what it tells, given in these pieces.
+/// The digest of a text and what it says, given in these pieces.
 fn told_of(rt: HostRuntime, pieces: &[&[u8]]) -> (Tally, [u8; 32]) {
     let mut replies = ReplyDigest::new(rt.alloc());
     for piece in pieces {

@@ -19,7 +19,7 @@ pub fn patches_hold_the_effect()
 {}
 
 /// Effects grow: by a write of the block alone; those of both lists are the first ones followed by the later ones;
-/// laid over a block as it stood, they show what the list leaves of it; and the pieces of a block are its runs.
+/// laid over a block as it was, they show what the list leaves of it; and the pieces of a block are its runs.
 pub fn effects_grow()
     ensures kept { (accesses : List Access) (a : Access) (b size : ℕ) → (IsTrue (is_write a) → a.block ≢ b)
         → effects_from (accesses ++ a ∷ []) b 0 size ≡ effects_from accesses b 0 size }

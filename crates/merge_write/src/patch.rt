@@ -32,6 +32,10 @@ impl Model for Patch {
 
 impl Patch {
     /// A patch of a block size that sets no byte.
+    ///
+    /// # Errors
+    ///
+    /// Want of memory.
     pub fn blank(alloc: Global, block: u32) -> Result<Patch, Memory>
         requires { IsTrue (is_block_size block) }
         ensures { IfOk result (λ patch. patch ≡ replicate block None) }
@@ -43,7 +47,8 @@ impl Patch {
         })
     }
 
-    /// Sets the bytes that the spans cover, and the whole block where there are none.
+    /// Sets the bytes that the spans cover, and the whole block where there are none. There are as many bytes as the
+    /// block has.
     pub fn set(&mut self, bytes: &[u8], spans: &SpanList)
         requires bytes { length bytes.now ≡ length self.old }
         requires spans { All (λ span. span.off + span.len ≤ length self.old) spans.now }
@@ -96,7 +101,7 @@ impl Patch {
         set_bits(&mut self.masks, from, to);
     }
 
-    /// Replaces the bytes of a block that are set.
+    /// Replaces the bytes of a block that are set. The slice is as long as the block.
     pub fn over(&self, into: &mut [u8])
         requires { length into.old ≡ length self.now }
         ensures { into.new ≡ laid self.now into.old }

@@ -28,10 +28,19 @@ pub enum MirrorError {
 impl<A: Image, B: Image> Mirror<A, B> {
     ghost use Rattle.mirror_disk.specs.State.{state_of};
 
-    /// A mirror of two sides that are bound. It makes both stable and chooses the one with the larger epoch, the first where
-    /// both have the same, also where that one is damaged: it writes to the other one what differs there, and raises the
-    /// lower epoch. So it writes nothing to two sides that are alike. An other side that fails in this alone is left out. An
-    /// error hands the sides back.
+    /// A mirror of two sides that are bound. It makes both stable and chooses the one with the larger epoch, the first
+    /// where both have the same, also where that one is damaged: it writes to the other one what differs there, and
+    /// raises the lower epoch. So it writes nothing to two sides that are alike. An other side that fails in this alone
+    /// is left out.
+    ///
+    /// # Errors
+    ///
+    /// The sides are handed back.
+    /// - `SizesDiffer` exactly where they differ in size.
+    /// - `NotMirror`: that side has no header of a mirror; the second one is named only where the first one has a
+    ///   header.
+    /// - `Disk`: a side failed before the choice, the chosen one failed, or the other one did while there is no larger
+    ///   epoch.
     pub fn adopt(first: A, second: B) -> Result<Mirror<A, B>, (MirrorError, A, B)>
         ensures kept { IfOk result (λ m. (x : A) × (y : B) × AdoptsFrom (A.state first) (B.state second) (A.state x) (B.state y) (A.state m.first) (B.state m.second)) }
         ensures refused { IfErr result (λ e. (x : A) × (y : B) × AdoptsFrom (A.state first) (B.state second) (A.state x) (B.state y) (A.state e.1) (B.state e.2)) }

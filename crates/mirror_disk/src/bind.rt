@@ -28,9 +28,17 @@ const SECOND: u8 = b'1';
 impl<A: Image, B: Image> Image for Mirror<A, B> {
     ghost use Rattle.mirror_disk.specs.State.{state_of};
 
-    /// Under a name that does not end in `+` the mirror is its first side alone, with nothing added. Under one that does,
-    /// both sides are bound, to that name with `0` and with `1` behind it, each 64 bytes longer: with a size two headers are
-    /// laid, with none the sides are adopted. After an error the mirror is unbound: it has no byte, and each call fails.
+    /// Under a name that does not end in `+` the mirror is its first side alone, with nothing added. Under one that
+    /// does, both sides are bound, to that name with `0` and with `1` added, each 64 bytes longer: with a size two
+    /// headers are laid, with none the sides are adopted.
+    ///
+    /// # Errors
+    ///
+    /// Without the `+`: the bind of the first side failed. With it, the mirror is unbound then: it has no byte, and
+    /// each call fails. It fails where
+    /// - a side failed,
+    /// - the name has more than 4,095 bytes, or the size leaves no room for a header in a `u64`,
+    /// - the sides, bound without a size, differ in size, or one of them has no header of a mirror.
     fn bind(&mut self, name: &str, want: Option<u64>) -> Result<(), DiskFault>
         ensures size { OnOk result (IfSome want (λ w. (state_of self.new).size ≡ w)) }
         ensures blank { OnOk result (IfSome want (λ w. ForSome (state_of self.new).contents (λ c. c ≡ replicate w 0))) }
@@ -155,7 +163,7 @@ fn bind_sides<A: Image, B: Image>(
     }
 }
 
-/// Binds the first side alone, or both under a name of a mirror, and says how the mirror stands then.
+/// Binds the first side alone, or both under a name of a mirror, and says which sides are in use then.
 fn bind_parts<A: Image, B: Image>(
     first: &mut A,
     second: &mut B,

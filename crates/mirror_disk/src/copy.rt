@@ -73,7 +73,7 @@ fn copy_piece<C: Disk, O: Disk>(
     Ok(lay_piece(to, at, piece, there))
 }
 
-/// Writes a piece from a place of the mirrored bytes on, if others stand there. False where the side fails.
+/// Writes a piece from a place of the mirrored bytes on, if others are there. False where the side fails.
 fn lay_piece<O: Disk>(to: &mut O, at: u64, piece: &[u8], there: &mut [u8]) -> bool
     requires fits { 64 + at + length piece.now ≤ (O.state to.old).size }
     requires there { length there.old ≡ length piece.now }

@@ -29,8 +29,11 @@ impl<A: Image, B: Image> Disk for Mirror<A, B> {
         }
     }
 
-    /// Asks the first side in use and, where it fails, the other one. It fails where each side in use does, and of a
-    /// broken or unbound mirror always.
+    /// Asks the first side in use and, where it fails, the other one.
+    ///
+    /// # Errors
+    ///
+    /// Each side in use failed; a broken or unbound mirror always fails. Which sides are in use stays.
     fn read(&mut self, at: u64, into: &mut [u8]) -> Result<(), DiskFault>
         requires { at + length into.old ≤ (state_of self.old).size }
         ensures bytes { OnOk result (ForSome (state_of self.old).contents (λ c. into.new ≡ slice_range c at (at + length into.old))) }
@@ -56,8 +59,12 @@ impl<A: Image, B: Image> Disk for Mirror<A, B> {
         )
     }
 
-    /// Writes to each side in use, and leaves out one that fails: it raises the epoch of the other one first. It fails
-    /// where each side in use does, or one whose leaving needs an epoch above the last one, and the mirror is broken then.
+    /// Writes to each side in use, and leaves out one that fails: it raises the epoch of the other one first.
+    ///
+    /// # Errors
+    ///
+    /// Each side in use failed, or one whose leaving needs an epoch above the last one. A mirror of two sides in use is
+    /// broken then.
     fn write(&mut self, at: u64, bytes: &[u8]) -> Result<(), DiskFault>
         requires { at + length bytes.now ≤ (state_of self.old).size }
         ensures written { OnOk result (Splices at bytes.now (state_of self.old) (state_of self.new)) }
@@ -85,6 +92,10 @@ impl<A: Image, B: Image> Disk for Mirror<A, B> {
     }
 
     /// Makes each side in use stable, and leaves out one that fails, as a write does.
+    ///
+    /// # Errors
+    ///
+    /// As those of a write. A read gives what it gave.
     fn sync(&mut self) -> Result<(), DiskFault>
         ensures settled { OnOk result (IsSettled (state_of self.new)) }
         ensures contents { (state_of self.new).contents ≡ (state_of self.old).contents }

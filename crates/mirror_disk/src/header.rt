@@ -16,10 +16,10 @@ const LENGTH: usize = 64;
 /// What a header begins with.
 const WORD: [u8; 8] = *b"ISOMIRR1";
 
-/// Where the zeros behind that word begin.
+/// Where the zeros after that word begin.
 const GAP: usize = 8;
 
-/// Where the zeros behind the slots begin.
+/// Where the zeros after the slots begin.
 const END: usize = 48;
 
 /// The byte of a gate that is open.
@@ -117,7 +117,7 @@ fn read_slot(header: &[u8; 64], gate: usize) -> Option<u64>
     Some(epoch)
 }
 
-/// Whether these bytes stand there.
+/// Whether these bytes are there.
 fn has_bytes(header: &[u8; 64], at: usize, bytes: &[u8]) -> bool
     requires { at + length bytes.now ≤ 64 }
     ensures has { result ≡ true → take (length bytes.now) (drop at header.now) ≡ bytes.now }

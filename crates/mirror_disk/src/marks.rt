@@ -2,7 +2,7 @@
 use crate::slot::Slot;
 use crate::used::Used;
 
-/// Which sides of a mirror are in use, and what stands in their headers.
+/// Which sides of a mirror are in use, and what is in their headers.
 #[derive(Clone, Copy)]
 pub(crate) struct Marks {
     pub(crate) used: Used,

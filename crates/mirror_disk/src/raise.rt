@@ -9,10 +9,10 @@ use crate::slot::Slot;
 use commit_gate::{open_gate, put_body, shut_gate, stands_closed};
 use iso_disk::{Disk, DiskFault};
 
-/// How many zeros stand between a gate and its epoch.
+/// How many zeros are between a gate and its epoch.
 pub(crate) const ZEROS: usize = 7;
 
-/// How many bytes stand behind a gate.
+/// How many bytes come after a gate.
 const BODY: usize = 15;
 
 /// Puts an epoch into the slot that does not hold the one so far, and opens its gate.
@@ -32,7 +32,7 @@ pub(crate) fn raise_epoch<D: Disk>(disk: &mut D, slot: Slot, next: u64) -> Resul
     open_slot(disk, slot, gate, next)
 }
 
-/// Shuts the gate of the slot that is not this one, where it stands open.
+/// Shuts the gate of the slot that is not this one, where it is open.
 fn shut_slot<D: Disk>(disk: &mut D, slot: Slot, gate: u64) -> Result<(), DiskFault>
     requires size { 64 ≤ (D.state disk.old).size }
     requires gate { gate ≡ place (other slot) }
@@ -47,7 +47,7 @@ fn shut_slot<D: Disk>(disk: &mut D, slot: Slot, gate: u64) -> Result<(), DiskFau
     shut_gate(disk, gate)
 }
 
-/// Puts an epoch behind the closed gate of the slot that is not this one.
+/// Puts an epoch after the closed gate of the slot that is not this one.
 fn put_epoch<D: Disk>(disk: &mut D, slot: Slot, gate: u64, next: u64) -> Result<(), DiskFault>
     requires size { 64 ≤ (D.state disk.old).size }
     requires gate { gate ≡ place (other slot) }
@@ -62,7 +62,7 @@ fn put_epoch<D: Disk>(disk: &mut D, slot: Slot, gate: u64, next: u64) -> Result<
     put_body(disk, gate, &spell(next))
 }
 
-/// What stands behind the gate of a slot: seven zeros, and the epoch.
+/// What comes after the gate of a slot: seven zeros, and the epoch.
 fn spell(epoch: u64) -> [u8; 15]
     ensures { result ≡ slot_body epoch }
 {

@@ -1,9 +1,9 @@
 // Where a side keeps its epoch.
 
-/// Where the gate of the first slot stands.
+/// Where the gate of the first slot is.
 pub(crate) const FIRST_GATE: u64 = 16;
 
-/// Where that of the second one does.
+/// Where that of the second one is.
 pub(crate) const SECOND_GATE: u64 = 32;
 
 /// One of the two slots of a header.

@@ -29,6 +29,10 @@ impl Model for MvIndex {
 
 impl MvIndex {
     /// An index of `blocks` blocks, without versions.
+    ///
+    /// # Errors
+    ///
+    /// Want of memory.
     pub fn empty(alloc: Global, blocks: u32) -> Result<MvIndex, Memory>
         ensures blocks { IfOk result (λ index. length index ≡ blocks) }
         ensures none { IfOk result (λ index. (b : ℕ) → versions_in index b ≡ []) }
@@ -78,7 +82,11 @@ impl MvIndex {
         meeting(self.showing(block), from, to)
     }
 
-    /// Makes room for `count` more versions of the block.
+    /// Makes room for `count` more versions of the block. Where the room is there already it takes no memory.
+    ///
+    /// # Errors
+    ///
+    /// Want of memory. The versions stay.
     pub fn reserve(&mut self, block: u32, count: u32) -> Result<(), Memory>
         requires { block < length self.old }
         ensures blocks { length self.new ≡ length self.old }

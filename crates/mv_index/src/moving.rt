@@ -1,11 +1,11 @@
-// Versions whose bytes stand elsewhere.
+// Versions whose bytes are elsewhere.
 ghost use Rattle.std.specs.Prelude.{◌≡◌, ◌+◌, ◌-◌, ◌^◌, ◌<◌, ◌≤◌, ℕ, length, slice_index_or, take, vec_capacity, vec_len};
 ghost use Rattle.mv_index.specs.{Moves.moved_to, Versions.no_version};
 
 use crate::Version;
 
-/// Puts the versions whose bytes stand behind a place to the front, in order, and takes them to another place: what stood at
-/// `from` stands at `to`. It answers how many they are.
+/// Puts the versions whose bytes are after a place to the front, in order, and takes them to another place: what was at
+/// `from` is at `to`. It answers how many they are.
 fn gather_moved(versions: &mut [Version], from: u64, to: u64) -> usize
     requires room { (i : ℕ) → i < length versions.old → to + (slice_index_or versions.old i no_version).place < 2 ^ 64 }
     ensures within { result ≤ length versions.old }
@@ -25,8 +25,8 @@ fn gather_moved(versions: &mut [Version], from: u64, to: u64) -> usize
     kept
 }
 
-/// Drops the versions whose bytes stand before a place, and takes those behind it to another one: what stood at `from`
-/// stands at `to`. It answers how many it dropped.
+/// Drops the versions whose bytes are before a place, and takes those after it to another one: what was at `from`
+/// is at `to`. It answers how many it dropped.
 pub(crate) fn move_list(versions: &mut Vec<Version>, from: u64, to: u64) -> u64
     requires room { (i : ℕ) → i < length versions.old.items → to + (slice_index_or versions.old.items i no_version).place < 2 ^ 64 }
     ensures moved { versions.new.items ≡ moved_to from to versions.old.items }

@@ -64,7 +64,7 @@ fn end_near(pieces: &[Version], near: usize, byte: u16) -> usize
     end_before(pieces, byte)
 }
 
-/// The byte behind a piece.
+/// The byte after a piece.
 fn end(piece: Version) -> u32
     ensures { result ≡ piece.off + piece.len }
 {
@@ -85,7 +85,7 @@ pub(crate) fn meeting(pieces: &[Version], from: u16, to: u16) -> &[Version]
     &pieces[first..last]
 }
 
-/// How many pieces begin before the bytes from one of the block up to another, and how many have none behind them. At most
+/// How many pieces begin before the bytes from one of the block up to another, and how many have none after them. At most
 /// one does both, with bytes on both sides of them.
 fn find(pieces: &[Version], from: u16, to: u16) -> (usize, usize)
     requires order { Follow 0 pieces.now }
@@ -153,7 +153,7 @@ fn insert_reserved(pieces: &mut Vec<Version>, at: usize, piece: Version)
 }
 
 /// Where one piece has bytes on both sides of a version, it is put twice, for both of them. It answers where the pieces
-/// behind the version begin.
+/// after the version begin.
 fn part(pieces: &mut Vec<Version>, first: usize, last: usize) -> usize
     requires within { first ≤ vec_len pieces.old }
     requires last { last ≤ vec_len pieces.old }

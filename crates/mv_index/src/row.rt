@@ -65,7 +65,11 @@ impl Row {
         self.pieces.as_slice()
     }
 
-    /// Makes room for `count` more versions.
+    /// Makes room for `count` more versions. Where the room is there already it takes no memory.
+    ///
+    /// # Errors
+    ///
+    /// Want of memory. The versions stay.
     pub fn reserve(&mut self, count: u32) -> Result<(), Memory>
         ensures same { self.new.versions ≡ self.old.versions }
         ensures room { OnOk result (count ≤ self.new.room) }

@@ -40,7 +40,7 @@ fn gather(versions: &mut [Version], number: u64, seen: &mut [u64]) -> usize
     kept
 }
 
-/// Puts the versions that show a byte at the number, or are above it, to the front, in order. It answers how many others stand behind them.
+/// Puts the versions that show a byte at the number, or are above it, to the front, in order. It answers how many others come after them.
 fn keep_shown(versions: &mut [Version], number: u64, seen: &mut [u64]) -> usize
     requires seen { length seen.old ≡ 64 }
     requires within { AreWithin 4096 versions.old }

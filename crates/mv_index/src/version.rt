@@ -1,6 +1,7 @@
 // One part of one record.
 
-/// One part of the record of a commit: the commit's number, where the part's bytes stand in the image, and which bytes of its block they are.
+/// One part of the record of a commit: the commit's number, where the part's bytes are in the image, and which bytes of
+/// its block they are.
 #[derive(Clone, Copy, Debug, PartialEq, Eq)]
 pub struct Version {
     pub number: u64,

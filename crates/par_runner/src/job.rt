@@ -7,7 +7,9 @@ use std::sync::Wait;
 /// Whether a client goes on after a step.
 #[derive(Clone, Copy, Debug, PartialEq, Eq)]
 pub enum Flow {
+    /// It goes on.
     Go,
+    /// It makes no more steps.
     Halt,
 }
 

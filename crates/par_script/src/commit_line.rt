@@ -121,7 +121,7 @@ fn push_number(out: &mut Vec<u8>, number: u64) -> Result<(), Memory>
     push_bytes(out, buffer.format(number).as_bytes())
 }
 
-/// The line that tells of a commit.
+/// The line of a commit.
 pub(crate) fn print_commit(alloc: Global, commit: &CommitLine) -> Result<Vec<u8>, Memory>
     ensures { IfOk result (λ v. v.items ≡ commit_line commit.now) }
 {

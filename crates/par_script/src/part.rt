@@ -3,7 +3,7 @@
 use iso_model::Items;
 use script_model::{Reply, Stop};
 
-/// A client, the replies to its lines with their numbers, and why it stopped at the line behind them, if it did.
+/// A client, the replies to its lines with their numbers, and why it stopped at the line after them, if it did.
 #[derive(Drop)]
 pub struct Part {
     pub client: u8,

@@ -32,7 +32,7 @@ fn push_all_told(out: &mut Vec<u8>, parts: &[Part]) -> Result<(), Memory>
     Ok(())
 }
 
-// Adds the line that tells of a commit.
+// Adds the line of a commit.
 fn push_commit(alloc: Global, out: &mut Vec<u8>, commit: &CommitLine) -> Result<(), Memory>
     ensures ok { OnOk result (out.new.items ≡ out.old.items ++ commit_line commit.now) }
     ensures err { OnErr result (out.new.items ≡ out.old.items) }
@@ -63,8 +63,12 @@ fn push_all(alloc: Global, out: &mut Vec<u8>, parts: &[Part]) -> Result<(), Memo
     push_commits(alloc, out, commits.as_slice())
 }
 
-/// The replies of each client, in the order in which they are handed in, and then a line for each commit in rising number.
-/// Without memory it is first lines of that.
+/// The replies of each client, in the order in which they are handed in, and then a line for each commit in rising
+/// number.
+///
+/// # Errors
+///
+/// Want of memory. It hands out first lines of that text.
 pub fn par_text(alloc: Global, parts: &[Part]) -> Result<Bytes, Bytes>
     ensures ok { IfOk result (IsOutput parts.now) }
     ensures err { IfErr result (IsFront parts.now) }

@@ -26,7 +26,8 @@ impl PlainTx {
     ghost use Rattle.iso_model.specs.Geometry.{is_block_size};
     ghost use Rattle.plain_tx.specs.Plain.{blocks_of, state_of};
 
-    /// A transaction that has done nothing, over blocks of `block` bytes. It takes no memory.
+    /// A transaction that has done nothing, over these bytes as blocks of `block` bytes each, which they fill. It takes
+    /// no memory.
     pub fn new(alloc: Global, blocks: Vec<u8>, block: u32) -> PlainTx
         requires block { IsTrue (is_block_size block) }
         requires whole { length blocks.items % block ≡ 0 }

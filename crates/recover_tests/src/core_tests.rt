@@ -148,7 +148,8 @@ fn a_switch_makes_nine_calls(rt: HostRuntime) -> Result<(), Fail> {
     Ok(())
 }
 
-/// Whether a stop after `calls` calls, of which the opening makes five and a switch nine, leaves what the two commits left, in the form that it has or gets.
+/// Whether a stop after `calls` calls, of which the opening makes five and a switch nine, leaves what the two commits
+/// left, in the form that it has or gets.
 fn keeps_the_commits(alloc: Global, calls: u64, upgrade: bool) -> Result<bool, Fail> {
     let mut disk = MemDisk::new(alloc, with_two_commits(alloc)?);
     disk.fuse(calls);
@@ -184,7 +185,7 @@ fn a_stop_in_an_upgrade_keeps_the_last_commit(rt: HostRuntime) -> Result<(), Fai
     Ok(())
 }
 
-/// How many of the first calls of a kind, up to eight, are missed where each fails alone in an opening and an end behind it,
+/// How many of the first calls of a kind, up to eight, are missed where each fails alone in an opening and an end after it,
 /// none of which leaves half a commit.
 fn missed(alloc: Global, kind: CallKind) -> Result<u64, Fail> {
     let mut count = 0u64;

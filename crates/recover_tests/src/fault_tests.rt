@@ -13,11 +13,11 @@ use std::process::Abort;
 use std::test::Fail;
 use test_cores::opened;
 
-/// The calls of the disk in a switch to a half that stands closed: its gate, the base and the log of the other half are read;
+/// The calls of the disk in a switch to a closed half: its gate, the base and the log of the other half are read;
 /// its base, header and records are written; then its gate.
 const CALLS: [CallKind; 9] = [Read, Read, Read, Write, Write, Write, Sync, Write, Sync];
 
-/// And to one that stands open, whose gate is closed first.
+/// And to an open one, whose gate is closed first.
 const CALLS_WITH_A_CLOSE: [CallKind; 11] = [
     Read, Write, Sync, Read, Read, Write, Write, Write, Sync, Write, Sync,
 ];
@@ -114,7 +114,7 @@ fn harmless(
     Ok(count)
 }
 
-/// An image whose other half stands open: of the two commits, after a compaction.
+/// An image whose other half is open: of the two commits, after a compaction.
 fn compacted(alloc: Global) -> Result<Vec<u8>, Fail> {
     let disk = MemDisk::new(alloc, with_two_commits(alloc)?);
     let (_answer, disk) = switched_on(alloc, disk, false);
@@ -131,7 +131,7 @@ fn a_switch_to_an_open_half_makes_eleven_calls(rt: HostRuntime) -> Result<(), Fa
     Ok(())
 }
 
-/// Each call of a switch fails alone, to a half that stands closed, or to one that stands open.
+/// Each call of a switch fails alone, to a closed half, or to an open one.
 fn loses_nothing(rt: &impl Abort, alloc: Global, open: bool, upgrade: bool) -> Result<(), Fail> {
     if open {
         let image = compacted(alloc)?;

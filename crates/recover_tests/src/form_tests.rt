@@ -38,7 +38,7 @@ fn small_superblock() -> [u8; 64] {
     bytes
 }
 
-/// The record of `one_put` as commit 1, and the closed gate behind it.
+/// The record of `one_put` as commit 1, and the closed gate after it.
 const RECORD: [u8; 31] = [
     1, 1, 0, 0, 0, 0, 0, 1, 0, 0, 0, 0x0a, 0, 0, 0, 0, 0, 0, 0, 1, 0, 0, 0, 2, 0, 5, 0, 2, 0xab,
     0xcd, 0,

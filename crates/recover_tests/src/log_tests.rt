@@ -1,4 +1,4 @@
-// What no clause says: that calls succeed with ample memory, and which calls of the disk they make. The log stands at byte
+// What no clause says: that calls succeed with ample memory, and which calls of the disk they make. The log is at byte
 // 16 of a disk of zeros; each record puts two bytes at byte 5 of block 2, and has 30 bytes.
 ghost use Rattle.std.specs.Prelude.{◌≡◌, ◌+◌, ◌<◌, ◌≤◌, ◌++◌, [], OnOk, IfOk, IsTrue};
 ghost use Rattle.iso_model.specs.{Geometry.is_valid, Image.spell};
@@ -17,7 +17,7 @@ use test_cores::{small, small_in, zeros};
 
 const PLACE: u64 = 16;
 
-/// The record of a commit, behind those of the buffer.
+/// The record of a commit, after those of the buffer.
 fn push_put(buffer: &mut RecordBuffer, number: u64) -> Result<(), Memory>
     requires parts { buffer.old.parts ≡ [] }
     requires number { number ≤ LAST }
@@ -73,7 +73,7 @@ fn append_two(alloc: Global, log: &mut Log, disk: &mut MemDisk) -> Result<u64, L
     log.append_group(disk, buffer.with_closed_gate())
 }
 
-/// How many records the log on the disk tells.
+/// How many records the log on the disk has.
 fn count_told(
     alloc: Global,
     disk: &mut MemDisk,

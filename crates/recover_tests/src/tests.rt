@@ -199,7 +199,7 @@ fn images_are_opened_to_their_current_half(rt: HostRuntime) -> Result<(), Fail> 
     same(&rt, opened(alloc, &image)?, Some((0, 0, 30, 1, 1)));
     change(&mut image, 623, &[2]);
     same(&rt, opened(alloc, &image)?, Some((1, 5, 0, 5, 0)));
-    // a record behind a closed gate is not told
+    // a record after a closed gate is not told
     change(&mut image, 608, &[0]);
     change(&mut image, 352, &[7]);
     same(&rt, opened(alloc, &image)?, Some((0, 0, 0, 0, 0)));

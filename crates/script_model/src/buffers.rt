@@ -14,6 +14,10 @@ pub fn is_outside(size: u32, off: u32, len: usize) -> bool
 }
 
 /// `size` zeros.
+///
+/// # Errors
+///
+/// Want of memory.
 #[inline]
 pub fn zeros(alloc: Global, size: u32) -> Result<Vec<u8>, Memory>
     ensures { IfOk result (λ bytes. length bytes.items ≡ size) }
@@ -23,6 +27,10 @@ pub fn zeros(alloc: Global, size: u32) -> Result<Vec<u8>, Memory>
 }
 
 /// Makes the buffer as long as a block.
+///
+/// # Errors
+///
+/// Want of memory.
 #[inline]
 pub fn fit(buffer: &mut Vec<u8>, size: u32) -> Result<(), Memory>
     ensures { OnOk result (length buffer.new.items ≡ size) }
@@ -42,6 +50,10 @@ pub fn copy_from(bytes: &mut Vec<u8>, block: &[u8], off: u32)
 }
 
 /// Makes the buffer a block full of one byte.
+///
+/// # Errors
+///
+/// Want of memory. The buffer may have any bytes.
 #[inline]
 pub fn fill_up(buffer: &mut Vec<u8>, size: u32, byte: u8) -> Result<(), Memory>
     ensures { OnOk result (buffer.new.items ≡ replicate size byte) }
@@ -52,6 +64,10 @@ pub fn fill_up(buffer: &mut Vec<u8>, size: u32, byte: u8) -> Result<(), Memory>
 }
 
 /// Makes the buffer a block of zeros with these bytes at `off`.
+///
+/// # Errors
+///
+/// Want of memory. The buffer may have any bytes.
 #[inline]
 pub fn lay_out(buffer: &mut Vec<u8>, size: u32, off: u32, bytes: &[u8]) -> Result<(), Memory>
     requires { off + length bytes.now ≤ size }

@@ -6,7 +6,11 @@ use crate::script::Reply;
 use crate::stop::Stop;
 use iso_model::CoreError;
 
-/// The reply for an error of a core, or why there is none.
+/// The reply for an error of a core.
+///
+/// # Errors
+///
+/// An error that has no reply: `Down`, `Disk` and `Memory`, each as the stop of its name.
 #[inline]
 pub fn refused(error: CoreError) -> Result<Reply, Stop>
     ensures { result ≡ refused error }

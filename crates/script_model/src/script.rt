@@ -11,7 +11,9 @@ pub const MAX_LABELS: usize = 16;
 pub enum Op {
     /// In the mode that is named, or else in the image's.
     Begin { mode: Option<Mode> },
+    /// Ends the transaction of the client.
     End,
+    /// Aborts the transaction of the client.
     Abort,
     /// A write of these bytes at `off`, with one mark over them.
     Put { block: u32, off: u32, bytes: Bytes },
@@ -77,7 +79,9 @@ pub struct Line {
 /// What a line of a script says: nothing, or an operation of a client.
 #[derive(Drop)]
 pub enum Parsed {
+    /// Nothing: it is empty or a comment.
     Skip,
+    /// An operation of a client.
     Line(Line),
 }
 
@@ -91,23 +95,34 @@ pub struct BadLine {
 /// Why a line gives no operation: the first test that it fails, 1 to 8 or 10, or want of memory.
 #[derive(Clone, Copy, Debug, PartialEq, Eq)]
 pub enum LineError {
+    /// The number of the first test that it fails.
     Cause(u8),
+    /// Want of memory.
     Memory,
 }
 
 /// What an operation is answered.
 #[derive(Drop)]
 pub enum Reply {
+    /// It is done.
     Done,
+    /// A transaction began at the commit of this number.
     Began(u64),
+    /// The bytes that were read.
     Shown(Bytes),
+    /// The transaction ended with the commit of this number.
     Committed(u64),
+    /// The transaction ended without a write.
     ReadOnly,
+    /// The transaction ended, and a commit after its begin conflicts with it.
     Conflict(Clash),
     /// How a group ended, for each of its labels in order: none where nothing was under the label.
     Grouped(LabelReplies),
+    /// The floor below which versions were let go.
     Trimmed(u64),
+    /// The base was moved to this number.
     Compacted(u64),
+    /// The base was moved to this number, and the image has form 2.
     Upgraded(u64),
     /// The last commit's number, the base and the trim number, how many transactions are live, how many bytes of the
     /// log records take, and how many versions are kept.
@@ -125,8 +140,11 @@ pub enum Reply {
     Pairs(PairList),
     /// A store has no such key or file, or no key of the range.
     Missing,
+    /// The client has a transaction.
     InTx,
+    /// The client has no transaction.
     NotInTx,
+    /// The image has transactions of its own mode alone.
     ModeFixed,
     /// The image has no such store.
     NoStore,
@@ -140,10 +158,15 @@ pub enum Reply {
     BadName,
     /// The name has a file.
     Exists,
+    /// The array has no such block.
     BadBlock,
+    /// The range is empty, or passes the end of the block or a limit of the store.
     BadRange,
+    /// There is no access to mark.
     NoAccess,
+    /// The last access has as many marks as it may.
     TooManyMarks,
+    /// The transaction has as many accesses as it may.
     TooManyAccesses,
     /// This block of the image is not what a store has to find there.
     Broken {
@@ -154,10 +177,15 @@ pub enum Reply {
         need: u32,
         free: u32,
     },
+    /// No transaction is under the label.
     NoHandle,
+    /// A transaction is under the label.
     LabelTaken,
+    /// As many transactions are live as may be.
     TooManyTx,
+    /// The number that must rise is the last one.
     Worn,
+    /// The record and the next gate need more bytes than the log has free.
     LogFull {
         need: u64,
         free: u64,

@@ -17,12 +17,20 @@ pub trait ScriptMachine {
 
     /// Does what a client asks for, and answers it. At each moment of the call a crash leaves an image that shows the
     /// world before it or the world after it.
+    ///
+    /// # Errors
+    ///
+    /// There is no reply. The machine represents the same world, but for the accesses that a store's call has made;
+    /// nothing is promised of it after each error of a group, and after `Disk` of an end, a compaction or an upgrade.
+    /// - `Memory`: want of memory. An image shows the last commit before the call.
+    /// - `Disk`: the disk failed in this call.
+    /// - `Down` never comes.
     fn step(&mut self, client: u8, op: &Op) -> Result<Reply, Stop>
         requires stands { (W : World) × stands self.old W }
         requires client { (1 ≤ client) × (client ≤ 64) }
         requires op { IsOp op.now }
 
-        // Over a disk that tells no bytes, as a real file, the bytes that a reply shows are not known, and so neither is what a
+        // Over an opaque disk, as a real file, the bytes that a reply shows are not known, and so neither is what a
         // store's call does with what it is shown. It leaves the history as it is in any case.
         ensures reply { (W : World) → stands self.old W → IfOk result (λ r. IfTold (disk self.old) (r ≡ (step W client op.now).0)) }
         ensures but_shown { (W : World) → stands self.old W → IsPlain op.now → IfOk result (λ r. SameButShown r (step W client op.now).0) }
@@ -30,7 +38,7 @@ pub trait ScriptMachine {
         ensures world { (W : World) → stands self.old W
             → OnOk result (StandsSo (stands self.new) (disk self.old) (IsPlain op.now) (step W client op.now).1) }
 
-        // Without a reply it stands as before, but for the accesses that a store's call has made, unless this was the end of it.
+        // Without a reply it is as before, but for the accesses that a store's call has made, unless this was the end of it.
         ensures stopped { (W : World) → stands self.old W → IfErr result (λ why. GoesOn op.now why → StandsStill (stands self.new) (IsPlain op.now) W) }
         ensures moments { (W : World) → stands self.old W
             → LeavesOnly (disk self.old) (disk self.new) (ShowsEither W (step W client op.now).1) }

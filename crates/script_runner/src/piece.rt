@@ -15,7 +15,7 @@ use script_model::{LineError, Parsed};
 use script_text::{ReplyLine, parse_whole_line};
 use std::alloc::Global;
 
-/// Where a run stands in the input.
+/// Where a run is in the input.
 #[derive(Drop)]
 pub(crate) struct Progress {
     /// The number of the next line.
@@ -91,7 +91,7 @@ fn answer_whole<M: ScriptMachine, K: Sink>(
     Ok(())
 }
 
-/// Answers the whole lines that end in a piece, and holds what is behind them.
+/// Answers the whole lines that end in a piece, and holds what is after them.
 pub(crate) fn answer_piece<M: ScriptMachine, K: Sink>(
     alloc: Global,
     progress: &mut Progress,

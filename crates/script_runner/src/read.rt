@@ -8,8 +8,13 @@ use iso_model::MAX_INPUT;
 use script_model::Line;
 use std::alloc::Global;
 
-/// The numbered lines of a script, which is read to its end, but no more than 2^32 bytes of it. A bad line anywhere is told
-/// as such.
+/// The numbered lines of a script, which is read to its end, but no more than 2^32 bytes of it.
+///
+/// # Errors
+///
+/// - `BadLine`: the first bad line, wherever it is.
+/// - `Input`: the source failed.
+/// - `Memory`: want of memory.
 pub fn read_script<S: Source>(alloc: Global, input: &mut S) -> Result<Vec<(u64, Line)>, ScriptError>
     ensures lines { IfOk result (λ v. HasRead (S.state input.old) (S.state input.new) v.items) }
     ensures why { IfErr result (λ e. HasNoLines (S.state input.old) (S.state input.new) e) }

@@ -13,7 +13,7 @@ pub enum RunEnd {
     Disk,
     /// The source failed; the whole lines among the bytes taken were answered.
     Input,
-    /// The sink failed, or took nothing of a piece that is not empty. Where it could not hand on, no line ran behind those
+    /// The sink failed, or took nothing of a piece that is not empty. Where it could not hand on, no line ran after those
     /// whose replies it took.
     Output,
     /// Want of memory.

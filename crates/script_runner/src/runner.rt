@@ -150,9 +150,10 @@ fn answer_input<M: ScriptMachine, S: Source, K: Sink>(
     RunEnd::BadLine(BadLine { line, cause: 9 })
 }
 
-/// Answers the lines of an input on a machine. The sink has the whole reply to each line before the next line runs, and hands
-/// on what it holds back before more input is taken; where it cannot, the run ends, and no line more has run. The input is taken in pieces of up to 65,536 bytes, and no more than 2^32
-/// bytes of it. A line that is bad, a fault and want of memory end the run at once.
+/// Answers the lines of an input on a machine. The sink has the whole reply to each line before the next line runs, and
+/// hands on what it holds back before more input is taken; where it cannot, the run ends, and no line more has run. The
+/// input is taken in pieces of up to 65,536 bytes, and no more than 2^32 bytes of it. A line that is bad, a fault and
+/// want of memory end the run at once.
 pub fn run<M: ScriptMachine, S: Source, K: Sink>(
     alloc: Global,
     machine: &mut M,

@@ -40,7 +40,7 @@ pub(crate) fn hex(alloc: Global, word: &[u8]) -> Result<Bytes, LineError>
     Ok(Bytes::of(bytes))
 }
 
-/// A key or a value of a store: a dash stands for none.
+/// A key or a value of a store: a dash is none.
 pub(crate) fn stored(alloc: Global, word: &[u8]) -> Result<Bytes, LineError>
     ensures { Gives result (store_argument word.now) }
 {

@@ -1,4 +1,4 @@
-// The line of a reply that tells how a group ended.
+// The line of the reply to a group.
 ghost use Rattle.std.specs.Prelude.{◌≡◌, ◌++◌, OnErr, OnOk, codes, decimal, flat_map};
 ghost use Rattle.script_model.specs.{declared.script.Reply.TheVariants.Grouped, Text.{clash_text, full_text, label_text, labels_text, reply_line}};
 ghost use Rattle.script_text.specs.Printing.{Extends};
@@ -6,7 +6,7 @@ ghost use Rattle.script_text.specs.Printing.{Extends};
 use crate::push::{push_bytes, push_number};
 use iso_model::{Clash, GroupReply, Memory};
 
-/// Adds the line that tells a client what the labels of a group are answered. Without memory nothing is added.
+/// Adds the line that shows a client how a group ended. Without memory nothing is added.
 pub(crate) fn push_grouped(
     out: &mut Vec<u8>,
     client: u8,
@@ -34,7 +34,7 @@ fn push_line(out: &mut Vec<u8>, client: u8, answers: &[Option<GroupReply>]) -> R
     push_bytes(out, b"\n")
 }
 
-/// Adds the answers, the first one behind a space.
+/// Adds the answers, the first one after a space.
 fn push_answers(out: &mut Vec<u8>, answers: &[Option<GroupReply>]) -> Result<(), Memory>
     ensures ok { OnOk result (out.new.items ≡ out.old.items ++ labels_text answers.now) }
     ensures err { OnErr result (Extends out.old.items out.new.items) }
@@ -47,7 +47,7 @@ fn push_answers(out: &mut Vec<u8>, answers: &[Option<GroupReply>]) -> Result<(),
     push_others(out, others)
 }
 
-/// Adds the answers behind the first one, each behind a semicolon and a space.
+/// Adds the answers after the first one, each after a semicolon and a space.
 fn push_others(out: &mut Vec<u8>, answers: &[Option<GroupReply>]) -> Result<(), Memory>
     ensures ok { OnOk result (out.new.items ≡ out.old.items ++ flat_map (λ a. codes "; " ++ label_text a) answers.now) }
     ensures err { OnErr result (Extends out.old.items out.new.items) }

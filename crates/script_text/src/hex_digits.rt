@@ -20,7 +20,7 @@ fn are_digits(high: u8, low: u8) -> bool
     high.is_ascii_hexdigit() & low.is_ascii_hexdigit()
 }
 
-/// Writes the bytes that a word spells into their room, and tells whether all of it are digits. What the room holds where they are
+/// Writes the bytes that a word spells into their room, and says whether all of it are digits. What the room holds where they are
 /// not is not said.
 pub(crate) fn decode(word: &[u8], room: &mut [u8]) -> bool
     requires { length word.now ≡ 2 * length room.old }

@@ -10,7 +10,12 @@ use iso_model::MAX_LINE;
 use script_model::{LineError, Parsed};
 use std::alloc::Global;
 
-/// What a line without its line feed says, or the first test that it fails.
+/// What a line without its line feed says.
+///
+/// # Errors
+///
+/// - `Cause`: the first test that the line fails.
+/// - `Memory`: want of memory for what it says.
 #[tactic(auto, unfolding(script_model::specs::Script::parse))]
 pub fn parse_line(alloc: Global, text: &[u8]) -> Result<Parsed, LineError>
     ensures { Gives result (parse text.now) }
@@ -29,6 +34,10 @@ pub fn parse_line(alloc: Global, text: &[u8]) -> Result<Parsed, LineError>
 }
 
 /// What the bytes before a line feed say. A carriage return at their end counts in their length alone.
+///
+/// # Errors
+///
+/// As those of `parse_line`.
 #[tactic(auto, unfolding(script_model::specs::Script::parse_whole))]
 pub fn parse_whole_line(alloc: Global, piece: &[u8]) -> Result<Parsed, LineError>
     ensures { Gives result (parse_whole piece.now) }

@@ -1,4 +1,4 @@
-// The line of a reply that tells pairs of a store.
+// The line of a reply with pairs of a store.
 ghost use Rattle.std.specs.Prelude.{◌≡◌, ◌++◌, OnErr, OnOk, flat_map};
 ghost use Rattle.script_model.specs.{declared.script.Reply.TheVariants.Pairs, Text.{pair_text, reply_line}};
 ghost use Rattle.script_text.specs.Printing.{Extends};
@@ -6,7 +6,7 @@ ghost use Rattle.script_text.specs.Printing.{Extends};
 use crate::push::{push_bytes, push_dashed, push_number};
 use iso_model::{Bytes, Memory};
 
-/// Adds the line that tells a client these pairs. Without memory nothing is added.
+/// Adds the line that shows a client these pairs. Without memory nothing is added.
 pub(crate) fn push_pairs(
     out: &mut Vec<u8>,
     client: u8,
@@ -34,7 +34,7 @@ fn push_line(out: &mut Vec<u8>, client: u8, pairs: &[(Bytes, Bytes)]) -> Result<
     push_bytes(out, b"\n")
 }
 
-/// Adds the pairs, each behind a space.
+/// Adds the pairs, each after a space.
 fn push_all(out: &mut Vec<u8>, pairs: &[(Bytes, Bytes)]) -> Result<(), Memory>
     ensures ok { OnOk result (out.new.items ≡ out.old.items ++ flat_map pair_text pairs.now) }
     ensures err { OnErr result (Extends out.old.items out.new.items) }

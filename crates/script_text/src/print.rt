@@ -12,6 +12,10 @@ use std::alloc::Global;
 
 /// The line in words with one space between them, numbers in decimal and bytes in hexadecimal in lower case, without a
 /// line feed. A line that can be said and is not too long is read from that as it is.
+///
+/// # Errors
+///
+/// Want of memory.
 #[tactic(auto, unfolding(crate::specs::Spelling::line_text))]
 pub fn print_line(alloc: Global, line: &Line) -> Result<Vec<u8>, Memory>
     ensures text { IfOk result (λ v. v.items ≡ line_text line.now) }
@@ -33,7 +37,7 @@ fn push_operation(out: &mut Vec<u8>, op: &Op) -> Result<(), Memory>
     push_behind(out, &behind)
 }
 
-/// Adds the words behind the name of an operation, each behind a space.
+/// Adds the words after the name of an operation, each after a space.
 fn push_behind(out: &mut Vec<u8>, behind: &Behind) -> Result<(), Memory>
     ensures { OnOk result (out.new.items ≡ out.old.items ++ behind_text behind.now) }
 {
@@ -49,7 +53,7 @@ fn push_behind(out: &mut Vec<u8>, behind: &Behind) -> Result<(), Memory>
     }
 }
 
-/// Adds two words, each behind a space.
+/// Adds two words, each after a space.
 fn push_two(out: &mut Vec<u8>, word: &Word, next: &Word) -> Result<(), Memory>
     ensures { OnOk result (out.new.items ≡ out.old.items ++ word_text word.now ++ word_text next.now) }
 {
@@ -57,7 +61,7 @@ fn push_two(out: &mut Vec<u8>, word: &Word, next: &Word) -> Result<(), Memory>
     push_word(out, next)
 }
 
-/// Adds a word behind a space.
+/// Adds a word after a space.
 fn push_word(out: &mut Vec<u8>, word: &Word) -> Result<(), Memory>
     ensures { OnOk result (out.new.items ≡ out.old.items ++ word_text word.now) }
 {
@@ -69,7 +73,7 @@ fn push_word(out: &mut Vec<u8>, word: &Word) -> Result<(), Memory>
     }
 }
 
-/// Adds a number in decimal behind a space.
+/// Adds a number in decimal after a space.
 fn push_number_behind(out: &mut Vec<u8>, number: u32) -> Result<(), Memory>
     ensures { OnOk result (out.new.items ≡ out.old.items ++ 32 ∷ decimal number) }
 {
@@ -77,7 +81,7 @@ fn push_number_behind(out: &mut Vec<u8>, number: u32) -> Result<(), Memory>
     push_number(out, u64::from(number))
 }
 
-/// Adds bytes in hexadecimal behind a space.
+/// Adds bytes in hexadecimal after a space.
 fn push_hex_behind(out: &mut Vec<u8>, bytes: &[u8]) -> Result<(), Memory>
     ensures { OnOk result (out.new.items ≡ out.old.items ++ 32 ∷ hex_text bytes.now) }
 {
@@ -85,7 +89,7 @@ fn push_hex_behind(out: &mut Vec<u8>, bytes: &[u8]) -> Result<(), Memory>
     push_hex(out, bytes)
 }
 
-/// Adds the labels, each behind a space.
+/// Adds the labels, each after a space.
 fn push_labels(out: &mut Vec<u8>, labels: &[Label]) -> Result<(), Memory>
     ensures { OnOk result (out.new.items ≡ out.old.items ++ flat_map (λ label. 32 ∷ label) labels.now) }
 {

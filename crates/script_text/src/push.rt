@@ -36,7 +36,7 @@ pub(crate) fn push_hex(out: &mut Vec<u8>, bytes: &[u8]) -> Result<(), Memory>
     Ok(())
 }
 
-/// Writes bytes in hexadecimal behind the first ones of a text, which ends where they do.
+/// Writes bytes in hexadecimal after the first ones of a text, which ends where they do.
 fn write_behind(bytes: &[u8], text: &mut [u8], start: usize)
     requires { length text.old ≡ start + 2 * length bytes.now }
     ensures { text.new ≡ take start text.old ++ hex_text bytes.now }

@@ -17,7 +17,11 @@ const USUAL_LINE: usize = 64;
 /// The most bytes that are shown in a line which is made in place.
 pub const MOST_SHOWN: usize = 64;
 
-/// The line that tells a client its reply.
+/// The line of a client's reply.
+///
+/// # Errors
+///
+/// Want of memory.
 pub fn print_reply(alloc: Global, client: u8, reply: &Reply) -> Result<Vec<u8>, Memory>
     ensures { IfOk result (λ v. v.items ≡ reply_line client reply.now) }
 {
@@ -26,7 +30,11 @@ pub fn print_reply(alloc: Global, client: u8, reply: &Reply) -> Result<Vec<u8>, 
     Ok(line)
 }
 
-/// Adds the line that tells a client its reply. Without memory nothing is added.
+/// Adds the line of a client's reply.
+///
+/// # Errors
+///
+/// Want of memory. Nothing is added.
 pub fn push_reply(out: &mut Vec<u8>, client: u8, reply: &Reply) -> Result<(), Memory>
     ensures ok { OnOk result (out.new.items ≡ out.old.items ++ reply_line client reply.now) }
     ensures err { OnErr result (out.new.items ≡ out.old.items) }
@@ -49,7 +57,7 @@ fn push_other(out: &mut Vec<u8>, client: u8, reply: &Reply) -> Result<(), Memory
     }
 }
 
-/// The bytes that a reply tells, where they are too many for a line that is made in place.
+/// The bytes that a reply shows, where they are too many for a line that is made in place.
 pub(crate) fn many_shown(reply: &Reply) -> Option<&[u8]>
     requires { IsOther reply.now }
     ensures { MatchOption result (IsShort reply.now) (λ bytes. IsLong reply.now bytes.now) }
@@ -212,7 +220,7 @@ fn put_numbered(line: &mut Ending, text: &[u8], number: u64)
     line.put(text);
 }
 
-/// Puts two texts, each with a number in decimal behind it, before the text.
+/// Puts two texts, each with a number in decimal after it, before the text.
 fn put_two(line: &mut Ending, text: &[u8], number: u64, next_text: &[u8], next_number: u64)
     requires { length text.now + length next_text.now + 40 ≤ line.old.room }
     ensures text { line.new.text ≡ text.now ++ decimal number ++ next_text.now ++ decimal next_number ++ line.old.text }

@@ -40,8 +40,12 @@ impl ReplyLine {
         }
     }
 
-    /// Makes the line that tells a client its reply. It takes memory only where the reply shows more than `MOST_SHOWN`
-    /// bytes, or pairs, or how a group ended; without that there is no line.
+    /// Makes the line of a client's reply. It takes memory only where the reply shows more than `MOST_SHOWN`
+    /// bytes, or pairs, or how a group ended.
+    ///
+    /// # Errors
+    ///
+    /// Want of memory. There is no line then.
     pub fn set(&mut self, client: u8, reply: &Reply) -> Result<(), Memory>
         ensures ok { OnOk result (self.new ≡ reply_line client reply.now) }
         ensures err { OnErr result (self.new ≡ []) }

@@ -5,7 +5,7 @@ ghost use Rattle.script_text.specs.{Said.behind_text, Spelling.{arguments_of, na
 use iso_model::{Bytes, Label, LabelList, Mode};
 use script_model::Op;
 
-/// A word behind the name of an operation.
+/// A word after the name of an operation.
 #[derive(Drop)]
 pub(crate) enum Word<'a> {
     Number(u32),
@@ -15,7 +15,7 @@ pub(crate) enum Word<'a> {
     Label(&'a Label),
 }
 
-/// The words behind the name of an operation.
+/// The words after the name of an operation.
 #[derive(Drop)]
 pub(crate) enum Behind<'a> {
     Nothing,
@@ -25,7 +25,7 @@ pub(crate) enum Behind<'a> {
     Labels(&'a LabelList),
 }
 
-/// The operation's name, and the words behind it. A table alone: what pushes them is in functions that know no operation.
+/// The operation's name, and the words after it. A table alone: what pushes them is in functions that know no operation.
 pub(crate) fn said(op: &Op) -> (&[u8], Behind<'_>)
     ensures { result.0.now ++ behind_text result.1 ≡ spaced (name_of op.now ∷ arguments_of op.now) }
 {

@@ -71,7 +71,7 @@ fn cut_word(rest: &[u8]) -> Option<(&[u8], &[u8])>
     Some(rest.split_at(at))
 }
 
-/// Puts the first words between spaces into the places, and tells how many these are. None where the line has a byte that is
+/// Puts the first words between spaces into the places, and says how many these are. None where the line has a byte that is
 /// not printable.
 pub(crate) fn cut_words<'a>(line: &'a [u8], places: &mut [&'a [u8]; MOST_WORDS]) -> Option<usize>
     ensures words { IfSome result (λ count. texts (take count places.new) ≡ take MOST_WORDS (words_of line.now)) }

@@ -1,5 +1,5 @@
 //! A crowd. Nearly all threads sleep at the gate at once, and look at it at nearly the same moment: a lock that passes the gate to
-//! a thread which is not there, or wakes nobody as it opens it, stands still here.
+//! a thread which is not there, or wakes nobody as it opens it, hangs here.
 ghost use Rattle.std.specs.Prelude.{◌≡◌, ◌<◌, ◌≤◌};
 ghost use denote.Param.Send.{IsSync};
 ghost use Rattle.turn_lock.specs.{Lock.lock_id, Pass.{view, HasNoTurn}};

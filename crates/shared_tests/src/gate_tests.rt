@@ -1,5 +1,5 @@
 //! Many callers. All but one sleep at the gate, and each that passes it has to wake another one: a lock that forgets those who still
-//! sleep stands still here. Short turns of many threads and of few bring all ways past the gate.
+//! sleep hangs here. Short turns of many threads and of few bring all ways past the gate.
 ghost use Rattle.std.specs.Prelude.{◌≡◌, ◌<◌};
 ghost use denote.Param.Send.{IsSync};
 ghost use Rattle.turn_lock.specs.{Lock.lock_id, Pass.{view, HasNoTurn, IsSamePass}};

@@ -1,4 +1,4 @@
-// The end of a group through the lock: what its members are answered, and what stands after it.
+// The end of a group through the lock: what its members are answered, and what the device has after it.
 ghost use Rattle.std.specs.{Prelude.{◌≡◌, ◌+◌, ◌<◌, [], ◌∷◌, IfErr, IfNone, IfOk, IfSome, MatchOption, length, vec_len}, List.AllByRecursion};
 ghost use Rattle.iso_memdisk.specs.MemDisk.{state_of};
 ghost use Rattle.iso_shared.specs.{Ports.{IsPort, IsTx, port_view}, TestImage.{small, MayStart}};
@@ -57,7 +57,7 @@ fn pair<O: Origin>(
     Ok(group)
 }
 
-/// A transaction that writes the first byte of this block, and behind it one that has read block 0 and written block 2.
+/// A transaction that writes the first byte of this block, and after it one that has read block 0 and written block 2.
 fn two<O: Origin, R: Wait>(
     rt: &R,
     alloc: Global,
@@ -143,7 +143,7 @@ fn ended_group<O: Origin, R: Wait>(
     }
 }
 
-/// The same, with the last commit and the live transactions behind it, and whether the device is down.
+/// The same, with the last commit and the live transactions after it, and whether the device is down.
 type Ended = (Told, (u64, u32, bool));
 
 /// Those numbers of a device.

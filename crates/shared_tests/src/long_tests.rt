@@ -1,5 +1,5 @@
 //! Turns that last longer than one looks at the gate: who waits sleeps, and who was woken and came too late sleeps again. A lock that
-//! wakes it once alone stands still here, and one that looks on and on takes too much of a processor.
+//! wakes it once alone hangs here, and one that looks on and on takes too much of a processor.
 ghost use denote.Param.Send.{IsSync};
 
 use crate::gate_tests::{callers, were_taken};

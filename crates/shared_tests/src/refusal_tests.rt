@@ -1,4 +1,4 @@
-// What the calls of a device refuse through the lock, why, and what stands after it.
+// What the calls of a device refuse through the lock, why, and what the device has after it.
 ghost use Rattle.std.specs.Prelude.{◌≡◌, ◌+◌, ◌<◌};
 ghost use Rattle.iso_memdisk.specs.MemDisk.{state_of};
 ghost use Rattle.iso_shared.specs.{Ports.{IsPort, port_view}, TestImage.MayStart};
@@ -145,7 +145,7 @@ fn as_many_transactions_as_may_be_live_are_under_labels(rt: HostRuntime) -> Resu
 }
 
 /// What a device over a failing disk answers: two fetches of one transaction, its end, the end of one that began before it,
-/// and a begin, a trim, a compaction and an upgrade behind it; and whether it is down, with how many live transactions.
+/// and a begin, a trim, a compaction and an upgrade after it; and whether it is down, with how many live transactions.
 type FaultAnswers = (
     Result<(), CoreError>,
     Result<(), CoreError>,

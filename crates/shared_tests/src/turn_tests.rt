@@ -24,7 +24,7 @@ pub(crate) struct Entry {
     pub(crate) number: u64,
 }
 
-/// It stands for the list that it has.
+/// It represents the list that it has.
 #[derive(Drop)]
 pub(crate) struct Log {
     pub(crate) owner: u64,
@@ -67,7 +67,7 @@ fn give<N: Names<Entry>>(lock: &TurnLock<Log>, pass: &mut Pass<Log>, turn: Turn<
     lock.give::<N>(pass, turn);
 }
 
-// Writes the number of entries behind them, and gives the turn back.
+// Writes the number of entries after them, and gives the turn back.
 pub(crate) fn add<R: Abort>(rt: &R, lock: &TurnLock<Log>, pass: &mut Pass<Log>, turn: Turn<Log>)
     requires lock { (pass.old.table_id ≡ lock_id lock.now) × HasTurn pass.old turn }
     requires value { (turn_value turn).entries.items ≡ (view pass.old).seen }
@@ -258,7 +258,7 @@ pub(crate) fn made(rt: &impl Abort, alloc: Global) -> (TurnLock<Log>, Pass<Log>)
     }
 }
 
-// Tells by a note what the teller has seen.
+// Passes on by a note what the teller has seen.
 fn tell(lock: &TurnLock<Log>, teller: &mut Pass<Log>, listener: &mut Pass<Log>)
     requires teller { (teller.old.table_id ≡ lock_id lock.now) × HasNoTurn teller.old × (0 < (view teller.old).units) }
     requires listener { (listener.old.table_id ≡ lock_id lock.now) × HasNoTurn listener.old × (0 < (view listener.old).units) }

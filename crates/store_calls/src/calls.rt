@@ -10,7 +10,15 @@ use std::alloc::Global;
 use store_model::FsRegion;
 use tx_blocks::TxBlocks;
 
-/// An operation on the store in these regions; any other one does nothing. The transaction refuses for its own causes alone.
+/// An operation on the store in these regions; any other one does nothing. What the store refuses, and that no more
+/// accesses fit, is a reply.
+///
+/// # Errors
+///
+/// The accesses that were made stay.
+/// - `Memory`: want of memory.
+/// - `Disk`: the disk failed in this call.
+/// - `Down`: the disk is down.
 pub fn call<T: TxBlocks>(alloc: Global, tx: &mut T, at: FsRegion, op: &Op) -> Result<Reply, Stop>
     requires is_open { (T.state tx.old).is_open ≡ true }
     requires areas { AreStoreAreas op.now (areas_of (T.state tx.old) at) }

@@ -9,7 +9,7 @@ use iso_model::Geometry;
 use script_model::Op;
 use store_model::{FsRegion, Region};
 
-// How many blocks the files have: those behind the stores, but no more than the map of one block has bits for, and none without a
+// How many blocks the files have: those after the stores, but no more than the map of one block has bits for, and none without a
 // tree store for their names, or where there is no second one.
 fn file_blocks(geometry: &Geometry) -> u32
     requires least { 64 ≤ geometry.now.block }

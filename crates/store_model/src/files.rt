@@ -7,7 +7,7 @@ use crate::stores::{Area, Region, StoreError};
 pub enum FsError {
     /// A name does not have 1 to 28 bytes.
     BadName,
-    /// The bytes that are asked for or written are not 1 to 4,096, or they begin behind the file's end, or pass the limit of a file.
+    /// The bytes that are asked for or written are not 1 to 4,096, or they begin after the file's end, or pass the limit of a file.
     BadRange,
     /// The name has a file.
     Exists,
@@ -15,7 +15,7 @@ pub enum FsError {
     Store(StoreError),
 }
 
-/// The blocks that a file store has: the tree region, whose keys are the names, and the region of the files' blocks behind it.
+/// The blocks that a file store has: the tree region, whose keys are the names, and the region of the files' blocks after it.
 #[derive(Clone, Copy)]
 pub struct FsRegion {
     pub tree: Region,

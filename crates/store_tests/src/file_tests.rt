@@ -27,7 +27,7 @@ fn place() -> FsRegion
     }
 }
 
-// Sixty-four blocks of zeros.
+/// Sixty-four blocks of zeros.
 pub fn blank(alloc: Global) -> Result<PlainTx, Fail>
     ensures { IfOk result (λ t. IsReady 64 (state_of t)) }
 {
@@ -35,6 +35,7 @@ pub fn blank(alloc: Global) -> Result<PlainTx, Fail>
     Ok(PlainTx::new(alloc, bytes, 256))
 }
 
+/// `create` in the files of those blocks.
 pub fn create_in(alloc: Global, tx: &mut PlainTx, name: &[u8]) -> Result<(), FsError>
     requires { IsReady 64 (state_of tx.old) }
     ensures { IsReady 64 (state_of tx.new) }
@@ -42,6 +43,7 @@ pub fn create_in(alloc: Global, tx: &mut PlainTx, name: &[u8]) -> Result<(), FsE
     create(alloc, tx, place(), name)
 }
 
+/// `write` in the files of those blocks.
 pub fn write_in(
     alloc: Global,
     tx: &mut PlainTx,
@@ -55,6 +57,7 @@ pub fn write_in(
     write(alloc, tx, place(), name, off, bytes)
 }
 
+/// `read` in the files of those blocks.
 pub fn read_in(
     alloc: Global,
     tx: &mut PlainTx,
@@ -68,6 +71,7 @@ pub fn read_in(
     read(alloc, tx, place(), name, off, len)
 }
 
+/// `rename` in the files of those blocks.
 pub fn rename_in(alloc: Global, tx: &mut PlainTx, old: &[u8], new: &[u8]) -> Result<bool, FsError>
     requires { IsReady 64 (state_of tx.old) }
     ensures { IsReady 64 (state_of tx.new) }
@@ -75,6 +79,7 @@ pub fn rename_in(alloc: Global, tx: &mut PlainTx, old: &[u8], new: &[u8]) -> Res
     rename(alloc, tx, place(), old, new)
 }
 
+/// `remove` in the files of those blocks.
 pub fn remove_in(alloc: Global, tx: &mut PlainTx, name: &[u8]) -> Result<bool, FsError>
     requires { IsReady 64 (state_of tx.old) }
     ensures { IsReady 64 (state_of tx.new) }

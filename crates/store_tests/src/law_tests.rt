@@ -44,7 +44,7 @@ fn a_transaction_gets_what_it_puts(rt: HostRuntime) -> Result<(), Fail> {
     Ok(())
 }
 
-// A scan behind a put answers as one on the map with the pair, over any well-formed region.
+// A scan after a put answers as one on the map with the pair, over any well-formed region.
 fn put_and_scan<T: TxBlocks>(
     alloc: Global,
     tx: &mut T,

@@ -13,7 +13,7 @@ use std::test::Fail;
 use store_model::{PairList, Region, StoreError};
 use tx_blocks::TxBlocks;
 
-// All blocks behind the first of the image.
+// All blocks after the first of the image.
 fn region() -> Region
     ensures { result ≡ record { start = 1; size = 39 } }
 {

@@ -15,6 +15,10 @@ use std::sync::ledger::{Blank, Ledger};
 use tx_table::Work;
 
 /// The work of a transaction that fills a block with one byte.
+///
+/// # Errors
+///
+/// Want of memory.
 pub fn filling(
     alloc: Global,
     at: u64,
@@ -63,6 +67,10 @@ fn end_of<L: Ledger>(
 }
 
 /// The reply to a transaction that fills a block with one byte, on a disk that is opened, and the disk.
+///
+/// # Errors
+///
+/// Want of memory, or there is no such block of 64 bytes.
 pub fn ended_on(
     alloc: Global,
     disk: MemDisk,

@@ -50,6 +50,10 @@ pub fn with_long_logs() -> Geometry
 }
 
 /// `count` zeros.
+///
+/// # Errors
+///
+/// Want of memory.
 pub fn zeros(alloc: Global, count: usize) -> Result<Vec<u8>, AllocError>
     ensures { IfOk result (λ v. v.items ≡ replicate count 0) }
 {
@@ -57,6 +61,10 @@ pub fn zeros(alloc: Global, count: usize) -> Result<Vec<u8>, AllocError>
 }
 
 /// A blank disk of the size of an image, on which nothing was called.
+///
+/// # Errors
+///
+/// Want of memory.
 pub fn blank(alloc: Global, geometry: &Geometry) -> Result<MemDisk, AllocError>
     requires { IsTrue (is_valid geometry.now) }
     ensures { IfOk result (λ d. Starts d (replicate (image_size geometry.now) 0)) }

@@ -13,6 +13,10 @@ use iso_recover::{format_image, open_image};
 use std::alloc::Global;
 
 /// A core over a new image of a blank disk, of which calls may have been set to fail.
+///
+/// # Errors
+///
+/// Want of memory, or a call of the disk failed.
 pub fn core_on(alloc: Global, disk: MemDisk, geometry: &Geometry) -> Result<Core<MemDisk>, Memory>
     requires valid { IsTrue (is_valid geometry.now) }
     requires blank { Starts disk (replicate (image_size geometry.now) 0) }
@@ -26,6 +30,10 @@ pub fn core_on(alloc: Global, disk: MemDisk, geometry: &Geometry) -> Result<Core
 }
 
 /// A core over a new image, on a disk that does not fail.
+///
+/// # Errors
+///
+/// Want of memory.
 pub fn new_core(alloc: Global, geometry: &Geometry) -> Result<Core<MemDisk>, Memory>
     requires { IsTrue (is_valid geometry.now) }
     ensures stands { IfOk result (λ core. StandsFor state_of core (fresh geometry.now 1 (empty_history geometry.now)) up) }
@@ -36,6 +44,10 @@ pub fn new_core(alloc: Global, geometry: &Geometry) -> Result<Core<MemDisk>, Mem
 }
 
 /// A disk with a new image.
+///
+/// # Errors
+///
+/// Want of memory.
 pub fn formatted(alloc: Global, geometry: &Geometry) -> Result<MemDisk, Memory>
     requires { IsTrue (is_valid geometry.now) }
 {
@@ -43,6 +55,10 @@ pub fn formatted(alloc: Global, geometry: &Geometry) -> Result<MemDisk, Memory>
 }
 
 /// A core over the image of a disk.
+///
+/// # Errors
+///
+/// The image is refused, a call of the disk failed, or want of memory. The disk is handed back.
 pub fn opened(alloc: Global, disk: MemDisk) -> Result<Core<MemDisk>, MemDisk>
     ensures { IfOk result (λ core. IsIdle state_of core) }
 {

@@ -12,10 +12,13 @@ use std::thread::Threads;
 /// The words that make a small image.
 pub const SMALL: &str = "isotope new t.img --block-size 64 --blocks 4 --log 256";
 
+/// The words that run a script on it.
 pub const RUN: &str = "isotope run t.img";
 
+/// The words that run its clients in threads.
 pub const PAR: &str = "isotope par t.img";
 
+/// The words that open it and show its last commit.
 pub const RECOVER: &str = "isotope recover t.img";
 
 /// The words of a command line.
@@ -28,6 +31,10 @@ fn words_of(alloc: Global, line: &str) -> Result<Vec<String>, AllocError> {
 }
 
 /// A source of these bytes that does not fail.
+///
+/// # Errors
+///
+/// Want of memory.
 pub fn source_of(alloc: Global, input: &[u8]) -> Result<MemSource, AllocError> {
     Ok(MemSource::new(input.to_vec(alloc)?, Vec::new(alloc)))
 }
@@ -45,7 +52,12 @@ impl Gate for Open {
     fn before(&self, _client: u8, _number: u64) {}
 }
 
-/// The status, the output and the image of a call over any image and source, with a gate that is called before each line of a `par` command.
+/// The status, the output and the image of a call over any image and source, with a gate that is called before each
+/// line of a `par` command.
+///
+/// # Errors
+///
+/// Want of memory outside of the call, whose own is a status.
 pub fn gated<I: Image + Send + Drop, S: Source, G: Gate, R: Threads + Wait + Sync>(
     rt: &R,
     alloc: Global,
@@ -63,6 +75,10 @@ pub fn gated<I: Image + Send + Drop, S: Source, G: Gate, R: Threads + Wait + Syn
 }
 
 /// The same over any image, without a gate.
+///
+/// # Errors
+///
+/// Want of memory outside of the call, whose own is a status.
 pub fn call_over<I: Image + Send + Drop, R: Threads + Wait + Sync>(
     rt: &R,
     alloc: Global,
@@ -76,6 +92,10 @@ pub fn call_over<I: Image + Send + Drop, R: Threads + Wait + Sync>(
 }
 
 /// A call over a disk, in which source and sink do not fail.
+///
+/// # Errors
+///
+/// As those of `gated`.
 pub fn call_on<R: Threads + Wait + Sync>(
     rt: &R,
     alloc: Global,
@@ -93,6 +113,10 @@ pub fn call_on<R: Threads + Wait + Sync>(
 }
 
 /// A call over a disk without bytes, in which nothing fails.
+///
+/// # Errors
+///
+/// As those of `gated`.
 pub fn call<R: Threads + Wait + Sync>(
     rt: &R,
     alloc: Global,
@@ -103,6 +127,10 @@ pub fn call<R: Threads + Wait + Sync>(
 }
 
 /// A script on an image of these bytes, in which nothing fails.
+///
+/// # Errors
+///
+/// As those of `gated`.
 pub fn run_image<R: Threads + Wait + Sync>(
     rt: &R,
     alloc: Global,
@@ -113,6 +141,10 @@ pub fn run_image<R: Threads + Wait + Sync>(
 }
 
 /// The clients of a script in threads, on an image of these bytes, where nothing fails.
+///
+/// # Errors
+///
+/// As those of `gated`.
 pub fn par_image<R: Threads + Wait + Sync>(
     rt: &R,
     alloc: Global,

@@ -33,6 +33,10 @@ impl Failing {
 }
 
 /// A disk of these bytes that fails so.
+///
+/// # Errors
+///
+/// Want of memory.
 pub fn faulty(alloc: Global, bytes: &[u8], fault: Fault) -> Result<MemDisk, AllocError> {
     let mut disk = MemDisk::new(alloc, bytes.to_vec(alloc)?);
     match fault {

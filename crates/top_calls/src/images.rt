@@ -20,6 +20,10 @@ pub fn part(image: &[u8], at: usize, count: usize) -> &[u8] {
 }
 
 /// A small image without commits.
+///
+/// # Errors
+///
+/// Want of memory.
 pub fn small_image(alloc: Global) -> Result<Vec<u8>, AllocError> {
     let mut image = vec![in alloc; 0; 1152]?;
     change(&mut image, 0, b"ISOTOPE1");

@@ -16,7 +16,11 @@ impl Outcome {
         self.status == status && self.output.as_slice() == output
     }
 
-    /// The image that a crash leaves for this pick: for 0 what stood at the last sync, and for 1 all that was written.
+    /// The image that a crash leaves for this pick: for 0 what it was at the last sync, and for 1 all that was written.
+    ///
+    /// # Errors
+    ///
+    /// Want of memory.
     pub fn image(&self, alloc: Global, pick: u64) -> Result<Vec<u8>, AllocError> {
         self.disk.crash(alloc, pick).or(Err(AllocError))
     }

@@ -7,7 +7,7 @@ use std::fmt::Write;
 /// How many clients there are.
 pub const CLIENTS: usize = 3;
 
-/// A call on files. A file stands at the place of its name, below 3; the bytes that are written rise from the first one on.
+/// A call on files. A file is at the place of its name, below 3; the bytes that are written rise from the first one on.
 #[derive(Clone, Copy)]
 pub enum Call {
     New(u8),

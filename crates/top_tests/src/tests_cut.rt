@@ -10,10 +10,10 @@ use top_calls::{Open, SMALL, gated, whole_sink};
 /// How long a line is with its line feed: as many of these as are read are whole lines.
 const LINE: usize = 16_384;
 
-/// Lines of comments, one after the other. As a source it tells no bytes.
+/// Lines of comments, one after the other. As a source it is opaque.
 #[derive(Drop)]
 struct Comments {
-    /// How many bytes stand before the next line feed.
+    /// How many bytes come before the next line feed.
     left: usize,
 }
 

@@ -11,7 +11,7 @@ use top_calls::{Outcome, call, run_image};
 // The files have twenty blocks: one of their map, and for each of three files at most one of its own and three of its bytes.
 const FILES: &str = "isotope new t.img --block-size 256 --blocks 24 --log 65536 --tree 4";
 
-/// A client's last begin: at which line, behind which commit, what it is shown, and whether it has written.
+/// A client's last begin: at which line, after which commit, what it is shown, and whether it has written.
 #[derive(Clone, Copy)]
 struct Own {
     first: usize,
@@ -20,7 +20,7 @@ struct Own {
     wrote: bool,
 }
 
-/// How many transactions ended so; of those that committed, how many had another one's commit behind their begin.
+/// How many transactions ended so; of those that committed, how many had another one's commit after their begin.
 #[derive(Clone, Copy)]
 struct Ends {
     committed: u32,
@@ -38,7 +38,7 @@ const NO_ENDS: Ends = Ends {
     aborted: 0,
 };
 
-/// What is known of a run: the files behind its last commit, that commit's number, and the clients' transactions.
+/// What is known of a run: the files after its last commit, that commit's number, and the clients' transactions.
 #[derive(Drop)]
 struct Known {
     files: Files,
@@ -109,7 +109,7 @@ impl Known {
         Ok(expected.as_str() == reply)
     }
 
-    /// Whether the begin at a line is told the last commit's number; it is shown the files behind that commit.
+    /// Whether the begin at a line is told the last commit's number; it is shown the files after that commit.
     fn begins(
         &mut self,
         alloc: Global,
@@ -130,7 +130,7 @@ impl Known {
     }
 
     /// Whether a transaction that has these lines ends so: with a commit its calls are answered as the files are then. It is
-    /// read-only just where it has written nothing, and has a conflict only where there was a commit behind its begin.
+    /// read-only just where it has written nothing, and has a conflict only where there was a commit after its begin.
     fn ends(
         &mut self,
         alloc: Global,
@@ -195,7 +195,7 @@ impl Known {
         }
     }
 
-    /// The first line of a run that is not answered as it should be; one behind the last where the run did not end well.
+    /// The first line of a run that is not answered as it should be; one after the last where the run did not end well.
     fn other(
         &mut self,
         alloc: Global,
@@ -231,7 +231,7 @@ fn replies_of(alloc: Global, output: &[u8], lines: &[Line]) -> Result<Vec<String
     Ok(replies)
 }
 
-/// How transactions have ended with those of one more drawn script, and the first line of it, or of a run behind it that closes it,
+/// How transactions have ended with those of one more drawn script, and the first line of it, or of a run after it that closes it,
 /// that is not answered as by a plain map.
 fn ended<R: Threads + Wait + Sync>(
     rt: &R,
@@ -247,7 +247,7 @@ fn ended<R: Threads + Wait + Sync>(
     if other.is_some() {
         return Ok((known.ends, other));
     }
-    // The files stand in the next run.
+    // The files are there in the next run.
     let lines = closing();
     let script = spelled(alloc, &lines)?;
     let outcome = run_image(rt, alloc, outcome.image(alloc, 0)?, script.as_bytes())?;

@@ -53,7 +53,7 @@ impl Gate for Sums {
     }
 }
 
-/// That the clients of a script behind a gate end so, on a small image whose disk fails so.
+/// That the clients of a script at a gate end so, on a small image whose disk fails so.
 fn ends_gated<G: Gate, R: Abort + Threads + Wait + Sync>(
     rt: &R,
     alloc: Global,
@@ -123,7 +123,7 @@ fn a_gate_is_not_called_where_no_line_runs(rt: HostRuntime) -> Result<(), Fail> 
     )
 }
 
-/// Client 1 does not begin before client 2 stands at its first line, and client 2 stands there until client 1 has committed.
+/// Client 1 does not begin before client 2 is at its first line, and client 2 stays there until client 1 has committed.
 #[derive(Drop)]
 struct Held {
     second_came: AtomicBool,
@@ -144,7 +144,7 @@ impl Gate for Held {
     fn before(&self, _client: u8, number: u64) {
         match number {
             1 => await_flag(&self.second_came),
-            // behind the `end` of line 3
+            // after the `end` of line 3
             4 => self.first_ended.store(true, Ordering::SeqCst),
             5 => {
                 self.second_came.store(true, Ordering::SeqCst);

@@ -58,7 +58,7 @@ fn handed_on<R: Threads + Wait + Sync>(
 /// A script of 43 bytes.
 const SCRIPT: &[u8] = b"1 begin\n1 end\n1 begin\n1 put 2 5 abcd\n1 end\n";
 
-// The sink is to hand on before each piece, and before the look for one more; behind a bad line it is not.
+// The sink is to hand on before each piece, and before the look for one more; after a bad line it is not.
 #[test]
 fn replies_come_out_before_more_input_is_taken(rt: HostRuntime) -> Result<(), Fail> {
     let alloc = rt.alloc();

@@ -24,7 +24,7 @@ const STAT: &[u8] = b"1 stat\n";
 
 const ONE_COMMIT: &[u8] = b"1 ok last 1 base 0 trim 0 live 0 used 29 versions 1\n";
 
-/// The status and the output of a call over the two files, which are closed behind it.
+/// The status and the output of a call over the two files, which are closed after it.
 fn over_files<R: Threads + Wait + Sync>(
     threads: &R,
     rt: &HostRuntime,

@@ -36,7 +36,7 @@ struct Case {
 }
 
 impl Case {
-    /// What an output tells of commits.
+    /// What an output says of commits.
     fn told_by(&self, output: &[u8]) -> Front {
         if self.in_group {
             let all = count_of(output, b"1 ok commit ");
@@ -132,7 +132,7 @@ fn opens_a_gate(before: &[u8], image: &[u8]) -> bool {
 }
 
 /// Whether each of these images opens to a front of what was made, with all that was told: what was written since the last sync is
-/// gone, or stands, or is torn in one of three ways, or is torn so that a gate among it stands open.
+/// gone, or is there, or is torn in one of three ways, or is torn so that a gate among it is open.
 fn is_survived<R: Threads + Wait + Sync>(
     rt: &R,
     alloc: Global,
@@ -151,7 +151,7 @@ fn is_survived<R: Threads + Wait + Sync>(
     Ok(true)
 }
 
-/// Whether a stop behind each call of a script is survived, until the script is done, and then all of its commits stand.
+/// Whether a stop after each call of a script is survived, until the script is done, and then all of its commits are there.
 fn each_stop_is_survived<R: Threads + Wait + Sync>(
     rt: &R,
     alloc: Global,

@@ -14,7 +14,7 @@ use std::marker::Brand;
 use std::snapshot::Snapshot;
 use std::sync::Wait;
 
-// The words of the table, and its slot. Behind the first two stand the gate before the tickets, how many wait at it, and how many
+// The words of the table, and its slot. After the first two come the gate before the tickets, how many wait at it, and how many
 // turns in a row went past them.
 const TICKETS: usize = 0;
 
@@ -29,7 +29,7 @@ const PAST: usize = 4;
 const VALUE: usize = 0;
 
 // The gate is open, or shut, or shut while some may sleep at it. It is kept for one of those who wait where its last two bits are
-// these: the ticket that is served then stands before them, so that no keeping is taken for another one.
+// these: the ticket that is served then is before them, so that no keeping is taken for another one.
 const OPEN: u64 = 0;
 
 const SHUT: u64 = 1;
@@ -58,7 +58,7 @@ impl<V: Stands> TableRule<Option<V>, View<V::Entry>, ()> for Ticketed {
 /// A caller's place at a lock: what it has seen of the list, and what it alone may do. It has no bytes.
 pub type Pass<V> = Seat<Option<V>, View<<V as Stands>::Entry>>;
 
-/// A lock that serves its callers in the order of their tickets. Before these stands a gate, at which who runs comes before those who
+/// A lock that serves its callers in the order of their tickets. Before these is a gate, at which who runs comes before those who
 /// sleep, but for a few turns in a row.
 #[derive(Drop)]
 pub struct TurnLock<V: Stands + Drop> {
@@ -70,6 +70,10 @@ impl<V: Stands + Drop> TurnLock<V> {
     ghost use Rattle.turn_lock.specs.{Lock.{lock_id, turn_value, turn_number}, Pass.{view, IsSamePass, HasNoTurn, HasTurn, KeepsTurn, IsAlike}};
 
     /// A lock round a value that represents the empty list, and the first pass, which has all units.
+    ///
+    /// # Errors
+    ///
+    /// Want of memory. The value is handed back.
     pub fn new(alloc: Global, value: V) -> Result<(TurnLock<V>, Pass<V>), (Memory, V)>
         requires { V.stands value [] }
         ensures ok { IfOk result (λ r. (r.1.table_id ≡ lock_id r.0) × HasNoTurn r.1 × (view r.1 ≡ fresh)) }
@@ -90,7 +94,7 @@ impl<V: Stands + Drop> TurnLock<V> {
         }
     }
 
-    /// Waits until it is this pass's turn.
+    /// Waits until it is this pass's turn. The pass has a unit, and no turn yet.
     pub fn take<R: Wait>(&self, rt: &R, pass: &mut Pass<V>) -> Turn<V>
         requires lock { pass.old.table_id ≡ lock_id self.now }
         requires free { HasNoTurn pass.old × (0 < (view pass.old).units) }
@@ -98,7 +102,7 @@ impl<V: Stands + Drop> TurnLock<V> {
         ensures turn { HasTurn pass.new result }
         ensures same { IsAlike (view pass.old) (view pass.new) }
 
-        // The value stands for a list that begins with what the pass had seen. It has as many entries as tickets were served.
+        // The value represents a list that begins with what the pass had seen. It has as many entries as tickets were served.
         ensures value { V.stands (turn_value result) (view pass.new).seen }
         ensures seen { IsPrefix (view pass.old).seen (view pass.new).seen }
         ensures served { turn_number result ≡ length (view pass.new).seen }
@@ -189,7 +193,7 @@ impl<V: Stands + Drop> TurnLock<V> {
         unreachable!()
     }
 
-    // Whether the gate stood so, and was changed.
+    // Whether the gate was so, and was changed.
     fn changes_gate(&self, pass: &mut Pass<V>, from: u64, to: u64) -> bool
         requires { pass.old.table_id ≡ lock_id self.now }
         ensures lock { IsSamePass pass.old pass.new }
@@ -307,7 +311,7 @@ impl<V: Stands + Drop> TurnLock<V> {
         self.table.shared.split_seat::<Cut<M>>(pass)
     }
 
-    /// Takes another pass into this one. It waits for nobody.
+    /// Takes another pass, which has no turn, into this one, with its units and its numbers. It waits for nobody.
     pub fn join(&self, pass: &mut Pass<V>, other: Pass<V>)
         requires lock { (pass.old.table_id ≡ lock_id self.now) × (other.table_id ≡ lock_id self.now) }
         requires units { 0 < (view pass.old).units }
@@ -329,7 +333,7 @@ impl<V: Stands + Drop> TurnLock<V> {
         self.table.shared.load::<Settle>(pass, SERVED);
     }
 
-    /// Ends the lock, and gives its value back. It waits for nobody.
+    /// Ends the lock, and gives its value back. The pass has all units, and no turn. It waits for nobody.
     pub fn close(self, pass: Pass<V>) -> V
         requires lock { pass.table_id ≡ lock_id self }
         requires free { HasNoTurn pass }

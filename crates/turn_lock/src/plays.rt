@@ -1,4 +1,4 @@
-//! What each step on the table tells, and how passes are cut and joined.
+//! What each step on the table shows, and how passes are cut and joined.
 ghost use Rattle.std.specs.Prelude.{ℕ, Option, None};
 ghost use Rattle.turn_lock.specs.{Steps.{drew, looked, settled, advanced, stayed}, Views.{kept_part, given_part, both, spent}};
 

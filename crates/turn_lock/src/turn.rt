@@ -9,7 +9,7 @@ use std::snapshot::Snapshot;
 pub struct Turn<V: Stands> {
     pub(crate) value: V,
     pub(crate) number: u64,
-    // The pass that has it, which tells contracts the lock.
+    // The pass that has it, by which contracts know the lock.
     pub(crate) pass: Snapshot<Pass<V>>,
 }
 

@@ -1,4 +1,4 @@
-//! What the value of a lock stands for, and what a pass knows of it.
+//! What the value of a lock represents, and what a pass knows of it.
 ghost use Rattle.std.specs.Prelude.{ℕ, List, Option};
 
 use std::collections::LinkedList;
@@ -6,11 +6,11 @@ use std::collections::LinkedList;
 /// How many units all passes of a lock have together. No ticket has a greater number.
 pub const LAST: u64 = (1 << 63) - 1;
 
-/// A value that stands for a list of entries, for contracts alone.
+/// A value that represents a list of entries, for contracts alone.
 pub trait Stands {
     type Entry;
 
-    // The value stands for this list.
+    // The value represents this list.
     ghost stands: { Self → List Self.Entry → Type 0 };
 
     // The number that an entry hands out, those that it needs, and those that it takes back.
@@ -26,10 +26,13 @@ pub trait Names<E> {
     ghost entry: { E };
 }
 
-/// Where a pass stands in the queue: in none, with a ticket, or at its turn with one.
+/// Where a pass is in the queue: in none, with a ticket, or at its turn with one.
 pub enum Stage {
+    /// In none.
     Idle,
+    /// It waits with this ticket.
     Waits(u64),
+    /// It has the turn of this ticket.
     Turns(u64),
 }
 

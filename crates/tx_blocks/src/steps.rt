@@ -28,7 +28,11 @@ pub fn mark<T: TxBlocks>(tx: &mut T, span: Span)
     let _ = tx.mark_accessed(span.off, span.len);
 }
 
-/// Reads a block under one mark. A refusal leaves the transaction as it was.
+/// Reads a block under one mark.
+///
+/// # Errors
+///
+/// As those of `read_block`, but never `BadBlock`. The transaction is as before.
 pub fn look<T: TxBlocks>(tx: &mut T, block: u32, span: Span, into: &mut [u8]) -> Result<(), TxError>
     requires into { length into.old ≡ (T.state tx.old).size }
     requires block { block < (T.state tx.old).blocks }
@@ -46,7 +50,11 @@ pub fn look<T: TxBlocks>(tx: &mut T, block: u32, span: Span, into: &mut [u8]) ->
     Ok(())
 }
 
-/// Reads a block without a mark. A refusal leaves the transaction as it was.
+/// Reads a block without a mark.
+///
+/// # Errors
+///
+/// As those of `read_block`, but never `BadBlock`. The transaction is as before.
 pub fn look_whole<T: TxBlocks>(tx: &mut T, block: u32, into: &mut [u8]) -> Result<(), TxError>
     requires into { length into.old ≡ (T.state tx.old).size }
     requires block { block < (T.state tx.old).blocks }
@@ -63,6 +71,10 @@ pub fn look_whole<T: TxBlocks>(tx: &mut T, block: u32, into: &mut [u8]) -> Resul
 }
 
 /// Goes on only where `count` more accesses fit.
+///
+/// # Errors
+///
+/// `TooManyAccesses` exactly where fewer fit.
 pub fn reserve<T: TxBlocks>(tx: &T, count: u32) -> Result<(), TxError>
     requires { (T.state tx.now).is_open ≡ true }
     ensures ok { OnOk result (count ≤ room_of (T.state tx.now)) }
@@ -74,8 +86,11 @@ pub fn reserve<T: TxBlocks>(tx: &T, count: u32) -> Result<(), TxError>
     Ok(())
 }
 
-/// Writes the bytes of a block that lie in the spans, and the whole block where there is none. A refusal leaves the transaction
-/// as it was.
+/// Writes the bytes of a block that lie in the spans, and the whole block where there is none.
+///
+/// # Errors
+///
+/// As those of `write_block`, but never `BadBlock`; where an access fits, `Memory` alone. The transaction is as before.
 pub fn store<T: TxBlocks>(
     tx: &mut T,
     block: u32,
@@ -100,6 +115,10 @@ pub fn store<T: TxBlocks>(
 }
 
 /// Writes the byte of a region's map with the bit of a block, as the bytes have it, which are zero but for it then.
+///
+/// # Errors
+///
+/// As those of `store`.
 pub fn store_bit<T: TxBlocks>(
     tx: &mut T,
     area: Area,
@@ -125,6 +144,10 @@ pub fn store_bit<T: TxBlocks>(
 }
 
 /// The one write of a store's call, or its last, and the answer that the call has then.
+///
+/// # Errors
+///
+/// `Tx`, as those of `store`.
 pub fn last_store<T: TxBlocks, R: Copy>(
     tx: &mut T,
     block: u32,

@@ -95,7 +95,7 @@ fn by_block(alloc: Global, rows: &[Row], from: usize) -> Result<Vec<(u32, usize)
     Ok(order)
 }
 
-// Adds the bytes that the rows at these places cover, so that those of later blocks come behind the others.
+// Adds the bytes that the rows at these places cover, so that those of later blocks come after the others.
 fn fold_places(
     alloc: Global,
     rows: &[Row],

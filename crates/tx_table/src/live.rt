@@ -11,7 +11,9 @@ use std::marker::Model;
 /// Why a transaction is not entered.
 #[derive(Clone, Copy, Debug, PartialEq, Eq)]
 pub enum EnterError {
+    /// `MAX_LIVE` transactions are live.
     TooManyTx,
+    /// Want of memory.
     Memory,
 }
 
@@ -22,7 +24,8 @@ pub struct Begun {
     pub mode: Mode,
 }
 
-/// The live transactions in the order of their begins, which is that of their numbers. Contracts see the list of their numbers, each with what it began with.
+/// The live transactions in the order of their begins, which is that of their numbers. Contracts see the list of their
+/// numbers, each with what it began with.
 #[derive(Drop)]
 pub struct Live {
     begins: IndexMap<u64, Begun>,
@@ -71,6 +74,12 @@ impl Live {
     }
 
     /// Enters a transaction, last of all.
+    ///
+    /// # Errors
+    ///
+    /// The list is as before.
+    /// - `TooManyTx` exactly where `MAX_LIVE` transactions are live.
+    /// - `Memory`: want of memory.
     pub fn enter(&mut self, tx: u64, at: u64, mode: Mode) -> Result<(), EnterError>
         requires { AreBefore tx at self.old }
         ensures ok { OnOk result (self.new ≡ self.old ++ (tx, record { at = at; mode = mode }) ∷ []) }
@@ -87,7 +96,7 @@ impl Live {
         Ok(())
     }
 
-    /// Takes a transaction out.
+    /// Takes a live transaction out.
     pub fn leave(&mut self, tx: u64)
         requires { IsSome (begin_of tx self.old) }
         ensures { self.new ≡ remove_entry (nat_eq tx) self.old }
@@ -175,7 +184,7 @@ fn pass_first(begins: &mut IndexMap<u64, Begun>, past: &mut usize)
     *past = 0;
 }
 
-// The only live one leaves, or one behind the first.
+// The only live one leaves, or one after the first.
 fn take_later(begins: &mut IndexMap<u64, Begun>, past: &mut usize, tx: u64)
     requires order { AreInOrder past.old begins.old.entries }
     requires live { IsSome (begin_of tx (drop past.old begins.old.entries)) }

@@ -13,8 +13,8 @@ use std::marker::Model;
 // A slot is numbered in 32 bits.
 const MAX_SLOTS: usize = 4_294_967_295;
 
-/// For each written block, rising, the slot of its patch. Patches never move: those of the written blocks stand in the first slots,
-/// and behind them blank ones, so that one more block takes no memory. A block more moves the pairs of the blocks behind it
+/// For each written block, rising, the slot of its patch. Patches never move: those of the written blocks are in the first slots,
+/// and after them blank ones, so that one more block takes no memory. A block more moves the pairs of the blocks after it
 /// alone: 8 bytes for each of at most 4,096, so no more than 32 KiB.
 #[derive(Drop)]
 pub struct Patches {
@@ -116,6 +116,10 @@ impl Patches {
     }
 
     /// Makes room for a patch of a block. Where there is one, or room for it, it takes no memory.
+    ///
+    /// # Errors
+    ///
+    /// Want of memory. All is as before.
     pub fn reserve(&mut self, block: u32) -> Result<(), Memory>
         ensures size { self.new.size ≡ self.old.size }
         ensures entries { self.new.entries ≡ self.old.entries }

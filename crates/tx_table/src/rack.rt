@@ -9,7 +9,9 @@ use std::marker::Model;
 /// Why an item is not posted.
 #[derive(Clone, Copy, Debug, PartialEq, Eq)]
 pub enum PostError {
+    /// An item is held under the label.
     LabelTaken,
+    /// Want of memory.
     Memory,
 }
 
@@ -48,7 +50,13 @@ impl<T: Drop> Rack<T> {
         self.items.contains_key(&label.key())
     }
 
-    /// Puts an item under a label, after all others, and hands it back where it does not stay.
+    /// Puts an item under a label, after all others.
+    ///
+    /// # Errors
+    ///
+    /// The item is handed back, and all is as before.
+    /// - `LabelTaken` exactly where an item is held under the label.
+    /// - `Memory`: want of memory.
     pub fn post(&mut self, label: Label, item: T) -> Result<(), (PostError, T)>
         ensures ok { OnOk result (self.new ≡ self.old ++ (label, item) ∷ []) }
         ensures err { IfErr result (λ e. (self.new ≡ self.old) × (e.1 ≡ item)) }

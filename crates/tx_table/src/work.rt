@@ -89,7 +89,8 @@ impl Work {
         }
     }
 
-    /// Begins anew: a transaction that has done nothing, in blocks of the same size. It takes no memory, and keeps what the one before took.
+    /// Begins anew: a transaction that has done nothing, in blocks of the same size. It takes no memory, and keeps what
+    /// the one before took.
     pub fn restart(&mut self, begin: u64, geometry: &Geometry)
         requires { geometry.now.block ≡ self.old.size }
         ensures { self.new ≡ record { begin = begin; mode = geometry.now.mode; size = geometry.now.block; blocks = geometry.now.blocks; accesses = []; ready = None; settled = true } }
@@ -135,8 +136,12 @@ impl Work {
         self.blocks
     }
 
-    /// Makes room for one more access to a block, with its bytes and its marks, and for a patch of the block.
-    /// Where the room is there already it takes no memory.
+    /// Makes room for one more access to a block, with its bytes and its marks, and for a patch of the block. Where the
+    /// room is there already it takes no memory.
+    ///
+    /// # Errors
+    ///
+    /// Want of memory. The work is as before.
     pub fn reserve(&mut self, block: u32) -> Result<(), Memory>
         requires { block < self.old.blocks }
         ensures ok { OnOk result (self.new ≡ record self.old { ready = Some block }) }
@@ -150,7 +155,9 @@ impl Work {
         Ok(())
     }
 
-    /// A read of a block, which is lent as it stood at the begin: the own writes are laid over it. It takes no memory.
+    /// A read of a block, the one for which room was made last; fewer than `MAX_ACCESSES` accesses were made. The slice
+    /// is as long as a block and has the block's bytes at the begin: the own writes are laid over them. It takes no
+    /// memory.
     pub fn read(&mut self, block: u32, into: &mut [u8])
         requires ready { self.old.ready ≡ Some block }
         requires room { length self.old.accesses < 4096 }
@@ -167,7 +174,8 @@ impl Work {
             .push_reserved(Row::unmarked(Kind::Read, block, bytes));
     }
 
-    /// A write of a block. It takes no memory.
+    /// A write of a block, the one for which room was made last, with as many bytes as a block has; fewer than
+    /// `MAX_ACCESSES` accesses were made. It takes no memory.
     pub fn write(&mut self, block: u32, bytes: &[u8])
         requires ready { self.old.ready ≡ Some block }
         requires room { length self.old.accesses < 4096 }
@@ -185,6 +193,13 @@ impl Work {
     }
 
     /// Marks a range of the last access: the first mark takes the place of the whole block, and further ones add to it.
+    ///
+    /// # Errors
+    ///
+    /// The first of these, and the work is as before:
+    /// - `BadRange`: the range is empty or passes the end of the block.
+    /// - `NoAccess`: there is no access.
+    /// - `TooManyMarks`: the last access has `MAX_SPANS` marks.
     pub fn mark(&mut self, off: u16, len: u16) -> Result<(), MarkError>
         ensures ok { OnOk result ((mark_fault self.old.size off len self.old.accesses ≡ None)
             × (self.new ≡ record self.old { accesses = marked (span_at off len) self.old.accesses; settled = false })) }
@@ -235,7 +250,12 @@ impl Work {
         false
     }
 
-    /// Brings what is touched and what is written up to date with the last accesses and marks.
+    /// Brings what is touched and what is written up to date with the last accesses and marks. Where it was, it takes
+    /// no memory.
+    ///
+    /// # Errors
+    ///
+    /// Want of memory. The accesses stay, and it may be called again.
     pub fn settle(&mut self) -> Result<(), Memory>
         ensures ok { OnOk result (self.new ≡ record self.old { settled = true }) }
         ensures err { OnErr result (self.new ≡ record self.old { settled = self.new.settled }) }
@@ -259,7 +279,7 @@ impl Work {
         Ok(())
     }
 
-    /// The bytes that the reads cover.
+    /// The bytes that the reads cover. The work has to be settled.
     pub fn reads(&self) -> &Touched
         requires { self.now.settled ≡ true }
         ensures { AreTouched self.now.size self.now.blocks Read self.now.accesses result.now }
@@ -267,7 +287,7 @@ impl Work {
         &self.reads
     }
 
-    /// The bytes that the writes cover.
+    /// The bytes that the writes cover. The work has to be settled.
     pub fn writes(&self) -> &Touched
         requires { self.now.settled ≡ true }
         ensures { AreTouched self.now.size self.now.blocks Write self.now.accesses result.now }
@@ -275,7 +295,8 @@ impl Work {
         &self.writes
     }
 
-    /// The written blocks, rising, each with its patch: together they are what the accesses write.
+    /// The written blocks, rising, each with its patch: together they are what the accesses write. The work has to be
+    /// settled.
     pub fn patches(&self) -> PatchIter<'_>
         requires { self.now.settled ≡ true }
         ensures rising { RisesFrom 0 result }

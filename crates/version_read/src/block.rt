@@ -138,10 +138,14 @@ fn is_whole(versions: &[Version], from: usize, to: usize) -> bool
     }
 }
 
-/// Reads the bytes of a block from one up to another, whose base bytes stand at a place, with its versions over them: the base
-/// bytes, and then what each version has of the range, from the oldest on, one read each. So it is meant for few versions that
-/// hide nothing of each other; where the first one has the whole range, the base bytes are not read. The slice is as long as
-/// the block, and its other bytes stay. It takes no memory and writes nothing. On an error any bytes may be in the slice.
+/// Reads the bytes of a block from one up to another, whose base bytes are at a place, with its versions over them: the
+/// base bytes, and then what each version has of the range, from the oldest on, one read each. So it is meant for few
+/// versions that hide nothing of each other; where the first one has the whole range, the base bytes are not read. The
+/// slice is as long as the block, and its other bytes stay. It takes no memory and writes nothing.
+///
+/// # Errors
+///
+/// A read failed. Any bytes may be in the slice.
 pub fn read_pieces<D: Disk>(
     disk: &mut D,
     base: u64,
@@ -167,9 +171,13 @@ pub fn read_pieces<D: Disk>(
     lay_over(disk, versions, from, to, into)
 }
 
-/// Reads a block of at most 4,096 bytes, whose base bytes stand at a place, with its versions over them: from the newest
-/// version back, of each those bytes that no later one has, and then the base bytes that none has. Each stretch of bytes is
-/// one read, straight into its place. It takes no memory and writes nothing. On an error any bytes may be in the slice.
+/// Reads a block of at most 4,096 bytes, whose base bytes are at a place, with its versions over them: from the newest
+/// version back, of each those bytes that no later one has, and then the base bytes that none has. Each stretch of
+/// bytes is one read, straight into its place. It takes no memory and writes nothing.
+///
+/// # Errors
+///
+/// A read failed. Any bytes may be in the slice.
 pub fn read_block<D: Disk>(
     disk: &mut D,
     base: u64,

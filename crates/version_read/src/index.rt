@@ -8,8 +8,12 @@ use iso_format::RecordView;
 use iso_model::Memory;
 use mv_index::{MvIndex, Version};
 
-/// Takes the parts of a record into an index, and memory for each: the record has this number, and its gate lies at this
-/// place of the image. Without memory the index has the versions of the first of them.
+/// Takes the parts of a record into an index, and memory for each: the record has this number, and its gate lies at
+/// this place of the image.
+///
+/// # Errors
+///
+/// Want of memory. The index has the versions of the first parts.
 pub fn take_parts(
     index: &mut MvIndex,
     number: u64,
@@ -38,8 +42,12 @@ pub fn take_parts(
     Ok(())
 }
 
-/// Makes room in an index for the versions of a record's parts, so that `add_parts` takes no memory. Where the room is there
-/// it takes none either. Without memory the index has its versions, and room for as many more as before at least.
+/// Makes room in an index for the versions of a record's parts, so that `add_parts` takes no memory. Where the room is
+/// there it takes none either.
+///
+/// # Errors
+///
+/// Want of memory. The index has its versions, and no less room than before.
 pub fn reserve_parts(index: &mut MvIndex, parts: &[PartSpan]) -> Result<(), Memory>
     requires blocks { AllByRecursion (λ part. part.block < length index.old) parts.now }
     requires order { BlocksRise parts.now }

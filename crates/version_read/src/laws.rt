@@ -38,7 +38,7 @@ pub fn versions_lie_in_the_image()
 {}
 
 /// What becomes of the index of the records of a log: it begins without versions, takes in the next record, is trimmed at a
-/// later number, and after the first records are left out and the others stand elsewhere it is the index of those.
+/// later number, and after the first records are left out and the others are elsewhere it is the index of those.
 pub fn indexes_follow_their_log()
     ensures none { (g : Geometry) (first place t : ℕ) (index : List BlockVersions) → length index ≡ g.blocks → ((b : ℕ) → versions_in index b ≡ [])
         → IsIndexOf g first place t [] index }
