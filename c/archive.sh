@@ -2,10 +2,12 @@
 # archive.sh FILE: proves isotope_c, on which isotope.h stands, and builds its archive, over the libraries that `rt ci` has left in
 # crates/*/out, or else over those that ./isotope builds in build/. So no crate below is proved twice. Where nothing has changed since
 # the file was built it stays. What was proved is kept beside it, so that a change is soon proved again.
+#
+#   archive.sh --ready    only says by its status whether these libraries are there, so that nothing below has to be proved
+#
+# With LEFT=1 what is in crates/*/out is taken to be of this text, whatever its times: so it is directly after `rt ci`.
 set -eu
 top=$(cd "$(dirname "$(readlink -f "$0")")/.." && pwd)
-archive=$(realpath -m "$1")
-mkdir -p "$(dirname "$archive")"
 kit=$(dirname "$(rt doc)")
 
 # isotope_c and the crates of this repository that it stands on, each after those that it uses
@@ -34,12 +36,24 @@ all_newest() {
 }
 
 all_left() {
-    local crate
+    local crate file
     for crate in $crates; do
-        [ "$crate" = isotope_c ] || is_newest "$crate" "$top/crates/$crate/out/rlib/$crate.rlib/format" || return 1
+        file=$top/crates/$crate/out/rlib/$crate.rlib/format
+        [ "$crate" = isotope_c ] || { [ -n "${LEFT:-}" ] && [ -e "$file" ]; } || is_newest "$crate" "$file" || return 1
     done
 }
 
+all_built() {
+    local crate
+    for crate in $crates; do [ "$crate" = isotope_c ] || is_newest "$crate" "$top/build/$crate.rlib" || return 1; done
+}
+
+if [ "$1" = --ready ]; then
+    all_left || all_built
+    exit
+fi
+archive=$(realpath -m "$1")
+mkdir -p "$(dirname "$archive")"
 all_newest && exit 0
 words=(--extern "std=$kit/rlibs/std.rlib" -L "dependency=$kit/rlibs")
 if all_left; then
