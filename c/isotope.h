@@ -10,9 +10,9 @@
  *     if (status == ISOTOPE_ABSENT) status = isotope_create("data.img", &geometry, &device);
  *     if (status != ISOTOPE_OK) return status;
  *     do {
- *         isotope_begin(device, ISOTOPE_IMAGE_MODE, &tx, NULL);
- *         isotope_put(device, tx, 2, 5, "hello", 5);
- *         status = isotope_end(device, tx, &ended);
+ *         status = isotope_begin(device, ISOTOPE_IMAGE_MODE, &tx, NULL);
+ *         if (status == ISOTOPE_OK) status = isotope_put(device, tx, 2, 5, "hello", 5);
+ *         if (status == ISOTOPE_OK) status = isotope_end(device, tx, &ended);
  *     } while (status == ISOTOPE_CONFLICT);                       OK: commit number ended.commit is stable on the disk
  *     isotope_close(device);
  *
@@ -119,7 +119,7 @@ enum {
 };
 
 /* The numbers of an image. block_size: a power of two. log: its bytes; a commit takes 20, 8 for each run of bytes it wrote, and those
- * bytes. mode: ISOTOPE_SERIAL or ISOTOPE_SNAPSHOT. The first `hash` blocks are the hash store and the `tree` after them the tree store, 0
+ * bytes, and one byte stays free. mode: ISOTOPE_SERIAL or ISOTOPE_SNAPSHOT. The first `hash` blocks are the hash store and the `tree` after them the tree store, 0
  * for none; else `hash` is 3 to 8 (block_size - 64) and `tree` 2 to the same, with block_size at least 256 and the serial mode. With a
  * tree store the blocks after it have room for files, where there are two or more; their names are its keys. */
 typedef struct { uint32_t block_size, blocks, log, mode, hash, tree; } isotope_geometry;
