@@ -119,9 +119,10 @@ enum {
 };
 
 /* The numbers of an image. block_size: a power of two. log: its bytes; a commit takes 20, 8 for each run of bytes it wrote, and those
- * bytes, and one byte stays free. mode: ISOTOPE_SERIAL or ISOTOPE_SNAPSHOT. The first `hash` blocks are the hash store and the `tree` after them the tree store, 0
- * for none; else `hash` is 3 to 8 (block_size - 64) and `tree` 2 to the same, with block_size at least 256 and the serial mode. With a
- * tree store the blocks after it have room for files, where there are two or more; their names are its keys. */
+ * bytes, and one byte stays free. mode: ISOTOPE_SERIAL or ISOTOPE_SNAPSHOT. The first `hash` blocks are the hash store and the `tree` after
+ * them the tree store, 0 for none; else `hash` is 3 to 8 (block_size - 64) and `tree` 2 to the same, with block_size at least 256 and the
+ * serial mode. With a tree store the blocks after it have room for files, where there are two or more; their names are its keys. Calls on
+ * blocks do not keep off a store's. */
 typedef struct { uint32_t block_size, blocks, log, mode, hash, tree; } isotope_geometry;
 #define ISOTOPE_DEFAULTS {4096, 1024, 4194304, ISOTOPE_SERIAL, 0, 0}
 
