@@ -10,7 +10,9 @@ top=$(dirname "$here")
 out=$here/out
 cc=${CC:-cc}
 status=0
-command -v "$cc" > /dev/null || { echo "c: skipped, there is no $cc"; exit 0; }
+for tool in "$cc" make ar objcopy; do
+  command -v "$tool" > /dev/null || { echo "c: skipped, there is no $tool"; exit 0; }
+done
 program=${PROGRAM:-}
 for file in "$top/crates/isotope/out/isotope" "$top/build/isotope"; do
   [ -n "$program" ] || [ ! -x "$file" ] || program=$file
@@ -34,7 +36,7 @@ cd "$work" || exit 1
 passes() {
   local name=$1 ended
   shift
-  timeout 240 "$@" > "$work/$name.said" 2> "$work/$name.errors" < /dev/null
+  timeout 900 "$@" > "$work/$name.said" 2> "$work/$name.errors" < /dev/null
   ended=$?
   [ "$ended" != 0 ] || return 0
   echo "c: $name: status $ended"
