@@ -1,6 +1,6 @@
 // What no clause can say of the file disk: a file that was let go, one that was cut, and a disk that was never bound.
 use crate::steps::Outcome::{Count, Done, Failed};
-use crate::steps::Step::{Bind, Cut, Faults, Read, Size, Sync, Write};
+use crate::steps::Step::{Bind, Cut, Faults, Read, Size, Sync, TryRead, Write};
 use crate::steps::{Row, on_file, on_new_file};
 use file_disk::FileDisk;
 use std::alloc::Global;
@@ -72,8 +72,8 @@ fn a_read_past_the_end_of_a_file_that_was_cut_fails(rt: HostRuntime) -> Result<(
         (Size, Count(8), &[]),
         (Cut, Done, &[]),
         (Read(0, 4), Done, &[1, 2, 3, 4]),
-        (Read(2, 4), Failed, &[9; 4]),
-        (Read(4, 4), Failed, &[9; 4]),
+        (TryRead(2, 4), Failed, &[]),
+        (TryRead(4, 4), Failed, &[]),
         (Faults, Count(2), &[]),
     ];
     on_new_file(&rt, rt.alloc(), rt.clone()?, name, &rows)?;

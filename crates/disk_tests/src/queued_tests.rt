@@ -1,6 +1,6 @@
 // A tape that is done to bytes of the caller's.
 use crate::steps::Outcome::{Count, Done, Failed};
-use crate::steps::Step::{FailTape, HandOn, OnTape, Read, Size, Sync, Tape, Write};
+use crate::steps::Step::{FailTape, HandOn, OnTape, Read, Size, Sync, Tape, TryRead, Write};
 use crate::steps::{Row, on_queued};
 use std::test::Fail;
 
@@ -39,7 +39,7 @@ fn each_call_fails_once_one_of_the_tape_has_failed(rt: HostRuntime) -> Result<()
         (Size, Count(4), &[]),
         (Write(0, &[5]), Failed, &[]),
         (Sync, Failed, &[]),
-        (Read(0, 4), Failed, &[9; 4]),
+        (TryRead(0, 4), Failed, &[]),
         (Tape, Count(1), &[]),
     ];
     on_queued(&rt, rt.alloc(), 4, &rows)

@@ -20,6 +20,8 @@ pub(crate) enum Step<'a> {
     Write(u64, &'a [u8]),
     /// Reads so many bytes from a place on, into bytes that are 9.
     Read(u64, usize),
+    /// The same, and shows no bytes: nothing is said of those that a read that fails was lent.
+    TryRead(u64, usize),
     Sync,
     /// Binds, and makes a blank disk where a size is given.
     Bind(Option<u64>),
@@ -56,8 +58,6 @@ pub(crate) enum Step<'a> {
 pub(crate) enum Outcome {
     Done,
     Failed,
-    /// A read failed, and changed the bytes that it was lent.
-    Spoilt,
     /// The range is none of the disk, or the disk knows no such step.
     Refused,
     Count(u64),
@@ -82,23 +82,15 @@ fn outcome_of(passed: bool) -> Outcome {
     }
 }
 
-/// Reads a range into nines.
+/// Reads a range, if it is one of the disk.
 pub(crate) fn read<D: Disk>(disk: &mut D, at: u64, into: &mut [u8]) -> Outcome {
     if !is_inside(disk.size(), at, into.len()) {
         return Outcome::Refused;
     }
-    if disk.read(at, into).is_ok() {
-        return Outcome::Done;
-    }
-    for byte in into.iter() {
-        if *byte != 9 {
-            return Outcome::Spoilt;
-        }
-    }
-    Outcome::Failed
+    outcome_of(disk.read(at, into).is_ok())
 }
 
-/// Writes a range.
+/// Writes a range, if it is one of the disk.
 pub(crate) fn write<D: Disk>(disk: &mut D, at: u64, bytes: &[u8]) -> Outcome {
     if !is_inside(disk.size(), at, bytes.len()) {
         return Outcome::Refused;
@@ -113,6 +105,12 @@ fn call<D: Disk>(disk: &mut D, step: Step<'_>, shown: &mut Vec<u8>) -> Result<Ou
         Step::Read(at, len) => {
             shown.resize(len, 9)?;
             read(disk, at, shown.as_mut_slice())
+        }
+        Step::TryRead(at, len) => {
+            shown.resize(len, 9)?;
+            let outcome = read(disk, at, shown.as_mut_slice());
+            shown.clear();
+            outcome
         }
         Step::Sync => outcome_of(disk.sync().is_ok()),
         Step::Size => Outcome::Count(disk.size()),
