@@ -1,10 +1,13 @@
 // The file disk over a real file: its bytes, its length, and its faults after each answer.
 use crate::count_tests::same;
+use crate::steps::Outcome::{Count, Done, Failed};
+use crate::steps::Step::{Bind, Faults, Length, Read, Size, Sync, Write};
+use crate::steps::{Row, on_file, on_new_file};
 use file_disk::FileDisk;
-use iso_disk::{Disk, DiskFault, Image};
-use std::alloc::Allocator;
+use std::alloc::{Allocator, Global};
 use std::fs::{self, File, Metadata, OpenOptions};
 use std::io;
+use std::process::Abort;
 use std::rt::Files;
 use std::test::Fail;
 
@@ -63,34 +66,54 @@ impl<R: Files<File = File> + Drop> Files for WithoutFolder<R> {
     }
 }
 
+// Makes a file and writes to it. While it is bound no other disk has it.
+fn writes_alone<R: Files<File = File> + Drop>(
+    rt: &(impl Abort + Files<File = File>),
+    alloc: Global,
+    own: R,
+    other: &mut FileDisk<R>,
+    name: &str,
+) -> Result<(), Fail> {
+    let mut disk = FileDisk::new(own, alloc);
+    let rows: [Row<'_>; 8] = [
+        (Bind(Some(5000)), Done, &[]),
+        (Size, Count(5000), &[]),
+        (Length, Count(5000), &[]),
+        (Write(4990, &[1, 2, 3, 4, 5, 6, 7, 8, 9, 10]), Done, &[]),
+        (Sync, Done, &[]),
+        (Read(4988, 12), Done, &[0, 0, 1, 2, 3, 4, 5, 6, 7, 8, 9, 10]),
+        (Length, Count(5000), &[]),
+        (Faults, Count(0), &[]),
+    ];
+    on_file(rt, alloc, &mut disk, name, &rows)?;
+    let others: [Row<'_>; 2] = [(Bind(None), Failed, &[]), (Faults, Count(1), &[])];
+    on_file(rt, alloc, other, name, &others)
+}
+
+// Behind that the other disk binds what the file holds.
+fn keeps_what_was_written<R: Files<File = File> + Drop>(
+    rt: &(impl Abort + Files<File = File>),
+    alloc: Global,
+    own: R,
+    others: R,
+    name: &str,
+) -> Result<(), Fail> {
+    let mut other = FileDisk::new(others, alloc);
+    writes_alone(rt, alloc, own, &mut other, name)?;
+    let rows: [Row<'_>; 4] = [
+        (Bind(None), Done, &[]),
+        (Size, Count(5000), &[]),
+        (Read(4989, 3), Done, &[0, 1, 2]),
+        (Faults, Count(1), &[]),
+    ];
+    on_file(rt, alloc, &mut other, name, &rows)
+}
+
 #[test]
 fn a_file_keeps_what_was_written(rt: HostRuntime) -> Result<(), Fail> {
     let name = "a_file_keeps_what_was_written.img";
     let _ = fs::remove_file(&rt, name);
-    let mut disk = FileDisk::new(rt.clone()?, rt.alloc());
-    disk.bind(name, Some(5000))?;
-    same(&rt, disk.size(), 5000);
-    same(&rt, fs::metadata(&rt, name)?.len(), 5000);
-    disk.write(4990, &[1, 2, 3, 4, 5, 6, 7, 8, 9, 10])?;
-    disk.sync()?;
-    let mut bytes = [9; 12];
-    disk.read(4988, &mut bytes)?;
-    same(&rt, bytes, [0, 0, 1, 2, 3, 4, 5, 6, 7, 8, 9, 10]);
-    same(&rt, fs::metadata(&rt, name)?.len(), 5000);
-    same(&rt, disk.faults(), 0);
-
-    // While it is bound no other disk has it; then what it holds can be bound again.
-    let mut other = FileDisk::new(rt.clone()?, rt.alloc());
-    same(&rt, other.bind(name, None), Err(DiskFault));
-    same(&rt, other.faults(), 1);
-    drop(disk);
-    other.bind(name, None)?;
-    // The read below rests on this.
-    assert_eq!(rt; other.size(), 5000);
-    let mut bytes = [9; 3];
-    other.read(4989, &mut bytes)?;
-    same(&rt, bytes, [0, 1, 2]);
-    same(&rt, other.faults(), 1);
+    keeps_what_was_written(&rt, rt.alloc(), rt.clone()?, rt.clone()?, name)?;
     fs::remove_file(&rt, name)?;
     Ok(())
 }
@@ -99,10 +122,12 @@ fn a_file_keeps_what_was_written(rt: HostRuntime) -> Result<(), Fail> {
 fn a_name_that_exists_is_not_made_again(rt: HostRuntime) -> Result<(), Fail> {
     let name = "a_name_that_exists_is_not_made_again.img";
     fs::write(&rt, name, &[1, 2, 3])?;
-    let mut disk = FileDisk::new(rt.clone()?, rt.alloc());
-    same(&rt, disk.bind(name, Some(8)), Err(DiskFault));
-    same(&rt, disk.faults(), 1);
-    same(&rt, fs::metadata(&rt, name)?.len(), 3);
+    let rows: [Row<'_>; 3] = [
+        (Bind(Some(8)), Failed, &[]),
+        (Faults, Count(1), &[]),
+        (Length, Count(3), &[]),
+    ];
+    on_new_file(&rt, rt.alloc(), rt.clone()?, name, &rows)?;
     fs::remove_file(&rt, name)?;
     Ok(())
 }
@@ -111,13 +136,13 @@ fn a_name_that_exists_is_not_made_again(rt: HostRuntime) -> Result<(), Fail> {
 fn zeros_go_on_behind_the_first_piece(rt: HostRuntime) -> Result<(), Fail> {
     let name = "zeros_go_on_behind_the_first_piece.img";
     let _ = fs::remove_file(&rt, name);
-    let mut disk = FileDisk::new(rt.clone()?, rt.alloc());
-    disk.bind(name, Some(70_000))?;
-    same(&rt, fs::metadata(&rt, name)?.len(), 70_000);
-    let mut bytes = [9; 2];
-    disk.read(69_998, &mut bytes)?;
-    same(&rt, bytes, [0, 0]);
-    same(&rt, disk.faults(), 0);
+    let rows: [Row<'_>; 4] = [
+        (Bind(Some(70_000)), Done, &[]),
+        (Length, Count(70_000), &[]),
+        (Read(69_998, 2), Done, &[0, 0]),
+        (Faults, Count(0), &[]),
+    ];
+    on_new_file(&rt, rt.alloc(), rt.clone()?, name, &rows)?;
     fs::remove_file(&rt, name)?;
     Ok(())
 }
@@ -127,11 +152,13 @@ fn a_bind_that_fails_half_way_leaves_no_file(rt: HostRuntime) -> Result<(), Fail
     let name = "a_bind_that_fails_half_way_leaves_no_file.img";
     let _ = fs::remove_file(&rt, name);
     let files = WithoutFolder { rt: rt.clone()? };
-    let mut disk = FileDisk::new(files, rt.alloc());
-    same(&rt, disk.bind(name, Some(8)), Err(DiskFault));
-    same(&rt, disk.faults(), 1);
+    let rows: [Row<'_>; 4] = [
+        (Bind(Some(8)), Failed, &[]),
+        (Faults, Count(1), &[]),
+        (Sync, Failed, &[]),
+        (Faults, Count(2), &[]),
+    ];
+    on_new_file(&rt, rt.alloc(), files, name, &rows)?;
     same(&rt, fs::metadata(&rt, name).is_err(), true);
-    same(&rt, disk.sync(), Err(DiskFault));
-    same(&rt, disk.faults(), 2);
     Ok(())
 }

@@ -18,6 +18,8 @@ mod memory_tests;
 #[cfg(test)]
 mod queued_tests;
 #[cfg(test)]
+mod steps;
+#[cfg(test)]
 mod stream_tests;
 #[cfg(test)]
 mod untold_tests;

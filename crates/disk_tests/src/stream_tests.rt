@@ -4,8 +4,10 @@ use iso_io::{
     MemSink, MemSource, PutError, Sink, SinkFault, Source, SourceFault, StdSink, StdSource,
     TakeError, put_all, take_all,
 };
+use std::alloc::Global;
 use std::io;
 use std::io::{BufWriter, Read, Write};
+use std::process::Abort;
 use std::test::Fail;
 
 // A stream whose every call fails.
@@ -49,6 +51,12 @@ impl Write for Narrow {
     fn flush(&mut self) -> io::Result<()> {
         Ok(())
     }
+}
+
+/// A source of five bytes in pieces of two, whose third call fails.
+fn failing_source(alloc: Global) -> Result<MemSource, Fail> {
+    let failing = [3].to_vec(alloc)?;
+    Ok(MemSource::in_pieces(b"abcde".to_vec(alloc)?, failing, 2))
 }
 
 #[test]
@@ -95,13 +103,12 @@ fn taking_stops_at_the_limit(rt: HostRuntime) -> Result<(), Fail> {
 #[test]
 fn taking_reports_a_fault(rt: HostRuntime) -> Result<(), Fail> {
     let alloc = rt.alloc();
-    let bytes = b"abcde".to_vec(alloc)?;
-    let mut source = MemSource::in_pieces(bytes, [3].to_vec(alloc)?, 2);
-    same(
-        &rt,
-        take_all(alloc, &mut source, 100).err(),
-        Some(TakeError::Failed),
-    );
+    let mut source = failing_source(alloc)?;
+    let refused = match take_all(alloc, &mut source, 100) {
+        Ok(_taken) => None,
+        Err(error) => Some(error),
+    };
+    same(&rt, refused, Some(TakeError::Failed));
     Ok(())
 }
 
@@ -174,27 +181,40 @@ fn a_writer_that_takes_little_gets_all_in_order(rt: HostRuntime) {
     same(&rt, narrow.bytes.as_slice(), b"abcdefg".as_slice());
 }
 
+// Bytes are put whole, and handed on.
+fn hands_on<S: Sink>(rt: &impl Abort, sink: &mut S, bytes: &[u8]) {
+    same(rt, put_all(sink, bytes), Ok(()));
+    same(rt, sink.hand_on(), Ok(()));
+}
+
 #[test]
 fn what_a_writer_holds_back_comes_out_where_the_sink_hands_on(rt: HostRuntime) -> Result<(), Fail> {
     let alloc = rt.alloc();
     let mut bytes = Vec::new(alloc);
     {
         let mut sink = StdSink::new(BufWriter::new(alloc, &mut bytes)?);
-        same(&rt, put_all(&mut sink, b"abc"), Ok(()));
-        same(&rt, sink.hand_on(), Ok(()));
-        same(&rt, put_all(&mut sink, b"de"), Ok(()));
-        same(&rt, sink.hand_on(), Ok(()));
+        hands_on(&rt, &mut sink, b"abc");
+        hands_on(&rt, &mut sink, b"de");
     }
     same(&rt, bytes.as_slice(), b"abcde".as_slice());
     Ok(())
 }
 
+// A put is answered so, and the sink fails to hand on.
+fn fails_to_hand_on<S: Sink>(
+    rt: &impl Abort,
+    sink: &mut S,
+    bytes: &[u8],
+    answer: Result<usize, SinkFault>,
+) {
+    same(rt, sink.put(bytes), answer);
+    same(rt, sink.hand_on(), Err(SinkFault));
+}
+
 #[test]
 fn nothing_is_taken_behind_a_failure_to_hand_on(rt: HostRuntime) -> Result<(), Fail> {
     let mut sink = StdSink::new(BufWriter::new(rt.alloc(), Broken)?);
-    same(&rt, sink.put(b"abc"), Ok(3));
-    same(&rt, sink.hand_on(), Err(SinkFault));
-    same(&rt, sink.put(b"de"), Err(SinkFault));
-    same(&rt, sink.hand_on(), Err(SinkFault));
+    fails_to_hand_on(&rt, &mut sink, b"abc", Ok(3));
+    fails_to_hand_on(&rt, &mut sink, b"de", Err(SinkFault));
     Ok(())
 }

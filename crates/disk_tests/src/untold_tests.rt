@@ -3,6 +3,10 @@ ghost use Rattle.std.specs.{Prelude.{◌≡◌, ◌^◌, ◌<◌}, Option.option
 ghost use Rattle.counts.specs.Count.{HasCause};
 ghost use Rattle.iso_disk.specs.Untold.{untold, untold_is_lawful};
 
+use crate::count_tests::same;
+use crate::steps::Outcome::{Count, Done, Failed};
+use crate::steps::Step::{Bind, Read, Size, Sync, Write};
+use crate::steps::{Row, on_image};
 use counts::raise;
 use iso_disk::{Disk, DiskFault, Image};
 use std::alloc::Global;
@@ -87,14 +91,15 @@ fn a_disk_that_tells_nothing_counts_its_faults(rt: HostRuntime) -> Result<(), Fa
         faults: 0,
         binds: 0,
     };
-    disk.bind("t.img", Some(8))?;
-    let len = disk.size();
-    assert_eq!(rt; len, 8);
-    disk.write(7, &[1])?;
-    disk.sync()?;
-    disk.read(0, &mut [0; 8])?;
-    assert_eq!(rt; disk.sync(), Err(DiskFault));
-    assert_eq!(rt; disk.faults, 1);
-    assert_eq!(rt; disk.binds, 1);
+    let rows: [Row<'_>; 6] = [
+        (Bind(Some(8)), Done, &[]),
+        (Size, Count(8), &[]),
+        (Write(7, &[1]), Done, &[]),
+        (Sync, Done, &[]),
+        (Read(0, 8), Done, &[9; 8]),
+        (Sync, Failed, &[]),
+    ];
+    on_image(&rt, rt.alloc(), &mut disk, &rows)?;
+    same(&rt, (disk.faults, disk.binds), (1, 1));
     Ok(())
 }

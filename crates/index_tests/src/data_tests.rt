@@ -12,9 +12,9 @@ fn same<T: PartialEq + Debug + Drop>(rt: &impl Abort, found: T, wanted: T) {
 fn items_stand_in_order(rt: HostRuntime) -> Result<(), Fail> {
     let alloc = rt.alloc();
     let mut bytes = Bytes::empty(alloc);
-    assert!(rt; bytes.is_empty());
+    same(&rt, bytes.is_empty(), true);
     bytes.reserve(3)?;
-    assert!(rt; bytes.is_empty());
+    same(&rt, bytes.is_empty(), true);
     for byte in [7, 8, 9] {
         bytes.push(byte)?;
     }
@@ -33,13 +33,13 @@ fn a_list_gets_room_and_keeps_its_items(rt: HostRuntime) -> Result<(), Fail> {
     let list = Items::of(Vec::from_slice(alloc, &[1u32, 2])?);
     match list.with_room(2) {
         Ok(mut list) => {
-            assert!(rt; list.room() >= 2);
+            same(&rt, list.room() >= 2, true);
             list.push(3)?;
             list.push(4)?;
             let items = list.into_items();
             same(&rt, items.as_slice(), [1, 2, 3, 4].as_slice());
         }
-        Err(_) => assert!(rt; false),
+        Err(_) => return Err(Fail::from("no room")),
     }
     Ok(())
 }
@@ -48,7 +48,7 @@ fn a_list_gets_room_and_keeps_its_items(rt: HostRuntime) -> Result<(), Fail> {
 fn parts_keep_a_copy_of_their_bytes(rt: HostRuntime) -> Result<(), Fail> {
     let alloc = rt.alloc();
     let mut parts = PartList::empty(alloc);
-    assert!(rt; parts.is_empty());
+    same(&rt, parts.is_empty(), true);
     parts.push(2, 5, &[171, 205])?;
     parts.push(3, 0, &[1])?;
     same(&rt, parts.len(), 2);
@@ -66,11 +66,11 @@ fn parts_keep_a_copy_of_their_bytes(rt: HostRuntime) -> Result<(), Fail> {
 fn room_is_used_and_given_back(rt: HostRuntime) -> Result<(), Fail> {
     let alloc = rt.alloc();
     let mut list = Reserved::empty(alloc);
-    assert!(rt; list.is_empty());
+    same(&rt, list.is_empty(), true);
     same(&rt, list.room(), 0);
     list.reserve(3)?;
     let room = list.room();
-    assert!(rt; room >= 3);
+    same(&rt, room >= 3, true);
     list.push_within(10u32);
     list.push(20)?;
     list.push_within(30);

@@ -151,18 +151,18 @@ fn notes_above_a_number_are_kept_or_copied(rt: HostRuntime) -> Result<(), Fail> 
     let mut notes = three_commits(alloc)?;
     let reads = touched(alloc, &[(5, 5, 1)])?;
     let copy = notes.copy_after(3)?;
-    assert!(rt; holds(&notes, 3));
-    assert!(rt; !holds(&copy, 3));
-    assert!(rt; holds(&copy, 4));
-    assert!(rt; !holds(&notes, 6));
+    same(&rt, holds(&notes, 3), true);
+    same(&rt, holds(&copy, 3), false);
+    same(&rt, holds(&copy, 4), true);
+    same(&rt, holds(&notes, 6), false);
     same(
         &rt,
         decided(Mode::Serial, 2, &reads, &reads, &copy),
         clash(4, 5, 5),
     );
     notes.drop_to(3);
-    assert!(rt; !holds(&notes, 3));
-    assert!(rt; holds(&notes, 4));
+    same(&rt, holds(&notes, 3), false);
+    same(&rt, holds(&notes, 4), true);
     same(
         &rt,
         decided(Mode::Serial, 2, &reads, &reads, &notes),

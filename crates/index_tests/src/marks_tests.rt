@@ -139,46 +139,66 @@ const TEN_BETWEEN: [(u16, u16); 10] = [
     (3800, 100),
 ];
 
+// Whether these are the runs of 100 bytes of which each begins 200 bytes behind the one before, up to byte 4000.
+fn are_every_second_hundred(marks: &Marks) -> bool {
+    let mut at = 0u16;
+    for run in marks.spans() {
+        if run.off != at || run.len != 100 {
+            return false;
+        }
+        at = at.saturating_add(200);
+    }
+    at == 4000
+}
+
 #[test]
 fn union_of_more_than_eight_runs(rt: HostRuntime) -> Result<(), Fail> {
     let alloc = rt.alloc();
     let mut marks = set_of(alloc, TEN_RUNS.as_slice())?;
     marks.union(&set_of(alloc, TEN_BETWEEN.as_slice())?)?;
-    let mut at = 0u16;
-    for run in marks.spans() {
-        assert!(&rt; run.off == at && run.len == 100);
-        at = at.saturating_add(200);
-    }
-    assert_eq!(&rt; at, 4000);
+    same(&rt, are_every_second_hundred(&marks), true);
     Ok(())
+}
+
+// Whether the bytes are none once those of an empty set are added to a block, and once those of ten runs are.
+fn emptiness(alloc: Global, touched: &mut Touched) -> Result<[bool; 2], Fail> {
+    touched.add(7, &Marks::empty(alloc))?;
+    let first = touched.is_empty();
+    touched.add(7, &set_of(alloc, TEN_RUNS.as_slice())?)?;
+    Ok([first, touched.is_empty()])
 }
 
 #[test]
 fn block_with_no_byte_is_empty(rt: HostRuntime) -> Result<(), Fail> {
-    let alloc = rt.alloc();
-    let mut touched = Touched::empty(alloc);
-    touched.add(7, &Marks::empty(alloc))?;
-    assert!(rt; touched.is_empty());
-    touched.add(7, &set_of(alloc, TEN_RUNS.as_slice())?)?;
-    assert!(rt; !touched.is_empty());
+    let mut touched = Touched::empty(rt.alloc());
+    same(&rt, emptiness(rt.alloc(), &mut touched)?, [true, false]);
     Ok(())
+}
+
+// Hands a set of eight bytes over to a block, and tells the least byte in common with other bytes as these become more.
+fn hand_over(
+    alloc: Global,
+    touched: &mut Touched,
+    other: &mut Touched,
+) -> Result<[Option<(u32, u16)>; 2], Memory> {
+    let mut marks = Marks::of(alloc, Span { off: 8, len: 4 });
+    marks.add(Span { off: 12, len: 4 })?;
+    touched.put(3, marks)?;
+    add_bytes(alloc, touched, &[(9, 5, 1), (3, 0, 1)])?;
+    add_bytes(alloc, other, &[(9, 5, 1)])?;
+    let first = touched.first_meet(other);
+    add_bytes(alloc, other, &[(3, 15, 9)])?;
+    Ok([first, touched.first_meet(other)])
 }
 
 #[test]
 fn set_of_one_span_is_handed_over(rt: HostRuntime) -> Result<(), Fail> {
-    let alloc = rt.alloc();
-    let mut marks = Marks::of(alloc, Span { off: 8, len: 4 });
-    marks.add(Span { off: 12, len: 4 })?;
-    let mut touched = Touched::empty(alloc);
-    touched.put(3, marks)?;
-    add_bytes(alloc, &mut touched, &[(9, 5, 1), (3, 0, 1)])?;
-    let mut other = Touched::empty(alloc);
-    add_bytes(alloc, &mut other, &[(9, 5, 1)])?;
-    same(&rt, touched.first_meet(&other), Some((9, 5)));
-    add_bytes(alloc, &mut other, &[(3, 15, 9)])?;
-    same(&rt, touched.first_meet(&other), Some((3, 15)));
+    let mut touched = Touched::empty(rt.alloc());
+    let mut other = Touched::empty(rt.alloc());
+    let found = hand_over(rt.alloc(), &mut touched, &mut other)?;
+    same(&rt, found, [Some((9, 5)), Some((3, 15))]);
     touched.clear();
-    assert!(rt; touched.is_empty());
+    same(&rt, touched.is_empty(), true);
     Ok(())
 }
 
@@ -187,16 +207,19 @@ fn least_common_byte_of_two_sets(rt: HostRuntime) -> Result<(), Fail> {
     let alloc = rt.alloc();
     let left = set_of(alloc, &[(0, 10), (64, 10), (200, 100)])?;
     let right = set_of(alloc, &[(10, 54), (73, 5), (250, 1)])?;
+    let mut apart = set_of(alloc, &[(10, 54), (74, 126), (300, 3796)])?;
     same(&rt, left.first_meet(&right), Some(73));
     same(&rt, right.first_meet(&left), Some(73));
-    let mut apart = set_of(alloc, &[(10, 54), (74, 126), (300, 3796)])?;
-    assert!(rt; !left.meets(&apart));
+    same(&rt, left.meets(&apart), false);
     apart.union(&right)?;
     same(&rt, left.first_meet(&apart), Some(73));
-    assert!(rt; apart.covers(Span { off: 10, len: 54 }));
-    assert!(rt; apart.covers(Span { off: 73, len: 127 }));
-    assert!(rt; !apart.covers(Span { off: 72, len: 2 }));
-    assert!(rt; !apart.covers(Span { off: 4095, len: 2 }));
+    let covered = [
+        apart.covers(Span { off: 10, len: 54 }),
+        apart.covers(Span { off: 73, len: 127 }),
+        apart.covers(Span { off: 72, len: 2 }),
+        apart.covers(Span { off: 4095, len: 2 }),
+    ];
+    same(&rt, covered, [true, true, false, false]);
     Ok(())
 }
 

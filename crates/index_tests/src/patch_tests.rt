@@ -1,6 +1,7 @@
 ghost use Rattle.std.specs.Prelude.{◌≡◌, ◌+◌, ◌≤◌, IfOk, IsTrue, length};
 ghost use Rattle.iso_model.specs.Geometry.{is_block_size};
 
+use crate::marks_tests::same;
 use iso_model::{Span, SpanList};
 use merge_write::Patch;
 use std::alloc::Global;
@@ -45,25 +46,27 @@ fn drawn(alloc: Global, size: u32, seed: u64) -> Result<Vec<u8>, Fail>
     Ok(bytes)
 }
 
-// The runs of a patch, each with as many bytes as it is long.
-fn runs_of(rt: &impl Abort, alloc: Global, patch: &Patch) -> Result<Vec<Span>, Fail> {
-    let mut runs = Vec::new(alloc);
+// Whether these are the runs of a patch, each with as many bytes as it is long.
+fn has_runs(patch: &Patch, wanted: &[Span]) -> bool {
+    let mut left = wanted.iter();
     for (span, bytes) in patch.spans() {
-        assert!(rt; bytes.len() == span.len as usize);
-        runs.push(span)?;
+        if bytes.len() != span.len as usize || left.next() != Some(&span) {
+            return false;
+        }
     }
-    Ok(runs)
+    left.next().is_none()
 }
 
-// A write of two spans and a later one of one, laid over a block, against a loop over the bytes. Gives the runs.
-fn laid_runs(
+// A write of two spans and a later one of one, laid over a block, has the bytes that a loop over them lays, and these runs.
+fn lays(
     rt: &impl Abort,
     alloc: Global,
     size: u32,
     first: Span,
     second: Span,
     later: Span,
-) -> Result<Vec<Span>, Fail>
+    runs: &[Span],
+) -> Result<(), Fail>
     requires size { IsTrue (is_block_size size) }
     requires first { first.off + first.len ≤ size }
     requires second { second.off + second.len ≤ size }
@@ -85,8 +88,9 @@ fn laid_runs(
     lay_plainly(first, &one, &mut wanted);
     lay_plainly(second, &one, &mut wanted);
     lay_plainly(later, &two, &mut wanted);
-    assert!(rt; block.as_slice() == wanted.as_slice());
-    runs_of(rt, alloc, &patch)
+    same(rt, block.as_slice(), wanted.as_slice());
+    same(rt, has_runs(&patch, runs), true);
+    Ok(())
 }
 
 fn span(off: u16, len: u16) -> Span
@@ -96,23 +100,69 @@ fn span(off: u16, len: u16) -> Span
     Span { off, len }
 }
 
+// Blocks of at most 256 bytes.
+fn later_bytes_stand_in_small_blocks(rt: &impl Abort, alloc: Global) -> Result<(), Fail> {
+    let runs = [span(0, 1), span(30, 3), span(63, 1)];
+    lays(rt, alloc, 64, span(0, 1), span(63, 1), span(30, 3), &runs)?;
+    let runs = [span(10, 118)];
+    lays(
+        rt,
+        alloc,
+        128,
+        span(10, 54),
+        span(100, 28),
+        span(64, 36),
+        &runs,
+    )?;
+    let runs = [span(0, 256)];
+    lays(
+        rt,
+        alloc,
+        256,
+        span(0, 256),
+        span(31, 1),
+        span(63, 2),
+        &runs,
+    )?;
+    Ok(())
+}
+
 #[test]
 fn later_bytes_stand_and_runs_are_maximal(rt: HostRuntime) -> Result<(), Fail> {
     let alloc = rt.alloc();
-    let runs = laid_runs(&rt, alloc, 64, span(0, 1), span(63, 1), span(30, 3))?;
-    assert!(&rt; runs.as_slice() == [span(0, 1), span(30, 3), span(63, 1)].as_slice());
-    let runs = laid_runs(&rt, alloc, 128, span(10, 54), span(100, 28), span(64, 36))?;
-    assert!(&rt; runs.as_slice() == [span(10, 118)].as_slice());
-    let runs = laid_runs(&rt, alloc, 256, span(0, 256), span(31, 1), span(63, 2))?;
-    assert!(&rt; runs.as_slice() == [span(0, 256)].as_slice());
-    let runs = laid_runs(&rt, alloc, 512, span(63, 1), span(65, 1), span(64, 1))?;
-    assert!(&rt; runs.as_slice() == [span(63, 3)].as_slice());
-    let runs = laid_runs(&rt, alloc, 1024, span(64, 32), span(96, 32), span(1023, 1))?;
-    assert!(&rt; runs.as_slice() == [span(64, 64), span(1023, 1)].as_slice());
-    let runs = laid_runs(&rt, alloc, 2048, span(0, 0), span(5, 1), span(7, 1))?;
-    assert!(&rt; runs.as_slice() == [span(5, 1), span(7, 1)].as_slice());
-    let runs = laid_runs(&rt, alloc, 4096, span(4095, 1), span(4032, 64), span(0, 64))?;
-    assert!(&rt; runs.as_slice() == [span(0, 64), span(4032, 64)].as_slice());
+    later_bytes_stand_in_small_blocks(&rt, alloc)?;
+    let runs = [span(63, 3)];
+    lays(
+        &rt,
+        alloc,
+        512,
+        span(63, 1),
+        span(65, 1),
+        span(64, 1),
+        &runs,
+    )?;
+    let runs = [span(64, 64), span(1023, 1)];
+    lays(
+        &rt,
+        alloc,
+        1024,
+        span(64, 32),
+        span(96, 32),
+        span(1023, 1),
+        &runs,
+    )?;
+    let runs = [span(5, 1), span(7, 1)];
+    lays(&rt, alloc, 2048, span(0, 0), span(5, 1), span(7, 1), &runs)?;
+    let runs = [span(0, 64), span(4032, 64)];
+    lays(
+        &rt,
+        alloc,
+        4096,
+        span(4095, 1),
+        span(4032, 64),
+        span(0, 64),
+        &runs,
+    )?;
     Ok(())
 }
 
@@ -122,14 +172,14 @@ fn no_span_is_the_whole_block(rt: HostRuntime) -> Result<(), Fail> {
     let mut patch = Patch::blank(alloc, 64)?;
     let mut block = vec![in alloc; 5u8; 64]?;
     patch.over(&mut block);
-    assert!(&rt; block.as_slice() == [5; 64].as_slice());
+    same(&rt, block.as_slice(), [5; 64].as_slice());
     patch.set(&[9; 64], &SpanList::empty(alloc));
     patch.over(&mut block);
-    assert!(&rt; block.as_slice() == [9; 64].as_slice());
+    same(&rt, block.as_slice(), [9; 64].as_slice());
     patch.clear();
-    assert!(&rt; patch.spans().next().is_none());
+    same(&rt, patch.spans().next().is_none(), true);
     patch.set_spans(&[7; 64], [span(60, 4)].as_slice());
     patch.over(&mut block);
-    assert!(&rt; block[59] == 9 && block[60] == 7 && block[63] == 7);
+    same(&rt, (block[59], block[60], block[63]), (9, 7, 7));
     Ok(())
 }

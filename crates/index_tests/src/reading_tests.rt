@@ -95,7 +95,7 @@ fn later_versions_hide_earlier_ones(rt: HostRuntime) -> Result<(), Fail> {
     let block = read(&mut disk, &versions)?;
     let front = [100, 101, 102, 200, 49, 50, 51, 52, 108, 109, 74, 75];
     for (at, byte) in front.iter().enumerate() {
-        assert_eq!(rt; block.get(at), Some(byte), "{at}");
+        same(&rt, (at, block.get(at)), (at, Some(byte)));
     }
     same(&rt, block[63], 127);
     // the four last bytes, the one before them, what is left of the first version on both sides, and the base
@@ -128,7 +128,7 @@ fn a_range_is_its_base_and_what_pieces_have_of_it(rt: HostRuntime) -> Result<(),
         255, 105, 106, 107, 108, 109, 74, 75, 200, 201, 202, 203, 80, 81, 82, 83, 49, 50, 255,
     ];
     for (at, byte) in range.iter().enumerate() {
-        assert_eq!(rt; block.get(4 + at), Some(byte), "{at}");
+        same(&rt, (at, block.get(4 + at)), (at, Some(byte)));
     }
     same(&rt, disk.calls(), 4);
     // one piece has all of it
@@ -183,7 +183,7 @@ fn parts_are_indexed_where_their_bytes_stand(rt: HostRuntime) -> Result<(), Fail
     };
     let index = index_of(rt.alloc(), &view, 100)?;
     same(&rt, index.count(), 2);
-    assert!(rt; index.showing(0).is_empty());
+    same(&rt, index.showing(0).len(), 0);
     same(&rt, index.showing(1), [version(128, 3, 2)].as_slice());
     same(&rt, index.showing(2), [version(138, 0, 1)].as_slice());
     Ok(())

@@ -252,10 +252,10 @@ fn taken_over_item_is_no_longer_held(rt: HostRuntime) -> Result<(), Fail> {
         return Err(Fail::from("no label"));
     };
     let mut rack = Rack::empty(alloc);
-    assert!(rt; !rack.is_held(&left));
-    assert!(rt; rack.post(left.copy(), 10).is_ok());
-    assert!(rt; rack.post(right.copy(), 20).is_ok());
-    assert!(rt; rack.is_held(&left));
+    same(&rt, rack.is_held(&left), false);
+    same(&rt, rack.post(left.copy(), 10), Ok(()));
+    same(&rt, rack.post(right.copy(), 20), Ok(()));
+    same(&rt, rack.is_held(&left), true);
     same(
         &rt,
         rack.post(left.copy(), 11),
@@ -263,8 +263,8 @@ fn taken_over_item_is_no_longer_held(rt: HostRuntime) -> Result<(), Fail> {
     );
     same(&rt, rack.look(&left), Some(10));
     same(&rt, rack.look(&left), None);
-    assert!(rt; !rack.is_held(&left));
-    assert!(rt; rack.post(left.copy(), 12).is_ok());
+    same(&rt, rack.is_held(&left), false);
+    same(&rt, rack.post(left.copy(), 12), Ok(()));
     same(&rt, rack.pop(), Some(20));
     same(&rt, rack.pop(), Some(12));
     same(&rt, rack.pop(), None);

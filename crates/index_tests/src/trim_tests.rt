@@ -1,3 +1,4 @@
+use crate::marks_tests::same;
 use mv_index::{MvIndex, Version};
 use std::alloc::Global;
 use std::test::Fail;
@@ -31,9 +32,9 @@ fn two_versions(alloc: Global) -> Result<MvIndex, Fail> {
 #[test]
 fn a_version_goes_once_no_one_can_read_it(rt: HostRuntime) -> Result<(), Fail> {
     let mut index = two_versions(rt.alloc())?;
-    assert_eq!(rt; trim(&mut index, 4), 0);
-    assert_eq!(rt; trim(&mut index, 5), 1);
-    assert_eq!(rt; trim(&mut index, 9), 0);
-    assert_eq!(rt; index.count(), 1);
+    same(&rt, trim(&mut index, 4), 0);
+    same(&rt, trim(&mut index, 5), 1);
+    same(&rt, trim(&mut index, 9), 0);
+    same(&rt, index.count(), 1);
     Ok(())
 }

@@ -203,7 +203,7 @@ fn pieces_are_cut_where_later_versions_write(rt: HostRuntime) -> Result<(), Fail
         (9, Some(109)),
         (10, None),
     ] {
-        assert_eq!(rt; block.shown(&rt, at), place, "at {at}");
+        same(&rt, (at, block.shown(&rt, at)), (at, place));
     }
     block.add(&rt, 4, 400, 0, 10)?;
     same(&rt, block.index.showing(0).len(), 1);
@@ -265,8 +265,8 @@ fn each_block_has_its_own_versions(rt: HostRuntime) -> Result<(), Fail> {
         len: 1,
     };
     index.add(2, version);
-    assert!(rt; index.showing(0).is_empty());
-    assert!(rt; index.showing(1).is_empty());
+    same(&rt, index.showing(0).len(), 0);
+    same(&rt, index.showing(1).len(), 0);
     same(&rt, index.showing(2), [version].as_slice());
     same(&rt, index.count(), 1);
     same(&rt, index.trim_to(7), 0);

@@ -1,7 +1,9 @@
 // What no clause says: the text as the language prints it, and a tally of replies that no script gives in this order.
 
+use crate::text_tests::same;
 use bench_script::{DrawnScript, ReplyDigest, Tally};
 use iso_io::{Sink, Source};
+use std::alloc::Global;
 use std::test::Fail;
 
 /// The first round of seed 0, as it is in the examples of the language.
@@ -13,9 +15,8 @@ fn one_round_is_drawn_from_seed_0(rt: HostRuntime) -> Result<(), Fail> {
     let mut script = DrawnScript::new(0, 1);
     let mut bytes = [0u8; 128];
     let first = script.take(&mut bytes).unwrap_or(0);
-    assert_eq!(rt; bytes.get(..first), Some(FIRST_ROUND));
-    let at_the_end = script.take(&mut bytes).unwrap_or(1);
-    assert_eq!(rt; at_the_end, 0);
+    same(&rt, bytes.get(..first), Some(FIRST_ROUND));
+    same(&rt, script.take(&mut bytes).unwrap_or(1), 0);
     Ok(())
 }
 
@@ -27,13 +28,13 @@ fn a_script_is_taken_piece_by_piece(rt: HostRuntime) -> Result<(), Fail> {
     for count in &mut taken {
         *count = script.take(&mut bytes).unwrap_or(99);
     }
-    assert_eq!(rt; taken, [50, 33, 50, 33, 0]);
+    same(&rt, taken, [50, 33, 50, 33, 0]);
     Ok(())
 }
 
 /// The digest of a text and what it says, given in these pieces.
-fn told_of(rt: HostRuntime, pieces: &[&[u8]]) -> (Tally, [u8; 32]) {
-    let mut replies = ReplyDigest::new(rt.alloc());
+fn told_of(alloc: Global, pieces: &[&[u8]]) -> (Tally, [u8; 32]) {
+    let mut replies = ReplyDigest::new(alloc);
     for piece in pieces {
         let _ = replies.put(piece);
     }
@@ -44,26 +45,25 @@ fn told_of(rt: HostRuntime, pieces: &[&[u8]]) -> (Tally, [u8; 32]) {
 fn commits_and_conflicts_are_counted(rt: HostRuntime) -> Result<(), Fail> {
     let text =
         b"1 ok begin 0\n2 ok\n1 ok c0\n1 ok commit 1\n2 conflict with 1 block 0 at 3\n12 ok compact 1\n2 conflict with 1 block 0 at 3\n3 not-in-tx\n";
-    let (counts, _digest) = told_of(rt, &[text]);
-    assert_eq!(rt;
-        counts,
-        Tally {
-            commits: 1,
-            conflicts: 2
-        }
-    );
+    let (counts, _digest) = told_of(rt.alloc(), &[text]);
+    let wanted = Tally {
+        commits: 1,
+        conflicts: 2,
+    };
+    same(&rt, counts, wanted);
     Ok(())
 }
 
 #[test]
 fn replies_are_digested_in_order(rt: HostRuntime) -> Result<(), Fail> {
-    let (_counts, digest) = told_of(rt, &[b"1 ok\n", b"2 ok commit 1\n"]);
-    assert_eq!(rt;
+    let (_counts, digest) = told_of(rt.alloc(), &[b"1 ok\n", b"2 ok commit 1\n"]);
+    same(
+        &rt,
         digest,
         [
             160, 246, 194, 224, 89, 63, 242, 25, 45, 97, 105, 48, 57, 179, 149, 176, 83, 58, 195,
-            254, 113, 106, 79, 76, 88, 2, 12, 172, 66, 104, 248, 17
-        ]
+            254, 113, 106, 79, 76, 88, 2, 12, 172, 66, 104, 248, 17,
+        ],
     );
     Ok(())
 }
@@ -81,14 +81,14 @@ fn replies_past_what_waits_are_counted(rt: HostRuntime) -> Result<(), Fail> {
         put_three(&mut replies);
     }
     let (counts, digest) = replies.finish();
-    assert_eq!(rt; counts.commits, 400);
-    assert_eq!(rt; counts.conflicts, 400);
-    assert_eq!(rt;
+    same(&rt, (counts.commits, counts.conflicts), (400, 400));
+    same(
+        &rt,
         digest,
         [
             132, 93, 1, 142, 250, 188, 247, 46, 156, 115, 141, 204, 27, 121, 159, 13, 37, 110, 147,
-            195, 99, 126, 209, 93, 84, 173, 24, 214, 144, 219, 94, 121
-        ]
+            195, 99, 126, 209, 93, 84, 173, 24, 214, 144, 219, 94, 121,
+        ],
     );
     Ok(())
 }

@@ -19,16 +19,18 @@ fn the_first_draw_of_seed_0(rt: HostRuntime) {
 fn the_first_rounds_of_seed_0(rt: HostRuntime) {
     let mut generator = Generator::new(0);
     let mut round = Round::empty();
-    assert!(rt; round.text().is_empty());
+    same(&rt, round.text(), b"".as_slice());
     round.draw(&mut generator);
-    assert!(rt;
-        round.text()
-            == b"1 begin\n2 begin\n1 get 62 8 4\n1 put 17 36 da\n2 get 17 8 4\n2 put 62 8 36\n1 end\n2 end\n".as_slice()
+    same(
+        &rt,
+        round.text(),
+        b"1 begin\n2 begin\n1 get 62 8 4\n1 put 17 36 da\n2 get 17 8 4\n2 put 62 8 36\n1 end\n2 end\n".as_slice(),
     );
     round.draw(&mut generator);
-    assert!(rt;
-        round.text()
-            == b"1 begin\n2 begin\n1 get 48 4 4\n1 put 14 28 9e\n2 get 14 4 4\n2 put 48 4 a4\n1 end\n2 end\n".as_slice()
+    same(
+        &rt,
+        round.text(),
+        b"1 begin\n2 begin\n1 get 48 4 4\n1 put 14 28 9e\n2 get 14 4 4\n2 put 48 4 a4\n1 end\n2 end\n".as_slice(),
     );
 }
 
@@ -45,6 +47,14 @@ fn prints(alloc: Global, op: Op, wanted: &[u8]) -> bool {
     match print_line(alloc, &Line { client: 9, op }) {
         Ok(line) => line.as_slice() == wanted,
         Err(_) => false,
+    }
+}
+
+// Whether a line is read and printed so.
+fn is_printed_as_read(alloc: Global, line: &[u8]) -> bool {
+    match op_in(alloc, line) {
+        Some(op) => prints(alloc, op, line),
+        None => false,
     }
 }
 
@@ -67,9 +77,6 @@ fn lines_are_printed_as_they_are_read(rt: HostRuntime) {
         b"9 fmove 61 62",
         b"9 fdel 61",
     ] {
-        match op_in(alloc, line) {
-            Some(op) => assert!(rt; prints(alloc, op, line)),
-            None => assert!(rt; false),
-        }
+        same(&rt, (line, is_printed_as_read(alloc, line)), (line, true));
     }
 }

@@ -110,25 +110,36 @@ fn an_end_makes_four_calls(rt: HostRuntime) -> Result<(), Fail> {
     Ok(())
 }
 
+/// Whether an end passed of which these calls pass, how many of the images of the first six picks have its commit whole, how
+/// many have nothing of it, and how many have what the commit before it left.
+fn stopped_behind(alloc: Global, calls: u64) -> Result<(bool, u32, u32, u32), Fail> {
+    let mut disk = MemDisk::new(alloc, with_a_commit(alloc)?);
+    disk.fuse(calls);
+    let (reply, disk) = ended_on(alloc, disk, 1, 9)?;
+    let (mut whole, mut none, mut kept) = (0u32, 0u32, 0u32);
+    for pick in 0..6 {
+        let found = seen(alloc, disk.crash(alloc, pick)?, 1);
+        if found == Some((2, 0, 1, [9; 64])) {
+            whole = whole.saturating_add(1);
+        }
+        if found == Some((1, 0, 1, [0; 64])) {
+            none = none.saturating_add(1);
+        }
+        let other = seen(alloc, disk.crash(alloc, pick)?, 2);
+        if other.is_some_and(|o| o.3 == [7; 64]) {
+            kept = kept.saturating_add(1);
+        }
+    }
+    Ok((reply.is_ok(), whole, none, kept))
+}
+
 #[test]
 fn a_stop_in_an_end_leaves_its_commit_whole_or_not_at_all(rt: HostRuntime) -> Result<(), Fail> {
-    let alloc = rt.alloc();
     for calls in 0..5 {
-        let mut disk = MemDisk::new(alloc, with_a_commit(alloc)?);
-        disk.fuse(5 + calls);
-        let (reply, disk) = ended_on(alloc, disk, 1, 9)?;
-        let done = reply.is_ok();
-        assert_eq!(rt; done, calls == 4, "{calls}");
-        for pick in 0..6 {
-            let found = seen(alloc, disk.crash(alloc, pick)?, 1);
-            let whole = found == Some((2, 0, 1, [9; 64]));
-            assert!(rt;
-                whole || (!done && found == Some((1, 0, 1, [0; 64]))),
-                "{calls} {pick}"
-            );
-            let other = seen(alloc, disk.crash(alloc, pick)?, 2);
-            assert!(rt; other.is_some_and(|o| o.3 == [7; 64]), "{calls} {pick}");
-        }
+        let (done, whole, none, kept) = stopped_behind(rt.alloc(), 5 + calls)?;
+        let all = whole.saturating_add(none);
+        same(&rt, (done, all, kept), (calls == 4, 6, 6));
+        assert!(rt; none == 0 || !done, "{calls}");
     }
     Ok(())
 }

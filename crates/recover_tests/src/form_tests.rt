@@ -139,15 +139,10 @@ fn five_parts(alloc: Global) -> Result<PartList, Memory>
     Ok(parts)
 }
 
-#[test]
-fn record_of_five_parts(rt: HostRuntime) -> Result<(), Fail> {
-    let parts = five_parts(rt.alloc())?;
-    same(&rt, record_length(&parts), 69);
-    let mut record = write_record(rt.alloc(), 9, 1, &parts)?;
-    same(&rt, record.len(), 69);
-    record.push(0)?;
-    let view = read_record(&record, &small(), 9)?;
-    same(&rt, view.number(), 9);
+// Compares the parts of a record, which stands before a closed gate.
+fn has_five_parts(rt: &impl Abort, record: &[u8]) -> Result<(), Fail> {
+    let view = read_record(record, &small(), 9)?;
+    same(rt, view.number(), 9);
     let expected: [(u32, u16, &[u8]); 5] = [
         (0, 0, &[1]),
         (0, 2, &[2, 3]),
@@ -156,32 +151,48 @@ fn record_of_five_parts(rt: HostRuntime) -> Result<(), Fail> {
         (3, 63, &[9]),
     ];
     let mut read = view.parts();
-    for (block, off, bytes) in expected.iter() {
+    for wanted in expected.iter() {
         let part = read.next().ok_or("a part is missing")?;
-        same(&rt, part.block, *block);
-        same(&rt, part.off, *off);
-        same(&rt, part.bytes, *bytes);
+        same(rt, (part.block, part.off, part.bytes), *wanted);
     }
-    assert!(rt; read.next().is_none());
+    same(rt, read.next().is_none(), true);
+    Ok(())
+}
+
+#[test]
+fn record_of_five_parts(rt: HostRuntime) -> Result<(), Fail> {
+    let parts = five_parts(rt.alloc())?;
+    same(&rt, record_length(&parts), 69);
+    let mut record = write_record(rt.alloc(), 9, 1, &parts)?;
+    same(&rt, record.len(), 69);
+    record.push(0)?;
+    has_five_parts(&rt, record.as_slice())
+}
+
+fn two_records_behind_one_closed_gate_in(
+    rt: &impl Abort,
+    buffer: &mut RecordBuffer,
+) -> Result<(), Fail>
+    requires { buffer.old.parts ≡ [] }
+{
+    same(rt, buffer.with_closed_gate(), [0].as_slice());
+    push_put(buffer)?;
+    same(rt, buffer.with_closed_gate(), RECORD.as_slice());
+    push_put(buffer)?;
+    let both = buffer.with_closed_gate();
+    let ends = (both.starts_with(&RECORD[..30]), both.ends_with(&RECORD));
+    same(rt, (both.len(), ends), (61, (true, true)));
+    buffer.clear();
+    same(rt, buffer.with_closed_gate(), [0].as_slice());
+    push_put(buffer)?;
+    same(rt, buffer.with_closed_gate(), RECORD.as_slice());
     Ok(())
 }
 
 #[test]
 fn two_records_behind_one_closed_gate(rt: HostRuntime) -> Result<(), Fail> {
     let mut buffer = RecordBuffer::new(rt.alloc())?;
-    same(&rt, buffer.with_closed_gate(), [0].as_slice());
-    push_put(&mut buffer)?;
-    same(&rt, buffer.with_closed_gate(), RECORD.as_slice());
-    push_put(&mut buffer)?;
-    let both = buffer.with_closed_gate();
-    same(&rt, both.len(), 61);
-    assert!(rt; both.starts_with(&RECORD[..30]));
-    assert!(rt; both.ends_with(&RECORD));
-    buffer.clear();
-    same(&rt, buffer.with_closed_gate(), [0].as_slice());
-    push_put(&mut buffer)?;
-    same(&rt, buffer.with_closed_gate(), RECORD.as_slice());
-    Ok(())
+    two_records_behind_one_closed_gate_in(&rt, &mut buffer)
 }
 
 #[test]

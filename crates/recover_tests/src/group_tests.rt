@@ -121,46 +121,62 @@ fn found_in(alloc: Global, disk: MemDisk) -> (Option<u64>, bool, bool) {
     }
 }
 
+/// A disk with a new image, on which nothing was called.
+fn new_disk(alloc: Global) -> Result<MemDisk, Fail> {
+    let image = formatted(alloc, &small())?.crash(alloc, 0)?;
+    Ok(MemDisk::new(alloc, image))
+}
+
+/// The gates of two records that fill a block, and of the place behind them.
+fn gates_of(alloc: Global, disk: &MemDisk) -> Result<[Option<u8>; 3], Memory> {
+    let image = disk.crash(alloc, 0)?;
+    Ok([
+        image.get(352).copied(),
+        image.get(444).copied(),
+        image.get(536).copied(),
+    ])
+}
+
 #[test]
 fn a_group_makes_four_calls(rt: HostRuntime) -> Result<(), Fail> {
     let alloc = rt.alloc();
-    let disk = MemDisk::new(alloc, formatted(alloc, &small())?.crash(alloc, 0)?);
-    let (answer, disk) = grouped_on(alloc, disk, false)?;
+    let (answer, disk) = grouped_on(alloc, new_disk(alloc)?, false)?;
     let both = (
         Ok(()),
         Some(GroupReply::Committed(1)),
         Some(GroupReply::Committed(2)),
     );
-    same(&rt, answer, both);
-    same(&rt, disk.calls(), 9);
-    let image = disk.crash(alloc, 0)?;
-    same(&rt, image.get(352), Some(&1));
-    same(&rt, image.get(444), Some(&1));
-    same(&rt, image.get(536), Some(&0));
+    same(&rt, (answer, disk.calls()), (both, 9));
+    same(&rt, gates_of(alloc, &disk)?, [Some(1), Some(1), Some(0)]);
     Ok(())
+}
+
+/// Whether a group passed of which these calls pass, and how many of the images of the first six picks have all of it, and how
+/// many nothing.
+fn stopped_behind(alloc: Global, calls: u64) -> Result<(bool, u32, u32), Fail> {
+    let mut disk = new_disk(alloc)?;
+    disk.fuse(calls);
+    let (answer, disk) = grouped_on(alloc, disk, false)?;
+    let mut whole = 0u32;
+    let mut none = 0u32;
+    for pick in 0..6 {
+        match found_in(alloc, MemDisk::new(alloc, disk.crash(alloc, pick)?)) {
+            (Some(2), true, true) => whole = whole.saturating_add(1),
+            (Some(0), false, false) => none = none.saturating_add(1),
+            _ => {}
+        }
+    }
+    Ok((answer.0.is_ok(), whole, none))
 }
 
 #[test]
 fn a_stop_in_a_group_leaves_all_of_it_or_nothing(rt: HostRuntime) -> Result<(), Fail> {
-    let alloc = rt.alloc();
     for calls in 0..5 {
-        let mut disk = MemDisk::new(alloc, formatted(alloc, &small())?.crash(alloc, 0)?);
-        disk.fuse(5 + calls);
-        let (answer, disk) = grouped_on(alloc, disk, false)?;
-        let done = answer.0.is_ok();
-        assert_eq!(rt; done, calls == 4, "{calls}");
-        for pick in 0..6 {
-            let found = found_in(alloc, MemDisk::new(alloc, disk.crash(alloc, pick)?));
-            let whole = found == (Some(2), true, true);
-            let none = found == (Some(0), false, false);
-            // Nothing shows the group before the third call, which writes its gate.
-            let may = if calls < 2 {
-                none
-            } else {
-                whole || (!done && none)
-            };
-            assert!(rt; may, "{calls} {pick}");
-        }
+        let (done, whole, none) = stopped_behind(rt.alloc(), 5 + calls)?;
+        same(&rt, (done, whole.saturating_add(none)), (calls == 4, 6));
+        // Nothing shows the group before the third call, which writes its gate, and all do once it is answered.
+        assert!(rt; whole == 0 || calls >= 2, "{calls}");
+        assert!(rt; none == 0 || !done, "{calls}");
     }
     Ok(())
 }

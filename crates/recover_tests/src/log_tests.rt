@@ -1,6 +1,6 @@
 // What no clause says: that calls succeed with ample memory, and which calls of the disk they make. The log is at byte
 // 16 of a disk of zeros; each record puts two bytes at byte 5 of block 2, and has 30 bytes.
-ghost use Rattle.std.specs.Prelude.{◌≡◌, ◌+◌, ◌<◌, ◌≤◌, ◌++◌, [], OnOk, IfOk, IsTrue};
+ghost use Rattle.std.specs.Prelude.{◌≡◌, ◌⊎◌, ◌+◌, ◌<◌, ◌≤◌, ◌++◌, [], OnOk, IfOk, IsTrue};
 ghost use Rattle.iso_model.specs.{Geometry.is_valid, Image.spell};
 ghost use Rattle.iso_memdisk.specs.MemDisk.{state_of};
 ghost use Rattle.recover_tests.specs.{Ready.IsReady, Records.put};
@@ -12,8 +12,9 @@ use iso_log::{Log, LogError, ReadAhead};
 use iso_memdisk::MemDisk;
 use iso_model::{Geometry, LAST, Memory};
 use std::alloc::{AllocError, Global};
+use std::process::Abort;
 use std::test::Fail;
-use test_cores::{small, small_in, zeros};
+use test_cores::{change, small, small_in, zeros};
 
 const PLACE: u64 = 16;
 
@@ -109,75 +110,118 @@ fn count_in(alloc: Global, image: Vec<u8>, geometry: &Geometry, room: u32) -> Re
     count_told(alloc, &mut disk, geometry, room)
 }
 
+// The steps of a test stand in a function that borrows its disk: one that owns it drops it at each of its exits, and each of these
+// drops is proved.
+fn a_record_is_one_write_and_a_gate_in(
+    rt: &impl Abort,
+    alloc: Global,
+    disk: &mut MemDisk,
+) -> Result<(), Fail>
+    requires { IsReady small (record { place = 16; room = 100; used = 0; last = 0 }) (state_of disk.old) }
+{
+    let mut log = Log::start(PLACE, 100, 0);
+    let place = append_one(alloc, &mut log, disk)?;
+    same(rt, (place, disk.calls()), (16, 4));
+    same(rt, (log.used(), log.free(), log.last()), (30, 70, 1));
+    let place = append_one(alloc, &mut log, disk)?;
+    same(rt, (place, disk.calls()), (46, 8));
+    same(rt, count_told(alloc, disk, &small(), 100), Ok(2));
+    Ok(())
+}
+
 #[test]
 fn a_record_is_one_write_and_a_gate(rt: HostRuntime) -> Result<(), Fail> {
-    let alloc = rt.alloc();
-    let mut disk = blank(alloc, 100)?;
+    let mut disk = blank(rt.alloc(), 100)?;
+    a_record_is_one_write_and_a_gate_in(&rt, rt.alloc(), &mut disk)
+}
+
+fn a_group_costs_what_a_record_costs_in(
+    rt: &impl Abort,
+    alloc: Global,
+    disk: &mut MemDisk,
+) -> Result<(), Fail>
+    requires { IsReady small (record { place = 16; room = 100; used = 0; last = 0 }) (state_of disk.old) }
+{
     let mut log = Log::start(PLACE, 100, 0);
-    let place = append_one(alloc, &mut log, &mut disk)?;
-    same(&rt, place, 16);
-    same(&rt, disk.calls(), 4);
-    same(&rt, (log.used(), log.free(), log.last()), (30, 70, 1));
-    let place = append_one(alloc, &mut log, &mut disk)?;
-    same(&rt, place, 46);
-    same(&rt, disk.calls(), 8);
-    same(&rt, count_told(alloc, &mut disk, &small(), 100), Ok(2));
+    let place = append_two(alloc, &mut log, disk)?;
+    same(rt, (place, disk.calls()), (16, 4));
+    same(rt, (log.used(), log.last()), (60, 2));
+    same(rt, count_told(alloc, disk, &small(), 100), Ok(2));
     Ok(())
 }
 
 #[test]
 fn a_group_costs_what_a_record_costs(rt: HostRuntime) -> Result<(), Fail> {
-    let alloc = rt.alloc();
-    let mut disk = blank(alloc, 100)?;
-    let mut log = Log::start(PLACE, 100, 0);
-    let place = append_two(alloc, &mut log, &mut disk)?;
-    same(&rt, place, 16);
-    same(&rt, disk.calls(), 4);
-    same(&rt, (log.used(), log.last()), (60, 2));
-    same(&rt, count_told(alloc, &mut disk, &small(), 100), Ok(2));
+    let mut disk = blank(rt.alloc(), 100)?;
+    a_group_costs_what_a_record_costs_in(&rt, rt.alloc(), &mut disk)
+}
+
+fn a_log_is_filled_exactly_in(
+    rt: &impl Abort,
+    alloc: Global,
+    disk: &mut MemDisk,
+    short: &mut MemDisk,
+) -> Result<(), Fail>
+    requires disk { IsReady small (record { place = 16; room = 61; used = 0; last = 0 }) (state_of disk.old) }
+    requires short { IsReady small (record { place = 16; room = 60; used = 0; last = 0 }) (state_of short.old) }
+{
+    let mut log = Log::start(PLACE, 61, 0);
+    let place = append_two(alloc, &mut log, disk)?;
+    same(rt, place, 16);
+    let full = LogError::LogFull { need: 31, free: 1 };
+    same(rt, append_one(alloc, &mut log, disk), Err(full));
+    same(rt, disk.calls(), 4);
+    same(rt, count_told(alloc, disk, &small(), 61), Ok(2));
+
+    let mut log = Log::start(PLACE, 60, 0);
+    let full = LogError::LogFull { need: 61, free: 60 };
+    same(rt, append_two(alloc, &mut log, short), Err(full));
+    same(rt, short.calls(), 0);
     Ok(())
 }
 
 #[test]
 fn a_log_is_filled_exactly(rt: HostRuntime) -> Result<(), Fail> {
-    let alloc = rt.alloc();
-    let mut disk = blank(alloc, 61)?;
-    let mut log = Log::start(PLACE, 61, 0);
-    let place = append_two(alloc, &mut log, &mut disk)?;
-    same(&rt, place, 16);
-    let full = LogError::LogFull { need: 31, free: 1 };
-    same(&rt, append_one(alloc, &mut log, &mut disk), Err(full));
-    same(&rt, disk.calls(), 4);
-    same(&rt, count_told(alloc, &mut disk, &small(), 61), Ok(2));
+    let mut disk = blank(rt.alloc(), 61)?;
+    let mut short = blank(rt.alloc(), 60)?;
+    a_log_is_filled_exactly_in(&rt, rt.alloc(), &mut disk, &mut short)
+}
 
-    let mut short = blank(alloc, 60)?;
-    let mut log = Log::start(PLACE, 60, 0);
-    let full = LogError::LogFull { need: 61, free: 60 };
-    same(&rt, append_two(alloc, &mut log, &mut short), Err(full));
-    same(&rt, short.calls(), 0);
-    Ok(())
+/// How many of the images of the first six picks tell no record, and how many tell two.
+fn told_by_images(alloc: Global, disk: &MemDisk) -> Result<(u32, u32), Memory> {
+    let mut none = 0u32;
+    let mut two = 0u32;
+    for pick in 0..6 {
+        match count_in(alloc, disk.crash(alloc, pick)?, &small(), 100) {
+            Ok(0) => none = none.saturating_add(1),
+            Ok(2) => two = two.saturating_add(1),
+            _ => {}
+        }
+    }
+    Ok((none, two))
+}
+
+/// The answer to a group of two where each call after `calls` calls fails, the bytes and the last number of the log, and what the
+/// images tell.
+fn group_behind(
+    alloc: Global,
+    calls: u64,
+) -> Result<(Result<u64, LogError>, (u32, u64), (u32, u32)), Fail> {
+    let mut disk = blank(alloc, 100)?;
+    let mut log = Log::start(PLACE, 100, 0);
+    disk.fuse(calls);
+    let answer = append_two(alloc, &mut log, &mut disk);
+    let told = told_by_images(alloc, &disk)?;
+    Ok((answer, (log.used(), log.last()), told))
 }
 
 #[test]
 fn a_fault_leaves_all_records_or_none(rt: HostRuntime) -> Result<(), Fail> {
-    let alloc = rt.alloc();
     for calls in 0..4 {
-        let mut disk = blank(alloc, 100)?;
-        let mut log = Log::start(PLACE, 100, 0);
-        disk.fuse(calls);
-        same(
-            &rt,
-            append_two(alloc, &mut log, &mut disk),
-            Err(LogError::Disk),
-        );
-        same(&rt, (log.used(), log.last()), (0, 0));
-        for pick in 0..6 {
-            let told = count_in(alloc, disk.crash(alloc, pick)?, &small(), 100);
-            assert!(rt;
-                told == Ok(0) || (calls == 3 && told == Ok(2)),
-                "{calls} {pick}"
-            );
-        }
+        let (answer, log, (none, two)) = group_behind(rt.alloc(), calls)?;
+        same(&rt, (answer, log), (Err(LogError::Disk), (0, 0)));
+        same(&rt, none.saturating_add(two), 6);
+        assert!(rt; two == 0 || calls == 3, "{calls}");
     }
     Ok(())
 }
@@ -202,12 +246,36 @@ fn a_thousand_records_are_one_read(rt: HostRuntime) -> Result<(), Fail> {
     Ok(())
 }
 
+/// A disk with a log of `room` bytes, which has the records of a group of two.
+fn with_two(alloc: Global, room: u32) -> Result<MemDisk, Fail>
+    requires { 1 ≤ room }
+{
+    let mut disk = blank(alloc, room)?;
+    let mut log = Log::start(PLACE, room, 0);
+    append_two(alloc, &mut log, &mut disk)?;
+    Ok(disk)
+}
+
+/// How many records such a log tells where one byte is changed.
+fn told_with(
+    alloc: Global,
+    disk: &MemDisk,
+    place: usize,
+    value: u8,
+    form: u8,
+    room: u32,
+) -> Result<Result<u64, LogError>, Memory>
+    requires form { (form ≡ 1) ⊎ (form ≡ 2) }
+    requires some { 1 ≤ room }
+{
+    let mut image = disk.crash(alloc, 1)?;
+    change(&mut image, place, &[value]);
+    Ok(count_in(alloc, image, &small_in(form), room))
+}
+
 #[test]
 fn a_damaged_record_is_named(rt: HostRuntime) -> Result<(), Fail> {
-    let alloc = rt.alloc();
-    let mut disk = blank(alloc, 75)?;
-    let mut log = Log::start(PLACE, 75, 0);
-    append_two(alloc, &mut log, &mut disk)?;
+    let disk = with_two(rt.alloc(), 75)?;
     // the byte that is changed, its value, and where and how the record is damaged
     for (place, value, at, cause) in [
         (17, 9, 17, 2),
@@ -220,11 +288,7 @@ fn a_damaged_record_is_named(rt: HostRuntime) -> Result<(), Fail> {
         (65, 5, 58, 8),
         (76, 1, 76, 1),
     ] {
-        let mut image = disk.crash(alloc, 1)?;
-        if let Some(byte) = image.get_mut(place) {
-            *byte = value;
-        }
-        let told = count_in(alloc, image, &small(), 75);
+        let told = told_with(rt.alloc(), &disk, place, value, 1, 75)?;
         same(&rt, told, Err(LogError::Damaged { at, cause }));
     }
     Ok(())
@@ -232,47 +296,39 @@ fn a_damaged_record_is_named(rt: HostRuntime) -> Result<(), Fail> {
 
 #[test]
 fn a_closed_gate_ends_the_log(rt: HostRuntime) -> Result<(), Fail> {
-    let alloc = rt.alloc();
-    let mut disk = blank(alloc, 100)?;
-    let mut log = Log::start(PLACE, 100, 0);
-    append_two(alloc, &mut log, &mut disk)?;
+    let disk = with_two(rt.alloc(), 100)?;
     for (gate, count) in [(16, 0), (46, 1), (76, 2)] {
-        let mut image = disk.crash(alloc, 1)?;
-        if let Some(byte) = image.get_mut(gate) {
-            *byte = 255;
-        }
-        same(&rt, count_in(alloc, image, &small(), 100), Ok(count));
+        let told = told_with(rt.alloc(), &disk, gate, 255, 1, 100)?;
+        same(&rt, told, Ok(count));
     }
     Ok(())
 }
 
 #[test]
 fn form_two_has_records_of_either_kind(rt: HostRuntime) -> Result<(), Fail> {
-    let alloc = rt.alloc();
-    let mut disk = blank(alloc, 100)?;
+    let disk = with_two(rt.alloc(), 100)?;
+    same(&rt, told_with(rt.alloc(), &disk, 17, 2, 2, 100)?, Ok(2));
+    Ok(())
+}
+
+fn a_record_is_two_reads_in(rt: &impl Abort, alloc: Global, disk: &mut MemDisk) -> Result<(), Fail>
+    requires { IsReady small (record { place = 16; room = 100; used = 0; last = 0 }) (state_of disk.old) }
+{
     let mut log = Log::start(PLACE, 100, 0);
-    append_two(alloc, &mut log, &mut disk)?;
-    let mut image = disk.crash(alloc, 1)?;
-    if let Some(kind) = image.get_mut(17) {
-        *kind = 2;
-    }
-    same(&rt, count_in(alloc, image, &small_in(2), 100), Ok(2));
+    append_two(alloc, &mut log, disk)?;
+    let scan = Log::start(PLACE, 100, 0);
+    let mut ahead = ReadAhead::new(alloc, 0);
+    let found = scan.find_ahead(disk, &small(), &mut ahead);
+    same(rt, found, Ok(Some(31)));
+    same(rt, disk.calls(), 6);
+    let mut put = [0; 2];
+    scan.read_at(disk, 44, &mut put)?;
+    same(rt, put, [0xab, 0xcd]);
     Ok(())
 }
 
 #[test]
 fn a_record_is_two_reads_where_no_piece_is_read_ahead(rt: HostRuntime) -> Result<(), Fail> {
-    let alloc = rt.alloc();
-    let mut disk = blank(alloc, 100)?;
-    let mut log = Log::start(PLACE, 100, 0);
-    append_two(alloc, &mut log, &mut disk)?;
-    let scan = Log::start(PLACE, 100, 0);
-    let mut ahead = ReadAhead::new(alloc, 0);
-    let found = scan.find_ahead(&mut disk, &small(), &mut ahead);
-    same(&rt, found, Ok(Some(31)));
-    same(&rt, disk.calls(), 6);
-    let mut put = [0; 2];
-    scan.read_at(&mut disk, 44, &mut put)?;
-    same(&rt, put, [0xab, 0xcd]);
-    Ok(())
+    let mut disk = blank(rt.alloc(), 100)?;
+    a_record_is_two_reads_in(&rt, rt.alloc(), &mut disk)
 }

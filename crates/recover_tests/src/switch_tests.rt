@@ -14,6 +14,7 @@ use iso_format::HalfHeader;
 use iso_memdisk::MemDisk;
 use iso_model::Memory;
 use std::alloc::{AllocError, Global};
+use std::process::Abort;
 use std::test::Fail;
 use test_cores::{small_in, zeros};
 
@@ -82,70 +83,88 @@ fn bytes_at(alloc: Global, disk: &MemDisk, at: usize) -> Result<[u8; 32], Memory
     Ok(bytes)
 }
 
-#[test]
-fn the_second_half_is_filled_and_opened(rt: HostRuntime) -> Result<(), Fail> {
-    let mut disk = image(rt.alloc(), 0, 0)?;
-    compact(rt.alloc(), &mut disk, 1)?;
-    same(&rt, disk.calls(), 7);
+// The steps stand in a function that borrows the disk: one that owns it drops it at each of its exits, and each of these drops is
+// proved.
+fn the_second_half_is_filled_and_opened_in(
+    rt: &impl Abort,
+    alloc: Global,
+    disk: &mut MemDisk,
+) -> Result<(), Fail>
+    requires size { (state_of disk.old).size ≡ 1152 }
+    requires settled { IsSettled (state_of disk.old) }
+{
+    compact(alloc, disk, 1)?;
+    same(rt, disk.calls(), 7);
     same(
-        &rt,
-        bytes_at(rt.alloc(), &disk, 608)?,
+        rt,
+        bytes_at(alloc, disk, 608)?,
         [
             0, 1, 0, 0, 0, 0, 0, 0, 0, 0, 0, 0, 0, 0, 0, 2, 0, 0, 0, 0, 0, 0, 0, 1, 0, 0, 0, 0, 0,
             0, 0, 0,
         ],
     );
     same(
-        &rt,
-        bytes_at(rt.alloc(), &disk, 768)?,
+        rt,
+        bytes_at(alloc, disk, 768)?,
         [
             0, 0, 0, 0, 0, 171, 205, 0, 0, 0, 0, 0, 0, 0, 0, 0, 0, 0, 0, 0, 0, 0, 0, 0, 0, 0, 0, 0,
             0, 0, 0, 0,
         ],
     );
     same(
-        &rt,
-        bytes_at(rt.alloc(), &disk, 896)?,
+        rt,
+        bytes_at(alloc, disk, 896)?,
         [
             1, 1, 0, 0, 0, 0, 0, 1, 0, 0, 0, 10, 0, 0, 0, 0, 0, 0, 0, 2, 0, 0, 0, 0, 0, 0, 0, 2,
             17, 18, 0, 0,
         ],
     );
-    open(&mut disk)?;
-    same(&rt, disk.calls(), 9);
-    same(&rt, bytes_at(rt.alloc(), &disk, 608)?[0], 1);
+    open(disk)?;
+    same(rt, (disk.calls(), bytes_at(alloc, disk, 608)?[0]), (9, 1));
     Ok(())
 }
 
 #[test]
-fn an_upgrade_writes_the_new_form(rt: HostRuntime) -> Result<(), Fail> {
+fn the_second_half_is_filled_and_opened(rt: HostRuntime) -> Result<(), Fail> {
     let mut disk = image(rt.alloc(), 0, 0)?;
-    compact(rt.alloc(), &mut disk, 2)?;
-    let header = bytes_at(rt.alloc(), &disk, 608)?;
-    same(&rt, (header[0], header[1]), (0, 2));
+    the_second_half_is_filled_and_opened_in(&rt, rt.alloc(), &mut disk)
+}
+
+/// The answer to a compaction of the image in this form, the calls that it made, and the front of the second half then.
+fn compacted(
+    alloc: Global,
+    gate: u8,
+    failing: u64,
+    form: u8,
+) -> Result<(Result<(), SwitchError>, u64, [u8; 32]), Fail>
+    requires { (form ≡ 1) ⊎ (form ≡ 2) }
+{
+    let mut disk = image(alloc, gate, failing)?;
+    let answer = compact(alloc, &mut disk, form);
+    let header = bytes_at(alloc, &disk, 608)?;
+    Ok((answer, disk.calls(), header))
+}
+
+#[test]
+fn an_upgrade_writes_the_new_form(rt: HostRuntime) -> Result<(), Fail> {
+    let (answer, _calls, header) = compacted(rt.alloc(), 0, 0, 2)?;
+    same(&rt, (answer, header[0], header[1]), (Ok(()), 0, 2));
     Ok(())
 }
 
 #[test]
 fn an_open_gate_is_shut_first(rt: HostRuntime) -> Result<(), Fail> {
-    let mut disk = image(rt.alloc(), 1, 0)?;
-    compact(rt.alloc(), &mut disk, 1)?;
-    same(&rt, bytes_at(rt.alloc(), &disk, 608)?[0], 0);
-    same(&rt, disk.calls(), 9);
+    let (answer, calls, header) = compacted(rt.alloc(), 1, 0, 1)?;
+    same(&rt, (answer, calls, header[0]), (Ok(()), 9, 0));
     Ok(())
 }
 
 #[test]
 fn each_call_that_fails_is_told(rt: HostRuntime) -> Result<(), Fail> {
     for failing in 1..8 {
-        let mut disk = image(rt.alloc(), 0, failing)?;
-        same(
-            &rt,
-            compact(rt.alloc(), &mut disk, 1),
-            Err(SwitchError::Disk),
-        );
-        same(&rt, disk.calls(), failing);
-        same(&rt, bytes_at(rt.alloc(), &disk, 608)?[0], 0);
+        let (answer, calls, header) = compacted(rt.alloc(), 0, failing, 1)?;
+        let told = (Err(SwitchError::Disk), failing, 0);
+        same(&rt, (answer, calls, header[0]), told);
     }
     let mut disk = image(rt.alloc(), 0, 2)?;
     same(&rt, open(&mut disk), Err(DiskFault));

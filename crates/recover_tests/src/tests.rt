@@ -87,24 +87,43 @@ fn a_refusal_hands_the_disk_back(rt: HostRuntime) -> Result<(), Fail> {
     Ok(())
 }
 
-#[test]
-fn an_image_in_the_making_is_none_or_empty(rt: HostRuntime) -> Result<(), Fail> {
-    let alloc = rt.alloc();
-    for calls in 0..6 {
-        let (disk, made) = make_on(alloc, calls)?;
-        same(&rt, made, calls == 5);
-        for pick in 0..6 {
-            let refusal = refusal_of(alloc, disk.crash(alloc, pick)?);
-            let refused = refusal == Some(OpenError::NotIsotope);
-            assert!(rt;
-                refused || (calls >= 4 && refusal.is_none()),
-                "{calls} {pick}"
-            );
-            assert!(rt; refused || calls >= 4, "{calls} {pick}");
-            assert!(rt; !refused || calls < 5, "{calls} {pick}");
+/// Whether an image is made by these calls, and how many of the images of the first six picks are none, and how many are opened.
+fn made_by(alloc: Global, calls: u64) -> Result<(bool, u32, u32), Fail> {
+    let (disk, made) = make_on(alloc, calls)?;
+    let mut refused = 0u32;
+    let mut opened = 0u32;
+    for pick in 0..6 {
+        match refusal_of(alloc, disk.crash(alloc, pick)?) {
+            Some(OpenError::NotIsotope) => refused = refused.saturating_add(1),
+            None => opened = opened.saturating_add(1),
+            _ => {}
         }
     }
+    Ok((made, refused, opened))
+}
+
+#[test]
+fn an_image_in_the_making_is_none_or_empty(rt: HostRuntime) -> Result<(), Fail> {
+    for calls in 0..6 {
+        let (made, refused, opened) = made_by(rt.alloc(), calls)?;
+        same(&rt, (made, refused.saturating_add(opened)), (calls == 5, 6));
+        assert!(rt; opened == 0 || calls >= 4, "{calls}");
+        assert!(rt; refused == 0 || calls < 5, "{calls}");
+    }
     Ok(())
+}
+
+/// What the image is refused for where these two bytes are changed, the second one behind the first.
+fn refusal_with(
+    alloc: Global,
+    image: &Vec<u8>,
+    (at, byte): (usize, u8),
+    (also, other): (usize, u8),
+) -> Result<Option<OpenError>, AllocError> {
+    let mut image = image.clone()?;
+    change(&mut image, at, &[byte]);
+    change(&mut image, also, &[other]);
+    Ok(refusal_of(alloc, image))
 }
 
 #[test]
@@ -131,11 +150,17 @@ fn damaged_images_are_refused_by_the_first_test(rt: HostRuntime) -> Result<(), F
         (80, 0x80, 80, 0x80, OpenError::Damaged { at: 80, cause: 8 }),
         (352, 1, 352, 1, OpenError::Damaged { at: 353, cause: 2 }),
     ] {
-        let mut image = new.clone()?;
-        change(&mut image, at, &[byte]);
-        change(&mut image, also, &[other]);
-        same(&rt, refusal_of(alloc, image), Some(error));
+        let refusal = refusal_with(alloc, &new, (at, byte), (also, other))?;
+        same(&rt, refusal, Some(error));
     }
+    Ok(())
+}
+
+#[test]
+fn damaged_records_are_refused_by_the_first_test(rt: HostRuntime) -> Result<(), Fail> {
+    let alloc = rt.alloc();
+    let mut new = new_image(alloc)?;
+    change(&mut new, 352, &RECORD);
     // the refusals of an image with one commit
     for (at, byte, place, cause) in [
         (353, 2, 353, 2),
@@ -146,12 +171,16 @@ fn damaged_images_are_refused_by_the_first_test(rt: HostRuntime) -> Result<(), F
         (371, 2, 364, 8),
         (375, 4, 372, 6),
     ] {
-        let mut image = new.clone()?;
-        change(&mut image, 352, &RECORD);
-        change(&mut image, at, &[byte]);
+        let refusal = refusal_with(alloc, &new, (at, byte), (at, byte))?;
         let damaged = OpenError::Damaged { at: place, cause };
-        same(&rt, refusal_of(alloc, image), Some(damaged));
+        same(&rt, refusal, Some(damaged));
     }
+    Ok(())
+}
+
+#[test]
+fn images_that_are_cut_are_refused(rt: HostRuntime) -> Result<(), Fail> {
+    let alloc = rt.alloc();
     for (size, error) in [
         (
             1151,
@@ -162,7 +191,7 @@ fn damaged_images_are_refused_by_the_first_test(rt: HostRuntime) -> Result<(), F
         ),
         (63, OpenError::NotIsotope),
     ] {
-        let mut image = new.clone()?;
+        let mut image = new_image(alloc)?;
         image.truncate(size);
         same(&rt, refusal_of(alloc, image), Some(error));
     }
@@ -178,51 +207,67 @@ fn opened(alloc: Global, image: &[u8]) -> Result<Option<(u8, u64, u32, u64, u64)
     }
 }
 
+/// What the image is opened to as it is changed step by step.
+fn openings(
+    alloc: Global,
+    image: &mut Vec<u8>,
+) -> Result<[Option<(u8, u64, u32, u64, u64)>; 6], AllocError> {
+    let empty = opened(alloc, image.as_slice())?;
+    change(image, 352, &RECORD);
+    let one = opened(alloc, image.as_slice())?;
+    // a commit of the other mode in form 2
+    change(image, 65, &[2]);
+    change(image, 353, &[2]);
+    let other_mode = opened(alloc, image.as_slice())?;
+    // the other half holds commit 5 as its base, and has the same generation, then a larger one
+    let header = [1, 1, 0, 0, 0, 0, 0, 0, 0, 0, 0, 0, 0, 0, 0, 1];
+    change(image, 608, &header);
+    change(image, 631, &[5]);
+    let as_old = opened(alloc, image.as_slice())?;
+    change(image, 623, &[2]);
+    let newer = opened(alloc, image.as_slice())?;
+    // a record after a closed gate is not told
+    change(image, 608, &[0]);
+    change(image, 352, &[7]);
+    let closed = opened(alloc, image.as_slice())?;
+    Ok([empty, one, other_mode, as_old, newer, closed])
+}
+
 #[test]
 fn images_are_opened_to_their_current_half(rt: HostRuntime) -> Result<(), Fail> {
-    let alloc = rt.alloc();
-    let mut image = new_image(alloc)?;
-    same(&rt, opened(alloc, &image)?, Some((0, 0, 0, 0, 0)));
-    change(&mut image, 352, &RECORD);
-    same(&rt, opened(alloc, &image)?, Some((0, 0, 30, 1, 1)));
-    // a commit of the other mode in form 2
-    change(&mut image, 65, &[2]);
-    change(&mut image, 353, &[2]);
-    same(&rt, opened(alloc, &image)?, Some((0, 0, 30, 1, 1)));
-    // the other half holds commit 5 as its base, and has the same generation, then a larger one
-    change(
-        &mut image,
-        608,
-        &[1, 1, 0, 0, 0, 0, 0, 0, 0, 0, 0, 0, 0, 0, 0, 1],
-    );
-    change(&mut image, 631, &[5]);
-    same(&rt, opened(alloc, &image)?, Some((0, 0, 30, 1, 1)));
-    change(&mut image, 623, &[2]);
-    same(&rt, opened(alloc, &image)?, Some((1, 5, 0, 5, 0)));
-    // a record after a closed gate is not told
-    change(&mut image, 608, &[0]);
-    change(&mut image, 352, &[7]);
-    same(&rt, opened(alloc, &image)?, Some((0, 0, 0, 0, 0)));
+    let mut image = new_image(rt.alloc())?;
+    let found = openings(rt.alloc(), &mut image)?;
+    let wanted = [
+        Some((0, 0, 0, 0, 0)),
+        Some((0, 0, 30, 1, 1)),
+        Some((0, 0, 30, 1, 1)),
+        Some((0, 0, 30, 1, 1)),
+        Some((1, 5, 0, 5, 0)),
+        Some((0, 0, 0, 0, 0)),
+    ];
+    same(&rt, found, wanted);
     Ok(())
+}
+
+/// What an image with one commit is refused for where the call of this number fails, and how many calls were made.
+fn opening_with(alloc: Global, failing: u64) -> Result<(Option<OpenError>, u64), Fail> {
+    let mut image = new_image(alloc)?;
+    change(&mut image, 352, &RECORD);
+    let mut disk = MemDisk::new(alloc, image);
+    disk.fail(failing);
+    let refusal = match read_image(alloc, &mut disk) {
+        Ok(_) => None,
+        Err(error) => Some(error),
+    };
+    Ok((refusal, disk.calls()))
 }
 
 #[test]
 fn an_image_is_opened_by_a_sync_and_four_reads(rt: HostRuntime) -> Result<(), Fail> {
-    let alloc = rt.alloc();
-    for failing in 0..6 {
-        let mut image = new_image(alloc)?;
-        change(&mut image, 352, &RECORD);
-        let mut disk = MemDisk::new(alloc, image);
-        disk.fail(failing);
-        let opened = read_image(alloc, &mut disk);
-        same(&rt, opened.is_ok(), failing == 0);
-        match &opened {
-            Ok(_) => same(&rt, disk.calls(), 5),
-            Err(error) => {
-                same(&rt, *error, OpenError::Disk);
-                same(&rt, disk.calls(), failing);
-            }
-        }
+    same(&rt, opening_with(rt.alloc(), 0)?, (None, 5));
+    for failing in 1..6 {
+        let refused = (Some(OpenError::Disk), failing);
+        same(&rt, opening_with(rt.alloc(), failing)?, refused);
     }
     Ok(())
 }

@@ -3,7 +3,7 @@ ghost use Rattle.std.specs.Prelude.{◌<◌, IfOk};
 ghost use Rattle.plain_tx.specs.Plain.{state_of};
 ghost use Rattle.store_tests.specs.Ready.{IsReady};
 
-use crate::file_tests::{blank, create_in, read_in, remove_in, rename_in, write_in};
+use crate::file_tests::{blank, create_in, read_in, remove_in, rename_in, same, write_in};
 use iso_alloc::lay;
 use plain_tx::PlainTx;
 use std::alloc::Global;
@@ -265,6 +265,10 @@ fn drawn_calls_on_files_agree_with_a_plain_map(rt: HostRuntime) -> Result<(), Fa
         bytes: [0; 1024],
     };
     let mut files = Files { rows: [none; 4] };
-    assert!(rt; transactions(rt.alloc(), &mut last, &mut files, 12)?);
+    same(
+        &rt,
+        transactions(rt.alloc(), &mut last, &mut files, 12)?,
+        true,
+    );
     Ok(())
 }

@@ -139,8 +139,8 @@ fn both_stores_in_a_transaction_keep_their_own(rt: HostRuntime) -> Result<(), Fa
     let tree = Region { start: 4, size: 4 };
     match put_and_get_in_both(rt.alloc(), &mut tx, hash, tree, b"key", b"one", b"two") {
         Ok(found) => {
-            assert!(rt; is_value(&found.0, b"one"));
-            assert!(rt; is_value(&found.1, b"two"));
+            same(&rt, is_value(&found.0, b"one"), true);
+            same(&rt, is_value(&found.1, b"two"), true);
         }
         Err(_) => return Err(Fail::new("a call was refused")),
     }
