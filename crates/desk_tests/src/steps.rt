@@ -18,6 +18,8 @@ pub(crate) enum Step {
     Peek(usize, u32),
     End(usize),
     Abort(usize),
+    /// Ends two that waited for one another, and shows how many replies there are.
+    EndBoth(usize, usize),
     /// Ends the number after the last one that was told.
     EndUntold,
     /// Does the tape to the file.
@@ -45,6 +47,16 @@ fn answer_of(answer: &Result<Reply, Stop>) -> Answer {
         _ => 0,
     };
     (status_of(answer), byte)
+}
+
+// Ends two transactions that waited for one another.
+fn end_both(desk: &mut Desk<QueuedDisk>, one: u64, other: u64) -> Answer {
+    let waited = desk.end_waiting(&[one, other]);
+    let status = match waited.stop {
+        None => Status::Done,
+        Some(_) => Status::Down,
+    };
+    (status, waited.replies.len().min(255) as u8)
 }
 
 // Begins a transaction, whose number is kept.
@@ -93,6 +105,9 @@ fn play(
             return Ok(answer_of(&desk.peek(number_of(numbers, who), block, 0, 1)));
         }
         Step::End(who) => return Ok(answer_of(&desk.end(number_of(numbers, who)))),
+        Step::EndBoth(one, other) => {
+            return Ok(end_both(desk, number_of(numbers, one), number_of(numbers, other)));
+        }
         Step::Abort(who) => return Ok(answer_of(&desk.abort(number_of(numbers, who)))),
         Step::EndUntold => return Ok(answer_of(&desk.end(told.saturating_add(1)))),
     }

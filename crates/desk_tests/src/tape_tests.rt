@@ -1,6 +1,8 @@
 // A commit is on the tape, and in the file once the tape was done.
 use crate::desks::{do_front, do_tape, new_desk, reopened};
-use crate::steps::Step::{Begin, CountTape, DoTape, End, Fail as FailCall, Fill, Reopen, Show};
+use crate::steps::Step::{
+    Begin, CountTape, DoTape, End, EndBoth, Fail as FailCall, Fill, Reopen, Show,
+};
 use crate::steps::played;
 use device_desk::Status::{Done, Down, NoTransaction};
 use device_desk::{Desk, tape};
@@ -85,6 +87,68 @@ fn a_number_of_an_earlier_opening_is_nobodys(rt: HostRuntime) -> Result<(), Fail
         (NoTransaction, 0),
         (Done, 0),
         (Done, 0),
+    ];
+    assert_eq!(rt; played(rt.alloc(), &steps)?.as_slice(), wanted.as_slice());
+    Ok(())
+}
+
+#[test]
+fn ends_that_waited_share_the_calls_of_one_commit(rt: HostRuntime) -> Result<(), Fail> {
+    let steps = [
+        Begin,
+        Begin,
+        Fill(0, 1, 5),
+        Fill(1, 2, 6),
+        EndBoth(0, 1),
+        CountTape,
+        DoTape,
+        Reopen,
+        Begin,
+        Show(0, 1),
+        Show(0, 2),
+    ];
+    let done = (Done, 0);
+    let wanted = [
+        done,
+        done,
+        done,
+        done,
+        (Done, 2),
+        (Done, 4),
+        done,
+        done,
+        done,
+        (Done, 5),
+        (Done, 6),
+    ];
+    assert_eq!(rt; played(rt.alloc(), &steps)?.as_slice(), wanted.as_slice());
+    Ok(())
+}
+
+#[test]
+fn of_ends_that_waited_the_later_one_conflicts_with_the_first(rt: HostRuntime) -> Result<(), Fail> {
+    let steps = [
+        Begin,
+        Begin,
+        Show(1, 1),
+        Fill(0, 1, 5),
+        Fill(1, 2, 6),
+        EndBoth(0, 1),
+        Begin,
+        Show(2, 1),
+        Show(2, 2),
+    ];
+    let done = (Done, 0);
+    let wanted = [
+        done,
+        done,
+        done,
+        done,
+        done,
+        (Done, 2),
+        done,
+        (Done, 5),
+        done,
     ];
     assert_eq!(rt; played(rt.alloc(), &steps)?.as_slice(), wanted.as_slice());
     Ok(())
