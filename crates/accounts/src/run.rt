@@ -189,6 +189,10 @@ fn run_on<'a, D: Disk + Drop + Send, O: Origin + Send + Sync, R: Threads + Wait 
 /// Opens accounts on a device over a core, has two threads move amounts between them, and gives the core back. The sum of all accounts
 /// is the same after every commit, and in every image that a crash might have left since the core was handed in. Without memory
 /// nothing is run.
+///
+/// # Errors
+///
+/// Want of memory for the device. The core is as it was.
 pub fn run_accounts<D: Disk + Drop + Send, O: Origin + Send + Sync, R: Threads + Wait + Sync>(
     rt: &R,
     alloc: Global,

@@ -66,6 +66,10 @@ impl<P: Protocol> Desk<P> {
     ghost use Rattle.ask_desk.specs.Sides.{HasRequest, IsClient, IsJob, IsSameSeat, Rests, desk_id, idle, serving};
 
     /// A desk and its client. It takes all memory of the desk.
+    ///
+    /// # Errors
+    ///
+    /// Want of memory.
     pub fn new(alloc: Global) -> Result<(Desk<P>, Client<P>), Memory>
         ensures { IfOk result (λ r. IsClient r.0 r.1 × Rests r.1) }
     {

@@ -27,6 +27,10 @@ fn end_with<'a, L: Ledger, D: Disk + Drop, O: Origin, R: Wait>(
 }
 
 /// Ends the transaction of a session, as `Session::end_tx` with steps that begin at 0.
+///
+/// # Errors
+///
+/// As those of `Session::end_tx`.
 pub fn end_now<'a, D: Disk + Drop, O: Origin, R: Wait>(
     rt: &R,
     session: &mut Session<'a, D, O>,

@@ -42,6 +42,10 @@ impl<'k> BlocksCall for GetHash<'k> {
 }
 
 /// The value of a key in the hash store, by the transaction of a session, as `get` of `iso_hash` finds it.
+///
+/// # Errors
+///
+/// As those of `get` of `iso_hash`; `Tx(NotInTx)` where the session has no transaction.
 pub fn hash_get<'a, D: Disk + Drop, O: Origin, R: Wait>(
     rt: &R,
     alloc: Global,
@@ -85,6 +89,10 @@ impl<'k> BlocksCall for PutHash<'k> {
 
 /// Puts a value at a key of the hash store, by the transaction of a session, as `put` of `iso_hash` does. After want of memory the
 /// transaction is to be aborted.
+///
+/// # Errors
+///
+/// As those of `put` of `iso_hash`; `Tx(NotInTx)` where the session has no transaction.
 pub fn hash_put<'a, D: Disk + Drop, O: Origin, R: Wait>(
     rt: &R,
     alloc: Global,
@@ -137,6 +145,10 @@ impl<'k> BlocksCall for DeleteHash<'k> {
 
 /// Removes a key of the hash store, by the transaction of a session, as `del` of `iso_hash` does. After want of memory the
 /// transaction is to be aborted.
+///
+/// # Errors
+///
+/// As those of `del` of `iso_hash`; `Tx(NotInTx)` where the session has no transaction.
 pub fn hash_delete<'a, D: Disk + Drop, O: Origin, R: Wait>(
     rt: &R,
     alloc: Global,

@@ -25,6 +25,11 @@ pub enum RetryError {
 
 /// Ends the transaction of a session, as `end_now`, and begins a new one in this mode where it met a conflict: its reads are to be made
 /// again. After `Begin` the session has none.
+///
+/// # Errors
+///
+/// - `End`: as those of `end_now`.
+/// - `Begin`: it met a conflict, and as those of `Session::begin_tx`.
 pub fn end_or_again<'a, D: Disk + Drop, O: Origin, R: Wait>(
     rt: &R,
     session: &mut Session<'a, D, O>,

@@ -42,6 +42,10 @@ impl<'k> BlocksCall for GetTree<'k> {
 }
 
 /// The value of a key in the tree store, by the transaction of a session, as `get` of `iso_tree` finds it.
+///
+/// # Errors
+///
+/// As those of `get` of `iso_tree`; `Tx(NotInTx)` where the session has no transaction.
 pub fn tree_get<'a, D: Disk + Drop, O: Origin, R: Wait>(
     rt: &R,
     alloc: Global,
@@ -85,6 +89,10 @@ impl<'k> BlocksCall for PutTree<'k> {
 
 /// Puts a value at a key of the tree store, by the transaction of a session, as `put` of `iso_tree` does. After want of memory the
 /// transaction is to be aborted.
+///
+/// # Errors
+///
+/// As those of `put` of `iso_tree`; `Tx(NotInTx)` where the session has no transaction.
 pub fn tree_put<'a, D: Disk + Drop, O: Origin, R: Wait>(
     rt: &R,
     alloc: Global,
@@ -136,6 +144,10 @@ impl<'k> BlocksCall for DeleteTree<'k> {
 }
 
 /// Removes a key of the tree store, by the transaction of a session, as `del` of `iso_tree` does.
+///
+/// # Errors
+///
+/// As those of `del` of `iso_tree`; `Tx(NotInTx)` where the session has no transaction.
 pub fn tree_delete<'a, D: Disk + Drop, O: Origin, R: Wait>(
     rt: &R,
     alloc: Global,
@@ -179,6 +191,10 @@ impl<'k> BlocksCall for ScanTree<'k> {
 }
 
 /// The first pairs of a range of keys in the tree store, by the transaction of a session, as `scan` of `iso_tree` finds them.
+///
+/// # Errors
+///
+/// As those of `scan` of `iso_tree`; `Tx(NotInTx)` where the session has no transaction.
 pub fn tree_scan<'a, D: Disk + Drop, O: Origin, R: Wait>(
     rt: &R,
     alloc: Global,

@@ -101,6 +101,12 @@ impl<D: Disk> Desk<D> {
     }
 
     /// A transaction begins, in the mode that is named, or else in the image's. Its number is told, by which it is asked for.
+    ///
+    /// # Errors
+    ///
+    /// A mode that the image does not have, and that too many are live, are replies.
+    /// - `Memory`: want of memory. All is as it was.
+    /// - `Down`: the desk is down.
     pub fn begin(&mut self, mode: Option<Mode>, number: &mut u64) -> Result<Reply, Stop>
         ensures did { (W : World) → StandsAt D.state self.old W → Answers Always (StandsAt D.state self.new) (state_at D.state self.old) (state_at D.state self.new) W (step W W.next (Begin mode)) result }
         ensures number { (W : World) (at : ℕ) → StandsAt D.state self.old W → result ≡ Ok (Reply.Began at) → number.new ≡ W.next }

@@ -10,6 +10,13 @@ use script_model::{Op, Reply, Stop};
 
 impl<D: Disk> Desk<D> {
     /// Makes an empty file of this name.
+    ///
+    /// # Errors
+    ///
+    /// What the store or the transaction refuses is a reply. The accesses that were made stay.
+    /// - `Memory`: want of memory.
+    /// - `Disk`: the disk failed in this call.
+    /// - `Down`: the desk is down.
     pub fn file_new(&mut self, number: u64, name: &[u8]) -> Result<Reply, Stop>
         ensures did { (W : World) → StandsAt D.state self.old W → Answered D.state self.old self.new W number (FileNew name.now) result }
         ensures down { self.old.up ≡ false → IsRefusedDown self.old self.new result }
@@ -21,6 +28,13 @@ impl<D: Disk> Desk<D> {
     }
 
     /// Writes these bytes at `off` of a file, which grows where they pass its end.
+    ///
+    /// # Errors
+    ///
+    /// What the store or the transaction refuses is a reply. The accesses that were made stay.
+    /// - `Memory`: want of memory.
+    /// - `Disk`: the disk failed in this call.
+    /// - `Down`: the desk is down.
     pub fn file_write(
         &mut self,
         number: u64,
@@ -41,6 +55,13 @@ impl<D: Disk> Desk<D> {
     }
 
     /// The bytes of a file from `off` on, at most `len`.
+    ///
+    /// # Errors
+    ///
+    /// What the store or the transaction refuses is a reply. The accesses that were made stay.
+    /// - `Memory`: want of memory.
+    /// - `Disk`: the disk failed in this call.
+    /// - `Down`: the desk is down.
     pub fn file_read(&mut self, number: u64, name: &[u8], off: u32, len: u32) -> Result<Reply, Stop>
         ensures did { (W : World) → StandsAt D.state self.old W → Answered D.state self.old self.new W number (FileRead name.now off len) result }
         ensures down { self.old.up ≡ false → IsRefusedDown self.old self.new result }
@@ -52,6 +73,13 @@ impl<D: Disk> Desk<D> {
     }
 
     /// Gives the file of one name another.
+    ///
+    /// # Errors
+    ///
+    /// What the store or the transaction refuses is a reply. The accesses that were made stay.
+    /// - `Memory`: want of memory.
+    /// - `Disk`: the disk failed in this call.
+    /// - `Down`: the desk is down.
     pub fn file_move(&mut self, number: u64, from: &[u8], to: &[u8]) -> Result<Reply, Stop>
         ensures did { (W : World) → StandsAt D.state self.old W → Answered D.state self.old self.new W number (FileMove from.now to.now) result }
         ensures down { self.old.up ≡ false → IsRefusedDown self.old self.new result }
@@ -66,6 +94,13 @@ impl<D: Disk> Desk<D> {
     }
 
     /// Removes a file.
+    ///
+    /// # Errors
+    ///
+    /// What the store or the transaction refuses is a reply. The accesses that were made stay.
+    /// - `Memory`: want of memory.
+    /// - `Disk`: the disk failed in this call.
+    /// - `Down`: the desk is down.
     pub fn file_delete(&mut self, number: u64, name: &[u8]) -> Result<Reply, Stop>
         ensures did { (W : World) → StandsAt D.state self.old W → Answered D.state self.old self.new W number (FileDelete name.now) result }
         ensures down { self.old.up ≡ false → IsRefusedDown self.old self.new result }

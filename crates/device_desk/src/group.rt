@@ -139,6 +139,13 @@ impl<D: Disk> Desk<D> {
     /// Ends these transactions one after the other, with one append for all their commits: at each moment a crash leaves none of the
     /// commits or all. Each number has its reply, none where no live transaction has it, or where it stood in the list before. A
     /// member that the log has no room or no number for is aborted. After any stop the desk is down.
+    ///
+    /// # Errors
+    ///
+    /// More than `MAX_GROUP` numbers are answered by `TooManyTx`, and all is as it was.
+    /// - `Memory`: want of memory. No commit is made.
+    /// - `Disk`: the disk failed, and all commits of the group stand or none.
+    /// - `Down`: the desk is down.
     pub fn end_group(&mut self, numbers: &[u64]) -> Result<Reply, Stop>
         ensures did { (W : World) → StandsAt D.state self.old W → length numbers.now ≤ MAX_GROUP
             → Answers Never (StandsAt D.state self.new) (state_at D.state self.old) (state_at D.state self.new) W (grouped (numbers_step W numbers.now)) result }

@@ -15,6 +15,11 @@ use std::alloc::Global;
 
 /// Makes an image of the geometry on which nothing was committed of a blank disk, and a desk over it. An error hands the disk
 /// back; want of memory comes before the first call of the disk.
+///
+/// # Errors
+///
+/// - `Memory`: want of memory. The disk is as it was.
+/// - `Disk`: the disk failed. What it holds is refused as no image, or is an image with no commit.
 pub fn create<D: Disk>(
     alloc: Global,
     disk: D,
@@ -40,6 +45,10 @@ pub fn create<D: Disk>(
 }
 
 /// Opens an image, or finds the first test that it fails. It writes nothing. An error hands the disk back.
+///
+/// # Errors
+///
+/// The first test that the image fails, want of memory, or a fault of the disk. Nothing is written.
 pub fn open<D: Disk>(alloc: Global, disk: D) -> Result<Desk<D>, (OpenError, D)>
     ensures opened { IfOk result (λ desk. IsOpenedAs D.state desk (D.state disk).contents) }
     ensures refused { IfErr result (λ e. IsTest e.0 → ForSome (D.state disk).contents (λ c. refusal c ≡ Some e.0)) }

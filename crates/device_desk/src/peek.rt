@@ -150,6 +150,13 @@ impl<D: Disk> Table<D> {
 impl<D: Disk> Desk<D> {
     /// Reads `len` bytes of a block from `off` on, as `get` does, its own writes among them. It is no access: no conflict comes of
     /// it, it has no limit, and the desk then stands for the same world. Nothing is written, and no stop takes the desk down.
+    ///
+    /// # Errors
+    ///
+    /// A refusal of the transaction is a reply.
+    /// - `Memory`: want of memory. The transaction is as it was.
+    /// - `Disk`: the disk failed in this call.
+    /// - `Down`: the desk is down.
     pub fn peek(&mut self, number: u64, block: u32, off: u32, len: u32) -> Result<Reply, Stop>
         ensures did { (W : World) → StandsAt D.state self.old W
             → Answers Always (StandsAt D.state self.new) (state_at D.state self.old) (state_at D.state self.new) W (peeked W number block off len) result }

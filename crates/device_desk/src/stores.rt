@@ -10,6 +10,13 @@ use script_model::{Op, Reply, Stop};
 
 impl<D: Disk> Desk<D> {
     /// Puts a value at a key of the hash store.
+    ///
+    /// # Errors
+    ///
+    /// What the store or the transaction refuses is a reply. The accesses that were made stay.
+    /// - `Memory`: want of memory.
+    /// - `Disk`: the disk failed in this call.
+    /// - `Down`: the desk is down.
     pub fn hash_put(&mut self, number: u64, key: &[u8], value: &[u8]) -> Result<Reply, Stop>
         ensures did { (W : World) → StandsAt D.state self.old W → Answered D.state self.old self.new W number (HashPut key.now value.now) result }
         ensures down { self.old.up ≡ false → IsRefusedDown self.old self.new result }
@@ -24,6 +31,13 @@ impl<D: Disk> Desk<D> {
     }
 
     /// The value of a key of the hash store.
+    ///
+    /// # Errors
+    ///
+    /// What the store or the transaction refuses is a reply. The accesses that were made stay.
+    /// - `Memory`: want of memory.
+    /// - `Disk`: the disk failed in this call.
+    /// - `Down`: the desk is down.
     pub fn hash_get(&mut self, number: u64, key: &[u8]) -> Result<Reply, Stop>
         ensures did { (W : World) → StandsAt D.state self.old W → Answered D.state self.old self.new W number (HashGet key.now) result }
         ensures down { self.old.up ≡ false → IsRefusedDown self.old self.new result }
@@ -35,6 +49,13 @@ impl<D: Disk> Desk<D> {
     }
 
     /// Removes a key of the hash store.
+    ///
+    /// # Errors
+    ///
+    /// What the store or the transaction refuses is a reply. The accesses that were made stay.
+    /// - `Memory`: want of memory.
+    /// - `Disk`: the disk failed in this call.
+    /// - `Down`: the desk is down.
     pub fn hash_delete(&mut self, number: u64, key: &[u8]) -> Result<Reply, Stop>
         ensures did { (W : World) → StandsAt D.state self.old W → Answered D.state self.old self.new W number (HashDelete key.now) result }
         ensures down { self.old.up ≡ false → IsRefusedDown self.old self.new result }
@@ -46,6 +67,13 @@ impl<D: Disk> Desk<D> {
     }
 
     /// Puts a value at a key of the tree store.
+    ///
+    /// # Errors
+    ///
+    /// What the store or the transaction refuses is a reply. The accesses that were made stay.
+    /// - `Memory`: want of memory.
+    /// - `Disk`: the disk failed in this call.
+    /// - `Down`: the desk is down.
     pub fn tree_put(&mut self, number: u64, key: &[u8], value: &[u8]) -> Result<Reply, Stop>
         ensures did { (W : World) → StandsAt D.state self.old W → Answered D.state self.old self.new W number (TreePut key.now value.now) result }
         ensures down { self.old.up ≡ false → IsRefusedDown self.old self.new result }
@@ -60,6 +88,13 @@ impl<D: Disk> Desk<D> {
     }
 
     /// The value of a key of the tree store.
+    ///
+    /// # Errors
+    ///
+    /// What the store or the transaction refuses is a reply. The accesses that were made stay.
+    /// - `Memory`: want of memory.
+    /// - `Disk`: the disk failed in this call.
+    /// - `Down`: the desk is down.
     pub fn tree_get(&mut self, number: u64, key: &[u8]) -> Result<Reply, Stop>
         ensures did { (W : World) → StandsAt D.state self.old W → Answered D.state self.old self.new W number (TreeGet key.now) result }
         ensures down { self.old.up ≡ false → IsRefusedDown self.old self.new result }
@@ -71,6 +106,13 @@ impl<D: Disk> Desk<D> {
     }
 
     /// Removes a key of the tree store.
+    ///
+    /// # Errors
+    ///
+    /// What the store or the transaction refuses is a reply. The accesses that were made stay.
+    /// - `Memory`: want of memory.
+    /// - `Disk`: the disk failed in this call.
+    /// - `Down`: the desk is down.
     pub fn tree_delete(&mut self, number: u64, key: &[u8]) -> Result<Reply, Stop>
         ensures did { (W : World) → StandsAt D.state self.old W → Answered D.state self.old self.new W number (TreeDelete key.now) result }
         ensures down { self.old.up ≡ false → IsRefusedDown self.old self.new result }
@@ -82,6 +124,13 @@ impl<D: Disk> Desk<D> {
     }
 
     /// The first pairs of the tree store from one key on and before another, at most so many.
+    ///
+    /// # Errors
+    ///
+    /// What the store or the transaction refuses is a reply. The accesses that were made stay.
+    /// - `Memory`: want of memory.
+    /// - `Disk`: the disk failed in this call.
+    /// - `Down`: the desk is down.
     pub fn tree_scan(
         &mut self,
         number: u64,

@@ -47,6 +47,11 @@ pub(crate) fn end_all<D: Disk + Drop, O: Origin, R: Wait>(
 /// Ends the transactions that were found under labels as one group, in one turn, and answers each place: none where nothing
 /// was found. Where no transaction was found at all it makes no entry. After `Down` and `Memory` they are aborted, and after
 /// `Disk` they are gone; whatever comes, the port has their units then.
+///
+/// # Errors
+///
+/// - `Down`, `Memory`: the transactions are aborted.
+/// - `Disk`: a fault has ended them, and all commits of the group stand or none.
 pub fn commit_group<D: Disk + Drop, O: Origin, R: Wait>(
     rt: &R,
     alloc: Global,

@@ -13,6 +13,16 @@ use store_model::TxError;
 impl<'a, D: Disk + Drop, O: Origin> Session<'a, D, O> {
     /// Reads a block as it stood when the transaction began, with its own writes over it. The access covers the whole block
     /// until it is marked. Each refusal leaves the transaction as it was.
+    ///
+    /// # Errors
+    ///
+    /// The first of these, and the transaction is as it was:
+    /// - `NotInTx`: the session has no transaction.
+    /// - `BadBlock`: the image has no such block.
+    /// - `TooManyAccesses`: the transaction has as many as it may.
+    /// - `Memory`: want of memory.
+    /// - `Disk`: the disk failed in this call.
+    /// - `Down`: an earlier fault set the device down.
     pub fn read_block<R: Wait>(
         &mut self,
         rt: &R,
@@ -53,6 +63,14 @@ impl<'a, D: Disk + Drop, O: Origin> Session<'a, D, O> {
     }
 
     /// Writes a block, or those bytes of it that are marked after. It waits for nobody. Each refusal leaves all as it was.
+    ///
+    /// # Errors
+    ///
+    /// The first of these, and all is as it was:
+    /// - `NotInTx`: the session has no transaction.
+    /// - `BadBlock`: the image has no such block.
+    /// - `TooManyAccesses`: the transaction has as many as it may.
+    /// - `Memory`: want of memory.
     pub fn write_block(&mut self, block: u32, bytes: &[u8]) -> Result<(), TxError>
         requires size { length bytes.now ≡ O.start.world.geometry.block }
         ensures cause { IsRefused (access_answer O.start self.old block) IsWriteCause result }
@@ -78,6 +96,14 @@ impl<'a, D: Disk + Drop, O: Origin> Session<'a, D, O> {
 
     /// Marks a range of the last access: the first mark takes the place of the whole block, and further ones add to it. It waits for
     /// nobody, and takes no memory. Each refusal leaves all as it was.
+    ///
+    /// # Errors
+    ///
+    /// The first of these, and all is as it was:
+    /// - `NotInTx`: the session has no transaction.
+    /// - `NoAccess`: the transaction has no access.
+    /// - `BadRange`: the range is empty, or passes the end of the block.
+    /// - `TooManyMarks`: the access has as many as it may.
     pub fn mark_accessed(&mut self, off: u16, len: u16) -> Result<(), TxError>
         ensures cause { IsRefused (mark_answer O.start self.old off len) (λ e. ⊥) result }
         ensures did { HasMarked self.old off len result self.new }

@@ -12,6 +12,11 @@ use std::sync::Wait;
 
 impl<'a, D: Disk + Drop, O: Origin> Session<'a, D, O> {
     /// Begins a transaction in the mode that is named, or else in the image's, and answers its begin.
+    ///
+    /// # Errors
+    ///
+    /// - `InTx`: the session has a transaction.
+    /// - `Core`: as `Core::begin` refuses, at this turn.
     pub fn begin_tx<R: Wait>(&mut self, rt: &R, mode: Option<Mode>) -> Result<u64, BeginError>
         requires units { 1 < self.old.units }
         ensures did { HasBegun O.start self.old mode result self.new }
@@ -32,6 +37,12 @@ impl<'a, D: Disk + Drop, O: Origin> Session<'a, D, O> {
 
     /// Compares what the transaction did with the commits since, ahead of the turn of its end, and answers up to which one.
     /// After a refusal it is attached as it was.
+    ///
+    /// # Errors
+    ///
+    /// The transaction is attached, and checked as far as before.
+    /// - `NotInTx`: the session has no transaction.
+    /// - `Core`: `Down`, or want of memory.
     pub fn check_tx<R: Wait>(&mut self, rt: &R) -> Result<u64, EndError>
         ensures did { HasChecked O.start self.old result self.new }
     {
@@ -53,6 +64,11 @@ impl<'a, D: Disk + Drop, O: Origin> Session<'a, D, O> {
     }
 
     /// Ends the transaction. After `Disk` it is gone, as after an answer; after any other refusal it is attached as it was.
+    ///
+    /// # Errors
+    ///
+    /// - `NotInTx`: the session has no transaction.
+    /// - `Core`: as `Core::end` refuses, at this turn.
     pub fn end_tx<L: Ledger, R: Wait>(
         &mut self,
         rt: &R,
@@ -77,6 +93,10 @@ impl<'a, D: Disk + Drop, O: Origin> Session<'a, D, O> {
     }
 
     /// Aborts the transaction.
+    ///
+    /// # Errors
+    ///
+    /// `NotInTx`: the session has no transaction.
     pub fn abort_tx<R: Wait>(&mut self, rt: &R) -> Result<(), NotInTx>
         ensures did { HasAborted O.start self.old result self.new }
     {

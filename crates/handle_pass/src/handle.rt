@@ -37,6 +37,10 @@ impl<D: Disk + Drop, O: Origin> Handle<D, O> {
 
 impl<'a, D: Disk + Drop, O: Origin> Session<'a, D, O> {
     /// Detaches the transaction, which then knows all that the session does. It waits for nobody, and takes no memory.
+    ///
+    /// # Errors
+    ///
+    /// `NotInTx`: the session has no transaction.
     pub fn release_tx(&mut self) -> Result<Handle<D, O>, NotInTx>
         ensures did { HasReleased self.old result self.new }
     {
@@ -49,6 +53,10 @@ impl<'a, D: Disk + Drop, O: Origin> Session<'a, D, O> {
 
     /// Attaches a transaction, and answers its begin; the session then knows all that it does. A session in a transaction hands
     /// it back. It waits for nobody, and takes no memory.
+    ///
+    /// # Errors
+    ///
+    /// `InTx`: the session has a transaction.
     pub fn takeover_tx(&mut self, handle: Handle<D, O>) -> Result<u64, (InTx, Handle<D, O>)>
         requires device { handle.device ≡ self.old.device }
         ensures did { HasTakenOver self.old handle result self.new }

@@ -25,6 +25,12 @@ fn refused(error: PostError) -> PostTxError
 
 impl<'a, D: Disk + Drop, O: Origin> Session<'a, D, O> {
     /// Puts the transaction under a label. After a refusal it is attached as it was.
+    ///
+    /// # Errors
+    ///
+    /// - `NotInTx`: the session has no transaction.
+    /// - `LabelTaken`: another transaction is under the label.
+    /// - `Memory`: want of memory.
     pub fn post_tx<R: Wait>(&mut self, rt: &R, label: Label) -> Result<(), PostTxError>
         ensures did { HasPosted O.start self.old label result self.new }
     {
@@ -43,6 +49,10 @@ impl<'a, D: Disk + Drop, O: Origin> Session<'a, D, O> {
 
     /// Attaches the transaction under a label and answers its begin, and none exactly where the label is not held. It takes no
     /// memory.
+    ///
+    /// # Errors
+    ///
+    /// `InTx`: the session has a transaction.
     pub fn look_tx<R: Wait>(&mut self, rt: &R, label: &Label) -> Result<Option<u64>, InTx>
         requires units { 1 < self.old.units }
         ensures did { HasLooked O.start self.old label.now result self.new }

@@ -12,6 +12,10 @@ use std::sync::Wait;
 
 impl<'a, D: Disk + Drop, O: Origin> Session<'a, D, O> {
     /// Lets the versions go that no transaction can be shown any more, and answers the floor.
+    ///
+    /// # Errors
+    ///
+    /// As those of `Core::trim`, at this turn: `Down`.
     pub fn trim<R: Wait>(&mut self, rt: &R) -> Result<u64, CoreError>
         ensures did { (before : ℕ) × (now : ℕ) × Made O.start self.old self.new (trim_entry before now result) }
         ensures tx { KeepsTx self.old self.new }
@@ -20,6 +24,10 @@ impl<'a, D: Disk + Drop, O: Origin> Session<'a, D, O> {
     }
 
     /// Moves the base to the floor, in the other half, and answers the floor.
+    ///
+    /// # Errors
+    ///
+    /// As those of `Core::compact`, at this turn.
     pub fn compact<R: Wait>(&mut self, rt: &R) -> Result<u64, CoreError>
         ensures did { (before : ℕ) × (now : ℕ) × Made O.start self.old self.new (compact_entry before now result) }
         ensures tx { KeepsTx self.old self.new }
@@ -28,6 +36,10 @@ impl<'a, D: Disk + Drop, O: Origin> Session<'a, D, O> {
     }
 
     /// Compacts into an image of form 2, in which transactions of either mode may begin, and answers the floor.
+    ///
+    /// # Errors
+    ///
+    /// As those of `Core::upgrade`, at this turn.
     pub fn upgrade<R: Wait>(&mut self, rt: &R) -> Result<u64, CoreError>
         ensures did { (before : ℕ) × (now : ℕ) × Made O.start self.old self.new (upgrade_entry before now result) }
         ensures tx { KeepsTx self.old self.new }
