@@ -1,21 +1,21 @@
 // A desk over a disk that makes no call: what its caller does to the file, and says of it.
 ghost use Rattle.std.specs.Prelude.{◌≡◌, [], true, false};
 ghost use Rattle.iso_model.specs.World.{World};
-ghost use Rattle.queued_disk.specs.Queued.{calls_of, handed_on, is_failed, state_of, tape_of};
+ghost use Rattle.queued_disk.specs.Queued.{calls_of, given, handed_on, is_failed, state_of, tape_of};
 ghost use Rattle.device_desk.specs.Device.{StandsAt, disk_under};
 
 use crate::desk::Desk;
-use iso_core::Errand;
+use iso_core::{Errand, Rebinding};
 use queued_disk::{Call, QueuedDisk};
 
 #[derive(Drop)]
 struct HandOn {}
 
-impl Errand<QueuedDisk> for HandOn {
+impl Rebinding<QueuedDisk> for HandOn {
     ghost use Rattle.std.specs.Prelude.{◌≡◌, []};
-    ghost use Rattle.queued_disk.specs.Queued.{calls_of, handed_on, tape_of};
+    ghost use Rattle.queued_disk.specs.Queued.{calls_of, given, handed_on, tape_of};
 
-    ghost did = { λ old_self old new_self new. (tape_of new ≡ []) × (handed_on new ≡ calls_of old) };
+    ghost did = { λ old_self old new_self new. (tape_of new ≡ []) × (handed_on new ≡ calls_of old) × (given new ≡ given old) };
 
     fn run(&mut self, disk: &mut QueuedDisk) {
         disk.hand_on();
@@ -47,10 +47,11 @@ pub fn tape(desk: &Desk<QueuedDisk>) -> &[Call]
 pub fn hand_on(desk: &mut Desk<QueuedDisk>)
     ensures tape { tape_of (disk_under desk.new) ≡ [] }
     ensures handed { handed_on (disk_under desk.new) ≡ calls_of (disk_under desk.old) }
+    ensures given { given (disk_under desk.new) ≡ given (disk_under desk.old) }
     ensures same { (W : World) → StandsAt state_of desk.old W → StandsAt state_of desk.new W }
     ensures still { desk.new.up ≡ desk.old.up }
 {
-    desk.run(&mut HandOn {});
+    desk.rebind(&mut HandOn {});
 }
 
 /// A call of the tape failed: the desk is down, and its disk makes no more calls.

@@ -29,6 +29,20 @@ stands_still old new kept W standing laws of still = record {
     go up images = record { settled = stays_settled laws still images.settled; each = at_end laws (stays still images.each) }
     go (down lost) images = at_end laws (stays still images)
 
+-- so while its disk is bound anew
+pub stands_bound : (old new : DiskState) (kept : Kept) (W : World) (standing : Standing) → IsLawful new → AreOf old kept W standing → WritesNothing old (record new { bound = old.bound }) → AreOf new kept W standing
+stands_bound old new kept W standing laws of still = record { kept_of = is.kept_of; is_down = is.is_down; size = is.size; images = go standing is.images }
+  where
+    as_bound : IsLawful (record new { bound = old.bound })
+    as_bound = record { reads_as_image = laws.reads_as_image; counts_now = laws.counts_now; only_now = laws.only_now; counts_later = laws.counts_later; image_size = laws.image_size; told_bytes = laws.told_bytes }
+
+    is : AreOf (record new { bound = old.bound }) kept W standing
+    is = stands_still old (record new { bound = old.bound }) kept W standing as_bound of still
+
+    go : (s : Standing) → AreImages s (record new { bound = old.bound }) kept.half W → AreImages s new kept.half W
+    go up images = record { settled = images.settled; each = images.each }
+    go (down lost) images = images
+
 -- a core that is not down is up
 pub up_of : (d : DiskState) (kept : Kept) (W : World) (standing : Standing) → AreOf d kept W standing → kept.down ≡ false → AreOf d kept W up
 up_of d kept W up of is = of

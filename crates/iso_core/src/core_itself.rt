@@ -79,6 +79,16 @@ impl<D: Disk> Core<D> {
         errand.run(&mut self.disk);
     }
 
+    /// Does an errand that may bind the disk anew, up or down.
+    pub fn rebind<E: Rebinding<D>>(&mut self, errand: &mut E)
+        ensures did { E.did errand.old (disk_of self.old) errand.new (disk_of self.new) }
+        ensures same { (W : World) (standing : Standing) → StandsFor D.state self.old W standing → StandsFor D.state self.new W standing }
+        ensures unwritten { WritesNothing (D.state (disk_of self.old)) (record (D.state (disk_of self.new)) { bound = (D.state (disk_of self.old)).bound }) }
+        ensures faults { (D.state (disk_of self.new)).faults ≡ (D.state (disk_of self.old)).faults }
+    {
+        errand.run(&mut self.disk);
+    }
+
     /// The numbers of the image.
     pub fn geometry(&self) -> Geometry
         ensures { (W : World) (standing : Standing) → StandsFor D.state self.now W standing → result ≡ W.geometry }

@@ -34,6 +34,6 @@ mod trim;
 
 pub use answers::{Begun, Recent, Stat};
 pub use core_itself::Core;
-pub use errand::Errand;
+pub use errand::{Errand, Rebinding};
 pub use group_end::{GroupEnd, MAX_GROUP};
 pub use opening::Opened;

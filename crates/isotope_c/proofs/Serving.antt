@@ -3,8 +3,8 @@ use Rattle.std.proofs.Common.{◌≡◌, ◌∙◌, sym, ap, subst, ℕ, ℤ, Li
 use Rattle.iso_model.specs.World.{World}
 use Rattle.script_model.specs.{declared.script.Op.Op, declared.script.Reply.Reply, declared.stop.Stop.Stop}
 use Rattle.script_model.specs.declared.stop.Stop.TheVariants as stop
-use Rattle.queued_disk.specs.{declared.queued.QueuedDisk.QueuedDisk, Queued.state_of}
-use Rattle.device_desk.specs.{Device.{Answered, Device, IsRefusedDown, StandsAt, state_at}, Waiting.Waits}
+use Rattle.queued_disk.specs.{declared.queued.QueuedDisk.QueuedDisk, Queued.{file_of, state_of}}
+use Rattle.device_desk.specs.{Device.{Answered, Device, IsRefusedDown, StandsAt, disk_under, state_at}, Waiting.Waits}
 use Rattle.iso_machine.specs.Answering.{Answers as AnswersAs}
 use Rattle.isotope_c.specs.{declared.instance.Instance.Instance, declared.slot.Slot.Slot, Instances.desk_in, Exports.{EndsWaiting, Serves, Steps, device_in}}
 use Rattle.isotope_c.specs.declared.instance.Instance.TheVariants.{Open}
@@ -14,6 +14,10 @@ pub taken_is : (s : Slot) {held : Instance} {taken d : Device QueuedDisk} → s.
 taken_is s {held = held} {taken = taken} {d = d} there is holds =
     let same : Some taken ≡ Some d = sym (ap (λ (i : Instance). desk_in (Some i)) is) ∙ (sym (ap desk_in there) ∙ holds) in
     cc same
+
+-- a disk is bound to its file
+pub same_file : (a b : QueuedDisk) → (state_of a).bound ≡ (state_of b).bound → file_of a ≡ file_of b
+same_file a b same = cc same
 
 -- Of what was taken out (`there`) the open device (`value`, `is`) was asked, and what it became was put back (`put`).
 module _ (old new : Slot) {boxed held : Instance} {taken now : Device QueuedDisk} (there : old.inner.instance ≡ Some boxed) (value : held ≡ boxed) (is : held ≡ Open taken) (put : new.inner.instance ≡ Some (Open now)) where
@@ -38,11 +42,13 @@ module _ (old new : Slot) {boxed held : Instance} {taken now : Device QueuedDisk
         (subst (IsTold status) refusal.answer told, holds ∙ ap Some (refusal.same ∙ same));
     answer = λ d W was stands.
         let same : taken ≡ d = held_is was in
+        let answered : Answered state_of d now W number op answer = subst (λ (e : Device QueuedDisk). (V : World) → StandsAt state_of e V → Answered state_of e now V number op answer) same did W stands in
         record {
           now = now;
           there = holds;
+          file = same_file (disk_under now) (disk_under d) answered.moments.same_bound;
           answer = answer;
-          did = subst (λ (e : Device QueuedDisk). (V : World) → StandsAt state_of e V → Answered state_of e now V number op answer) same did W stands;
+          did = answered;
           told = told;
         };
   })
@@ -60,11 +66,14 @@ module _ (old new : Slot) {boxed held : Instance} {taken now : Device QueuedDisk
     answer = λ d W was stands.
         let same : taken ≡ d = held_is was in
         let stood : StandsAt state_of taken W = subst (λ (e : Device QueuedDisk). StandsAt state_of e W) (sym same) stands in
+        let answered : AnswersAs goes_on (StandsAt state_of now) (state_at state_of d) (state_at state_of now) W (given W) answer =
+        subst (λ (e : Device QueuedDisk). AnswersAs goes_on (StandsAt state_of now) (state_at state_of e) (state_at state_of now) W (given W) answer) same (did W stood) in
         record {
           now = now;
           there = holds;
+          file = same_file (disk_under now) (disk_under d) answered.moments.same_bound;
           answer = answer;
-          did = subst (λ (e : Device QueuedDisk). AnswersAs goes_on (StandsAt state_of now) (state_at state_of e) (state_at state_of now) W (given W) answer) same (did W stood);
+          did = answered;
           told = told W stood;
         };
   }
@@ -81,12 +90,15 @@ module _ (old new : Slot) {boxed held : Instance} {taken now : Device QueuedDisk
     answer = λ d W was stands.
         let same : taken ≡ d = held_is was in
         let stood : StandsAt state_of taken W = subst (λ (e : Device QueuedDisk). StandsAt state_of e W) (sym same) stands in
+        let waits : Waits (StandsAt state_of now) (state_at state_of d) (state_at state_of now) W numbers replies why =
+        subst (λ (e : Device QueuedDisk). Waits (StandsAt state_of now) (state_at state_of e) (state_at state_of now) W numbers replies why) same (did W stood) in
         record {
           now = now;
           there = holds;
+          file = same_file (disk_under now) (disk_under d) waits.moments.same_bound;
           answers = replies;
           why = why;
-          did = subst (λ (e : Device QueuedDisk). Waits (StandsAt state_of now) (state_at state_of e) (state_at state_of now) W numbers replies why) same (did W stood);
+          did = waits;
           told = told;
         };
   }

@@ -7,7 +7,7 @@ use Rattle.iso_recover.specs.{Cause.IsTest, Made.IsUnmadeOrEmpty}
 use Rattle.iso_machine.specs.Answering.{Answers as AnswersAs}
 use Rattle.script_model.specs.{declared.script.Op.Op, declared.script.Reply.Reply, declared.stop.Stop.Stop}
 use Rattle.script_model.specs.declared.stop.Stop.TheVariants as stop
-use Rattle.queued_disk.specs.{declared.queued.QueuedDisk.QueuedDisk, Queued.{calls_of, given, handed_on, is_failed, state_of, tape_of}}
+use Rattle.queued_disk.specs.{declared.queued.QueuedDisk.QueuedDisk, Queued.{calls_of, file_of, file_with, given, handed_on, is_failed, state_of, tape_of}}
 use Rattle.device_desk.specs.{Device.{Answered, Device, StandsAt, disk_under, state_at}, Opened.{IsOpenedAs, IsReopenedAs}, Waiting.Waits}
 use Rattle.isotope_c.specs.{declared.records.Refusal.Refusal, declared.instance.Instance.Instance, declared.slot.Slot.Slot, Codes.code_of_open, Instances.{desk_in, laid_in}, Told.{code, refusal_of}}
 
@@ -23,10 +23,12 @@ abbrev pub IsEmpty : Slot → Type 0
 IsEmpty s = s.inner.instance ≡ None
 
 -- The device is in the slot again, and has answered the operation of the transaction of this number from the world W as the model
--- does. Of that answer C is told this.
+-- does. Of that answer C is told this. What the file had, and what was done to it, is as before: all else that the answer rests on
+-- is on the tape.
 pub record HasAnswered (old : Device QueuedDisk) (new : Slot) (W : World) (number : ℕ) (op : Op) (IsTold : Result Reply Stop → Type 0) : Type 0 where
   pub now : Device QueuedDisk
   pub there : device_in new ≡ Some now
+  pub file : file_of (disk_under now) ≡ file_of (disk_under old)
   pub answer : Result Reply Stop
   pub did : Answered state_of old now W number op answer
   pub told : IsTold answer
@@ -48,6 +50,7 @@ Says status answer = status ≡ code answer
 pub record HasStepped (old : Device QueuedDisk) (new : Slot) (goes_on : Stop → Type 0) (W : World) (given : Reply × World) (IsTold : Result Reply Stop → Type 0) : Type 0 where
   pub now : Device QueuedDisk
   pub there : device_in new ≡ Some now
+  pub file : file_of (disk_under now) ≡ file_of (disk_under old)
   pub answer : Result Reply Stop
   pub did : AnswersAs goes_on (StandsAt state_of now) (state_at state_of old) (state_at state_of now) W given answer
   pub told : IsTold answer
@@ -61,6 +64,7 @@ pub record Steps (old new : Slot) (goes_on : Stop → Type 0) (given : World →
 pub record HasWaited (old : Device QueuedDisk) (new : Slot) (W : World) (numbers : List ℕ) (IsTold : List Reply → Option Stop → Type 0) : Type 0 where
   pub now : Device QueuedDisk
   pub there : device_in new ≡ Some now
+  pub file : file_of (disk_under now) ≡ file_of (disk_under old)
   pub answers : List Reply
   pub why : Option Stop
   pub did : Waits (StandsAt state_of now) (state_at state_of old) (state_at state_of now) W numbers answers why
@@ -77,6 +81,7 @@ pub record IsMade (d : Device QueuedDisk) (g : Geometry) : Type 0 where
   pub blank : QueuedDisk
   pub zeros : given blank ≡ replicate (image_size g) 0
   pub untouched : calls_of blank ≡ []
+  pub file : file_of (disk_under d) ≡ file_with (replicate (image_size g) 0) []
   pub stands : StandsAt state_of d (fresh g 1 (empty_history g))
   pub moments : LeavesOnly (state_of blank) (state_at state_of d) (IsUnmadeOrEmpty g)
 
@@ -85,10 +90,11 @@ pub record HasMade (holds : Option Instance) (g : Geometry) : Type 0 where
   pub there : desk_in holds ≡ Some now
   pub made : IsMade now g
 
--- the device is open on the image of these bytes
+-- the device is open on the image of these bytes, which its file has
 pub record HasOpened (holds : Option Instance) (bytes : List ℕ) : Type 0 where
   pub now : Device QueuedDisk
   pub there : desk_in holds ≡ Some now
+  pub file : file_of (disk_under now) ≡ file_with bytes []
   pub opened : IsOpenedAs state_of now (Some bytes)
 
 -- the device is open on this history, which ends at commit p
@@ -104,11 +110,12 @@ pub record HasRefused (bytes : List ℕ) (status : ℤ) (why : Refusal) : Type 0
   pub told : status ≡ code_of_open error
   pub because : why ≡ refusal_of error
 
--- what was on the tape is done: the device is as it was, and its tape empty
+-- what was on the tape is done to the file: the device is as it was, and its tape empty
 pub record HasHandedOn (old : Device QueuedDisk) (new : Slot) : Type 0 where
   pub now : Device QueuedDisk
   pub there : device_in new ≡ Some now
   pub tape : tape_of (disk_under now) ≡ []
+  pub given : given (disk_under now) ≡ given (disk_under old)
   pub handed : handed_on (disk_under now) ≡ calls_of (disk_under old)
   pub same : (W : World) → StandsAt state_of old W → StandsAt state_of now W
   pub still : now.up ≡ old.up

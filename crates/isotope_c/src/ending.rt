@@ -58,6 +58,7 @@ pub extern "C" fn isotope_c_end_group(slot: &mut Slot, numbers: &[u64], ended: &
     ensures places { IsSome (device_in slot.old) → length numbers.now ≢ length ended.old → (result ≡ pos 28) × (slot.new ≡ slot.old) }
     ensures many { (d : Device QueuedDisk) → device_in slot.old ≡ Some d → d.up ≡ true → length numbers.now ≡ length ended.old → MAX_GROUP < length numbers.now
         → (result ≡ pos 5) × (device_in slot.new ≡ Some d) }
+    ensures down { (d : Device QueuedDisk) → device_in slot.old ≡ Some d → d.up ≡ false → length numbers.now ≡ length ended.old → (result ≡ pos 22) × (device_in slot.new ≡ Some d) }
     ensures ends { length numbers.now ≡ length ended.old → length numbers.now ≤ MAX_GROUP
         → Steps slot.old slot.new Never (λ W. grouped (numbers_step W numbers.now)) (λ W answer. (result, ended.new) ≡ group_told ended.old answer) }
 {

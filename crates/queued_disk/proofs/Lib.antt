@@ -1,4 +1,5 @@
 pub mod Standing
 pub mod Moves
 pub mod Fronts
+pub mod Files
 pub mod Rows

@@ -1,5 +1,5 @@
 // The disk itself.
-ghost use Rattle.std.specs.{Prelude.{◌≡◌, ◌+◌, ◌^◌, ◌<◌, ◌≤◌, ℕ, List, Vec, [], ◌++◌, true, false, length, slice_index, take, OnOk, OnErr, IsOk, IsErr, Some}, List.slice_range, Option.ForSome, declared.alloc.Global.Global};
+ghost use Rattle.std.specs.{Prelude.{◌≡◌, ◌+◌, ◌^◌, ◌<◌, ◌≤◌, ℕ, List, Vec, [], ◌++◌, true, false, length, map, slice_index, take, OnOk, OnErr, IsOk, IsErr, Some}, List.slice_range, Option.ForSome, declared.alloc.Global.Global};
 ghost use Rattle.counts.specs.Count.{one_more, Rose, HasCause};
 ghost use Rattle.iso_disk.specs.Disk.{Elapses, IsSettled, Splices, TellsTorn, TornFrom, WritesNothing};
 ghost use Rattle.iso_memdisk.specs.{declared.record.Call.TheVariants.{Write, Sync}, Record.{AllFit, written}};
@@ -35,13 +35,14 @@ pub struct QueuedDisk {
 }
 
 impl QueuedDisk {
-    ghost use Rattle.queued_disk.specs.{Queued.{given, handed_on, tape_of, calls_of, bytes_of, is_failed, state_of, IsUntouched, Appends}, Tape.IsLeftBy};
+    ghost use Rattle.queued_disk.specs.{Queued.{given, handed_on, tape_of, calls_of, bytes_of, file_of, is_failed, said, state_of, IsUntouched, Appends}, Tape.IsLeftBy};
 
     /// A disk of these bytes, with nothing on its tape. It takes no memory: the bytes are taken over.
     pub fn new(alloc: Global, bytes: Vec<u8>) -> QueuedDisk
         ensures given { given result ≡ bytes.items }
         ensures bytes { bytes_of result ≡ bytes.items }
         ensures calls { calls_of result ≡ [] }
+        ensures handed { handed_on result ≡ [] }
         ensures settled { IsSettled (state_of result) }
         ensures works { is_failed result ≡ false }
         ensures faults { (state_of result).faults ≡ 0 }
@@ -71,7 +72,8 @@ impl QueuedDisk {
         &self.bytes
     }
 
-    /// All that is on the tape is handed on: nothing is on it any more. It takes no memory, and keeps what the tape took.
+    /// All that is on the tape is handed on, and done to the file: nothing is on it any more. It takes no memory, and keeps what the
+    /// tape took.
     pub fn hand_on(&mut self)
         ensures tape { tape_of self.new ≡ [] }
         ensures handed { handed_on self.new ≡ calls_of self.old }
@@ -79,7 +81,7 @@ impl QueuedDisk {
         ensures bytes { bytes_of self.new ≡ bytes_of self.old }
         ensures failed { is_failed self.new ≡ is_failed self.old }
         ensures faults { (state_of self.new).faults ≡ (state_of self.old).faults }
-        ensures unwritten { WritesNothing (state_of self.old) (state_of self.new) }
+        ensures unwritten { WritesNothing (state_of self.old) (record (state_of self.new) { bound = (state_of self.old).bound }) }
     {
         self.past = self.past.with(&self.tape);
         self.tape.clear();
@@ -105,6 +107,11 @@ impl QueuedDisk {
 
         // And of all of them: it is what a crash now may leave.
         ensures all { (image : List ℕ) → IsLeftBy (calls_of self.now) (given self.now) image → (state_of self.now).now image }
+    {}
+
+    /// Disks that are bound to one file were given the same bytes, and the same calls were handed on, by place and bytes.
+    pub fn a_name_is_of_one_file(&self, other: &QueuedDisk)
+        ensures { file_of self.now ≡ file_of other.now → (given self.now ≡ given other.now) × (map said (handed_on self.now) ≡ map said (handed_on other.now)) }
     {}
 
     // Counts a call that failed.

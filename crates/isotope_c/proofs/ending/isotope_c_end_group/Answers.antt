@@ -16,6 +16,16 @@ returns-clause-many c d was on places more =
       holds c.args.slot.now c.put.new.slot c.take_open-instance.ensures.there c.deref_mut.ensures.value c.in-Open.is c.put.ensures ∙ ap Some (no.1 ∙ same),
     )
 
+pub returns-clause-down : goal.returns-clause-down
+returns-clause-down c d was off places =
+    let fits : SFits w32 c.group_told.result = search rules in
+    let same : c.in-Open.desk ≡ d = held_is c.args.slot.now c.put.new.slot c.take_open-instance.ensures.there c.deref_mut.ensures.value c.in-Open.is c.put.ensures was in
+    let no = c.end_group-answer.ensures.down (ap (λ (e : Device QueuedDisk). e.up) same ∙ off) in
+    let told = c.group_told.ensures ∙ ap (group_told c.args.ended.now) no.answer in (
+      to_z-of_z fits ∙ ap (λ (p : ℤ × List Ended). p.0) told,
+      holds c.args.slot.now c.put.new.slot c.take_open-instance.ensures.there c.deref_mut.ensures.value c.in-Open.is c.put.ensures ∙ ap Some (no.same ∙ same),
+    )
+
 pub returns-clause-ends : goal.returns-clause-ends
 returns-clause-ends c places most =
     let fits : SFits w32 c.group_told.result = search rules in

@@ -1,13 +1,14 @@
-use Rattle.std.proofs.Common.{refl, subst, List, Option, ℕ}
+use Rattle.std.proofs.Common.{◌∙◌, refl, subst, List, Option, ℕ}
 use Rattle.queued_disk.specs.Queued.{state_of}
-use Rattle.device_desk.specs.Opened.{IsOpenedAs}
-use Rattle.isotope_c.proofs.Made.{tells}
+use Rattle.device_desk.specs.{Device.disk_under, Opened.IsOpenedAs}
+use Rattle.isotope_c.proofs.{Made.{named, tells}, Serving.same_file}
 use Rattle.isotope_c.proofs.instance.opened.Goals as goal
 
 pub returns-in-Ok-clause-opened : goal.returns-in-Ok-clause-opened
 returns-in-Ok-clause-opened c = record {
   now = c.in-Ok.desk;
   there = refl;
+  file = same_file (disk_under c.in-Ok.desk) c.new.result c.in-Ok.ensures.unwritten.moments.same_bound ∙ named c.new.ensures.handed c.new.ensures.given;
   opened = subst (λ (told : Option (List ℕ)). IsOpenedAs state_of c.in-Ok.desk told) (tells c.new.result c.args.bytes.items c.new.ensures.given c.new.ensures.calls) c.in-Ok.ensures.opened;
 }
 

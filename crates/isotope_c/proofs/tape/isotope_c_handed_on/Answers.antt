@@ -13,6 +13,7 @@ returns-clause-done c d was =
         now = c.hand_on.new.desk;
         there = holds c.args.slot.now c.put.new.slot c.take_open-instance.ensures.there c.deref_mut.ensures.value c.in-Open.is c.put.ensures;
         tape = c.hand_on.ensures.tape;
+        given = c.hand_on.ensures.given;
         handed = c.hand_on.ensures.handed;
         same = c.hand_on.ensures.same;
         still = c.hand_on.ensures.still;
