@@ -7,7 +7,7 @@ ghost use Rattle.iso_model.specs.Versions.{versions};
 use crate::answers::{Begun, Recent, Stat};
 use crate::begin::begin;
 use crate::ending::end_tx;
-use crate::errand::Errand;
+use crate::errand::{Errand, Rebinding};
 use crate::fetch::fetch;
 use crate::group_end::GroupEnd;
 use crate::kept::Kept;

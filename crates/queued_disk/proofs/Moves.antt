@@ -2,9 +2,9 @@
 use Rattle.std.proofs.Common.{◌≡◌, ℕ, List, [], ◌∷◌, ◌++◌, length, Some, Vec, refl, sym, ◌∙◌, ap, subst, append_assoc}
 use Rattle.std.proofs.lemmas.List.{append-nil}
 use Rattle.std.specs.declared.alloc.Global.{Global}
-use Rattle.iso_disk.{proofs.Moments.{goes_on_unwritten, starts_unwritten}, specs.Disk.{DiskState, Elapses, IsSettled, TornFrom, WritesNothing, spliced}}
+use Rattle.iso_disk.{proofs.Moments.{goes_on_unwritten, starts_unwritten}, specs.Disk.{Elapses, IsSettled, TornFrom, WritesNothing, spliced}}
 use Rattle.iso_memdisk.{proofs.Moves.{elapses_same, elapses_call, bytes_call, images_now, synced_image}, specs.{declared.record.Call.Call, declared.record.Call.TheVariants.{Write, Sync}, Record.written}}
-use Rattle.queued_disk.specs.{declared.queued.QueuedDisk.QueuedDisk, Past.in_order, Queued.{Appends, IsUntouched, calls_of, file_of, file_with, given, handed_on, state_of, tape_of}, Laws.lawful}
+use Rattle.queued_disk.specs.{declared.queued.QueuedDisk.QueuedDisk, Past.in_order, Queued.{Appends, IsUntouched, calls_of, file_with, given, handed_on, state_of, tape_of}, Laws.lawful}
 
 calls_same : (old new : QueuedDisk) → IsUntouched old new → calls_of new ≡ calls_of old
 calls_same old new same i = in_order (same.past i) ++ same.tape i
