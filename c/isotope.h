@@ -106,7 +106,7 @@ enum {
     ISOTOPE_MOST_TRANSACTIONS = 1024,   /* live at once on a device */
     ISOTOPE_MOST_ACCESSES = 4096,       /* of a transaction */
     ISOTOPE_MOST_MARKS = 8,             /* of an access, and ranges of isotope_put_ranges() */
-    ISOTOPE_MOST_GROUP = 16,
+    ISOTOPE_MOST_GROUP = 64,            /* that end together, as a group or because they wait at one time */
     ISOTOPE_LEAST_BLOCK_SIZE = 64,
     ISOTOPE_MOST_BLOCK_SIZE = 4096,
     ISOTOPE_MOST_BLOCKS = 16384,

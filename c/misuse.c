@@ -122,7 +122,7 @@ static void numbers_of_transactions(void) {
     expect("a group with one of another device", isotope_end_group(device, live, 2, how), ISOTOPE_OK);
     expect_that("which is none", how[0].status == ISOTOPE_NO_TRANSACTION && how[1].status == ISOTOPE_OK);
     expect("a group of nobody", isotope_end_group(device, NULL, 0, NULL), ISOTOPE_OK);
-    expect("a group of seventeen", isotope_end_group(device, live, ISOTOPE_MOST_GROUP + 1, NULL), ISOTOPE_TOO_MANY_TRANSACTIONS);
+    expect("a group of sixty-five", isotope_end_group(device, live, ISOTOPE_MOST_GROUP + 1, NULL), ISOTOPE_TOO_MANY_TRANSACTIONS);
     for (int i = 0; i < ISOTOPE_MOST_TRANSACTIONS; i++) live[i] = begun(device);
     expect("one more than may be live", isotope_begin(device, ISOTOPE_IMAGE_MODE, &more, NULL), ISOTOPE_TOO_MANY_TRANSACTIONS);
     expect("stat", isotope_stat(device, &numbers), ISOTOPE_OK);

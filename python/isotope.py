@@ -120,7 +120,7 @@ class Exists(Error):
 
 
 class TooManyTransactions(Error):
-    """1,024 transactions of the device are live, or more than 16 are to end as a group."""
+    """1,024 transactions of the device are live, or more than 64 are to end as a group."""
 
 
 class TooManyAccesses(Error):
@@ -390,7 +390,7 @@ class Device:
                     raise
 
     def end_group(self, transactions):
-        """Ends up to 16 transactions in this order, with two syncs for all of them: after a crash all their commits stand, or none. Gives a
+        """Ends up to 64 transactions in this order, with two syncs for all of them: after a crash all their commits stand, or none. Gives a
         list: of each the number of its commit (0: it wrote nothing), or the exception that its end would have raised. All are over then;
         after TooManyTransactions none is.
 

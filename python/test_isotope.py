@@ -240,10 +240,10 @@ class Transactions(ImageTest):
         self.assertEqual((ends[3].commit, ends[3].block, ends[3].at), (1, 0, 0))
         self.assertEqual((one.commit, two.commit, three.commit), (1, 2, None))
         self.assertEqual(self.device.end_group([]), [])
-        many = [self.device.begin() for _ in range(17)]
+        many = [self.device.begin() for _ in range(65)]
         self.assertRefused(Status.TOO_MANY_TRANSACTIONS, self.device.end_group, many, kind=isotope.TooManyTransactions)
-        self.assertEqual(self.device.end_group(many[:16]), [0] * 16)
-        many[16].abort()
+        self.assertEqual(self.device.end_group(many[:64]), [0] * 64)
+        many[64].abort()
 
     def test_a_group_with_a_full_log(self):
         one, two = self.device.begin(), self.device.begin()

@@ -14,7 +14,7 @@ module _ {D O : Type 0} (A : Start) where
   pub record IsGiver (c : Giver D O) : Type 0 where
     pub store : HasStore A c.region
     pub session : IsKept (planned c.plan) A c.session
-    pub units : 18 < c.session.units
+    pub units : MAX_GROUP + 2 < c.session.units
     pub few : length c.plan.handed.now ≤ MAX_GROUP
 
   -- what it gave away is of its device

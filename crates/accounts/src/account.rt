@@ -33,7 +33,7 @@ pub(crate) enum Step {
     Take(Transfer),
 }
 
-/// What is done with accounts. One thread fills transactions that another one ends as one group, 16 of them at most, and makes the
+/// What is done with accounts. One thread fills transactions that another one ends as one group, 64 of them at most, and makes the
 /// first half of a transfer that the other one makes the second half of and ends; and each of the two makes transfers of its own, which
 /// are tried so often after conflicts.
 #[derive(Clone, Copy)]

@@ -37,7 +37,7 @@ fn give_beside<'a, D: Disk + Drop + Send, O: Origin + Send + Sync, R: Threads + 
     first: Session<'a, D, O>,
     second: Session<'a, D, O>,
 ) -> (Session<'a, D, O>, Session<'a, D, O>, Gift<D, O>, u32)
-    requires first { IsKept (planned plan) O.start first × (18 < first.units) }
+    requires first { IsKept (planned plan) O.start first × (MAX_GROUP + 2 < first.units) }
     requires second { IsKept (planned plan) O.start second × (1 < second.units) }
     requires store { HasStore O.start region }
     requires few { length plan.handed.now ≤ MAX_GROUP }

@@ -54,13 +54,13 @@ pub(crate) fn give_all<'a, D: Disk + Drop, O: Origin, R: Wait>(
     transfers: &[Transfer],
 ) -> Vec<Option<Tx<D, O>>>
     requires session { IsKept (opening_of accounts.now) O.start session.old }
-    requires units { 17 < session.old.units }
+    requires units { MAX_GROUP + 1 < session.old.units }
     requires few { length transfers.now ≤ MAX_GROUP }
     requires store { HasStore O.start region }
     ensures session { IsKept (opening_of accounts.now) O.start session.new }
     ensures device { session.new.device ≡ session.old.device }
     ensures units { session.new.units + units_of (found_in result.items) ≡ session.old.units }
-    ensures left { session.old.units ≤ session.new.units + 16 }
+    ensures left { session.old.units ≤ session.new.units + MAX_GROUP }
     ensures few { length result.items ≤ MAX_GROUP }
     ensures given { AreGiven (opening_of accounts.now) O.start session.old.device result.items }
 {

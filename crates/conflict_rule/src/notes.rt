@@ -39,7 +39,7 @@ fn place_after(notes: &[(u64, Touched)], number: u64) -> usize
     notes.partition_point(|note| note.0 <= number)
 }
 
-// How many sets are kept at most when their commits are dropped: as many as end in one group.
+// How many sets are kept at most when their commits are dropped.
 const MOST_SPARE: usize = 16;
 
 // Takes all notes out. What they had is spare then.

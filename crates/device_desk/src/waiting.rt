@@ -83,7 +83,7 @@ impl<D: Disk> Table<D> {
 }
 
 impl<D: Disk> Desk<D> {
-    /// Ends these transactions one after the other, and answers each as `end` does. Up to 16 of them end as one group, with one
+    /// Ends these transactions one after the other, and answers each as `end` does. Up to 64 of them end as one group, with one
     /// append and two syncs, where they are different live transactions and the log has room for all; else each ends by itself.
     /// An end that stops for want of memory stays live with those behind it, and the desk stays up; a fault of the disk takes
     /// the desk down, and commits that were answered stand.

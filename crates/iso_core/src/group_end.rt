@@ -4,7 +4,7 @@ use iso_model::GroupReply;
 use tx_table::Work;
 
 /// The most members that a group has.
-pub const MAX_GROUP: usize = 16;
+pub const MAX_GROUP: usize = 64;
 
 /// A transaction that a group is to end, and how it ended, once it did.
 #[derive(Drop)]

@@ -269,18 +269,18 @@ not_without_the_conflict : Fits (state_at start two_begun) (entry.EndGroup (ende
 unfolding put clash runs end_step commit_step
 not_without_the_conflict f = cc (f.answers.2)
 
--- none of them twice, none at all, and not more than sixteen
+-- none of them twice, none at all, and not more than sixty-four
 not_twice : Fits (state_at start two_begun) (entry.EndGroup (ended_as (one []) member.ReadOnly ∷ ended_as (one []) member.ReadOnly ∷ [])) → ⊥
 not_twice f = cc (f.answers.1.distinct.0)
 
 not_of_none : Fits (opened start) (entry.EndGroup []) → ⊥
 not_of_none f = let some = f.answers.1.some in absurd (omega arith)
 
-abbrev seventeen : List MemberEnd
-seventeen = replicate 17 (ended_as (one []) member.ReadOnly)
+abbrev sixty_five : List MemberEnd
+sixty_five = replicate 65 (ended_as (one []) member.ReadOnly)
 
-not_of_seventeen : Fits (state_at start two_begun) (entry.EndGroup seventeen) → ⊥
-not_of_seventeen f = absurd (omega (arith, f.answers.1.most, length-map seventeen member_of ∙ length-replicate 17 (ended_as (one []) member.ReadOnly)))
+not_of_sixty_five : Fits (state_at start two_begun) (entry.EndGroup sixty_five) → ⊥
+not_of_sixty_five f = absurd (omega (arith, f.answers.1.most, length-map sixty_five member_of ∙ length-replicate 65 (ended_as (one []) member.ReadOnly)))
 
 -- each member is live and under no label
 not_of_one_unbegun : Fits (state_at start two_begun) (entry.EndGroup (ended_as (record { number = 3; accesses = [] }) member.ReadOnly ∷ [])) → ⊥

@@ -77,7 +77,7 @@ pub extern "C" fn isotope_c_end_group(slot: &mut Slot, numbers: &[u64], ended: &
     group_told(&answer, ended)
 }
 
-/// Ends these transactions one after the other, and answers each as `isotope_c_end` does. Up to 16 of them end with one append and
+/// Ends these transactions one after the other, and answers each as `isotope_c_end` does. Up to 64 of them end with one append and
 /// two syncs, where they are different live transactions and the log has room for all. There is a place for the end of each; where
 /// one stops, those behind it have the status of the stop, which is the call's too: with 20 they are live as before.
 #[unsafe(no_mangle)]
