@@ -36,20 +36,21 @@ pub(crate) fn commit<D: Disk>(
     kept: &mut Kept,
     disk: &mut D,
     tx: u64,
-    work: &Work,
+    work: &mut Work,
 ) -> Result<EndReply, CoreError>
-    requires { (W : World) × (t : Live) × AreOf (D.state disk.old) kept.old W up × MayCommit W tx t work.now }
-    ensures ended { (W : World) (t : Live) → AreOf (D.state disk.old) kept.old W up → MayCommit W tx t work.now
+    requires { (W : World) × (t : Live) × AreOf (D.state disk.old) kept.old W up × MayCommit W tx t work.old }
+    ensures ended { (W : World) (t : Live) → AreOf (D.state disk.old) kept.old W up → MayCommit W tx t work.old
         → IfOk result (λ r. ((commit_step W t None).0 ≡ reply_of r) × AreOf (D.state disk.new) kept.new (commit_step W t None).1 up) }
-    ensures refused { (W : World) (t : Live) → AreOf (D.state disk.old) kept.old W up → MayCommit W tx t work.now
+    ensures refused { (W : World) (t : Live) → AreOf (D.state disk.old) kept.old W up → MayCommit W tx t work.old
         → IfErr result (λ e. (e ≡ CoreError.Disk) ⊎ Refuses (commit_step W t None).0 e) }
     ensures same { (W : World) → AreOf (D.state disk.old) kept.old W up → IfErr result (λ e. e ≢ CoreError.Disk → AreOf (D.state disk.new) kept.new W up) }
     ensures last { (at : ℕ) → IsErrOf result (CoreError.Worn at) → at ≡ LAST }
     ensures unwritten { Writes result ⊎ (disk.new ≡ disk.old) }
-    ensures lost { (W : World) (t : Live) → AreOf (D.state disk.old) kept.old W up → MayCommit W tx t work.now → IsErrOf result CoreError.Disk
+    ensures lost { (W : World) (t : Live) → AreOf (D.state disk.old) kept.old W up → MayCommit W tx t work.old → IsErrOf result CoreError.Disk
         → ((commit_step W t None).0 ≡ reply.Committed (last W.history + 1)) × AreOf (D.state disk.new) kept.new (after_leaving W t) (down (commit_from t ∷ [])) }
-    ensures moments { (W : World) (t : Live) → AreOf (D.state disk.old) kept.old W up → MayCommit W tx t work.now
+    ensures moments { (W : World) (t : Live) → AreOf (D.state disk.old) kept.old W up → MayCommit W tx t work.old
         → LeavesOnly (D.state disk.old) (D.state disk.new) (ShowsEither W (commit_step W t None).1) }
+    ensures work { work.new ≡ record work.old { settled = work.new.settled } }
     ensures told { OnOk result (StaysTold (D.state disk.old) (D.state disk.new)) }
     ensures cause { BlamesDisk (D.state disk.old).faults (D.state disk.new).faults result }
 {

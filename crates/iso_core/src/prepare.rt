@@ -26,19 +26,19 @@ pub(crate) fn spell_next(kept: &mut Kept, tx: u64, work: &Work) -> Result<(), Me
     Ok(())
 }
 
-/// Makes room for the versions of a record that fits the log and for its note, and copies what the transaction wrote: with
+/// Makes room for the versions of a record that fits the log and for its note, and takes over what the transaction wrote: with
 /// the record all the memory that a commit takes.
-pub(crate) fn prepare(kept: &mut Kept, tx: u64, work: &Work) -> Result<Touched, Memory>
-    requires transaction { (W : World) × (t : Live) × IsOf kept.old W × MayCommit W tx t work.now × IsSpelled W t kept.old }
+pub(crate) fn prepare(kept: &mut Kept, tx: u64, work: &mut Work) -> Result<Touched, Memory>
+    requires transaction { (W : World) × (t : Live) × IsOf kept.old W × MayCommit W tx t work.old × IsSpelled W t kept.old }
     requires fits { kept.old.log.used + length kept.old.buffer.records + 1 ≤ kept.old.log.room }
-    ensures prepared { (W : World) (t : Live) → IsOf kept.old W → MayCommit W tx t work.now → IsSpelled W t kept.old → IfOk result (λ writes. IsPrepared W t kept.new writes) }
+    ensures prepared { (W : World) (t : Live) → IsOf kept.old W → MayCommit W tx t work.old → IsSpelled W t kept.old → IfOk result (λ writes. IsPrepared W t kept.new writes) }
     ensures same { (W : World) → IsOf kept.old W → IsOf kept.new W }
     ensures rest { kept.new ≡ record kept.old { index = kept.new.index; notes = kept.new.notes } }
+    ensures work { work.new ≡ record work.old { settled = work.new.settled } }
 {
     let _ = tx;
     reserve_parts(&mut kept.index, kept.parts.as_slice())?;
     kept.notes.reserve()?;
-    let mut writes = kept.notes.spare_set();
-    writes.copy_from(work.writes())?;
-    Ok(writes)
+    let spare = kept.notes.spare_set();
+    Ok(work.take_writes(spare))
 }

@@ -1,18 +1,19 @@
 // A piece of the input, and the lines in it.
-ghost use Rattle.std.specs.Prelude.{◌≡◌, ℕ, ◌+◌, ◌^◌, ◌<◌, ◌≤◌, [], ◌∷◌, ◌++◌, List, length, IfErr, IfNone, IfSome, OnOk};
+ghost use Rattle.std.specs.Prelude.{◌≡◌, ℕ, ◌+◌, ◌^◌, ◌<◌, ◌≤◌, [], ◌∷◌, ◌++◌, List, length, IfErr, OnOk};
 ghost use Rattle.iso_io.specs.Sink.{SinkState};
 ghost use Rattle.script_model.specs.Script.{parse_whole};
 ghost use Rattle.iso_model.specs.World.{World};
 ghost use Rattle.script_text.specs.Parsing.{Gives};
 ghost use Rattle.script_runner.specs.{Lines.{EndsAt, Reads, end_of}, Run.HasNoFeed};
 
-use crate::feed::find_feed;
+use crate::feed::split_line;
 use crate::line::answer_parsed;
 use crate::machine::ScriptMachine;
 use crate::run_end::Halt;
 use iso_io::Sink;
+use iso_model::Bytes;
 use script_model::{LineError, Parsed};
-use script_text::{ReplyLine, parse_whole_line};
+use script_text::{ReplyLine, parse_whole_line_in};
 use std::alloc::Global;
 
 /// Where a run is in the input.
@@ -24,32 +25,28 @@ pub(crate) struct Progress {
     pub(crate) held: Vec<u8>,
     /// The line of the last reply.
     pub(crate) reply: ReplyLine,
-}
-
-/// The bytes before the first line feed, and what follows it. None where there is no line feed.
-fn split_line(text: &[u8]) -> Option<(&[u8], &[u8])>
-    ensures split { IfSome result (λ found. text.now ≡ found.0.now ++ 10 ∷ found.1.now) }
-    ensures line { IfSome result (λ found. HasNoFeed found.0.now) }
-    ensures none { IfNone result (HasNoFeed text.now) }
-{
-    let end = find_feed(text)?;
-    let (line, rest) = text.split_at(end);
-    Some((line, &rest[1..]))
+    /// The memory of the bytes of a put, for those of a later one.
+    pub(crate) spare: Bytes,
 }
 
 /// What a whole line says, whose front is held. Where it says something, nothing is held then.
 #[inline(always)]
-fn parse_held(alloc: Global, held: &mut Vec<u8>, line: &[u8]) -> Result<Parsed, LineError>
+fn parse_held(
+    alloc: Global,
+    held: &mut Vec<u8>,
+    spare: &mut Bytes,
+    line: &[u8],
+) -> Result<Parsed, LineError>
     ensures parsed { Gives result (parse_whole (held.old.items ++ line.now)) }
     ensures held { OnOk result (held.new.items ≡ []) }
 {
     if held.is_empty() {
-        return parse_whole_line(alloc, line);
+        return parse_whole_line_in(alloc, spare, line);
     }
     if let Err(_) = held.extend_from_slice(line) {
         return Err(LineError::Memory);
     }
-    let parsed = parse_whole_line(alloc, held);
+    let parsed = parse_whole_line_in(alloc, spare, held);
     held.clear();
     parsed
 }
@@ -76,10 +73,11 @@ fn answer_whole<M: ScriptMachine, K: Sink>(
         → IfErr result (λ halt. EndsAt (M.stands machine.new) (M.disk m) (M.disk machine.new) k (K.state output.new) W (bytes ++ (line.now ++ 10 ∷ []))
         (end_of halt)) }
 {
-    let parsed = parse_held(alloc, &mut progress.held, line);
+    let parsed = parse_held(alloc, &mut progress.held, &mut progress.spare, line);
     let answered = answer_parsed(
         progress.number,
         parsed,
+        &mut progress.spare,
         &mut progress.reply,
         machine,
         output,

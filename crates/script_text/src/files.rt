@@ -4,6 +4,7 @@ ghost use Rattle.script_model.specs.declared.script.Op.TheVariants as ops;
 ghost use Rattle.script_text.specs.{Parsing.{Gives, said_by}, Words.texts};
 
 use crate::argument::{hex, number, stored};
+use iso_model::Bytes;
 use script_model::{Line, LineError, Op, Parsed};
 use std::alloc::Global;
 
@@ -56,7 +57,8 @@ fn file_write(alloc: Global, client: u8, arguments: &[&[u8]]) -> Result<Parsed, 
     };
     let name = stored(alloc, name)?;
     let off = number(off)?;
-    let bytes = hex(alloc, bytes)?;
+    let mut none = Bytes::empty(alloc);
+    let bytes = hex(alloc, &mut none, bytes)?;
     Ok(Parsed::Line(Line {
         client,
         op: Op::FileWrite { name, off, bytes },

@@ -295,6 +295,20 @@ impl Work {
         &self.writes
     }
 
+    /// Hands over what the writes cover, for a set whose memory the work may use. The work has to be settled, and is no
+    /// more: what is touched is made anew where it is asked for. It takes no memory.
+    pub fn take_writes(&mut self, spare: Touched) -> Touched
+        requires { self.old.settled ≡ true }
+        ensures touched { AreTouched self.old.size self.old.blocks Write self.old.accesses result }
+        ensures work { self.new ≡ record self.old { settled = self.new.settled } }
+    {
+        let writes = std::mem::replace(&mut self.writes, spare);
+        self.writes.clear();
+        self.reads.clear();
+        self.folded = 0;
+        writes
+    }
+
     /// The written blocks, rising, each with its patch: together they are what the accesses write. The work has to be
     /// settled.
     pub fn patches(&self) -> PatchIter<'_>

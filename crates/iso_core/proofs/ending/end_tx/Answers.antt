@@ -1,4 +1,4 @@
-use Rattle.iso_core.proofs.{Words.{arith, ◌≡◌, ◌∙◌, ◌⊎◌, sym, ap, subst, IfOk, IfErr, None, true, clash, commit_step, CoreReply, has_write, end_step, World, Live, LeavesOnly, Disk, Refuses, reply_of, AreOf, IsCheckedOf, IsTx, IsWorkOf, MayCommit, up, ShowsEither}, Endings.{ends_by, ends_in_conflict, ends_read_only, left_so, may_commit}, Moments.stays_shown}
+use Rattle.iso_core.proofs.{Words.{arith, ◌≡◌, ◌∙◌, ◌⊎◌, sym, ap, subst, IfOk, IfErr, None, true, clash, commit_step, CoreReply, has_write, end_step, World, Live, LeavesOnly, Disk, Refuses, reply_of, AreOf, Doing, IsCheckedOf, IsTx, IsWorkOf, MayCommit, up, ShowsEither}, Endings.{ends_by, ends_in_conflict, ends_read_only, left_so, may_commit}, Moments.stays_shown}
 use Rattle.iso_core.proofs.ending.end_tx.Goals as goal
 
 pub leave-requires : goal.leave-requires
@@ -69,3 +69,6 @@ pub returns-clause-moments : goal.returns-clause-moments
 returns-clause-moments g c W t of here is_work is =
     subst (λ (x : CoreReply × World). LeavesOnly (g.D.Disk.state c.args.disk.now) (g.D.Disk.state c.commit.new.disk) (ShowsEither W x.1)) (step g c W t of here is_work is)
     (c.commit.ensures.moments W t of (may g c W t of here is_work is))
+
+pub returns-clause-work : goal.returns-clause-work
+returns-clause-work g c = c.commit.ensures.work ∙ ap (λ (w : Doing). record w { settled = c.commit.new.work.settled }) c.decide_end.ensures.same

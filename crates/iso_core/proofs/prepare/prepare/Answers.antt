@@ -20,8 +20,5 @@ reserve_parts-requires-clause-few c =
 pub returns-clause-prepared : goal.returns-clause-prepared
 returns-clause-prepared c W t of may spelled = grind (arith, touched_by)
 
-pub returns-in_err-copy_from-clause-same : goal.returns-in_err-copy_from-clause-same
-returns-in_err-copy_from-clause-same c W of = grind (arith, keeps_on)
-
 pub returns-clause-same : goal.returns-clause-same
 returns-clause-same c W of = grind (arith, keeps_on)
