@@ -7,11 +7,11 @@ abbrev pub small : Geometry
 small = record { block = 64; blocks = 4; log = 256; mode = Serial; hash = 0; tree = 0; form = 1 }
 
 -- a put in a transaction that began at a commit
-abbrev commit_put : (begin block off : ℕ) → List ℕ → Commit
+abbrev pub commit_put : (begin block off : ℕ) → List ℕ → Commit
 commit_put begin block off bytes = record { begin = begin; mode = Serial; accesses = put_access 64 block off bytes ∷ [] }
 
 -- a history of these commits on the small image
-abbrev history : List Commit → History
+abbrev pub history : List Commit → History
 history commits = record { first = 1; base = zeros 64 4; commits = commits }
 
 -- two answers as a pair

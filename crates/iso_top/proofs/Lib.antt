@@ -17,5 +17,6 @@ mod ClientsMet
 mod Plainly
 mod Statuses
 mod ListLaws
+mod Failures
 mod Counted
 mod OpenedRows

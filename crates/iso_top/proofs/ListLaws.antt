@@ -1,5 +1,5 @@
 -- What a run of clients says of images, of its history and of stores, from its record.
-use Rattle.iso_top.proofs.Words.{inl, inr, ℕ, ◌<◌, List, [], ◌++◌, Option, Some, None, refl, sym, subst, arith, AllByRecursion, DiskState, SinkState, SourceState, Commit, last, with_commits, Shows, ShowsBetween, World, Entry, Start, State, start_at, state_at, whole, with_lost, ShowsFrom, Grows, behind_it, between_grown, histories_grow, last_longer, told_shown, CommitsUpTo, image_opens, Part, Told, SecondStore, BeginsWell, CallsAnswer, Event, IsTrace, the_tree, the_files, HasRunClients, PrintedClients, ShowsBehind, WereRun, AnswerInOneOrder, GoesOnIsolated, HasCommitsOf, OpensFrom, PrintsClients, PrintsClientsFront, disk_fault_text, TellsNamed, shows_last, Line, IsOutput, Printed, WasCut, ◌≡◌}
+use Rattle.iso_top.proofs.Words.{inl, inr, ℕ, ◌<◌, List, [], ◌++◌, Option, Some, None, refl, sym, subst, arith, AllByRecursion, DiskState, SinkState, SourceState, Commit, last, with_commits, Shows, ShowsBetween, World, Entry, Start, State, start_at, state_at, whole, with_lost, ShowsFrom, Grows, behind_it, between_grown, histories_grow, last_longer, told_shown, CommitsUpTo, image_opens, Part, Told, SecondStore, BeginsWell, CallsAnswer, Event, IsTrace, the_tree, the_files, HasRunClients, PrintedClients, ShowsBehind, WereRun, AnswerInOneOrder, GoesOnIsolated, HasCommitsOf, OpensFrom, PrintsClients, PrintsClientsFront, disk_fault_text, TellsNamed, shows_last, Line, IsFront, IsOutput, Printed, PrintsSomeOfClients, WasCut, memory_text, ◌≡◌, ◌⊎◌}
 use Rattle.iso_top.proofs.Results.{some_of}
 
 -- an image that shows a history at a commit opens to it there
@@ -79,6 +79,15 @@ cut_text n parts old new seven (text, inr (inl (is, none, output, cut))) = (text
 cut_text n parts old new seven (text, inr (inr (inl (is, stop, output, put)))) = absurd (omega (arith, is, seven))
 cut_text n parts old new seven (text, inr (inr (inr (is, all, put)))) = absurd (omega (arith, is, seven))
 
+-- a whole text, or first lines of one
+memory_text_of : (n : ℕ) (parts : List Part) (old new : SinkState) → n ≡ 8 → PrintedClients n parts old new
+    → (text : List ℕ) × (IsOutput parts text ⊎ IsFront parts text) × Printed old new (text ++ memory_text)
+memory_text_of n parts old new eight (text, inl (is, none, output, put)) = absurd (omega (arith, is, eight))
+memory_text_of n parts old new eight (text, inr (inl (is, none, output, put))) = absurd (omega (arith, is, eight))
+memory_text_of n parts old new eight (text, inr (inr (inl (is, stop, output, put)))) = absurd (omega (arith, is, eight))
+memory_text_of n parts old new eight (text, inr (inr (inr (is, inl (stop, output), put)))) = (text, inl output, put)
+memory_text_of n parts old new eight (text, inr (inr (inr (is, inr front, put)))) = (text, inr front, put)
+
 failed_so : (A : Start) (lines : List (ℕ × Line)) (entries : List Entry) (n : ℕ) (old new : SinkState) → n ≡ 5 → WereRun A lines entries n old new → PrintsClients A lines entries disk_fault_text old new
 failed_so A lines entries n old new five (inl (parts, told, printed)) =
     let (text, output, put) = failed_text n parts old new five printed in
@@ -91,7 +100,18 @@ cut_so A lines entries n old new seven (inl (parts, told, printed)) =
     record { parts = parts; told = told; text = text; whole = output; cut = cut }
 cut_so A lines entries n old new seven (inr (none, is, printed)) = absurd (omega (arith, is, seven))
 
+wanted_so : (A : Start) (lines : List (ℕ × Line)) (entries : List Entry) (n : ℕ) (old new : SinkState) → n ≡ 8 → WereRun A lines entries n old new
+    → PrintsSomeOfClients A lines entries memory_text old new ⊎ ((entries ≡ []) × Printed old new memory_text)
+wanted_so A lines entries n old new eight (inl (parts, told, printed)) =
+    let (text, front, put) = memory_text_of n parts old new eight printed in
+    inl (record { parts = parts; told = told; text = text; front = front; prints = put })
+wanted_so A lines entries n old new eight (inr (none, is, printed)) = inr (none, printed)
+
 module _ {D : Type 0} (state : D → DiskState) (name : List ℕ) (old new : D) (input_old input_new : SourceState) (output_old output_new : SinkState) where
+  pub clients_wanted : (r : HasRunClients state name 8 old new input_old input_new output_old output_new)
+      → PrintsSomeOfClients (start_at r.world (state r.start)) r.lines r.entries memory_text output_old output_new ⊎ ((r.entries ≡ []) × Printed output_old output_new memory_text)
+  clients_wanted r = wanted_so (start_at r.world (state r.start)) r.lines r.entries 8 output_old output_new refl r.ran
+
   pub clients_failed : (r : HasRunClients state name 5 old new input_old input_new output_old output_new) → PrintsClients (start_at r.world (state r.start)) r.lines r.entries disk_fault_text output_old output_new
   clients_failed r = failed_so (start_at r.world (state r.start)) r.lines r.entries 5 output_old output_new refl r.ran
 

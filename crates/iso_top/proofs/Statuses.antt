@@ -19,11 +19,11 @@ four_is_no_end end.Done is = cc is
 four_is_no_end e is = cc is
 
 -- why a call was not begun
-five_unbegun : (e : OpenError) → 5 ≡ error_status e → e ≡ error.Disk
+pub five_unbegun : (e : OpenError) → 5 ≡ error_status e → e ≡ error.Disk
 five_unbegun error.Disk is = refl
 five_unbegun e is = cc is
 
-eight_unbegun : (e : OpenError) → 8 ≡ error_status e → e ≡ error.Memory
+pub eight_unbegun : (e : OpenError) → 8 ≡ error_status e → e ≡ error.Memory
 eight_unbegun error.Memory is = refl
 eight_unbegun e is = cc is
 
@@ -40,7 +40,7 @@ six_is_begun : (e : OpenError) → 6 ≡ error_status e → ⊥
 six_is_begun error.NotIsotope is = cc is
 six_is_begun e is = cc is
 
-seven_is_begun : (e : OpenError) → 7 ≡ error_status e → ⊥
+pub seven_is_begun : (e : OpenError) → 7 ≡ error_status e → ⊥
 seven_is_begun error.NotIsotope is = cc is
 seven_is_begun e is = cc is
 
@@ -142,7 +142,7 @@ module _ {D : Type 0} (state : D → DiskState) (name : List ℕ) (old new : D) 
       record { geometry = opens.geometry; generation = opens.generation; history = opens.history; holds = opens.told.image image named; is = subst P opens.world_is is }
 
   -- where no line of the clients was run, nothing was written
-  none_written : {e : ScriptError} → HasRunNone name e (state old) (state new) input_old input_new output_old output_new → (image : List ℕ) → (state old).named name ≡ Some image
+  pub none_written : {e : ScriptError} → HasRunNone name e (state old) (state new) input_old input_new output_old output_new → (image : List ℕ) → (state old).named name ≡ Some image
       → SinceBind (state new) (λ c. c ≡ image)
   none_written r image named moment is c left = r.unwritten moment is c left image named
 

@@ -1,6 +1,6 @@
 -- The words that the proofs of this crate cite from elsewhere.
 pub use Rattle.std.{proofs.Common.{Bool, Err, IfOk, IfSome, IsErrOf, IsSome, IsTrue, List, None, Ok, Option, Result, Some, ap, append-nil, append_assoc, arith, cond, drop, false, filter, inl, inr, length, length-append, refl, subst, suc, sym, take, true, ℕ, [], ⊎_elim, ◌*◌, ◌++◌, ◌+◌, ◌-◌, ◌<◌, ◌==◌, ◌||◌, ◌∙◌, ◌∷◌, ◌≡◌, ◌≢◌, ◌≤◌, ◌⊎◌}, proofs.Math.Seq.take-append-add, proofs.lemmas.List.take-append-drop, proofs.lemmas.Option.same_Some, specs.Io.KnownBytes.append_known, specs.List.{AllByRecursion, list_any}, specs.Option.ForSome, specs.Prelude.{codes, option_map}}
-pub use Rattle.iso_top.specs.{Begun.{HasCore, HasNoCore}, Clients.{HasRunClients, HasRunNone, PrintedClients, ShowsBehind, ShowsState, WereRun}, Founded.BeginsWith, Outcome.{HasAnswered, HasBegun, HasBenched, HasDone, HasMet, HasNotBegun, HasRecovered, IsAccepted, IsGoodInput, IsStatus, PrintedBench, PrintedDigest, PrintedEnd, PrintedLine, PrintedResult, summary_of}, Plain.{AnswerInOneOrder, GoesOnIsolated, HasCommitsOf, NamesBadLine, NamesRefusal, OfItsWorld, OpensFrom, PrintsButShown, PrintsButShownOf, PrintsClients, PrintsClientsFront, PrintsCounts, PrintsDigestOf, PrintsFirst, PrintsFront, PrintsReplies, PrintsRepliesOf, PrintsWholeLines}, Prints.{Printed, SinkFailed, WasCut, WroteWhole}, Ran.{HasClosed, HasRunLines, PutOf}, Starts.{GoesOnTelling, IsUntouched, MayBeUnmade, OpensTo, TellsNamed, WasBoundOnce}, Texts.{bad_line_text, bench_text_of, disk_fault_text, end_status, end_text, error_status, error_text, input_fault_text, memory_text, recover_text, script_error_status, script_error_text}, contracts.opened.Opened.the_row, contracts.opened.world_of.{clauses, ended}, contracts.opened.world_of.Key.{name as #self}, declared.digest.DigestError.DigestError, declared.opened.Opened.Opened}
+pub use Rattle.iso_top.specs.{Begun.{HasCore, HasNoCore}, Clients.{HasRunClients, HasRunNone, PrintedClients, ShowsBehind, ShowsState, WereRun}, Founded.BeginsWith, Outcome.{HasAnswered, HasBegun, HasBenched, HasDone, HasMet, HasNotBegun, HasRecovered, IsAccepted, IsGoodInput, IsStatus, PrintedBench, PrintedDigest, PrintedEnd, PrintedLine, PrintedResult, summary_of}, Plain.{AnswerInOneOrder, GoesOnIsolated, HasCommitsOf, NamesBadLine, NamesRefusal, OfItsWorld, OpensFrom, PrintsButShown, PrintsButShownOf, PrintsClients, PrintsClientsFront, PrintsCounts, PrintsDigestOf, PrintsFirst, PrintsFront, PrintsReplies, PrintsRepliesOf, PrintsSomeOfClients, PrintsWholeLines}, Prints.{Printed, SinkFailed, WasCut, WroteWhole}, Ran.{HasClosed, HasRunLines, PutOf}, Starts.{GoesOnTelling, IsUntouched, MayBeUnmade, OpensTo, TellsNamed, WasBoundOnce}, Texts.{bad_line_text, bench_text_of, disk_fault_text, end_status, end_text, error_status, error_text, input_fault_text, memory_text, recover_text, script_error_status, script_error_text}, contracts.opened.Opened.the_row, contracts.opened.world_of.{clauses, ended}, contracts.opened.world_of.Key.{name as #self}, declared.digest.DigestError.DigestError, declared.opened.Opened.Opened}
 pub use Rattle.bench_script.specs.{Ends.{DigestedState, DrawnState, digested_state, drawn_state}, Rounds.one_places}
 pub use Rattle.command_line.specs.{Requests.made_geometry, declared.task.Task.Task, declared.task.Task.TheVariants.{Bench, New, Par, Recover, Run}}
 pub use Rattle.counts.specs.Count.{Rose}

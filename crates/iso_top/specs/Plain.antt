@@ -1,5 +1,5 @@
 -- What the promise of a call means to a reader who knows images and texts alone.
-use Rattle.std.specs.{Prelude.{◌≡◌, ℕ, ◌-◌, ◌*◌, ◌≤◌, List, ◌++◌, Option, None, Some}, List.AllByRecursion}
+use Rattle.std.specs.{Prelude.{◌≡◌, ◌⊎◌, ℕ, ◌-◌, ◌*◌, ◌≤◌, List, ◌++◌, Option, None, Some}, List.AllByRecursion}
 use Rattle.bench_script.specs.Rounds.{one_places}
 use Rattle.iso_disk.specs.Disk.{DiskState, IsBoundTo, SinceBind}
 use Rattle.iso_io.specs.{Sink.{SinkState, Wrote}, Source.{SourceState, Took}}
@@ -7,7 +7,7 @@ use Rattle.iso_model.specs.{declared.access.Geometry.Geometry, History.{History,
 use Rattle.iso_image.specs.{declared.open_error.OpenError.OpenError, Refusal.{opened, refusal}}
 use Rattle.iso_shared.specs.{declared.entry.Entry.Entry, Plain.CommitsUpTo, States.Start}
 use Rattle.par_calls.specs.{InOrder.{AreInOrder, CommitsKeep}, Trace.{Event, IsTrace}}
-use Rattle.par_script.specs.{Output.IsOutput, Told.Told, declared.part.Part.Part}
+use Rattle.par_script.specs.{Output.{IsFront, IsOutput}, Told.Told, declared.part.Part.Part}
 use Rattle.script_model.specs.{declared.script.BadLine.BadLine, declared.script.Line.Line, declared.script.Reply.Reply, Bench.{answers_to, recover_output}, Script.{replies, script}}
 use Rattle.script_runner.specs.{Replies.{AreSameButShown, text_of}, Run.AreWholeLines}
 use Rattle.store_scripts.specs.Stores.{SecondStore}
@@ -116,6 +116,15 @@ pub record PrintsClients (A : Start) (lines : List (ℕ × Line)) (entries : Lis
   pub told : Told A lines parts entries
   pub text : List ℕ
   pub whole : IsOutput parts text
+  pub prints : Printed old new (text ++ line)
+
+-- What was put is the text of what the clients were told by this list, or, where no memory was left for it, first lines of that text,
+-- and then this line; or, only where the sink failed, a front of that.
+pub record PrintsSomeOfClients (A : Start) (lines : List (ℕ × Line)) (entries : List Entry) (line : List ℕ) (old new : SinkState) : Type 0 where
+  pub parts : List Part
+  pub told : Told A lines parts entries
+  pub text : List ℕ
+  pub front : IsOutput parts text ⊎ IsFront parts text
   pub prints : Printed old new (text ++ line)
 
 -- the sink failed, and what it took is a front of the text of what the clients were told by this list

@@ -11,9 +11,9 @@ ghost use Rattle.iso_recover.specs.Made.{IsUnmadeOrEmpty};
 ghost use Rattle.iso_shared.specs.{Standing.start_at, States.state_at};
 ghost use Rattle.par_script.specs.{Told.Told, declared.part.Part.Part};
 ghost use Rattle.store_scripts.specs.{Kept.BeginsWell, Stores.{the_files, the_tree}};
-ghost use Rattle.iso_top.specs.{Clients.HasRunClients, Outcome.{HasAnswered, HasMet, HasNotBegun}, Plain.{AnswerInOneOrder, GoesOnIsolated, HasCommitsOf, NamesBadLine, NamesRefusal, OfItsWorld, OpensFrom, PrintsButShown, PrintsButShownOf, PrintsClients, PrintsClientsFront, PrintsCounts, PrintsDigestOf, PrintsFirst, PrintsFront, PrintsReplies, PrintsRepliesOf, PrintsWholeLines}, Prints.Printed, Starts.{MayBeUnmade, TellsNamed}, Texts.{disk_fault_text, input_fault_text, memory_text}};
+ghost use Rattle.iso_top.specs.{Clients.HasRunClients, Outcome.{HasAnswered, HasMet, HasNotBegun}, Plain.{AnswerInOneOrder, GoesOnIsolated, HasCommitsOf, NamesBadLine, NamesRefusal, OfItsWorld, OpensFrom, PrintsButShown, PrintsButShownOf, PrintsClients, PrintsClientsFront, PrintsCounts, PrintsDigestOf, PrintsFirst, PrintsFront, PrintsReplies, PrintsRepliesOf, PrintsSomeOfClients, PrintsWholeLines}, Prints.{Printed, WasCut}, Starts.{MayBeUnmade, TellsNamed}, Texts.{disk_fault_text, input_fault_text, memory_text}};
 ghost use Rattle.script_runner.specs.{declared.run_end.RunEnd.RunEnd, Replies.TellsCommit, Run.Acknowledges, Told.ArePlain};
-ghost use Rattle.script_model.specs.Script.{replies, script};
+ghost use Rattle.script_model.specs.{Bench.{bench_output, recover_output}, Script.{replies, script}};
 
 use bench_script::laws::{
     commits_are_twice_the_rounds_less_the_conflicts, drawn_scripts_are_good,
@@ -116,7 +116,8 @@ pub fn the_refusal_was_named<I: Image>(_image: &I)
 
 /// Status 5 of `new` and `run`, where what the name names is known, and the bytes of the source: what was put is the replies to some
 /// first lines of the script and then the line that tells of the fault. Of an image that was not opened no line was answered. Of
-/// clients that were run, on any disk: the whole text of what they were told, and then that line.
+/// clients that were run, on any disk: the whole text of what they were told, and then that line (`clients`). Where `par` has run
+/// none, that line was put and nothing was written (`unrun`).
 pub fn the_disk_fault_was_told<I: Image>(_image: &I)
     ensures made { (g : Geometry) (name all : List ℕ) (old new : I) (input_old input_new : SourceState) (output_old output_new : SinkState)
         → HasMet I.state (New g) name 5 old new input_old input_new output_old output_new → TellsNamed name (I.state old) → input_old.rest ≡ Some all
@@ -127,6 +128,10 @@ pub fn the_disk_fault_was_told<I: Image>(_image: &I)
     ensures clients { (name : List ℕ) (old new : I) (input_old input_new : SourceState) (output_old output_new : SinkState)
         → (r : HasRunClients I.state name 5 old new input_old input_new output_old output_new)
         → PrintsClients (start_at r.world (I.state r.start)) r.lines r.entries disk_fault_text output_old output_new }
+    ensures unrun { (name image : List ℕ) (old new : I) (input_old input_new : SourceState) (output_old output_new : SinkState)
+        → HasMet I.state Par name 5 old new input_old input_new output_old output_new → (I.state old).named name ≡ Some image
+        → (Printed output_old output_new disk_fault_text × SinceBind (I.state new) (λ c. c ≡ image))
+        ⊎ HasRunClients I.state name 5 old new input_old input_new output_old output_new }
 {}
 
 /// Status 6, where what the name names is known: the source gave some bytes and failed. Of `new` and `run` what was put is the replies to
@@ -158,7 +163,9 @@ pub fn the_replies_were_cut<I: Image>(_image: &I)
 {}
 
 /// Status 8 of `new` and `run`, where what the name names is known, and the bytes of the source: what was put is the replies to some
-/// first lines of the script and then the line that tells of want of memory. Of an image that was not opened no line was answered.
+/// first lines of the script and then the line that tells of want of memory. Of an image that was not opened no line was answered. Of
+/// clients that were run, on any disk: the text of what they were told, or first lines of it, and then that line; or that line alone,
+/// and no line of theirs was answered (`clients`). Where `par` has run none, that line was put and nothing was written (`unrun`).
 pub fn the_want_of_memory_was_told<I: Image>(_image: &I)
     ensures made { (g : Geometry) (name all : List ℕ) (old new : I) (input_old input_new : SourceState) (output_old output_new : SinkState)
         → HasMet I.state (New g) name 8 old new input_old input_new output_old output_new → TellsNamed name (I.state old) → input_old.rest ≡ Some all
@@ -166,6 +173,46 @@ pub fn the_want_of_memory_was_told<I: Image>(_image: &I)
     ensures given { (name all image : List ℕ) (old new : I) (input_old input_new : SourceState) (output_old output_new : SinkState)
         → HasMet I.state Run name 8 old new input_old input_new output_old output_new → (I.state old).named name ≡ Some image → input_old.rest ≡ Some all
         → Printed output_old output_new memory_text ⊎ OfItsWorld image (λ W. PrintsFirst W all memory_text output_old output_new) }
+    ensures clients { (name : List ℕ) (old new : I) (input_old input_new : SourceState) (output_old output_new : SinkState)
+        → (r : HasRunClients I.state name 8 old new input_old input_new output_old output_new)
+        → PrintsSomeOfClients (start_at r.world (I.state r.start)) r.lines r.entries memory_text output_old output_new
+        ⊎ ((r.entries ≡ []) × Printed output_old output_new memory_text) }
+    ensures unrun { (name image : List ℕ) (old new : I) (input_old input_new : SourceState) (output_old output_new : SinkState)
+        → HasMet I.state Par name 8 old new input_old input_new output_old output_new → (I.state old).named name ≡ Some image
+        → (Printed output_old output_new memory_text × SinceBind (I.state new) (λ c. c ≡ image))
+        ⊎ HasRunClients I.state name 8 old new input_old input_new output_old output_new }
+{}
+
+/// Statuses 5, 7 and 8 of `recover`: with 5 the line that tells of the fault of the disk was put, and with 8 the line that tells of want
+/// of memory. With 7 the sink failed, and it took a front of the line that status 0 puts, where what the name names is known (`cut`).
+/// Whatever the status, the input was not read, and no image that a crash might have left since the bind is another one than the image
+/// as given (`unwritten`).
+pub fn the_digest_was_not_printed<I: Image>(_image: &I)
+    ensures disk { (name : List ℕ) (old new : I) (input_old input_new : SourceState) (output_old output_new : SinkState)
+        → HasMet I.state Recover name 5 old new input_old input_new output_old output_new → Printed output_old output_new disk_fault_text }
+    ensures cut { (name image : List ℕ) (old new : I) (input_old input_new : SourceState) (output_old output_new : SinkState)
+        → HasMet I.state Recover name 7 old new input_old input_new output_old output_new → (I.state old).named name ≡ Some image
+        → OfItsWorld image (λ W. WasCut output_old output_new (recover_output W.history)) }
+    ensures memory { (name : List ℕ) (old new : I) (input_old input_new : SourceState) (output_old output_new : SinkState)
+        → HasMet I.state Recover name 8 old new input_old input_new output_old output_new → Printed output_old output_new memory_text }
+    ensures unwritten { (name image : List ℕ) (status : ℕ) (old new : I) (input_old input_new : SourceState) (output_old output_new : SinkState)
+        → HasMet I.state Recover name status old new input_old input_new output_old output_new → (I.state old).named name ≡ Some image
+        → (input_new ≡ input_old) × SinceBind (I.state new) (λ c. c ≡ image) }
+{}
+
+/// Statuses 5, 7 and 8 of `bench`: with 5 the line that tells of the fault of the disk was put, and with 8 the line that tells of want
+/// of memory. With 7 the sink failed, and it took a front of the model's line, where what the name names is known (`cut`). Whatever the
+/// status, the input was not read (`unread`).
+pub fn the_counts_were_not_printed<I: Image>(_image: &I)
+    ensures disk { (seed count : ℕ) (name : List ℕ) (old new : I) (input_old input_new : SourceState) (output_old output_new : SinkState)
+        → HasMet I.state (Bench seed count) name 5 old new input_old input_new output_old output_new → Printed output_old output_new disk_fault_text }
+    ensures cut { (seed count : ℕ) (name : List ℕ) (old new : I) (input_old input_new : SourceState) (output_old output_new : SinkState)
+        → HasMet I.state (Bench seed count) name 7 old new input_old input_new output_old output_new → TellsNamed name (I.state old)
+        → WasCut output_old output_new (bench_output seed count) }
+    ensures memory { (seed count : ℕ) (name : List ℕ) (old new : I) (input_old input_new : SourceState) (output_old output_new : SinkState)
+        → HasMet I.state (Bench seed count) name 8 old new input_old input_new output_old output_new → Printed output_old output_new memory_text }
+    ensures unread { (seed count status : ℕ) (name : List ℕ) (old new : I) (input_old input_new : SourceState) (output_old output_new : SinkState)
+        → HasMet I.state (Bench seed count) name status old new input_old input_new output_old output_new → input_new ≡ input_old }
 {}
 
 /// What clients that ran concurrently have made: each image that a crash leaves when `par` has ended, where it told what its name names,

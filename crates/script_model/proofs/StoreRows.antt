@@ -1,5 +1,5 @@
 -- Worked examples of the stores' operations.
-use Rattle.script_model.proofs.{Words.{◌≡◌, [], ◌∷◌, refl, codes, digits, Geometry, Serial, begin_step, commit_step, end_step, switch_step, compress, digest_bytes, first_words, hash_after, rounds, schedule, sha256, bucket_of, is_linked, Pairs, put, clash, runs, walk, get_program, put_program, operation_of, other_operation, store_operation, tree_operation, step, store_step, hash_put_step, hash_get_step, hash_delete_step, tree_put_step, tree_get_step, tree_delete_step, tree_scan_step, scan_program, words_of, number_of, hex_of, reply_text}, Small.{small, made, text, answers}}
+use Rattle.script_model.proofs.{Words.{◌≡◌, [], ◌∷◌, refl, codes, digits, Geometry, Serial, Snapshot, begin_step, commit_step, end_step, switch_step, compress, digest_bytes, first_words, hash_after, rounds, schedule, sha256, bucket_of, is_linked, Pairs, put, clash, runs, walk, get_program, put_program, operation_of, other_operation, store_operation, tree_operation, file_operation, file_read_step, step, store_step, hash_put_step, hash_get_step, hash_delete_step, tree_put_step, tree_get_step, tree_delete_step, tree_scan_step, scan_program, words_of, number_of, hex_of, reply_text}, Small.{small, made, text, answers}}
 use Rattle.store_model.specs.TreeCalls as tree
 
 -- eight blocks, of which the first three are a hash store
@@ -25,6 +25,13 @@ pub snapshot_transactions_have_no_store :
     ≡ text (codes "1 ok upgrade 0" ∷ codes "1 ok begin 0" ∷ codes "1 store-mode" ∷ codes "1 store-mode" ∷ codes "1 store-mode" ∷ [])
 unfolding put clash runs operation_of other_operation store_operation step begin_step switch_step hash_put_step hash_get_step hash_delete_step words_of number_of hex_of reply_text digits
 snapshot_transactions_have_no_store = refl
+
+-- Whether there is a store is tested before the mode of the transaction: a snapshot image has neither stores nor files.
+pub snapshot_images_have_no_store :
+    answers (made (record small { mode = Snapshot })) (codes "1 begin" ∷ codes "1 hget 61" ∷ codes "1 hput - 31" ∷ codes "1 tdel 61" ∷ codes "1 tscan 61 - 0" ∷ codes "1 fread 61 0 1" ∷ [])
+    ≡ text (codes "1 ok begin 0" ∷ codes "1 no-store" ∷ codes "1 no-store" ∷ codes "1 no-store" ∷ codes "1 no-store" ∷ codes "1 no-store" ∷ [])
+unfolding put clash runs operation_of other_operation store_operation tree_operation file_operation step begin_step hash_put_step hash_get_step tree_delete_step tree_scan_step file_read_step words_of number_of hex_of reply_text digits
+snapshot_images_have_no_store = refl
 
 -- eight blocks, of which the first three are a tree store
 abbrev trees : Geometry

@@ -1,5 +1,6 @@
 use Rattle.iso_top.proofs.ListLaws.{clients_failed}
 use Rattle.iso_top.proofs.Statuses.{fault_of_new, fault_of_run}
+use Rattle.iso_top.proofs.Failures.{unrun_failed}
 
 pub returns-clause-made : Rattle.iso_top.proofs.laws.the_disk_fault_was_told.Goals.returns-clause-made
 returns-clause-made g c = λ geometry name all old new input_old input_new output_old output_new. fault_of_new g.I.Disk.state name old new input_old input_new output_old output_new geometry all
@@ -9,3 +10,6 @@ returns-clause-given g c = λ name all image old new input_old input_new output_
 
 pub returns-clause-clients : Rattle.iso_top.proofs.laws.the_disk_fault_was_told.Goals.returns-clause-clients
 returns-clause-clients g c = λ name old new input_old input_new output_old output_new. clients_failed g.I.Disk.state name old new input_old input_new output_old output_new
+
+pub returns-clause-unrun : Rattle.iso_top.proofs.laws.the_disk_fault_was_told.Goals.returns-clause-unrun
+returns-clause-unrun g c = λ name image old new input_old input_new output_old output_new. unrun_failed g.I.Disk.state name old new input_old input_new output_old output_new image
