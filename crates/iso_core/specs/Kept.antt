@@ -1,5 +1,5 @@
 -- What a core keeps in memory, and of which world it is.
-use Rattle.std.specs.Prelude.{◌≡◌, ℕ, ◌+◌, ◌≤◌, [], map}
+use Rattle.std.specs.{Prelude.{◌≡◌, ℕ, ◌+◌, ◌<◌, ◌≤◌, [], map}, List.AllByRecursion}
 use Rattle.conflict_rule.specs.{Decision.AreNotesAfter, Notes.Held}
 use Rattle.iso_image.specs.Half.{half_of_world}
 use Rattle.iso_log.specs.Extent.{extent_of}
@@ -17,6 +17,10 @@ pub record NotesSince (W : World) (held : Held) : Type 0 where
   pub from : ℕ
   pub before : from ≤ floor W
   pub notes : AreNotesAfter W.geometry W.history from held.notes
+
+-- no note is kept that no live transaction needs any more: each is of a commit above the floor
+abbrev pub AreNeeded : World → Held → Type 0
+AreNeeded W held = AllByRecursion (λ note. floor W < note.0) held.notes
 
 -- what is kept is the world's, but for the accesses and the places of its transactions
 pub record Keeps (kept : Kept) (W : World) : Type 0 where

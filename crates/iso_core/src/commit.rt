@@ -3,7 +3,7 @@ ghost use Rattle.std.specs.Prelude.{◌≡◌, ◌≢◌, ◌⊎◌, ◌+◌, �
 ghost use Rattle.iso_disk.specs.Disk.{LeavesOnly, StaysTold};
 ghost use Rattle.iso_model.specs.{declared.limits.TheConstants.LAST, History.last, Step.{after_commit, after_leaving, commit_step, commit_from}, World.{World, Live}};
 ghost use Rattle.iso_model.specs.declared.core_reply.CoreReply.TheVariants as reply;
-ghost use Rattle.iso_core.specs.{Calls.{BlamesDisk, Refuses, Writes, reply_of}, Core.AreOf, Ends.{IsGrownBy, MayCommit}, Kept.IsOf, Standing.{up, down}};
+ghost use Rattle.iso_core.specs.{Calls.{BlamesDisk, Refuses, Writes, reply_of}, Core.AreOf, Ends.{IsGrownBy, MayCommit}, Kept.{AreNeeded, IsOf}, Standing.{up, down}};
 ghost use Rattle.iso_model.specs.Between.{ShowsEither};
 
 use crate::append::append;
@@ -20,6 +20,7 @@ use version_read::add_parts;
 fn take_in(kept: &mut Kept, tx: u64, gate: u64, writes: Touched)
     requires { (W : World) × (t : Live) × IsGrownBy W tx t kept.old gate writes }
     ensures committed { (W : World) (t : Live) → IsGrownBy W tx t kept.old gate writes → IsOf kept.new (after_commit W t) }
+    ensures needed { (W : World) (t : Live) → IsGrownBy W tx t kept.old gate writes → AreNeeded (after_commit W t) kept.new.notes }
     ensures half { kept.new.half ≡ kept.old.half }
     ensures down { kept.new.down ≡ kept.old.down }
 {

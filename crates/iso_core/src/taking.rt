@@ -4,7 +4,7 @@ ghost use Rattle.iso_image.specs.Half.{Half};
 ghost use Rattle.iso_model.specs.{declared.access.Commit.Commit, declared.access.Geometry.Geometry, Geometry.log_place, Image.written, World.{World, Live}, Group.{ahead, leave_all}};
 ghost use Rattle.mv_index.specs.Placed.{IsIndexOf};
 ghost use Rattle.version_read.specs.Parts.{HasRoom};
-ghost use Rattle.iso_core.specs.{Kept.IsOf, Planned.{AreEach, IsAhead, IsGrownWith, IsReady, IsReserved, MayTakeAll}};
+ghost use Rattle.iso_core.specs.{Kept.{AreNeeded, IsOf}, Planned.{AreEach, IsAhead, IsGrownWith, IsReady, IsReserved, MayTakeAll}};
 
 use crate::group_end::GroupEnd;
 use crate::judge::first_member;
@@ -124,6 +124,7 @@ fn leave_all(kept: &mut Kept, group: &[GroupEnd])
 fn drop_notes(kept: &mut Kept)
     requires { (W : World) × IsOf kept.old W }
     ensures dropped { (W : World) → IsOf kept.old W → IsOf kept.new W }
+    ensures needed { (W : World) → IsOf kept.old W → AreNeeded W kept.new.notes }
     ensures half { kept.new.half ≡ kept.old.half }
     ensures down { kept.new.down ≡ kept.old.down }
 {
@@ -135,6 +136,7 @@ fn drop_notes(kept: &mut Kept)
 pub(crate) fn leave_members(kept: &mut Kept, group: &[GroupEnd])
     requires { (W : World) × (members : List Live) × IsOf kept.old W × AreEach (IsReady W) group.now members }
     ensures left { (W : World) (members : List Live) → IsOf kept.old W → AreEach (IsReady W) group.now members → IsOf kept.new (leave_all members W) }
+    ensures needed { (W : World) (members : List Live) → IsOf kept.old W → AreEach (IsReady W) group.now members → AreNeeded (leave_all members W) kept.new.notes }
     ensures half { kept.new.half ≡ kept.old.half }
     ensures down { kept.new.down ≡ kept.old.down }
 {
