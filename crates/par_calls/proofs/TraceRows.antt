@@ -114,6 +114,10 @@ each_commit = (refl, (tt, (refl, tt)))
 not_of_another_commit : EachCommit {T = ℕ} (λ k told. k ≡ told) three_ends (2 ∷ 3 ∷ 0 ∷ []) → ⊥
 not_of_another_commit each = cc (each.1.1.0)
 
+-- nor is one left out for which nothing is told
+no_commit_is_left_out : EachCommit {T = ℕ} (λ k told. k ≡ told) (ended 7 (member.Committed 2) ∷ []) [] → ⊥
+no_commit_is_left_out each = each
+
 each_read : EachBare {T = ℕ} (λ n told. n ≡ told) three_ends (0 ∷ 8 ∷ 0 ∷ [])
 each_read = (tt, (refl, (tt, tt)))
 
