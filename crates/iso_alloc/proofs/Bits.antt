@@ -1,5 +1,5 @@
 -- The bits of a map of which one was set or cleared.
-use Rattle.iso_alloc.proofs.Words.{◌≡◌, ◌≢◌, ◌∙◌, sym, refl, ap, ℕ, ◌+◌, ◌/◌, ◌%◌, ◌^◌, ◌<◌, Bool, true, false, ◌&&◌, ◌||◌, ◌==◌, not, List, length, get_or, max, min, arith, inl, inr, eq-eqb, ne_eqb, bit_and, bit_at, cases_eq, get_or-set_same, get_or-set_other, bit_at_or, bit_at_xor, bit_at_and, bit_at-pow_same, bit_at-pow_other, bit_at-lt, bit_place, map_bit, set_bit, clear_bit, with_bit, without_bit}
+use Rattle.iso_alloc.proofs.Words.{◌≡◌, ◌≢◌, ◌⊎◌, ◌∙◌, sym, refl, ap, ℕ, zero, suc, ◌+◌, ◌-◌, ◌/◌, ◌%◌, ◌^◌, ◌<◌, ◌≤◌, Bool, true, false, ◌&&◌, ◌||◌, ◌==◌, not, List, length, get_or, max, min, arith, inl, inr, eq-eqb, ne_eqb, bit_and, bit_at, cases_eq, get_or-set_same, get_or-set_other, bit_at_or, bit_at_xor, bit_at_and, bit_at-pow_same, bit_at-pow_other, bit_at-lt, bit_place, map_bit, set_bit, clear_bit, with_bit, without_bit}
 
 set_here : (byte k : ℕ) → bit_at (set_bit byte k) (k % 8) ≡ 1
 set_here byte k = let low = bit_at-lt byte (k % 8) in bit_at_or byte (2 ^ (k % 8)) (k % 8) ∙ ap (max (bit_at byte (k % 8))) (bit_at-pow_same (k % 8)) ∙ omega arith
@@ -18,6 +18,40 @@ cleared_other byte k i other =
     let low = bit_at-lt byte i in
     let none : bit_at (bit_and byte (2 ^ (k % 8))) i ≡ 0 = bit_at_and byte (2 ^ (k % 8)) i ∙ ap (min (bit_at byte i)) (bit_at-pow_other (k % 8) i other) ∙ omega arith in
     bit_at_xor byte (bit_and byte (2 ^ (k % 8))) i ∙ ap (λ (n : ℕ). (bit_at byte i + n) % 2) none ∙ omega arith
+
+-- bytes whose bits are all the same
+none_set : (r : ℕ) → r < 8 → bit_at 0 r ≡ 0
+none_set zero low = refl
+none_set (suc zero) low = refl
+none_set (suc (suc zero)) low = refl
+none_set (suc (suc (suc zero))) low = refl
+none_set (suc (suc (suc (suc zero)))) low = refl
+none_set (suc (suc (suc (suc (suc zero))))) low = refl
+none_set (suc (suc (suc (suc (suc (suc zero)))))) low = refl
+none_set (suc (suc (suc (suc (suc (suc (suc zero))))))) low = refl
+none_set (suc (suc (suc (suc (suc (suc (suc (suc r)))))))) low = absurd (omega arith)
+
+all_set : (r : ℕ) → r < 8 → bit_at 255 r ≡ 1
+all_set zero low = refl
+all_set (suc zero) low = refl
+all_set (suc (suc zero)) low = refl
+all_set (suc (suc (suc zero))) low = refl
+all_set (suc (suc (suc (suc zero)))) low = refl
+all_set (suc (suc (suc (suc (suc zero))))) low = refl
+all_set (suc (suc (suc (suc (suc (suc zero)))))) low = refl
+all_set (suc (suc (suc (suc (suc (suc (suc zero))))))) low = refl
+all_set (suc (suc (suc (suc (suc (suc (suc (suc r)))))))) low = absurd (omega arith)
+
+same_bits : (byte r q : ℕ) → (byte ≡ 0) ⊎ (byte ≡ 255) → r < 8 → q < 8 → bit_at byte r ≡ bit_at byte q
+same_bits byte r q (inl is) low under = ap (λ (b : ℕ). bit_at b r) is ∙ none_set r low ∙ sym (none_set q under) ∙ ap (λ (b : ℕ). bit_at b q) (sym is)
+same_bits byte r q (inr is) low under = ap (λ (b : ℕ). bit_at b r) is ∙ all_set r low ∙ sym (all_set q under) ∙ ap (λ (b : ℕ). bit_at b q) (sym is)
+
+-- the blocks of a byte from one on, where its bits are all the same
+pub bits_alike : (map : List ℕ) (block k : ℕ) → (get_or map (bit_place block) 0 ≡ 0) ⊎ (get_or map (bit_place block) 0 ≡ 255) → block ≤ k → k < block + (8 - block % 8) → map_bit map k ≡ map_bit map block
+bits_alike map block k is low high =
+    let place : k / 8 ≡ block / 8 = omega arith in
+    ap (λ (n : ℕ). bit_at (get_or map (64 + n) 0) (k % 8) == 1) place
+    ∙ ap (λ (bit : ℕ). bit == 1) (same_bits (get_or map (bit_place block) 0) (k % 8) (block % 8) is (omega arith) (omega arith))
 
 -- the bits of a map of which one byte is changed at the bit of a block, and the others are as before
 bits_changed : (change : ℕ → ℕ → ℕ) (bit : Bool → Bool → Bool) → ((b : Bool) → bit false b ≡ b) → ((byte k : ℕ) (b : Bool) → (bit_at (change byte k) (k % 8) == 1) ≡ bit true b)

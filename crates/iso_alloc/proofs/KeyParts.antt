@@ -1,5 +1,5 @@
 -- A key part by a mask of the bytes that are not zero.
-use Rattle.iso_alloc.proofs.Words.{◌≡◌, ◌∙◌, sym, refl, ap, ℕ, zero, suc, ◌+◌, ◌-◌, ◌*◌, ◌/◌, ◌^◌, ◌≤◌, ◌==◌, ◌&&◌, Bool, true, false, not, cond, eqb, List, [], ◌∷◌, length, map, take, drop, get_or, arith, inl, inr, cases_Bool, leb-true, nat_le, nat_tests, list_all, is_zero, is_part, bytes_in, chunk, mask_l, div-one, shr-shr, shr_le, drop-drop, drop-take, get_or-drop, get_or-take}
+use Rattle.iso_alloc.proofs.Words.{◌≡◌, ◌∙◌, sym, refl, ap, ℕ, zero, suc, ◌+◌, ◌-◌, ◌*◌, ◌/◌, ◌^◌, ◌≤◌, ◌==◌, ◌&&◌, Bool, true, false, not, cond, eqb, List, [], ◌∷◌, map, take, drop, get_or, arith, inl, inr, cases_Bool, leb-true, nat_le, nat_tests, list_all, is_zero, is_part, bytes_in, chunk, mask_l, div-one, shr-shr, shr_le, drop-drop, drop-take, get_or-drop, get_or-take}
 
 abbrev pub is_other : ℕ → Bool
 is_other b = not (eqb b 0)

@@ -1,5 +1,5 @@
 -- The steps of a loop that tries numbers in turn.
-use Rattle.iso_alloc.proofs.Words.{◌≡◌, sym, refl, ap, ℕ, zero, suc, ◌+◌, ◌-◌, ◌<◌, ◌≤◌, Bool, true, false, ◌&&◌, cond, Option, Some, None, arith, ◌∙◌, inl, inr, and_parts, cases_eq, all_from, first_from, free_count, map_bit, List, cases_Bool, and_from, lowest_free, map_mark, map_bytes, bit_place, bit_at, bytes_in, get_or-take, not, ◌%◌, ◌==◌}
+use Rattle.iso_alloc.proofs.Words.{◌≡◌, sym, refl, ap, subst, ℕ, zero, suc, ◌+◌, ◌-◌, ◌<◌, ◌≤◌, Bool, true, false, ◌&&◌, cond, Option, Some, None, arith, ◌∙◌, inl, inr, and_parts, cases_eq, all_from, first_from, free_count, map_bit, List, cases_Bool, and_from, lowest_free, map_mark, map_bytes, bit_place, bit_at, bytes_in, get_or-take, not, ◌%◌, ◌==◌}
 
 pub all_step : (test : ℕ → Bool) (i n : ℕ) → i < n → all_from test i (n - i) ≡ (test i && all_from test (i + 1) (n - (i + 1)))
 all_step test i n below = let e : n - i ≡ suc (n - (i + 1)) = omega arith in rw e refl
@@ -41,6 +41,27 @@ count_on map i n c d total below so here =
     let e : n - i ≡ suc (n - (i + 1)) = omega arith in
     let step : free_count map i (n - i) ≡ cond (map_bit map i) 0 1 + free_count map (i + 1) (n - (i + 1)) = rw e refl in
     omega arith
+
+-- further blocks that are counted as the first of them, and numbers that fail as it does
+pub count_run : (map : List ℕ) (i m n c d total : ℕ) (b : Bool) → i + m ≤ n → c + free_count map i (n - i) ≡ total → ((k : ℕ) → i ≤ k → k < i + m → map_bit map k ≡ b) → d ≡ c + cond b 0 m
+    → d + free_count map (i + m) (n - (i + m)) ≡ total
+count_run map i zero n c d total b fits so alike here =
+    let e : i + 0 ≡ i = omega arith in
+    let none : ◌≡◌ {A = ℕ} (cond b 0 0) 0 = elim b as (λ t. ◌≡◌ {A = ℕ} (cond t 0 0) 0) [ true ↦ refl | false ↦ refl ] in
+    let same : d ≡ c = omega (arith, none) in
+    subst (λ (j : ℕ). d + free_count map j (n - j) ≡ total) (sym e) (ap (λ (x : ℕ). x + free_count map i (n - i)) same ∙ so)
+count_run map i (suc m) n c d total b fits so alike here =
+    let next : i + suc m ≡ i + 1 + m = omega arith in
+    let one : ◌≡◌ {A = ℕ} (cond (map_bit map i) 0 1) (cond b 0 1) = ap {B = ℕ} (λ (t : Bool). cond t 0 1) (alike i (omega arith) (omega arith)) in
+    let more : ◌≡◌ {A = ℕ} (cond b 0 (suc m)) (cond b 0 1 + cond b 0 m) = elim b as (λ t. ◌≡◌ {A = ℕ} (cond t 0 (suc m)) (cond t 0 1 + cond t 0 m)) [ true ↦ refl | false ↦ omega arith ] in
+    subst (λ (j : ℕ). d + free_count map j (n - j) ≡ total) (sym next) (count_run map (i + 1) m n (c + cond b 0 1) d total b (omega arith)
+    (count_on map i n c (c + cond b 0 1) total (omega arith) so (ap (λ (x : ℕ). c + x) (sym one))) (λ k low high. alike k (omega arith) (omega arith)) (omega (arith, here, more)))
+
+pub first_run : (test : ℕ → Bool) (i m n : ℕ) (r : Option ℕ) → i + m ≤ n → first_from test i (n - i) ≡ r → ((k : ℕ) → i ≤ k → k < i + m → test k ≡ false) → first_from test (i + m) (n - (i + m)) ≡ r
+first_run test i zero n r fits so fails = let e : i + 0 ≡ i = omega arith in subst (λ (j : ℕ). first_from test j (n - j) ≡ r) (sym e) so
+first_run test i (suc m) n r fits so fails =
+    let next : i + suc m ≡ i + 1 + m = omega arith in
+    subst (λ (j : ℕ). first_from test j (n - j) ≡ r) (sym next) (first_run test (i + 1) m n r (omega arith) (first_goes_on test i n r (omega arith) so (fails i (omega arith) (omega arith))) (λ k low high. fails k (omega arith) (omega arith)))
 
 -- what is found where the first number passes
 first_here : (test : ℕ → Bool) (i n j : ℕ) → test i ≡ true → first_from test i (suc n) ≡ Some j → i ≡ j

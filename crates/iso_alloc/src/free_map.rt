@@ -34,17 +34,39 @@ fn is_taken(map: &[u8], block: u32) -> bool
     (map[64 + (block / 8) as usize] >> (block % 8)) & 1 == 1
 }
 
+// The length of a run of blocks from this one on that are all taken or all free. It ends with the block's byte of the map, or sooner.
+fn run_length(map: &[u8], block: u32, end: u32) -> u32
+    requires map { bit_place block < length map.now }
+    requires block { block < end }
+    ensures some { 0 < result }
+    ensures within { block + result ≤ end }
+    ensures same { (k : ℕ) → block ≤ k → k < block + result → map_bit map.now k ≡ map_bit map.now block }
+{
+    let byte = map[64 + (block / 8) as usize];
+    let rest = 8 - block % 8;
+    if byte != 0 && byte != 0xff {
+        return 1;
+    }
+    if end - block < rest {
+        return 1;
+    }
+    rest
+}
+
 /// How many blocks from `first` on are free.
 pub fn free_blocks(map: &[u8], region: Region, first: u32) -> u32
     requires map { 64 + map_bytes region.size ≤ length map.now }
     requires first { first ≤ region.size }
     ensures { result ≡ free_count map.now first (region.size - first) }
 {
-    let mut count = 0;
-    for block in first..region.size {
+    let mut count: u32 = 0;
+    let mut block = first;
+    while block < region.size {
+        let run = run_length(map, block, region.size);
         if !is_taken(map, block) {
-            count += 1;
+            count += run;
         }
+        block += run;
     }
     count
 }
@@ -56,10 +78,12 @@ fn lowest_free(map: &[u8], region: Region, first: u32) -> Option<u32>
     ensures value { result ≡ lowest_free map.now first (region.size - first) }
     ensures inside { IfSome result (λ block. (first ≤ block) × (block < region.size)) }
 {
-    for block in first..region.size {
+    let mut block = first;
+    while block < region.size {
         if !is_taken(map, block) {
             return Some(block);
         }
+        block += run_length(map, block, region.size);
     }
     None
 }

@@ -30,18 +30,19 @@ pub fn word_at(bytes: &[u8], at: usize) -> u32
     BigEndian::read_u32(&bytes[at..])
 }
 
-// More zeros than any head or part has.
-const ZEROS: [u8; 64] = [0; 64];
-
-/// Whether all bytes are zero. As many as a head or a part has are compared as a whole.
+/// Whether all bytes are zero: the first is, and each other equals the one before it. They are compared as a whole.
 pub fn are_zero(bytes: &[u8]) -> bool
     ensures { result ≡ list_all is_zero bytes.now }
 {
-    if bytes.len() > ZEROS.len() {
-        return bytes.iter().all(|b| *b == 0);
+    if bytes.is_empty() {
+        return true;
     }
-    let zeros = &ZEROS[..bytes.len()];
-    bytes == zeros
+    if bytes[0] != 0 {
+        return false;
+    }
+    let rest = &bytes[1..];
+    let before = &bytes[..bytes.len() - 1];
+    rest == before
 }
 
 /// Whether a part is a length of at most `most`, as many bytes as it says, and zeros.

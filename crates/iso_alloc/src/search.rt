@@ -1,18 +1,34 @@
 // Tests and look-ups in the head and the key parts of a block.
-ghost use Rattle.std.specs.Prelude.{◌≡◌, ◌+◌, ◌*◌, ◌<◌, ◌≤◌, ◌==◌, ◌||◌, true, length, IfSome};
-ghost use Rattle.store_model.specs.{Cells.{cell_count, keys_end, are_key_parts, cell_with, is_unused, unused_cell}, HashCalls.is_alone};
+ghost use Rattle.std.specs.{Prelude.{◌≡◌, ◌+◌, ◌*◌, ◌<◌, ◌≤◌, ◌==◌, ◌||◌, true, length, drop, IfSome}, List.list_all};
+ghost use Rattle.store_model.specs.{Cells.{cell_count, keys_end, are_key_parts, cell_with, is_unused, is_zero, unused_cell}, HashCalls.is_alone};
 
-use crate::parts::{cell_count, is_key_part, key_part, text_of};
+use crate::parts::{are_zero, cell_count, is_key_part, key_part, text_of};
 
-/// Whether the key parts of a block of `size` bytes are well formed.
+// Whether a cell and all cells after it are zero throughout.
+fn is_blank_from(keys: &[u8], cell: usize) -> bool
+    requires { 64 + 31 * cell + 31 ≤ length keys.now }
+    ensures { result ≡ list_all is_zero (drop (64 + 31 * cell) keys.now) }
+{
+    are_zero(&keys[64 + 31 * cell..])
+}
+
+/// Whether the key parts of a block of `size` bytes are well formed. At the first cell that is not used, all that are left are
+/// compared with zero as a whole.
 pub fn are_key_parts(size: usize, keys: &[u8]) -> bool
     requires size { 64 ≤ size }
     requires keys { length keys.now ≡ keys_end size }
     ensures { result ≡ are_key_parts size keys.now }
 {
+    let mut full = true;
     for cell in 0..cell_count(size) {
         if !is_key_part(keys, cell) {
             return false;
+        }
+        if full && key_part(keys, cell)[0] == 0 {
+            if is_blank_from(keys, cell) {
+                return true;
+            }
+            full = false;
         }
     }
     true

@@ -1,11 +1,23 @@
-// Which blocks a bucket has.
-ghost use Rattle.std.specs.Prelude.{◌≡◌, ◌<◌, length};
-ghost use Rattle.store_model.specs.{Cells.keys_end, HashRegion.{buckets, bucket_of, last_position, is_linked, IsHashArea}};
+// The buckets of an area, the one that a key has, and which blocks it has.
+ghost use Rattle.std.specs.Prelude.{◌≡◌, ◌<◌, length, true};
+ghost use Rattle.store_model.specs.{Cells.keys_end, HashCalls.is_key, HashRegion.{buckets, bucket_of, last_position, is_linked, IsHashArea}};
 
 use byteorder::{BigEndian, ByteOrder};
 use iso_alloc::{are_key_parts, are_zero, piece, word_at};
 use sha2::{Digest, Sha256};
 use store_model::Area;
+
+/// A key of a hash store, with the bucket that it has there.
+#[derive(Drop)]
+pub struct HashedKey<'a> {
+    pub area: Area,
+    pub bytes: &'a [u8],
+    pub bucket: u32,
+    ghost kind: { IsHashArea area },
+    ghost good: { is_key bytes.now ≡ true },
+    ghost hashed: { bucket ≡ bucket_of area bytes.now },
+    ghost below: { bucket < buckets area },
+}
 
 /// How many buckets there are.
 pub fn buckets(area: Area) -> u32

@@ -4,65 +4,62 @@ ghost use Rattle.store_model.specs.{HashCalls.{is_key, is_value, put_at, put_pro
 ghost use Rattle.tx_blocks.specs.{Tx.IsLater, Runs.{area_of, Behaves, HasArea, HasEnded, HasRun, IsLocalCall, IsStoreCause, IsUnwritten}};
 ghost use Rattle.iso_hash.specs.Walks.{IsSpot};
 
+use crate::bucket::{HashedKey, bucket_of};
 use crate::links::put_block;
 use crate::walk::{Walked, walk};
 use crate::writes::{put_cell, put_value};
 use iso_alloc::{buffer, is_key, is_value};
 use std::alloc::Global;
-use store_model::{Area, Region, Spot, StoreError};
+use store_model::{Region, Spot, StoreError};
 use tx_blocks::{TxBlocks, area_of};
 
 // Puts a key that the walk did not find.
 fn put_missing<T: TxBlocks>(
     tx: &mut T,
-    area: Area,
-    key: &[u8],
+    key: &HashedKey,
     value: &[u8],
     spare: Option<Spot>,
     last: u32,
     position: u32,
     block: &mut [u8],
 ) -> Result<(), StoreError>
-    requires within { HasArea IsHashArea (T.state tx.old) area }
-    requires key { length key.now ≤ 28 }
+    requires within { HasArea IsHashArea (T.state tx.old) key.now.area }
     requires value { length value.now ≤ 32 }
-    requires spare { IfSome spare (IsSpot area) }
-    requires last { last < area.blocks }
-    requires position { position < area.blocks }
-    requires block { length block.old ≡ area.size }
-    ensures run { HasRun (put_at area key.now value.now (AtEnd spare last position)) (T.state tx.old) (T.state tx.new) result }
+    requires spare { IfSome spare (IsSpot key.now.area) }
+    requires last { last < key.now.area.blocks }
+    requires position { position < key.now.area.blocks }
+    requires block { length block.old ≡ key.now.area.size }
+    ensures run { HasRun (put_at key.now.area key.now.bytes.now value.now (AtEnd spare last position)) (T.state tx.old) (T.state tx.new) result }
     ensures behaves { Behaves (T.state tx.old) (T.state tx.new) 3 (T.device tx.old) (T.device tx.new) result }
 {
     match spare {
-        Some(spot) => put_cell(tx, area, spot, key, value, block),
-        None => put_block(tx, area, last, position, key, value, block),
+        Some(spot) => put_cell(tx, key.area, spot, key.bytes, value, block),
+        None => put_block(tx, key, value, last, position, block),
     }
 }
 
 // Puts a value at a key, with a buffer for a block.
 fn put_with<T: TxBlocks>(
     tx: &mut T,
-    area: Area,
-    key: &[u8],
+    key: &HashedKey,
     value: &[u8],
     block: &mut [u8],
 ) -> Result<(), StoreError>
-    requires within { HasArea IsHashArea (T.state tx.old) area }
-    requires key { is_key key.now ≡ true }
+    requires within { HasArea IsHashArea (T.state tx.old) key.now.area }
     requires value { is_value value.now ≡ true }
-    requires block { length block.old ≡ area.size }
-    ensures run { HasRun (put_program area key.now value.now) (T.state tx.old) (T.state tx.new) result }
+    requires block { length block.old ≡ key.now.area.size }
+    ensures run { HasRun (put_program key.now.area key.now.bytes.now value.now) (T.state tx.old) (T.state tx.new) result }
     ensures behaves { Behaves (T.state tx.old) (T.state tx.new) 3 (T.device tx.old) (T.device tx.new) result }
 {
-    match walk(tx, area, key, false, block) {
-        Ok(Walked::AtCell { spot, .. }) => put_value(tx, area, spot, value, block),
+    match walk(tx, key, false, block) {
+        Ok(Walked::AtCell { spot, .. }) => put_value(tx, key.area, spot, value, block),
         Ok(
             Walked::AtEnd {
                 spare,
                 last,
                 position,
             },
-        ) => put_missing(tx, area, key, value, spare, last, position, block),
+        ) => put_missing(tx, key, value, spare, last, position, block),
         Err(e) => Err(e),
     }
 }
@@ -104,5 +101,10 @@ pub fn put<T: TxBlocks>(
     }
     let mut block = buffer(alloc, tx.block_size() as usize)?;
     let area = area_of(tx, region);
-    put_with(tx, area, key, value, &mut block)
+    let key = HashedKey {
+        area,
+        bytes: key,
+        bucket: bucket_of(area, key),
+    };
+    put_with(tx, &key, value, &mut block)
 }

@@ -1,9 +1,9 @@
 // The writes that take a block into a chain, or out of it.
-ghost use Rattle.std.specs.{Prelude.{◌≡◌, ◌+◌, ◌-◌, ◌<◌, ◌≤◌, length, Ok, Some, None, true, [], ◌∷◌, replicate, slice_index}, Int.{w32, to_be_bytes}};
-ghost use Rattle.store_model.specs.{Cells.{block_with, next_mark}, FreeMap.{bit_mark, bit_place, clear_bit, lowest_free, map_mark}, HashCalls.{new_block, put_new}, HashRegion.{bucket_of, buckets, last_position, IsHashArea}, Stores.{store_access, Done, Look, Reserve, Store}};
+ghost use Rattle.std.specs.{Prelude.{◌≡◌, ◌+◌, ◌-◌, ◌<◌, ◌≤◌, length, Ok, None, true, [], ◌∷◌, replicate, slice_index}, Int.{w32, to_be_bytes}};
+ghost use Rattle.store_model.specs.{Cells.{block_with, next_mark}, FreeMap.{bit_mark, bit_place, clear_bit, map_mark}, HashCalls.{new_block, put_at, AtEnd}, HashRegion.{bucket_of, IsHashArea}, Stores.{store_access, Done, Look, Reserve, Store}};
 ghost use Rattle.tx_blocks.specs.Runs.{Behaves, HasBlock, HasRun, HasStored};
 
-use crate::bucket::{bucket_of, buckets};
+use crate::bucket::{HashedKey, buckets};
 use crate::writes::lay_cell;
 use iso_alloc::{give_back, lay, lay_alone, map_span, region_of, take_lowest};
 use iso_model::Span;
@@ -20,58 +20,54 @@ fn spelled(number: u32) -> [u8; 4]
 // Writes a new block of a bucket, with a key in its first cell.
 fn store_new<T: TxBlocks>(
     tx: &mut T,
-    area: Area,
+    key: &HashedKey,
+    value: &[u8],
     block: u32,
     position: u32,
-    key: &[u8],
-    value: &[u8],
     buffer: &mut [u8],
 ) -> Result<(), TxError>
-    requires block { HasBlock IsHashArea (T.state tx.old) area block buffer.old }
-    requires key { length key.now ≤ 28 }
+    requires block { HasBlock IsHashArea (T.state tx.old) key.now.area block buffer.old }
     requires value { length value.now ≤ 32 }
-    ensures { HasStored (store_access (area.start + block) [] (new_block area.size (bucket_of area key.now) position key.now value.now)) (T.state tx.old) (T.state tx.new) (T.device tx.old) (T.device tx.new) result }
+    ensures { HasStored (store_access (key.now.area.start + block) [] (new_block key.now.area.size (bucket_of key.now.area key.now.bytes.now) position key.now.bytes.now value.now)) (T.state tx.old) (T.state tx.new) (T.device tx.old) (T.device tx.new) result }
 {
     buffer.fill(0);
-    lay(buffer, 4, &spelled(bucket_of(area, key)));
+    lay(buffer, 4, &spelled(key.bucket));
     lay(buffer, 8, &spelled(position));
-    lay_cell(buffer, 0, key, value);
-    store(tx, area.start + block, &[], buffer)
+    lay_cell(buffer, 0, key.bytes, value);
+    store(tx, key.area.start + block, &[], buffer)
 }
 
 // The three writes of a put into a new block.
 fn grow<T: TxBlocks>(
     tx: &mut T,
-    area: Area,
+    key: &HashedKey,
+    value: &[u8],
     block: u32,
     last: u32,
     position: u32,
-    key: &[u8],
-    value: &[u8],
     buffer: &mut [u8],
 ) -> Result<(), StoreError>
-    requires block { HasBlock IsHashArea (T.state tx.old) area block buffer.old }
+    requires block { HasBlock IsHashArea (T.state tx.old) key.now.area block buffer.old }
     requires is_open { (T.state tx.old).is_open ≡ true }
-    requires last { last < area.blocks }
-    requires key { length key.now ≤ 28 }
+    requires last { last < key.now.area.blocks }
     requires value { length value.now ≤ 32 }
-    ensures run { HasRun (Reserve 3 (Store area.start (bit_mark block ∷ []) (block_with area.size (bit_place block) (slice_index buffer.old (bit_place block) ∷ []))
-        (Store (area.start + block) [] (new_block area.size (bucket_of area key.now) position key.now value.now)
-        (Store (area.start + last) (next_mark ∷ []) (block_with area.size 0 (to_be_bytes w32 block)) (Done (Ok tt)))))) (T.state tx.old) (T.state tx.new) result }
+    ensures run { HasRun (Reserve 3 (Store key.now.area.start (bit_mark block ∷ []) (block_with key.now.area.size (bit_place block) (slice_index buffer.old (bit_place block) ∷ []))
+        (Store (key.now.area.start + block) [] (new_block key.now.area.size (bucket_of key.now.area key.now.bytes.now) position key.now.bytes.now value.now)
+        (Store (key.now.area.start + last) (next_mark ∷ []) (block_with key.now.area.size 0 (to_be_bytes w32 block)) (Done (Ok tt)))))) (T.state tx.old) (T.state tx.new) result }
     ensures behaves { Behaves (T.state tx.old) (T.state tx.new) 3 (T.device tx.old) (T.device tx.new) result }
 {
     if let Err(e) = reserve(tx, 3) {
         return Err(StoreError::Tx(e));
     }
-    if let Err(e) = store_bit(tx, area, block, buffer) {
+    if let Err(e) = store_bit(tx, key.area, block, buffer) {
         return Err(StoreError::Tx(e));
     }
-    if let Err(e) = store_new(tx, area, block, position, key, value, buffer) {
+    if let Err(e) = store_new(tx, key, value, block, position, buffer) {
         return Err(StoreError::Tx(e));
     }
     lay_alone(buffer, 0, &spelled(block));
     let span = Span { off: 0, len: 4 };
-    match store(tx, area.start + last, &[span], buffer) {
+    match store(tx, key.area.start + last, &[span], buffer) {
         Ok(()) => Ok(()),
         Err(e) => Err(StoreError::Tx(e)),
     }
@@ -85,26 +81,23 @@ fn grow<T: TxBlocks>(
 /// - `Tx`: the transaction refuses an access. Nothing was written, but where it wants memory between two writes.
 pub fn put_block<T: TxBlocks>(
     tx: &mut T,
-    area: Area,
+    key: &HashedKey,
+    value: &[u8],
     last: u32,
     position: u32,
-    key: &[u8],
-    value: &[u8],
     buffer: &mut [u8],
 ) -> Result<(), StoreError>
-    requires last { HasBlock IsHashArea (T.state tx.old) area last buffer.old }
-    requires position { position < area.blocks }
-    requires key { length key.now ≤ 28 }
+    requires last { HasBlock IsHashArea (T.state tx.old) key.now.area last buffer.old }
+    requires position { position < key.now.area.blocks }
     requires value { length value.now ≤ 32 }
-    ensures run { HasRun (Look area.start (map_mark area.blocks) (λ map. None) (λ map none. put_new area key.now value.now last position map (lowest_free map (buckets area + 1) (last_position area))))
-        (T.state tx.old) (T.state tx.new) result }
+    ensures run { HasRun (put_at key.now.area key.now.bytes.now value.now (AtEnd None last position)) (T.state tx.old) (T.state tx.new) result }
     ensures behaves { Behaves (T.state tx.old) (T.state tx.new) 3 (T.device tx.old) (T.device tx.new) result }
 {
-    if let Err(e) = look(tx, area.start, map_span(area.blocks), buffer) {
+    if let Err(e) = look(tx, key.area.start, map_span(key.area.blocks), buffer) {
         return Err(StoreError::Tx(e));
     }
-    match take_lowest(buffer, region_of(area), buckets(area) + 1) {
-        Some(block) => grow(tx, area, block, last, position + 1, key, value, buffer),
+    match take_lowest(buffer, region_of(key.area), buckets(key.area) + 1) {
+        Some(block) => grow(tx, key, value, block, last, position + 1, buffer),
         None => Err(StoreError::NoBlocks { need: 1, free: 0 }),
     }
 }

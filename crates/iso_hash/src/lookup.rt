@@ -1,42 +1,41 @@
 // The look-up of a key.
-ghost use Rattle.std.specs.Prelude.{◌≡◌, ◌≢◌, ◌↔◌, ◌+◌, ◌<◌, ◌≤◌, Err, IsFalse, true, IfOk, IfErr, OnOk, length};
+ghost use Rattle.std.specs.Prelude.{◌≡◌, ◌≢◌, ◌↔◌, ◌+◌, ◌<◌, ◌≤◌, Err, IsFalse, IfOk, IfErr, OnOk, length};
 ghost use Rattle.store_model.specs.{HashCalls.{get_program, is_key}, HashRegion.{get_op, hash_map, IsHashArea, IsHashRegion}};
 ghost use Rattle.tx_blocks.specs.{Tx.IsLater, Runs.{area_of, HasArea, HasEnded, HasRead, IsLocalCall, IsStoreCause}};
 
+use crate::bucket::{HashedKey, bucket_of};
 use crate::walk::{Walked, walk};
 use iso_alloc::{buffer, cell_count, is_key, is_part, piece, spelled};
 use iso_model::{Bytes, Items};
 use std::alloc::Global;
-use store_model::{Area, Region, StoreError};
+use store_model::{Region, StoreError};
 use tx_blocks::{TxBlocks, area_of};
 
 // The value of a key, with buffers for a block and for the value.
 fn get_with<T: TxBlocks>(
     tx: &mut T,
-    area: Area,
-    key: &[u8],
+    key: &HashedKey,
     block: &mut [u8],
     room: Vec<u8>,
 ) -> Result<Option<Bytes>, StoreError>
-    requires within { HasArea IsHashArea (T.state tx.old) area }
-    requires key { is_key key.now ≡ true }
-    requires block { length block.old ≡ area.size }
+    requires within { HasArea IsHashArea (T.state tx.old) key.now.area }
+    requires block { length block.old ≡ key.now.area.size }
     requires room { length room.items ≡ 32 }
-    ensures ended { HasEnded (get_program area key.now) (T.state tx.old) (T.state tx.new) result }
-    ensures local { IfOk result (IsLocalCall (IsHashRegion area) (hash_map area) (get_op key.now) (T.state tx.old) (T.state tx.new)) }
+    ensures ended { HasEnded (get_program key.now.area key.now.bytes.now) (T.state tx.old) (T.state tx.new) result }
+    ensures local { IfOk result (IsLocalCall (IsHashRegion key.now.area) (hash_map key.now.area) (get_op key.now.bytes.now) (T.state tx.old) (T.state tx.new)) }
     ensures reads { HasRead (T.state tx.old) (T.state tx.new) }
     ensures cause { IfErr result (IsStoreCause (T.state tx.new) 1 (T.device tx.old) (T.device tx.new)) }
     ensures later { IsLater (T.device tx.old) (T.device tx.new) }
     ensures passed { OnOk result ((T.device tx.new).faults ≡ (T.device tx.old).faults) }
     ensures known { IfErr result (λ e. e ≢ StoreError.BadKey) }
 {
-    match walk(tx, area, key, true, block) {
+    match walk(tx, key, true, block) {
         Ok(Walked::AtCell { spot, .. }) => {
-            let at = 64 + 31 * cell_count(area.size as usize) + 33 * spot.cell as usize;
+            let at = 64 + 31 * cell_count(key.area.size as usize) + 33 * spot.cell as usize;
             let part = piece(block, at, 33);
             if !is_part(part, 32) {
                 return Err(StoreError::Broken {
-                    block: area.start + spot.block,
+                    block: key.area.start + spot.block,
                 });
             }
             Ok(Some(Items::of(spelled(part, room))))
@@ -76,5 +75,10 @@ pub fn get<T: TxBlocks>(
     let mut block = buffer(alloc, tx.block_size() as usize)?;
     let room = buffer(alloc, 32)?;
     let area = area_of(tx, region);
-    get_with(tx, area, key, &mut block, room)
+    let key = HashedKey {
+        area,
+        bytes: key,
+        bucket: bucket_of(area, key),
+    };
+    get_with(tx, &key, &mut block, room)
 }

@@ -1,9 +1,9 @@
 // The removal of a key.
-ghost use Rattle.std.specs.Prelude.{◌≡◌, ◌↔◌, ◌+◌, ◌<◌, ◌≤◌, Err, IsFalse, true, IfOk, IfErr, OnOk, length};
+ghost use Rattle.std.specs.Prelude.{◌≡◌, ◌↔◌, ◌+◌, ◌<◌, ◌≤◌, Err, IsFalse, IfOk, IfErr, OnOk, length};
 ghost use Rattle.store_model.specs.{Cells.keys_end, HashCalls.{del_program, is_key, is_spent}, HashRegion.{del_op, hash_map, IsHashArea, IsHashRegion}};
 ghost use Rattle.tx_blocks.specs.{Tx.IsLater, Runs.{area_of, Behaves, HasArea, HasEnded, HasRun, IsLocalCall, IsStoreCause, IsUnwritten}};
 
-use crate::bucket::buckets;
+use crate::bucket::{HashedKey, bucket_of, buckets};
 use crate::links::del_block;
 use crate::walk::{Walked, walk};
 use crate::writes::clear_cell;
@@ -24,25 +24,19 @@ fn is_spent(area: Area, spot: Spot, keys: &[u8]) -> bool
 }
 
 // Removes a key, with a buffer for a block.
-fn del_with<T: TxBlocks>(
-    tx: &mut T,
-    area: Area,
-    key: &[u8],
-    block: &mut [u8],
-) -> Result<bool, StoreError>
-    requires within { HasArea IsHashArea (T.state tx.old) area }
-    requires key { is_key key.now ≡ true }
-    requires block { length block.old ≡ area.size }
-    ensures run { HasRun (del_program area key.now) (T.state tx.old) (T.state tx.new) result }
+fn del_with<T: TxBlocks>(tx: &mut T, key: &HashedKey, block: &mut [u8]) -> Result<bool, StoreError>
+    requires within { HasArea IsHashArea (T.state tx.old) key.now.area }
+    requires block { length block.old ≡ key.now.area.size }
+    ensures run { HasRun (del_program key.now.area key.now.bytes.now) (T.state tx.old) (T.state tx.new) result }
     ensures behaves { Behaves (T.state tx.old) (T.state tx.new) 2 (T.device tx.old) (T.device tx.new) result }
 {
-    match walk(tx, area, key, false, block) {
+    match walk(tx, key, false, block) {
         Ok(Walked::AtCell { spot, before }) => {
-            let end = 64 + 31 * cell_count(area.size as usize);
-            if is_spent(area, spot, &block[..end]) {
-                return del_block(tx, area, spot.block, before, block);
+            let end = 64 + 31 * cell_count(key.area.size as usize);
+            if is_spent(key.area, spot, &block[..end]) {
+                return del_block(tx, key.area, spot.block, before, block);
             }
-            clear_cell(tx, area, spot, block)
+            clear_cell(tx, key.area, spot, block)
         }
         Ok(Walked::AtEnd { .. }) => Ok(false),
         Err(e) => Err(e),
@@ -79,5 +73,10 @@ pub fn del<T: TxBlocks>(
     }
     let mut block = buffer(alloc, tx.block_size() as usize)?;
     let area = area_of(tx, region);
-    del_with(tx, area, key, &mut block)
+    let key = HashedKey {
+        area,
+        bytes: key,
+        bucket: bucket_of(area, key),
+    };
+    del_with(tx, &key, &mut block)
 }

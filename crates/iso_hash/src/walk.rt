@@ -5,10 +5,10 @@ ghost use Rattle.store_model.specs.{HashCalls.spot_in, HashRegion.IsHashArea};
 ghost use Rattle.tx_blocks.specs.{Tx.IsLater, Runs.{HasArea, HasRead, IsStoreCause}};
 ghost use Rattle.iso_hash.specs.Walks.{HasWalked, IsInside};
 
-use crate::bucket::{bucket_of, is_linked, last_position};
+use crate::bucket::{HashedKey, is_linked, last_position};
 use iso_alloc::{cell_count, cell_with, unused_cell, word_at};
 use iso_model::Span;
-use store_model::{Area, Spot, StoreError};
+use store_model::{Spot, StoreError};
 use tx_blocks::{TxBlocks, look, mark};
 
 /// Where a walk ends: at the key's cell, with the block before it in the chain (0 where there is none); or past the last block of
@@ -51,42 +51,40 @@ fn first_spare(spare: Option<Spot>, block: u32, unused: Option<usize>) -> Option
 /// - `Tx`: the transaction refuses a read.
 pub fn walk<T: TxBlocks>(
     tx: &mut T,
-    area: Area,
-    key: &[u8],
+    key: &HashedKey,
     with_value: bool,
     buffer: &mut [u8],
 ) -> Result<Walked, StoreError>
-    requires within { HasArea IsHashArea (T.state tx.old) area }
-    requires buffer { length buffer.old ≡ area.size }
-    ensures walked { HasWalked area key.now with_value (T.state tx.old) (T.state tx.new) buffer.new result }
-    ensures inside { IfOk result (IsInside area) }
+    requires within { HasArea IsHashArea (T.state tx.old) key.now.area }
+    requires buffer { length buffer.old ≡ key.now.area.size }
+    ensures walked { HasWalked key.now.area key.now.bytes.now with_value (T.state tx.old) (T.state tx.new) buffer.new result }
+    ensures inside { IfOk result (IsInside key.now.area) }
     ensures is_open { OnOk result ((T.state tx.new).is_open ≡ true) }
     ensures reads { HasRead (T.state tx.old) (T.state tx.new) }
     ensures cause { IfErr result (IsStoreCause (T.state tx.new) 1 (T.device tx.old) (T.device tx.new)) }
     ensures later { IsLater (T.device tx.old) (T.device tx.new) }
     ensures passed { OnOk result ((T.device tx.new).faults ≡ (T.device tx.old).faults) }
 {
-    let size = area.size as usize;
+    let size = key.area.size as usize;
     let end = 64 + 31 * cell_count(size);
-    let bucket = bucket_of(area, key);
-    let mut block = 1 + bucket;
+    let mut block = 1 + key.bucket;
     let mut before = 0;
     let mut spare = None;
-    for position in 0..last_position(area) + 1 {
+    for position in 0..last_position(key.area) + 1 {
         let keys_mark = Span {
             off: 0,
             len: end as u16,
         };
-        if let Err(e) = look(tx, area.start + block, keys_mark, buffer) {
+        if let Err(e) = look(tx, key.area.start + block, keys_mark, buffer) {
             return Err(StoreError::Tx(e));
         }
         let keys = &buffer[..end];
-        if !is_linked(area, bucket, position, keys) {
+        if !is_linked(key.area, key.bucket, position, keys) {
             return Err(StoreError::Broken {
-                block: area.start + block,
+                block: key.area.start + block,
             });
         }
-        if let Some(cell) = cell_with(size, key, keys) {
+        if let Some(cell) = cell_with(size, key.bytes, keys) {
             if with_value {
                 let value_mark = Span {
                     off: (end + 33 * cell) as u16,
@@ -113,6 +111,6 @@ pub fn walk<T: TxBlocks>(
         block = next;
     }
     Err(StoreError::Broken {
-        block: area.start + block,
+        block: key.area.start + block,
     })
 }

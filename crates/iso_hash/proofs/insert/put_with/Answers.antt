@@ -16,7 +16,7 @@ returns-in-Ok-AtEnd-clause-behaves g c = behaves_next c.in-Ok-AtEnd.ensures.read
 pub returns-in-Err-clause-run : goal.returns-in-Err-clause-run
 returns-in-Err-clause-run g c =
     let state = g.T.TxBlocks.state in
-    put_error c.args.area c.args.key.now c.args.value.now (state c.args.tx.now) (state c.walk.new.tx) c.walk.new.buffer c.in-Err.e c.requires.key c.requires.value c.in-Err.ensures.walked
+    put_error c.args.key.now.area c.args.key.now.bytes.now c.args.value.now (state c.args.tx.now) (state c.walk.new.tx) c.walk.new.buffer c.in-Err.e c.args.key.now.good c.requires.value c.in-Err.ensures.walked
 
 pub returns-in-Err-clause-behaves : goal.returns-in-Err-clause-behaves
-returns-in-Err-clause-behaves g c = walk_refuses c.args.area c.args.key.now c.walk.new.buffer c.in-Err.e c.in-Err.ensures.walked c.in-Err.ensures.reads c.in-Err.ensures.cause c.in-Err.ensures.later (omega arith)
+returns-in-Err-clause-behaves g c = walk_refuses c.args.key.now.area c.args.key.now.bytes.now c.walk.new.buffer c.in-Err.e c.in-Err.ensures.walked c.in-Err.ensures.reads c.in-Err.ensures.cause c.in-Err.ensures.later (omega arith)

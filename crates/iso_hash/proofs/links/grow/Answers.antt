@@ -3,19 +3,19 @@ use Rattle.iso_hash.proofs.links.grow.Goals as goal
 
 pub returns-in-Err-clause-run : goal.returns-in-Err-clause-run
 returns-in-Err-clause-run g c =
-    (reserve_refused 3 (first c.args.area c.args.block c.args.last c.args.position (get_or c.args.buffer.now (bit_place c.args.block) 0) c.args.key.now c.args.value.now) (g.T.TxBlocks.state c.args.tx.now) (g.T.TxBlocks.device c.args.tx.now) c.in-Err.e (omega arith) c.in-Err.ensures.err).0
+    (reserve_refused 3 (first c.args.key.now.area c.args.block c.args.last c.args.position (get_or c.args.buffer.now (bit_place c.args.block) 0) c.args.key.now.bytes.now c.args.value.now) (g.T.TxBlocks.state c.args.tx.now) (g.T.TxBlocks.device c.args.tx.now) c.in-Err.e (omega arith) c.in-Err.ensures.err).0
 
 pub returns-in-Err-clause-behaves : goal.returns-in-Err-clause-behaves
 returns-in-Err-clause-behaves g c =
-    (reserve_refused 3 (first c.args.area c.args.block c.args.last c.args.position (get_or c.args.buffer.now (bit_place c.args.block) 0) c.args.key.now c.args.value.now) (g.T.TxBlocks.state c.args.tx.now) (g.T.TxBlocks.device c.args.tx.now) c.in-Err.e (omega arith) c.in-Err.ensures.err).1
+    (reserve_refused 3 (first c.args.key.now.area c.args.block c.args.last c.args.position (get_or c.args.buffer.now (bit_place c.args.block) 0) c.args.key.now.bytes.now c.args.value.now) (g.T.TxBlocks.state c.args.tx.now) (g.T.TxBlocks.device c.args.tx.now) c.in-Err.e (omega arith) c.in-Err.ensures.err).1
 
 pub returns-in-Err-store_bit-clause-run : goal.returns-in-Err-store_bit-clause-run
 returns-in-Err-store_bit-clause-run g c =
     let state = g.T.TxBlocks.state in
-    let a = c.args.area in
-    cut_at_store (growing a c.args.block c.args.last c.args.position (get_or c.args.buffer.now (bit_place c.args.block) 0) c.args.key.now c.args.value.now) a.start (bit_mark c.args.block ∷ []) (block_with a.size (bit_place c.args.block) ((get_or c.args.buffer.now (bit_place c.args.block) 0) ∷ [])) (second a c.args.block c.args.last c.args.position c.args.key.now c.args.value.now)
+    let a = c.args.key.now.area in
+    cut_at_store (growing a c.args.block c.args.last c.args.position (get_or c.args.buffer.now (bit_place c.args.block) 0) c.args.key.now.bytes.now c.args.value.now) a.start (bit_mark c.args.block ∷ []) (block_with a.size (bit_place c.args.block) ((get_or c.args.buffer.now (bit_place c.args.block) 0) ∷ [])) (second a c.args.block c.args.last c.args.position c.args.key.now.bytes.now c.args.value.now)
     (state c.args.tx.now) (state c.args.tx.now) (state c.store_bit.new.tx) (g.T.TxBlocks.device c.args.tx.now) (g.T.TxBlocks.device c.store_bit.new.tx) c.in-Err-store_bit.e
-    (grow_at_first a c.args.block c.args.last c.args.position (get_or c.args.buffer.now (bit_place c.args.block) 0) c.args.key.now c.args.value.now (state c.args.tx.now) c.in_default.ensures.ok) c.in-Err-store_bit.ensures.stored.kept c.in-Err-store_bit.ensures.stored.cause
+    (grow_at_first a c.args.block c.args.last c.args.position (get_or c.args.buffer.now (bit_place c.args.block) 0) c.args.key.now.bytes.now c.args.value.now (state c.args.tx.now) c.in_default.ensures.ok) c.in-Err-store_bit.ensures.stored.kept c.in-Err-store_bit.ensures.stored.cause
 
 pub returns-in-Err-store_bit-clause-behaves : goal.returns-in-Err-store_bit-clause-behaves
 returns-in-Err-store_bit-clause-behaves g c = grind (arith, refused_memory)
@@ -23,10 +23,10 @@ returns-in-Err-store_bit-clause-behaves g c = grind (arith, refused_memory)
 pub returns-in-Err-store_new-clause-run : goal.returns-in-Err-store_new-clause-run
 returns-in-Err-store_new-clause-run g c =
     let state = g.T.TxBlocks.state in
-    let a = c.args.area in
-    cut_at_store (growing a c.args.block c.args.last c.args.position (get_or c.args.buffer.now (bit_place c.args.block) 0) c.args.key.now c.args.value.now) (a.start + c.args.block) [] (new_block a.size (bucket_of a c.args.key.now) c.args.position c.args.key.now c.args.value.now) (third a c.args.block c.args.last)
+    let a = c.args.key.now.area in
+    cut_at_store (growing a c.args.block c.args.last c.args.position (get_or c.args.buffer.now (bit_place c.args.block) 0) c.args.key.now.bytes.now c.args.value.now) (a.start + c.args.block) [] (new_block a.size (bucket_of a c.args.key.now.bytes.now) c.args.position c.args.key.now.bytes.now c.args.value.now) (third a c.args.block c.args.last)
     (state c.args.tx.now) (state c.store_bit.new.tx) (state c.store_new.new.tx) (g.T.TxBlocks.device c.store_bit.new.tx) (g.T.TxBlocks.device c.store_new.new.tx) c.in-Err-store_new.e
-    (grow_at_second a c.args.block c.args.last c.args.position (get_or c.args.buffer.now (bit_place c.args.block) 0) c.args.key.now c.args.value.now (state c.args.tx.now) c.in_default.ensures.ok (state c.store_bit.new.tx) (g.met.T.TxBlocks.limits c.store_bit.new.tx) c.in_default-store_bit.ensures.stored.stored)
+    (grow_at_second a c.args.block c.args.last c.args.position (get_or c.args.buffer.now (bit_place c.args.block) 0) c.args.key.now.bytes.now c.args.value.now (state c.args.tx.now) c.in_default.ensures.ok (state c.store_bit.new.tx) (g.met.T.TxBlocks.limits c.store_bit.new.tx) c.in_default-store_bit.ensures.stored.stored)
     c.in-Err-store_new.ensures.kept c.in-Err-store_new.ensures.cause
 
 pub returns-in-Err-store_new-clause-behaves : goal.returns-in-Err-store_new-clause-behaves
@@ -38,10 +38,10 @@ returns-in-Err-store_new-clause-behaves g c =
 pub returns-in-Err-store-clause-run : goal.returns-in-Err-store-clause-run
 returns-in-Err-store-clause-run g c =
     let state = g.T.TxBlocks.state in
-    let a = c.args.area in
-    cut_at_store (growing a c.args.block c.args.last c.args.position (get_or c.args.buffer.now (bit_place c.args.block) 0) c.args.key.now c.args.value.now) (a.start + c.args.last) (next_mark ∷ []) (block_with a.size 0 (to_be_bytes w32 c.args.block)) (Done (Ok tt))
+    let a = c.args.key.now.area in
+    cut_at_store (growing a c.args.block c.args.last c.args.position (get_or c.args.buffer.now (bit_place c.args.block) 0) c.args.key.now.bytes.now c.args.value.now) (a.start + c.args.last) (next_mark ∷ []) (block_with a.size 0 (to_be_bytes w32 c.args.block)) (Done (Ok tt))
     (state c.args.tx.now) (state c.store_new.new.tx) (state c.store.new.tx) (g.T.TxBlocks.device c.store_new.new.tx) (g.T.TxBlocks.device c.store.new.tx) c.in-Err-store.e
-    (grow_at_third a c.args.block c.args.last c.args.position (get_or c.args.buffer.now (bit_place c.args.block) 0) c.args.key.now c.args.value.now (state c.args.tx.now) c.in_default.ensures.ok (state c.store_bit.new.tx) (state c.store_new.new.tx)
+    (grow_at_third a c.args.block c.args.last c.args.position (get_or c.args.buffer.now (bit_place c.args.block) 0) c.args.key.now.bytes.now c.args.value.now (state c.args.tx.now) c.in_default.ensures.ok (state c.store_bit.new.tx) (state c.store_new.new.tx)
     (g.met.T.TxBlocks.limits c.store_bit.new.tx) (g.met.T.TxBlocks.limits c.store_new.new.tx) c.in_default-store_bit.ensures.stored.stored c.in_default-store_new.ensures.stored)
     c.in-Err-store.ensures.kept c.in-Err-store.ensures.cause
 
@@ -55,12 +55,12 @@ returns-in-Err-store-clause-behaves g c =
 pub returns-in-Ok-clause-run : goal.returns-in-Ok-clause-run
 returns-in-Ok-clause-run g c =
     let state = g.T.TxBlocks.state in
-    let a = c.args.area in
+    let a = c.args.key.now.area in
     let long : length c.store_new.new.buffer ≡ a.size = c.store_new.auto.buffer ∙ c.store_bit.ensures.length in
-    let whole = growing a c.args.block c.args.last c.args.position (get_or c.args.buffer.now (bit_place c.args.block) 0) c.args.key.now c.args.value.now in
+    let whole = growing a c.args.block c.args.last c.args.position (get_or c.args.buffer.now (bit_place c.args.block) 0) c.args.key.now.bytes.now c.args.value.now in
     ran_at whole (state c.args.tx.now) (state c.store.new.tx) (Ok tt)
     (at_store whole (a.start + c.args.last) (next_mark ∷ []) (block_with a.size 0 (to_be_bytes w32 c.args.block)) (Done (Ok tt)) (state c.args.tx.now) (state c.store_new.new.tx) (state c.store.new.tx)
-    (grow_at_third a c.args.block c.args.last c.args.position (get_or c.args.buffer.now (bit_place c.args.block) 0) c.args.key.now c.args.value.now (state c.args.tx.now) c.in_default.ensures.ok (state c.store_bit.new.tx) (state c.store_new.new.tx)
+    (grow_at_third a c.args.block c.args.last c.args.position (get_or c.args.buffer.now (bit_place c.args.block) 0) c.args.key.now.bytes.now c.args.value.now (state c.args.tx.now) c.in_default.ensures.ok (state c.store_bit.new.tx) (state c.store_new.new.tx)
     (g.met.T.TxBlocks.limits c.store_bit.new.tx) (g.met.T.TxBlocks.limits c.store_new.new.tx) c.in_default-store_bit.ensures.stored.stored c.in_default-store_new.ensures.stored)
     (g.met.T.TxBlocks.limits c.store.new.tx).count
     (c.in-Ok.ensures.stored ∙ (λ i. with_accesses (state c.store_new.new.tx) (store_access (a.start + c.args.last) (next_mark ∷ []) ((c.lay_alone.ensures ∙ (λ j. block_with (long j) 0 (c.spelled.ensures j))) i) ∷ []))))

@@ -19,7 +19,7 @@ returns-in-Ok-AtEnd-clause-local g c = grind (arith, call_local, get_at_end, wal
 pub returns-in-Err-clause-ended : goal.returns-in-Err-clause-ended
 returns-in-Err-clause-ended g c =
     let state = g.T.TxBlocks.state in
-    get_error c.args.area c.args.key.now (state c.args.tx.now) (state c.walk.new.tx) c.walk.new.buffer c.in-Err.e c.requires.key c.in-Err.ensures.walked
+    get_error c.args.key.now.area c.args.key.now.bytes.now (state c.args.tx.now) (state c.walk.new.tx) c.walk.new.buffer c.in-Err.e c.args.key.now.good c.in-Err.ensures.walked
 
 pub returns-in-Err-clause-known : goal.returns-in-Err-clause-known
 returns-in-Err-clause-known g c = grind (arith, walk_known)

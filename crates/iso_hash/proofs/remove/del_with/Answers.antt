@@ -5,20 +5,20 @@ use Rattle.iso_hash.proofs.remove.del_with.Goals as goal
 -- the cell where the walk ends, and whether its block is given back
 module _ (g : Rattle.iso_hash.proofs.remove.del_with.Given.Over) (c : After-is_spent g) where
   abbrev keys : List ℕ
-  keys = take (keys_end c.args.area.size) c.walk.new.buffer
+  keys = take (keys_end c.args.key.now.area.size) c.walk.new.buffer
 
-  walked : Ran (walk c.args.area c.args.key.now false) (g.T.TxBlocks.state c.args.tx.now) (g.T.TxBlocks.state c.walk.new.tx) (hash.AtCell c.in-Ok-AtCell.spot c.in-Ok-AtCell.before keys [])
-  walked = walked_cell c.args.area c.args.key.now false (g.T.TxBlocks.state c.args.tx.now) (g.T.TxBlocks.state c.walk.new.tx) c.walk.new.buffer c.in-Ok-AtCell.field-0 c.in-Ok-AtCell.spot c.in-Ok-AtCell.before c.in-Ok-AtCell.ensures.walked c.in-Ok-AtCell.field-0-is
+  walked : Ran (walk c.args.key.now.area c.args.key.now.bytes.now false) (g.T.TxBlocks.state c.args.tx.now) (g.T.TxBlocks.state c.walk.new.tx) (hash.AtCell c.in-Ok-AtCell.spot c.in-Ok-AtCell.before keys [])
+  walked = walked_cell c.args.key.now.area c.args.key.now.bytes.now false (g.T.TxBlocks.state c.args.tx.now) (g.T.TxBlocks.state c.walk.new.tx) c.walk.new.buffer c.in-Ok-AtCell.field-0 c.in-Ok-AtCell.spot c.in-Ok-AtCell.before c.in-Ok-AtCell.ensures.walked c.in-Ok-AtCell.field-0-is
 
-  spent : is_spent c.args.area c.in-Ok-AtCell.spot keys ≡ c.is_spent.result
-  spent = ap (λ (n : ℕ). is_spent c.args.area c.in-Ok-AtCell.spot (take (64 + 31 * n) c.walk.new.buffer)) (sym c.cell_count.ensures) ∙ sym c.is_spent.ensures
+  spent : is_spent c.args.key.now.area c.in-Ok-AtCell.spot keys ≡ c.is_spent.result
+  spent = ap (λ (n : ℕ). is_spent c.args.key.now.area c.in-Ok-AtCell.spot (take (64 + 31 * n) c.walk.new.buffer)) (sym c.cell_count.ensures) ∙ sym c.is_spent.ensures
 
   goes_on : (b : Bool) → c.is_spent.result ≡ b → (v : Tx) (result : Result Bool StoreError)
-      → HasRun (cond b (give_back_block c.args.area c.in-Ok-AtCell.spot c.in-Ok-AtCell.before) (make_zero c.args.area c.in-Ok-AtCell.spot)) (g.T.TxBlocks.state c.walk.new.tx) v result
-      → HasRun (del_program c.args.area c.args.key.now) (g.T.TxBlocks.state c.args.tx.now) v result
+      → HasRun (cond b (give_back_block c.args.key.now.area c.in-Ok-AtCell.spot c.in-Ok-AtCell.before) (make_zero c.args.key.now.area c.in-Ok-AtCell.spot)) (g.T.TxBlocks.state c.walk.new.tx) v result
+      → HasRun (del_program c.args.key.now.area c.args.key.now.bytes.now) (g.T.TxBlocks.state c.args.tx.now) v result
   goes_on b is v result run =
       let state = g.T.TxBlocks.state in
-      del_from c.args.area c.args.key.now (state c.args.tx.now) (state c.walk.new.tx) v _ result c.requires.key walked (del_there c.args.area c.in-Ok-AtCell.spot c.in-Ok-AtCell.before keys [] b (state c.walk.new.tx) v result (spent ∙ is) run)
+      del_from c.args.key.now.area c.args.key.now.bytes.now (state c.args.tx.now) (state c.walk.new.tx) v _ result c.args.key.now.good walked (del_there c.args.key.now.area c.in-Ok-AtCell.spot c.in-Ok-AtCell.before keys [] b (state c.walk.new.tx) v result (spent ∙ is) run)
 
 pub returns-then-is_spent-clause-run : goal.returns-then-is_spent-clause-run
 returns-then-is_spent-clause-run g c =
@@ -37,14 +37,14 @@ returns-else-is_spent-clause-behaves g c = behaves_next c.in-Ok-AtCell.ensures.r
 pub returns-in-Ok-AtEnd-clause-run : goal.returns-in-Ok-AtEnd-clause-run
 returns-in-Ok-AtEnd-clause-run g c =
     let state = g.T.TxBlocks.state in
-    del_from c.args.area c.args.key.now (state c.args.tx.now) (state c.walk.new.tx) (state c.walk.new.tx) (hash.AtEnd c.in-Ok-AtEnd.field-0-0 c.in-Ok-AtEnd.field-0-1 c.in-Ok-AtEnd.field-0-2) (Ok false) c.requires.key
-    (walked_end c.args.area c.args.key.now false (state c.args.tx.now) (state c.walk.new.tx) c.walk.new.buffer c.in-Ok-AtEnd.field-0 c.in-Ok-AtEnd.field-0-0 c.in-Ok-AtEnd.field-0-1 c.in-Ok-AtEnd.field-0-2 c.in-Ok-AtEnd.ensures.walked c.in-Ok-AtEnd.field-0-is)
+    del_from c.args.key.now.area c.args.key.now.bytes.now (state c.args.tx.now) (state c.walk.new.tx) (state c.walk.new.tx) (hash.AtEnd c.in-Ok-AtEnd.field-0-0 c.in-Ok-AtEnd.field-0-1 c.in-Ok-AtEnd.field-0-2) (Ok false) c.args.key.now.good
+    (walked_end c.args.key.now.area c.args.key.now.bytes.now false (state c.args.tx.now) (state c.walk.new.tx) c.walk.new.buffer c.in-Ok-AtEnd.field-0 c.in-Ok-AtEnd.field-0-0 c.in-Ok-AtEnd.field-0-1 c.in-Ok-AtEnd.field-0-2 c.in-Ok-AtEnd.ensures.walked c.in-Ok-AtEnd.field-0-is)
     (ran_done (Ok false) (state c.walk.new.tx))
 
 pub returns-in-Err-clause-run : goal.returns-in-Err-clause-run
 returns-in-Err-clause-run g c =
     let state = g.T.TxBlocks.state in
-    del_error c.args.area c.args.key.now (state c.args.tx.now) (state c.walk.new.tx) c.walk.new.buffer c.in-Err.e c.requires.key c.in-Err.ensures.walked
+    del_error c.args.key.now.area c.args.key.now.bytes.now (state c.args.tx.now) (state c.walk.new.tx) c.walk.new.buffer c.in-Err.e c.args.key.now.good c.in-Err.ensures.walked
 
 pub returns-in-Err-clause-behaves : goal.returns-in-Err-clause-behaves
-returns-in-Err-clause-behaves g c = walk_refuses c.args.area c.args.key.now c.walk.new.buffer c.in-Err.e c.in-Err.ensures.walked c.in-Err.ensures.reads c.in-Err.ensures.cause c.in-Err.ensures.later (omega arith)
+returns-in-Err-clause-behaves g c = walk_refuses c.args.key.now.area c.args.key.now.bytes.now c.walk.new.buffer c.in-Err.e c.in-Err.ensures.walked c.in-Err.ensures.reads c.in-Err.ensures.cause c.in-Err.ensures.later (omega arith)
