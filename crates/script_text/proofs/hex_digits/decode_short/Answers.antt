@@ -18,8 +18,8 @@ bytes-preserved c =
       room = omega (arith, ap (λ (r : WithRoom ℕ). r.room) c.push_within.ensures, c.bytes.invariant.room);
     }
 
-pub returns-then-not-are_digits : goal.returns-then-not-are_digits
-returns-then-not-are_digits c = sym (read_stops c.args.word.now c.bytes.spelled.items c.bytes.at (omega arith) (sym c.are_digits.ensures ∙ c.if-not-are_digits.true) c.bytes.invariant.read)
+pub returns-in-bytes : goal.returns-in-bytes
+returns-in-bytes c = sym (read_stops c.args.word.now c.bytes.spelled.items c.bytes.at (omega arith) (sym c.are_digits.ensures ∙ c.if-not-are_digits.true) c.bytes.invariant.read)
 
 pub returns : goal.returns
 returns c = ap Some c.into_items.ensures ∙ sym (read_out c.args.word.now c.bytes.spelled.items c.bytes.at (omega arith) c.bytes.invariant.read)
