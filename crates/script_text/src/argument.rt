@@ -29,7 +29,7 @@ pub(crate) fn number(word: &[u8]) -> Result<u32, LineError>
 /// A word of more digits is read many digits at once, in memory of its own.
 const MOST_SHORT: usize = 16;
 
-/// The bytes that the digits of a word spell. Those of a short one are in the memory of the spare ones.
+/// The bytes that the digits of a word spell. Those of a short one are in the memory of the spare ones, which are none then.
 pub(crate) fn hex(alloc: Global, spare: &mut Bytes, word: &[u8]) -> Result<Bytes, LineError>
     ensures { Gives result (hex_argument word.now) }
 {

@@ -35,7 +35,7 @@ pub fn parse_whole_line(alloc: Global, piece: &[u8]) -> Result<Parsed, LineError
     parse_whole_line_in(alloc, &mut spare, piece)
 }
 
-/// The same. The bytes of a put, a write or a fill may be in the memory of the spare ones, of which nothing is said then.
+/// The same. The bytes of a put, a write or a fill may be in the memory of the spare ones, which are none then.
 ///
 /// # Errors
 ///
@@ -54,7 +54,7 @@ pub fn parse_whole_line_in(
     parse_line_in(alloc, spare, without_return(piece))
 }
 
-/// What a line without its line feed says, with spare bytes.
+/// As `parse_line`, with spare bytes.
 #[tactic(auto, unfolding(script_model::specs::Script::parse))]
 fn parse_line_in(alloc: Global, spare: &mut Bytes, text: &[u8]) -> Result<Parsed, LineError>
     ensures { Gives result (parse text.now) }
