@@ -6,8 +6,7 @@ ghost use Rattle.script_runner.specs.{Lines.{AnswersParsed, IsByStep, IsLine, Ra
 use crate::machine::ScriptMachine;
 use crate::run_end::Halt;
 use iso_io::{Sink, put_all};
-use iso_model::Bytes;
-use script_model::{BadLine, Line, LineError, Op, Parsed, Stop};
+use script_model::{BadLine, Line, LineError, Parsed, Stop};
 use script_text::ReplyLine;
 
 /// Runs the operation of a line, and hands its reply to the sink.
@@ -53,21 +52,11 @@ fn halt_of(number: u64, error: LineError) -> Halt
     }
 }
 
-/// Keeps the memory of the bytes of a put.
-#[inline(always)]
-fn keep_bytes(spare: &mut Bytes, line: Line) {
-    match line.op {
-        Op::Put { bytes, .. } => *spare = bytes,
-        _ => {}
-    }
-}
-
-/// Answers what a text says. The bytes of a put are spare then.
+/// Answers what a text says.
 #[inline(always)]
 pub(crate) fn answer_parsed<M: ScriptMachine, K: Sink>(
     number: u64,
     parsed: Result<Parsed, LineError>,
-    spare: &mut Bytes,
     reply: &mut ReplyLine,
     machine: &mut M,
     output: &mut K,
@@ -79,11 +68,7 @@ pub(crate) fn answer_parsed<M: ScriptMachine, K: Sink>(
 {
     match parsed {
         Ok(Parsed::Skip) => Ok(()),
-        Ok(Parsed::Line(line)) => {
-            let answered = answer_line(&line, reply, machine, output);
-            keep_bytes(spare, line);
-            answered
-        }
+        Ok(Parsed::Line(line)) => answer_line(&line, reply, machine, output),
         Err(error) => Err(halt_of(number, error)),
     }
 }

@@ -11,9 +11,8 @@ use crate::line::answer_parsed;
 use crate::machine::ScriptMachine;
 use crate::run_end::Halt;
 use iso_io::Sink;
-use iso_model::Bytes;
 use script_model::{LineError, Parsed};
-use script_text::{ReplyLine, parse_whole_line_in};
+use script_text::{ReplyLine, parse_whole_line};
 use std::alloc::Global;
 
 /// Where a run is in the input.
@@ -25,28 +24,21 @@ pub(crate) struct Progress {
     pub(crate) held: Vec<u8>,
     /// The line of the last reply.
     pub(crate) reply: ReplyLine,
-    /// The memory of the bytes of a put, for those of a later one.
-    pub(crate) spare: Bytes,
 }
 
 /// What a whole line says, whose front is held. Where it says something, nothing is held then.
 #[inline(always)]
-fn parse_held(
-    alloc: Global,
-    held: &mut Vec<u8>,
-    spare: &mut Bytes,
-    line: &[u8],
-) -> Result<Parsed, LineError>
+fn parse_held(alloc: Global, held: &mut Vec<u8>, line: &[u8]) -> Result<Parsed, LineError>
     ensures parsed { Gives result (parse_whole (held.old.items ++ line.now)) }
     ensures held { OnOk result (held.new.items ≡ []) }
 {
     if held.is_empty() {
-        return parse_whole_line_in(alloc, spare, line);
+        return parse_whole_line(alloc, line);
     }
     if let Err(_) = held.extend_from_slice(line) {
         return Err(LineError::Memory);
     }
-    let parsed = parse_whole_line_in(alloc, spare, held);
+    let parsed = parse_whole_line(alloc, held);
     held.clear();
     parsed
 }
@@ -73,11 +65,10 @@ fn answer_whole<M: ScriptMachine, K: Sink>(
         → IfErr result (λ halt. EndsAt (M.stands machine.new) (M.disk m) (M.disk machine.new) k (K.state output.new) W (bytes ++ (line.now ++ 10 ∷ []))
         (end_of halt)) }
 {
-    let parsed = parse_held(alloc, &mut progress.held, &mut progress.spare, line);
+    let parsed = parse_held(alloc, &mut progress.held, line);
     let answered = answer_parsed(
         progress.number,
         parsed,
-        &mut progress.spare,
         &mut progress.reply,
         machine,
         output,

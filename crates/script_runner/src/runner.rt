@@ -9,7 +9,7 @@ use crate::machine::ScriptMachine;
 use crate::piece::{Progress, answer_piece};
 use crate::run_end::{Halt, RunEnd};
 use iso_io::{Sink, Source};
-use iso_model::{Bytes, MAX_INPUT, MAX_LINE};
+use iso_model::{MAX_INPUT, MAX_LINE};
 use script_model::BadLine;
 use script_text::{ReplyLine, parse_line};
 use std::alloc::{AllocError, Global};
@@ -100,7 +100,6 @@ fn answer_last<M: ScriptMachine, K: Sink>(
     match answer_parsed(
         progress.number,
         parsed,
-        &mut progress.spare,
         &mut progress.reply,
         machine,
         output,
@@ -130,7 +129,6 @@ fn answer_input<M: ScriptMachine, S: Source, K: Sink>(
         number: 1,
         held: Vec::new(alloc),
         reply: ReplyLine::new(alloc),
-        spare: Bytes::empty(alloc),
     };
     let mut left = MAX_INPUT;
     while left > 0 {

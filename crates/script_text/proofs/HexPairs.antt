@@ -1,5 +1,5 @@
 -- Pairs of hexadecimal digits, read one after the other.
-use Rattle.script_text.proofs.Words.{◌≡◌, ℕ, ◌+◌, ◌*◌, ◌<◌, ◌≢◌, ◌≤◌, Bool, true, false, List, [], ◌∷◌, ◌++◌, length, take, drop, slice_index, slice_set, Option, Some, None, refl, ap, sym, ◌∙◌, arith, IfSome, if◌then◌else◌, ok_or, is_some, append-nil, drop_all, drop_more, false≢true, take_all, take_more_set, hex_argument, hex_digit, hex_pair, hex_pairs, hex_of}
+use Rattle.script_text.proofs.Words.{◌≡◌, ℕ, ◌+◌, ◌*◌, ◌<◌, ◌≢◌, ◌≤◌, Bool, true, false, List, [], ◌∷◌, ◌++◌, length, take, drop, slice_index, slice_set, Option, Some, None, refl, ap, sym, ◌∙◌, arith, IfSome, if◌then◌else◌, ok_or, is_some, append-nil, drop_all, drop_more, take_all, take_more_set, hex_argument, hex_digit, hex_pair, hex_pairs, hex_of}
 use Rattle.std.{specs.Prelude.◌&&◌, proofs.lemmas.List.append_assoc}
 
 -- what is known of the bytes once those before a place are read, where each digit before it was one
@@ -74,34 +74,3 @@ argument_is (b ∷ word) some = refl
 pub read_none : (rest : Option (List ℕ)) → rest ≡ read_on true [] rest
 read_none (Some rest) = refl
 read_none None = refl
-
--- of two bytes one is no digit
-no_pair : (front : List ℕ) (x y : Option ℕ) (rest : Option (List ℕ)) → (is_some x && is_some y) ≡ false → read_on true front (hex_pair x y rest) ≡ None
-no_pair front (Some high) (Some low) rest none = absurd (false≢true (sym none))
-no_pair front (Some high) None rest none = refl
-no_pair front None y rest none = refl
-
--- the pair at a place is put behind the others
-pub read_more : (word front : List ℕ) (at v : ℕ) → 2 * at + 1 < length word
-    → IsPairOf (hex_digit (slice_index word (2 * at))) (hex_digit (slice_index word (2 * at + 1))) v
-    → (is_some (hex_digit (slice_index word (2 * at))) && is_some (hex_digit (slice_index word (2 * at + 1)))) ≡ true
-    → hex_pairs word ≡ read_on true front (hex_pairs (drop (2 * at) word))
-    → hex_pairs word ≡ read_on true (front ++ v ∷ []) (hex_pairs (drop (2 * (at + 1)) word))
-read_more word front at v within is digits so =
-    let high = hex_digit (slice_index word (2 * at)) in
-    let low = hex_digit (slice_index word (2 * at + 1)) in
-    so
-    ∙ ap (read_on true front) (pairs_at word at within)
-    ∙ read_pair true front high low v _ is
-    ∙ ap (λ (good : Bool). read_on good (front ++ v ∷ []) (hex_pairs (drop (2 * (at + 1)) word))) digits
-
--- the pair at a place is none
-pub read_stops : (word front : List ℕ) (at : ℕ) → 2 * at + 1 < length word
-    → (is_some (hex_digit (slice_index word (2 * at))) && is_some (hex_digit (slice_index word (2 * at + 1)))) ≡ false
-    → hex_pairs word ≡ read_on true front (hex_pairs (drop (2 * at) word)) → hex_pairs word ≡ None
-read_stops word front at within none so =
-    so ∙ ap (read_on true front) (pairs_at word at within) ∙ no_pair front (hex_digit (slice_index word (2 * at))) (hex_digit (slice_index word (2 * at + 1))) _ none
-
--- the last pair was read
-pub read_out : (word front : List ℕ) (at : ℕ) → length word ≤ 2 * at → hex_pairs word ≡ read_on true front (hex_pairs (drop (2 * at) word)) → hex_pairs word ≡ Some front
-read_out word front at all so = so ∙ ap (read_on true front) (ap hex_pairs (drop_all (2 * at) word all)) ∙ read_empty true front

@@ -1,14 +1,13 @@
 // The arguments of an operation, each with the cause that it fails by.
-ghost use Rattle.std.specs.Prelude.{◌≡◌, ◌*◌, ◌<◌, [], ◌∷◌, length};
+ghost use Rattle.std.specs.Prelude.{[], ◌∷◌};
 ghost use Rattle.script_model.specs.{Script.{client_in_range, hex_argument, label_argument, labels_of, mode_argument, number_argument, store_argument}, Text.number_of};
 ghost use Rattle.script_text.specs.{Parsing.{Gives, GivesBehind}, Words.texts};
 
-use crate::hex_digits::{decode, decode_short};
+use crate::hex_digits::decode;
 use crate::word::number_of;
 use iso_model::{Bytes, Label, LabelList, Mode};
 use script_model::LineError;
 use std::alloc::Global;
-use std::mem;
 
 /// The client that the first word names, 1 to 64.
 pub(crate) fn client(word: &[u8]) -> Result<u8, LineError>
@@ -26,18 +25,11 @@ pub(crate) fn number(word: &[u8]) -> Result<u32, LineError>
     number_of(word).ok_or(LineError::Cause(4))
 }
 
-/// A word of more digits is read many digits at once, in memory of its own.
-const MOST_SHORT: usize = 16;
-
-/// The bytes that the digits of a word spell. Those of a short one are in the memory of the spare ones, which are none then.
-pub(crate) fn hex(alloc: Global, spare: &mut Bytes, word: &[u8]) -> Result<Bytes, LineError>
+pub(crate) fn hex(alloc: Global, word: &[u8]) -> Result<Bytes, LineError>
     ensures { Gives result (hex_argument word.now) }
 {
     if word.is_empty() || word.len() % 2 == 1 {
         return Err(LineError::Cause(5));
-    }
-    if word.len() <= MOST_SHORT {
-        return short_hex(alloc, spare, word, (word.len() / 2) as u32);
     }
     let Ok(mut bytes) = vec![in alloc; 0u8; word.len() / 2] else {
         return Err(LineError::Memory);
@@ -48,22 +40,6 @@ pub(crate) fn hex(alloc: Global, spare: &mut Bytes, word: &[u8]) -> Result<Bytes
     Ok(Bytes::of(bytes))
 }
 
-/// The `count` bytes that a short word spells.
-fn short_hex(alloc: Global, spare: &mut Bytes, word: &[u8], count: u32) -> Result<Bytes, LineError>
-    requires twice { length word.now ≡ 2 * count }
-    requires some { 0 < count }
-    ensures { Gives result (hex_argument word.now) }
-{
-    let list = mem::replace(spare, Bytes::empty(alloc));
-    let Ok(room) = list.with_room(count) else {
-        return Err(LineError::Memory);
-    };
-    match decode_short(word, count, room) {
-        Some(bytes) => Ok(bytes),
-        None => Err(LineError::Cause(5)),
-    }
-}
-
 /// A key or a value of a store: a dash is none.
 pub(crate) fn stored(alloc: Global, word: &[u8]) -> Result<Bytes, LineError>
     ensures { Gives result (store_argument word.now) }
@@ -71,8 +47,7 @@ pub(crate) fn stored(alloc: Global, word: &[u8]) -> Result<Bytes, LineError>
     if word == b"-".as_slice() {
         return Ok(Bytes::empty(alloc));
     }
-    let mut none = Bytes::empty(alloc);
-    hex(alloc, &mut none, word)
+    hex(alloc, word)
 }
 
 pub(crate) fn label(word: &[u8]) -> Result<Label, LineError>

@@ -4,7 +4,6 @@ ghost use Rattle.script_model.specs.declared.script.Op.TheVariants as ops;
 ghost use Rattle.script_text.specs.{Parsing.{Gives, said_by}, Words.texts};
 
 use crate::argument::{hex, number, stored};
-use iso_model::Bytes;
 use script_model::{Line, LineError, Op, Parsed};
 use std::alloc::Global;
 
@@ -57,8 +56,7 @@ fn file_write(alloc: Global, client: u8, arguments: &[&[u8]]) -> Result<Parsed, 
     };
     let name = stored(alloc, name)?;
     let off = number(off)?;
-    let mut none = Bytes::empty(alloc);
-    let bytes = hex(alloc, &mut none, bytes)?;
+    let bytes = hex(alloc, bytes)?;
     Ok(Parsed::Line(Line {
         client,
         op: Op::FileWrite { name, off, bytes },

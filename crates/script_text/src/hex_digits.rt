@@ -1,9 +1,7 @@
 // Bytes that are spelled in hexadecimal: each pair of digits is looked at in the same way, with no way out between, so that many
 // pairs are read at once.
-ghost use Rattle.std.specs.{Prelude.{◌≡◌, ◌+◌, ◌*◌, ◌<◌, ◌≤◌, ◌&&◌, IfSome, None, Some, if◌then◌else◌, length}, Option.is_some};
+ghost use Rattle.std.specs.{Prelude.{◌≡◌, ◌+◌, ◌*◌, ◌<◌, ◌&&◌, IfSome, None, Some, if◌then◌else◌, length}, Option.is_some};
 ghost use Rattle.script_model.specs.Text.{hex_digit, hex_pairs};
-
-use iso_model::{Bytes, Reserved};
 
 /// The value of a digit, in either case. Of another byte it is some number.
 #[inline(always)]
@@ -36,23 +34,4 @@ pub(crate) fn decode(word: &[u8], room: &mut [u8]) -> bool
         room[at] = 16 * digit_value(high) + digit_value(low);
     }
     good
-}
-
-/// The bytes that a word of few digits spells, `count` of them, in the memory of others. None where not all of it are digits.
-pub(crate) fn decode_short(word: &[u8], count: u32, room: Reserved<u8>) -> Option<Bytes>
-    requires twice { length word.now ≡ 2 * count }
-    requires room { count ≤ room.room }
-    ensures { result ≡ hex_pairs word.now }
-{
-    let mut spelled = room;
-    spelled.clear();
-    'bytes: for at in 0..count as usize {
-        let high = word[2 * at];
-        let low = word[2 * at + 1];
-        if !are_digits(high, low) {
-            return None;
-        }
-        spelled.push_within(16 * digit_value(high) + digit_value(low));
-    }
-    Some(spelled.into_items())
 }

@@ -6,7 +6,7 @@ ghost use Rattle.script_text.specs.{Parsing.Gives, Words.texts};
 use crate::argument::client;
 use crate::operation::operation_of;
 use crate::word::{MOST_WORDS, cut_words};
-use iso_model::{Bytes, MAX_LINE};
+use iso_model::MAX_LINE;
 use script_model::{LineError, Parsed};
 use std::alloc::Global;
 
@@ -16,47 +16,8 @@ use std::alloc::Global;
 ///
 /// - `Cause`: the first test that the line fails.
 /// - `Memory`: want of memory for what it says.
-pub fn parse_line(alloc: Global, text: &[u8]) -> Result<Parsed, LineError>
-    ensures { Gives result (parse text.now) }
-{
-    let mut spare = Bytes::empty(alloc);
-    parse_line_in(alloc, &mut spare, text)
-}
-
-/// What the bytes before a line feed say. A carriage return at their end counts in their length alone.
-///
-/// # Errors
-///
-/// As those of `parse_line`.
-pub fn parse_whole_line(alloc: Global, piece: &[u8]) -> Result<Parsed, LineError>
-    ensures { Gives result (parse_whole piece.now) }
-{
-    let mut spare = Bytes::empty(alloc);
-    parse_whole_line_in(alloc, &mut spare, piece)
-}
-
-/// The same. The bytes of a put, a write or a fill may be in the memory of the spare ones, which are none then.
-///
-/// # Errors
-///
-/// As those of `parse_line`.
-#[tactic(auto, unfolding(script_model::specs::Script::parse_whole))]
-pub fn parse_whole_line_in(
-    alloc: Global,
-    spare: &mut Bytes,
-    piece: &[u8],
-) -> Result<Parsed, LineError>
-    ensures { Gives result (parse_whole piece.now) }
-{
-    if piece.len() > MAX_LINE {
-        return Err(LineError::Cause(7));
-    }
-    parse_line_in(alloc, spare, without_return(piece))
-}
-
-/// As `parse_line`, with spare bytes.
 #[tactic(auto, unfolding(script_model::specs::Script::parse))]
-fn parse_line_in(alloc: Global, spare: &mut Bytes, text: &[u8]) -> Result<Parsed, LineError>
+pub fn parse_line(alloc: Global, text: &[u8]) -> Result<Parsed, LineError>
     ensures { Gives result (parse text.now) }
 {
     if text.len() > MAX_LINE {
@@ -69,7 +30,22 @@ fn parse_line_in(alloc: Global, spare: &mut Bytes, text: &[u8]) -> Result<Parsed
     let Some(count) = cut_words(text, &mut places) else {
         return Err(LineError::Cause(8));
     };
-    said(alloc, spare, &places[..count])
+    said(alloc, &places[..count])
+}
+
+/// What the bytes before a line feed say. A carriage return at their end counts in their length alone.
+///
+/// # Errors
+///
+/// As those of `parse_line`.
+#[tactic(auto, unfolding(script_model::specs::Script::parse_whole))]
+pub fn parse_whole_line(alloc: Global, piece: &[u8]) -> Result<Parsed, LineError>
+    ensures { Gives result (parse_whole piece.now) }
+{
+    if piece.len() > MAX_LINE {
+        return Err(LineError::Cause(7));
+    }
+    parse_line(alloc, without_return(piece))
 }
 
 /// A line without the one carriage return at its end.
@@ -88,7 +64,7 @@ fn is_skipped(text: &[u8]) -> bool
 
 /// What the words of a line say.
 #[tactic(auto, unfolding(script_model::specs::Script::said))]
-fn said(alloc: Global, spare: &mut Bytes, words: &[&[u8]]) -> Result<Parsed, LineError>
+fn said(alloc: Global, words: &[&[u8]]) -> Result<Parsed, LineError>
     ensures { Gives result (said (texts words.now)) }
 {
     match words {
@@ -99,7 +75,7 @@ fn said(alloc: Global, spare: &mut Bytes, words: &[&[u8]]) -> Result<Parsed, Lin
         }
         [first, name, arguments @ ..] => {
             let client = client(first)?;
-            operation_of(alloc, spare, client, name, arguments)
+            operation_of(alloc, client, name, arguments)
         }
     }
 }

@@ -5,15 +5,13 @@ ghost use Rattle.script_text.specs.{Parsing.{Gives, said_by}, Words.texts};
 
 use crate::argument::{hex, label, labels, mode, number, stored};
 use crate::files::file_operation;
-use iso_model::Bytes;
 use script_model::{Line, LineError, MAX_LABELS, Op, Parsed};
 use std::alloc::Global;
 
-/// The line of this client with the operation of this name. Bytes of a put, a write or a fill may be in the memory of spare ones.
+/// The line of this client with the operation of this name.
 #[tactic(auto, unfolding(script_model::specs::Script::operation_of))]
 pub(crate) fn operation_of(
     alloc: Global,
-    spare: &mut Bytes,
     client: u8,
     name: &[u8],
     arguments: &[&[u8]],
@@ -24,7 +22,7 @@ pub(crate) fn operation_of(
         return begin(client, arguments);
     }
     if name == b"put".as_slice() {
-        return put(alloc, spare, client, arguments);
+        return put(alloc, client, arguments);
     }
     if name == b"read".as_slice() {
         return read(client, arguments);
@@ -33,10 +31,10 @@ pub(crate) fn operation_of(
         return get(client, arguments);
     }
     if name == b"write".as_slice() {
-        return write(alloc, spare, client, arguments);
+        return write(alloc, client, arguments);
     }
     if name == b"fill".as_slice() {
-        return fill(alloc, spare, client, arguments);
+        return fill(alloc, client, arguments);
     }
     if name == b"mark".as_slice() {
         return mark(client, arguments);
@@ -161,12 +159,7 @@ fn begin(client: u8, arguments: &[&[u8]]) -> Result<Parsed, LineError>
     }
 }
 
-fn put(
-    alloc: Global,
-    spare: &mut Bytes,
-    client: u8,
-    arguments: &[&[u8]],
-) -> Result<Parsed, LineError>
+fn put(alloc: Global, client: u8, arguments: &[&[u8]]) -> Result<Parsed, LineError>
     ensures { Gives result (said_by client (put_arguments (texts arguments.now))) }
 {
     let [block, start, text] = arguments else {
@@ -174,7 +167,7 @@ fn put(
     };
     let block = number(block)?;
     let off = number(start)?;
-    let bytes = hex(alloc, spare, text)?;
+    let bytes = hex(alloc, text)?;
     Ok(Parsed::Line(Line {
         client,
         op: Op::Put { block, off, bytes },
@@ -209,38 +202,28 @@ fn get(client: u8, arguments: &[&[u8]]) -> Result<Parsed, LineError>
     }))
 }
 
-fn write(
-    alloc: Global,
-    spare: &mut Bytes,
-    client: u8,
-    arguments: &[&[u8]],
-) -> Result<Parsed, LineError>
+fn write(alloc: Global, client: u8, arguments: &[&[u8]]) -> Result<Parsed, LineError>
     ensures { Gives result (said_by client (number_and_bytes ops.Write (texts arguments.now))) }
 {
     let [block, bytes] = arguments else {
         return Err(LineError::Cause(3));
     };
     let block = number(block)?;
-    let bytes = hex(alloc, spare, bytes)?;
+    let bytes = hex(alloc, bytes)?;
     Ok(Parsed::Line(Line {
         client,
         op: Op::Write { block, bytes },
     }))
 }
 
-fn fill(
-    alloc: Global,
-    spare: &mut Bytes,
-    client: u8,
-    arguments: &[&[u8]],
-) -> Result<Parsed, LineError>
+fn fill(alloc: Global, client: u8, arguments: &[&[u8]]) -> Result<Parsed, LineError>
     ensures { Gives result (said_by client (number_and_bytes ops.Fill (texts arguments.now))) }
 {
     let [block, bytes] = arguments else {
         return Err(LineError::Cause(3));
     };
     let block = number(block)?;
-    let bytes = hex(alloc, spare, bytes)?;
+    let bytes = hex(alloc, bytes)?;
     Ok(Parsed::Line(Line {
         client,
         op: Op::Fill { block, bytes },

@@ -7,7 +7,7 @@ returns-in-Ok-Skip g c W stood =
 
 pub returns-in-Ok-Line : Rattle.script_runner.proofs.line.answer_parsed.Goals.returns-in-Ok-Line
 returns-in-Ok-Line g c W stood =
-    answered_line _ _ _ _ _ W c.args.number c.in-Ok-Line.line c.answer_line-answered.result (c.answer_line-answered.ensures.ran W c.args.number stood) (c.answer_line-answered.ensures.halted W c.args.number stood)
+    answered_line _ _ _ _ _ W c.args.number c.in-Ok-Line.line c.answer_line.result (c.answer_line.ensures.ran W c.args.number stood) (c.answer_line.ensures.halted W c.args.number stood)
     c.args.parsed (c.in-Ok-Line.is ∙ ap (λ p. Ok p) c.in-Ok-Line.field-0-is)
 
 pub returns-in-Err : Rattle.script_runner.proofs.line.answer_parsed.Goals.returns-in-Err
