@@ -3,7 +3,7 @@ ghost use Rattle.std.specs.Prelude.{◌≡◌, ◌+◌, ◌-◌, ◌<◌, ◌≤
 ghost use Rattle.bench_script.specs.{Counts.IsTallied, Kinds.{commits_in, conflicts_in}};
 
 use crate::line_kind::{LineKind, kind_of_line};
-use script_runner::split_line;
+use crate::split::split_at_byte;
 
 /// How many replies tell of a commit, and how many of a conflict.
 #[derive(Clone, Copy, Debug, PartialEq, Eq)]
@@ -21,7 +21,7 @@ pub(crate) fn count_lines(counts: Tally, text: &[u8]) -> (Tally, usize)
 {
     let mut counts = counts;
     let mut rest = text;
-    while let Some((line, next)) = split_line(rest) {
+    while let Some((line, next)) = split_at_byte(b'\n', rest) {
         counts = with_kind(counts, kind_of_line(line));
         rest = next;
     }

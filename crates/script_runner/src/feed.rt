@@ -1,5 +1,5 @@
-// Where the next line feed is, and the line before it.
-ghost use Rattle.std.specs.Prelude.{◌≡◌, ◌≢◌, ℕ, ◌+◌, ◌<◌, ◌≤◌, ◌∷◌, ◌++◌, length, slice_index, IfNone, IfSome};
+// Where the next line feed is.
+ghost use Rattle.std.specs.Prelude.{◌≡◌, ◌≢◌, ℕ, ◌+◌, ◌<◌, ◌≤◌, length, slice_index, IfNone, IfSome};
 ghost use Rattle.script_runner.specs.Run.{HasNoFeed};
 
 use std::simd::prelude::*;
@@ -26,8 +26,7 @@ fn before_feed(text: &[u8], at: usize) -> usize
 }
 
 /// The place of the first line feed.
-#[inline(always)]
-fn find_feed(text: &[u8]) -> Option<usize>
+pub(crate) fn find_feed(text: &[u8]) -> Option<usize>
     ensures feed { IfSome result (λ i. (i < length text.now) × (slice_index text.now i ≡ 10)) }
     ensures before { IfSome result (λ i. (k : ℕ) → k < i → slice_index text.now k ≢ 10) }
     ensures none { IfNone result (HasNoFeed text.now) }
@@ -47,16 +46,4 @@ fn find_feed(text: &[u8]) -> Option<usize>
         at += 1;
     }
     None
-}
-
-/// The bytes before the first line feed, and what follows it. None where there is no line feed.
-#[inline(always)]
-pub fn split_line(text: &[u8]) -> Option<(&[u8], &[u8])>
-    ensures split { IfSome result (λ found. text.now ≡ found.0.now ++ 10 ∷ found.1.now) }
-    ensures line { IfSome result (λ found. HasNoFeed found.0.now) }
-    ensures none { IfNone result (HasNoFeed text.now) }
-{
-    let end = find_feed(text)?;
-    let (line, rest) = text.split_at(end);
-    Some((line, &rest[1..]))
 }

@@ -14,7 +14,6 @@ mod read;
 mod run_end;
 mod runner;
 
-pub use feed::split_line;
 pub use lines::ScriptError;
 pub use machine::ScriptMachine;
 pub use read::read_script;

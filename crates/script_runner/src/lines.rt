@@ -1,10 +1,10 @@
 // The lines of a whole script.
-ghost use Rattle.std.specs.Prelude.{◌≡◌, ◌<◌, ◌≤◌, ◌++◌, if◌then◌else◌, false, nat_le, List, ℕ, None, length, IfErr, IfOk, OnOk};
+ghost use Rattle.std.specs.Prelude.{◌≡◌, ◌<◌, ◌≤◌, ◌∷◌, ◌++◌, if◌then◌else◌, false, nat_le, List, ℕ, None, length, IfErr, IfNone, IfOk, IfSome, OnOk};
 ghost use Rattle.script_model.specs.{declared.script.Line.Line, Script.{last_piece, script}};
-ghost use Rattle.script_runner.specs.Parts.{Adds, IsWhyOf, Stops};
+ghost use Rattle.script_runner.specs.{Parts.{Adds, IsWhyOf, Stops}, Run.HasNoFeed};
 
-use crate::feed::split_line;
 use iso_model::{MAX_INPUT, MAX_LINE};
+use memchr::memchr;
 use script_model::{BadLine, Line, LineError, Parsed};
 use script_text::{parse_line, parse_whole_line};
 use std::alloc::Global;
@@ -18,6 +18,17 @@ pub enum ScriptError {
     Input,
     /// Want of memory.
     Memory,
+}
+
+/// The bytes before the first line feed, and what follows it. None where there is no line feed.
+fn split_line(text: &[u8]) -> Option<(&[u8], &[u8])>
+    ensures split { IfSome result (λ found. text.now ≡ found.0.now ++ 10 ∷ found.1.now) }
+    ensures line { IfSome result (λ found. HasNoFeed found.0.now) }
+    ensures none { IfNone result (HasNoFeed text.now) }
+{
+    let end = memchr(b'\n', text)?;
+    let (line, rest) = text.split_at(end);
+    Some((line, &rest[1..]))
 }
 
 /// Adds what a line says, if it says something.

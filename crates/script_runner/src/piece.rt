@@ -1,12 +1,12 @@
 // A piece of the input, and the lines in it.
-ghost use Rattle.std.specs.Prelude.{◌≡◌, ℕ, ◌+◌, ◌^◌, ◌<◌, ◌≤◌, [], ◌∷◌, ◌++◌, List, length, IfErr, OnOk};
+ghost use Rattle.std.specs.Prelude.{◌≡◌, ℕ, ◌+◌, ◌^◌, ◌<◌, ◌≤◌, [], ◌∷◌, ◌++◌, List, length, IfErr, IfNone, IfSome, OnOk};
 ghost use Rattle.iso_io.specs.Sink.{SinkState};
 ghost use Rattle.script_model.specs.Script.{parse_whole};
 ghost use Rattle.iso_model.specs.World.{World};
 ghost use Rattle.script_text.specs.Parsing.{Gives};
 ghost use Rattle.script_runner.specs.{Lines.{EndsAt, Reads, end_of}, Run.HasNoFeed};
 
-use crate::feed::split_line;
+use crate::feed::find_feed;
 use crate::line::answer_parsed;
 use crate::machine::ScriptMachine;
 use crate::run_end::Halt;
@@ -24,6 +24,17 @@ pub(crate) struct Progress {
     pub(crate) held: Vec<u8>,
     /// The line of the last reply.
     pub(crate) reply: ReplyLine,
+}
+
+/// The bytes before the first line feed, and what follows it. None where there is no line feed.
+fn split_line(text: &[u8]) -> Option<(&[u8], &[u8])>
+    ensures split { IfSome result (λ found. text.now ≡ found.0.now ++ 10 ∷ found.1.now) }
+    ensures line { IfSome result (λ found. HasNoFeed found.0.now) }
+    ensures none { IfNone result (HasNoFeed text.now) }
+{
+    let end = find_feed(text)?;
+    let (line, rest) = text.split_at(end);
+    Some((line, &rest[1..]))
 }
 
 /// What a whole line says, whose front is held. Where it says something, nothing is held then.
