@@ -9,7 +9,7 @@ none_taken = record {
   since = λ more lines given many is. record { left = lines; more = given; as_many = many; text = is; commits_are = omega arith; conflicts_are = omega arith };
 }
 
--- more bytes behind the others
+-- more bytes after the others
 pub more_taken : (text rest bytes : List ℕ) (commits conflicts : ℕ) → IsTallied text rest commits conflicts → IsTallied (text ++ bytes) (rest ++ bytes) commits conflicts
 more_taken text rest bytes commits conflicts is = record {
   commits_fit = omega (arith, is.commits_fit, length-append text bytes, length-append rest bytes);

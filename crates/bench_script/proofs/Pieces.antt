@@ -10,7 +10,7 @@ next_round (suc n) at x y round new given some is after =
     let before : suc n - 1 ≡ n = omega arith in
     ap (λ (left : ℕ). new ++ bench_text left y) before ∙ (λ i. is i ++ bench_text n (after i)) ∙ ap (λ (front : List ℕ). front ++ (drawn_round x ++ bench_text n (after_draws 6 x))) (sym (drop_all at round (omega (arith, given))))
 
--- behind the last round there is nothing
+-- after the last round there is nothing
 pub no_round : (rounds at x : ℕ) (round : List ℕ) → at ≡ length round → rounds ≡ 0 → drop at round ++ bench_text rounds x ≡ []
 unfolding bench_text
 no_round zero at x round given none = ap (λ (front : List ℕ). front ++ []) (drop_all at round (omega (arith, given)))

@@ -52,7 +52,7 @@ record IsFeedless (text : List ℕ) : Type 0 where
 numbered : (word : List ℕ) (n : ℕ) → list_all (is_other 10) word ≡ true → IsFeedless (word ++ decimal n)
 numbered word n all = record { all = both 10 word (decimal n) all (no_feed n) }
 
--- and behind a text
+-- and after a text
 numbered_on : {text : List ℕ} (word : List ℕ) (n : ℕ) → list_all (is_other 10) word ≡ true → IsFeedless text → IsFeedless (text ++ word ++ decimal n)
 numbered_on {text} word n all before = record { all = both 10 (text ++ word) (decimal n) (both 10 text word before.all all) (no_feed n) }
 

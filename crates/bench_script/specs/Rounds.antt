@@ -6,7 +6,7 @@ use Rattle.script_model.specs.{declared.script.Reply.Reply, declared.script.Repl
 abbrev pub is_one_place : (x : ℕ) → Bool
 is_one_place x = nth_drawn x 3 16 == nth_drawn x 4 16
 
--- What the second client's end is answered, behind a first commit after this last one: it has read four bytes of the block that the
+-- What the second client's end is answered, after a first commit after this last one: it has read four bytes of the block that the
 -- first client wrote, and the byte that this one wrote is among them exactly where both places are one.
 abbrev pub second_end : (x last : ℕ) → Reply
 second_end x last =

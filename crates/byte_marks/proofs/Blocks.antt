@@ -68,7 +68,7 @@ in_order f zero (suc j) (e ∷ es) d rises le lt = let later = at_least (e.0 + 1
 in_order f (suc i) zero (e ∷ es) d rises le lt = absurd (omega arith)
 in_order f (suc i) (suc j) (e ∷ es) d rises le lt = in_order (e.0 + 1) i j es d rises.1 (omega arith) (omega arith)
 
--- and none is behind the last
+-- and none is after the last
 pub last_block : (f k : ℕ) (es : List (ℕ × List Extent)) (x d : ℕ × List Extent) → RisesFrom f (es ++ x ∷ []) → k < length (es ++ x ∷ [])
     → (get_or (es ++ x ∷ []) k d).0 ≤ x.0
 last_block f zero [] x d rises lt = omega arith

@@ -54,6 +54,6 @@ abbrev pub unless_refused : Kinds → Option (Text × List Row) → Option (Text
 unless_refused [] rows = rows
 unless_refused (kind ∷ kinds) rows = None
 
--- The command that the words name, and what clap finds behind it. None where clap refuses the words.
+-- The command that the words name, and what clap finds after it. None where clap refuses the words.
 unfoldable pub rows_found : List Text → Option (Text × List Row)
 rows_found words = unless_refused (fault_of isotope_app words) (subcommand_of isotope_app words)

@@ -8,7 +8,7 @@ abbrev pub begins_with_hyphen : Text → Bool
 begins_with_hyphen [] = false
 begins_with_hyphen (b ∷ word) = b == 45
 
--- the number that a word spells, or what stands where there is no word
+-- the number that a word spells, or what is where there is no word
 abbrev pub number_or : (otherwise : ℕ) → Option Text → Option ℕ
 number_or otherwise None = Some otherwise
 number_or otherwise (Some word) = number_of word

@@ -84,7 +84,7 @@ note_from f number (x ∷ notes) marks rises is = elim (cases_eq x.0 number) [
       omega (arith, later, rises.0))
 ]
 
--- the note of a number above n stands among those above n
+-- the note of a number above n is among those above n
 pub note_above : (n number : ℕ) (notes : List Note) → n < number → note_of number (above n notes) ≡ note_of number notes
 note_above n number [] lt = refl
 note_above n number (x ∷ notes) lt = elim (cases_lt n x.0) [

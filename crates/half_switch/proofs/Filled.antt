@@ -29,7 +29,7 @@ laid_array g x base blocks up long is each =
     ∙ ap (all_own (blocks_of g.block g.blocks blocks)) (sym (take_commits g (x.base + 1) (base - x.base) x.told))
     ∙ own
 
--- The three writes leave this behind the gate.
+-- The three writes leave this after the gate.
 module _ (to : HalfPlace) (old base front log : List ℕ) (base_is : to.base ≡ to.header + 32) (log_is : to.log ≡ to.base + length base) (front_is : length front ≡ 31) (fits : to.log + length log ≤ length old) where
   one : Torn to.base (length base) old (spliced old to.base base)
   one = spliced_torn old to.base base (omega arith)
@@ -68,7 +68,7 @@ log_read used room gate R rest log used_is long is =
           ∙ take_at (R ++ gate ∷ []) rest (used + 1) (omega (arith, used_is, length-append R (gate ∷ []))),
     )
 
--- what was written of a log: its records behind a closed gate
+-- what was written of a log: its records after a closed gate
 log_written : (g : Geometry) (place base : ℕ) (told : List Written) (c : List ℕ)
     → take (length (closed_log g (base + 1) told)) (drop place c) ≡ closed_log g (base + 1) told
     → length (records g (base + 1) told) + 1 ≤ g.log → place + g.log ≤ length c → HasLog place g.log g (base + 1) told c

@@ -1,4 +1,4 @@
--- An image through writes in the half that is filled, behind its closed gate.
+-- An image through writes in the half that is filled, after its closed gate.
 use Rattle.half_switch.proofs.Words.{◌≡◌, ◌≤◌, ◌+◌, ◌-◌, inl, ℕ, zero, suc, List, refl, sym, ◌∙◌, ap, arith, subst, Geometry, half_size, header_place, Torn, get_or-torn, IsClosed, HalfPlace, Half, IsHeld, held_half, beside_closed, FillPlan, AreHalves, IsFrom, place_of}
 
 pub kept_closed : (header n : ℕ) (old new : List ℕ) → IsClosed header old → Torn (header + 1) n old new → IsClosed header new

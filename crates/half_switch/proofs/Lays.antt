@@ -26,7 +26,7 @@ writes_have_bytes g [] all = tt
 writes_have_bytes g (x ∷ []) all = (λ write. length-recorded g.block x all.fits, tt)
 writes_have_bytes g (x ∷ y ∷ more) all = (λ write. length-recorded g.block x all.0.fits, writes_have_bytes g (y ∷ more) all.2)
 
--- a run stands inside its block
+-- a run is inside its block
 run_fits : (g : Geometry) (run : Run) → IsRun g run → run_place g.block run + length run.bytes ≤ g.blocks * g.block
 run_fits g run is = grind arith
 

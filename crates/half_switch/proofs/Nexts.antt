@@ -5,7 +5,7 @@ cons_of : (xs : List ℕ) (gate : ℕ) (rest : List ℕ) → (next : ℕ) × (mo
 cons_of [] gate rest = (gate, rest, refl)
 cons_of (x ∷ xs) gate rest = (x, xs ++ gate ∷ rest, refl)
 
--- behind the first record the others stand
+-- after the first record the others stand
 behind_first : (g : Geometry) (n : ℕ) (w : Written) (told : List Written) (bytes : List ℕ) → AreBytesOf g n (w ∷ told) bytes
     → AreBytesOf g (n + 1) told (drop (length (spell 1 (kind_of g w.mode) n w.parts)) bytes)
 behind_first g n w told bytes has =
@@ -16,7 +16,7 @@ behind_first g n w told bytes has =
           ∙ drop_at (spell 1 (kind_of g w.mode) n w.parts) (records g (n + 1) told ++ gate ∷ rest) (length (spell 1 (kind_of g w.mode) n w.parts)) refl,
     )
 
--- behind the first i records the others stand
+-- after the first i records the others stand
 behind : (g : Geometry) (n i : ℕ) (told : List Written) (bytes : List ℕ) → i ≤ length told → AreBytesOf g n told bytes
     → AreBytesOf g (n + i) (drop i told) (drop (length (records g n (take i told))) bytes)
 behind g n zero told bytes le has = let e : n + 0 ≡ n = omega arith in rw e has
@@ -108,7 +108,7 @@ length-push g n told w =
     let last : length (spell 1 (kind_of g w.mode) (n + length told) w.parts ++ []) ≡ length (spell 1 (kind_of g w.mode) (n + length told) w.parts) + 0 = length-append (spell 1 (kind_of g w.mode) (n + length told) w.parts) [] in
     omega (arith, ap length (records-append g n told (w ∷ [])), length-append (records g n told) (spell 1 (kind_of g w.mode) (n + length told) w.parts ++ []), last)
 
--- what stands at the next record of a loop
+-- what is at the next record of a loop
 pub record AtNext (g : Geometry) (n i : ℕ) (told : List Written) (rest : List ℕ) : Type 0 where
   pub here : Here g told i
   pub next : NextIs g (n + i) here.w rest
@@ -124,7 +124,7 @@ at_next g n i at told log rest valid each below small has place is =
       next = next_is g (n + i) h.w h.more rest valid h.is small (subst (λ (l : List Written). AreBytesOf g (n + i) l rest) h.rest (subst (AreBytesOf g (n + i) (drop i told)) same there));
     }
 
--- a record that is read, and the byte behind it, take up its window
+-- a record that is read, and the byte after it, take up its window
 pub record IsInside (bytes : List ℕ) : Type 0 where
   pub head : 20 ≤ length bytes
   pub window : record_window bytes ≤ length bytes
@@ -162,13 +162,13 @@ set_gate [] (suc n) gate v is = absurd (omega (arith, is))
 set_gate (x ∷ xs) zero gate v is = absurd (omega (arith, is))
 set_gate (x ∷ xs) (suc n) gate v is = ap (λ (l : List ℕ). x ∷ l) (set_gate xs n gate v (omega (arith, is)))
 
--- the records behind the first k
+-- the records after the first k
 pub records_split : (g : Geometry) (n k : ℕ) (told : List Written) → k ≤ length told → records g n told ≡ records g n (take k told) ++ records g (n + k) (drop k told)
 records_split g n k told le =
     ap (records g n) (sym (take-append-drop k told)) ∙ records-append g n (take k told) (drop k told)
     ∙ ap (λ (m : ℕ). records g n (take k told) ++ records g (n + m) (drop k told)) (length-take-le k told le)
 
--- what is copied of a log: the records behind the first, and a closed gate
+-- what is copied of a log: the records after the first, and a closed gate
 pub rest_is : (g : Geometry) (old_base base used gate : ℕ) (told : List Written) (log : List ℕ) (at : ℕ) → old_base ≤ base → base - old_base ≤ length told
     → log ≡ records g (old_base + 1) told ++ gate ∷ [] → used ≡ length (records g (old_base + 1) told) → at ≡ length (records g (old_base + 1) (take (base - old_base) told))
     → drop at (set log used 0) ≡ records g (base + 1) (drop (base - old_base) told) ++ 0 ∷ []

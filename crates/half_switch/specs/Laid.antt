@@ -3,7 +3,7 @@ use Rattle.std.specs.Prelude.{◌≡◌, ℕ, ◌+◌, ◌*◌, cond, nat_le, Li
 use Rattle.iso_model.specs.{declared.access.Geometry.Geometry, declared.access.Run.Run, Image.{Written, records}}
 use Rattle.iso_disk.specs.Disk.{spliced}
 
--- where a run stands among the bytes of blocks of this size
+-- where a run is among the bytes of blocks of this size
 abbrev pub run_place : (size : ℕ) → Run → ℕ
 run_place size run = run.block * size + run.off
 

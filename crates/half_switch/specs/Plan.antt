@@ -16,7 +16,7 @@ pub record AreHalves (g : Geometry) (from to : HalfPlace) : Type 0 where
   pub from_is : from ≡ place_of g half
   pub to_is : to ≡ place_of g other
 
--- The plan is for an image of this geometry, in whatever form, and this half of it stands at that place.
+-- The plan is for an image of this geometry, in whatever form, and this half of it is at that place.
 pub record IsFrom (g : Geometry) (x : Half) (from : HalfPlace) (plan : FillPlan) : Type 0 where
   pub geometry : plan.geometry ≡ in_form plan.geometry.form g
   pub place : from ≡ place_of g x.at

@@ -1,23 +1,23 @@
--- What three writes behind the gate of a half leave of an image.
+-- What three writes after the gate of a half leave of an image.
 use Rattle.std.specs.{Prelude.{◌≡◌, ℕ, ◌+◌, ◌-◌, ◌≤◌, List, [], ◌∷◌, ◌++◌, Option, Some, length, take, drop}, List.AllByRecursion}
 use Rattle.iso_model.specs.{declared.access.Geometry.Geometry, declared.limits.TheConstants.LAST, Image.{IsRecord, Written, half_header, records}}
 use Rattle.iso_disk.specs.Disk.{spliced}
 use Rattle.iso_image.specs.declared.places.HalfPlace.{HalfPlace}
 use Rattle.half_switch.specs.{declared.plan.FillPlan.FillPlan, Laid.all_laid}
 
--- a header behind its gate
+-- a header after its gate
 abbrev pub header_tail : (form generation base : ℕ) → List ℕ
 header_tail form generation base = take 31 (drop 1 (half_header 0 form generation base))
 
--- records, and a closed gate behind them
+-- records, and a closed gate after them
 abbrev pub closed_log : Geometry → (n : ℕ) → List Written → List ℕ
 closed_log g n told = records g n told ++ 0 ∷ []
 
--- the image with these bytes in a half: its base, its header behind the gate, and its log
+-- the image with these bytes in a half: its base, its header after the gate, and its log
 abbrev pub filled_with : HalfPlace → (base front log old : List ℕ) → List ℕ
 filled_with to base front log old = spliced (spliced (spliced old to.base base) (to.header + 1) front) to.log log
 
--- The half has these bytes behind its gate in an image of which the disk told the rest.
+-- The half has these bytes after its gate in an image of which the disk told the rest.
 pub record IsPut (to : HalfPlace) (header base log : List ℕ) (contents : Option (List ℕ)) (bytes : List ℕ) : Type 0 where
   pub old : List ℕ
   pub was : contents ≡ Some old

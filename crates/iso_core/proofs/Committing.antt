@@ -1,7 +1,7 @@
 -- The steps of a commit: what is kept, and the disk, between two of them.
 use Rattle.iso_core.proofs.{Words.{◌≡◌, ◌≢◌, ◌∙◌, sym, ap, ℕ, ◌+◌, ◌-◌, ◌≤◌, Bool, true, List, [], ◌∷◌, ◌++◌, length, arith, subst, length_push, Extent, DiskState, IsLawful, IsSettled, LeavesOnly, at_end, Half, IsHeld, MayFollow, half_of_world, next_gate, with_records, extent_of, LAST, image_size, last, after_commit, after_leaving, need, commit_from, World, Live, unattached, used, IsWorld, commits, Doing, Kept, AreOf, IsGrownBy, IsPrepared, IsSpelled, MayCommit, written_of, IsOf, up, down, ShowsEither}, Commits.next_half, Leaves.has_begun, Moments.record_needs, Numbers.{log_room, log_used}, Standings.{kept_with, stands_on}}
 
--- other things that are kept change, and the core stands as before
+-- other things that are kept change, and the core is as before
 pub keeps_stand : (d : DiskState) (kept new : Kept) (W : World) → AreOf d kept W up → IsOf new W → new.half ≡ kept.half → new.down ≡ kept.down → AreOf d new W up
 keeps_stand d kept new W of is half down_is = stands_on d kept new W up W.live W.next W.trim of half down_is is
 
@@ -17,7 +17,7 @@ spelled_stage d kept new W of is = grind (arith, keeps_stand, buffer_on)
 pub prepared_stage : (d : DiskState) (kept new : Kept) (W : World) → AreOf d kept W up → IsOf new W → new ≡ record kept { index = new.index; notes = new.notes } → AreOf d new W up
 prepared_stage d kept new W of same is = keeps_stand d kept new W of same (ap (λ (k : Kept). k.half) is) (ap (λ (k : Kept). k.down) is)
 
--- the free bytes hold the record and the gate behind it
+-- the free bytes hold the record and the gate after it
 pub fits_log : (kept : Kept) (bytes : List ℕ) (free : ℕ) → bytes ≡ kept.buffer.records ++ 0 ∷ [] → free ≡ kept.log.room - kept.log.used → length bytes ≤ free
     → kept.log.used + length kept.buffer.records + 1 ≤ kept.log.room
 fits_log kept bytes free is free_is le = omega (arith, ap (λ (l : List ℕ). length l) is ∙ length_push kept.buffer.records 0, free_is, le)

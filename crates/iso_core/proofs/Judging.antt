@@ -143,7 +143,7 @@ module _ (U : World) (tx : ℕ) (t : Live) (work : Doing) (is : IsWorld U) (may 
   pub commits_as : last U.history ≢ LAST → need U t ≤ U.geometry.log - used U → (end_step U t).0 ≡ reply.Committed (last U.history + 1)
   commits_as fresh fits = ap (λ (x : CoreReply × World). x.0) (ends_as ∙ is_committed U t fresh fits)
 
--- commits behind commits
+-- commits after commits
 pub ahead_twice : (W : World) (more others : List Commit) → ahead (ahead W more) others ≡ ahead W (more ++ others)
 ahead_twice W more others = let e = append_assoc W.history.commits more others in λ i. record W { history = record W.history { commits = e i } }
 

@@ -17,7 +17,7 @@ module _ (W : World) (t : Live) (at : ℕ) (is : IsWorld W) (next : IsWorld (aft
   shows_either c (inl before) = inl (shows_world W at is c before)
   shows_either c (inr after) = inr (shows_world (after_commit W t) at next c (subst (λ (h : Half). IsHeld W.geometry h c) (sym (next_half W t at is)) after))
 
--- the bytes of the next record are what the commit needs, but for the gate behind it
+-- the bytes of the next record are what the commit needs, but for the gate after it
 pub record_needs : (W : World) (t : Live) (bytes : List ℕ) → AreNextRecords W (written_of W t ∷ []) bytes → length bytes + 1 ≡ need W t
 record_needs W t bytes next = omega (arith, length-records W.geometry (last W.history + 1) (written_of W t ∷ []), ap (λ (l : List ℕ). length l) next.bytes_are)
 

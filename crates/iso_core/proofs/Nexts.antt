@@ -2,7 +2,7 @@
 use Rattle.iso_core.proofs.{Words.{◌≡◌, ◌∙◌, sym, ap, ℕ, ◌+◌, ◌≤◌, List, [], ◌∷◌, ◌++◌, length, arith, subst, Half, MayFollow, half_of_world, last_told, told_bytes, with_records, world_bytes, records-append, IsNext, LAST, last, Written, records, World, used, IsWorld, Kept, AreNextRecords, IsOf}, Numbers.{last_is, log_last}}
 use Rattle.std.proofs.Common.{length-append}
 
--- records that follow what is kept, with a closed gate behind them
+-- records that follow what is kept, with a closed gate after them
 pub next_all : (kept : Kept) (W : World) (more : List Written) (all : List ℕ) → IsOf kept W → AreNextRecords W more all → (bytes : List ℕ) → bytes ≡ all ++ 0 ∷ [] → IsNext kept.log W.geometry more bytes
 next_all kept W more all of next bytes is = grind (arith, log_last)
 

@@ -16,7 +16,7 @@ pub stands_on : (d : DiskState) (kept new : Kept) (W : World) (standing : Standi
     → AreOf d new (record W { live = live; next = next; trim = trim }) standing
 stands_on d kept new W standing live next trim of half down_is is = grind (arith, images_stay)
 
--- while nothing is written the core stands as before
+-- while nothing is written the core is as before
 pub stands_still : (old new : DiskState) (kept : Kept) (W : World) (standing : Standing) → IsLawful new → AreOf old kept W standing → WritesNothing old new → AreOf new kept W standing
 stands_still old new kept W standing laws of still = record {
   kept_of = of.kept_of;

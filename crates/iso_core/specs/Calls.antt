@@ -33,7 +33,7 @@ pub record IsCheckedOf (W : World) (t : Live) (checked : Checked) : Type 0 where
   pub to : checked.upto ≤ last W.history
   pub clash : checked.clash ≡ clash W.geometry (up_to W.history checked.upto) t.mode t.begin t.accesses
 
--- the reply of the model that an error stands for; being down, a fault of the disk and want of memory are none of its replies
+-- the reply of the model that an error represents; being down, a fault of the disk and want of memory are none of its replies
 abbrev pub refusal_of : CoreError → Option CoreReply
 refusal_of error.Down = None
 refusal_of error.TooManyTx = Some reply.TooManyTx
@@ -43,7 +43,7 @@ refusal_of error.Memory = None
 refusal_of (error.Worn at) = Some reply.Worn
 refusal_of error.ModeFixed = Some reply.ModeFixed
 
--- the reply of the model that the end of a transaction stands for
+-- the reply of the model that the end of a transaction represents
 abbrev pub reply_of : EndReply → CoreReply
 reply_of (ended.Committed number) = reply.Committed number
 reply_of ended.ReadOnly = reply.ReadOnly
@@ -56,11 +56,11 @@ Writes (Ok reply) = ⊥
 Writes (Err error.Disk) = Unit {0}
 Writes (Err e) = ⊥
 
--- the error is want of memory, or stands for the model's reply
+-- the error is want of memory, or represents the model's reply
 abbrev pub Refuses : CoreReply → CoreError → Type 0
 Refuses answer e = (e ≡ error.Memory) ⊎ (refusal_of e ≡ Some answer)
 
--- the count of the disk's faults did not fall, a call that blames the disk raised it, and after any other answer it stands where it stood
+-- the count of the disk's faults did not fall, a call that blames the disk raised it, and after any other answer it is what it was
 pub record BlamesDisk {T : Type 0} (before now : ℕ) (result : Result T CoreError) : Type 0 where
   pub later : before ≤ now
   pub failed : IsErrOf result error.Disk → Rose before now

@@ -1,4 +1,4 @@
--- What a core stands for.
+-- What a core represents.
 use Rattle.std.specs.Prelude.{◌≡◌, ℕ, List}
 use Rattle.iso_disk.specs.Disk.{DiskState, IsSettled}
 use Rattle.iso_image.specs.Half.{IsHeld, half_of_world}
@@ -26,7 +26,7 @@ pub record AreOf (d : DiskState) (kept : Kept) (W : World) (standing : Standing)
 abbrev pub disk_of : {D : Type 0} → Core D → D
 disk_of core = core.disk
 
--- The core stands for the world, but for the accesses and the places of its transactions. While it is up, each image that
--- a crash now may leave holds the world's history; once it is down, perhaps with the lost commits behind it.
+-- The core represents the world, but for the accesses and the places of its transactions. While it is up, each image that
+-- a crash now may leave holds the world's history; once it is down, perhaps with the lost commits after it.
 abbrev pub StandsFor : {D : Type 0} → (state : D → DiskState) → Core D → World → Standing → Type 0
 StandsFor state core W standing = AreOf (state core.disk) core.kept W standing

@@ -1,4 +1,4 @@
--- What stands between the steps of an end.
+-- What is between the steps of an end.
 use Rattle.std.specs.{Prelude.{◌≡◌, ℕ, ◌+◌, ◌<◌, ◌≤◌, true, List, [], ◌∷◌, length, map, None}, List.AllByRecursion}
 use Rattle.byte_marks.specs.{declared.extent.Extent.Extent, Touched.AreTouched}
 use Rattle.iso_image.specs.Half.{MayFollow, half_of_world, next_gate, with_records}

@@ -1,4 +1,4 @@
--- What stands between the steps of a group.
+-- What is between the steps of a group.
 use Rattle.std.specs.{Prelude.{◌≡◌, ◌≢◌, ℕ, ◌+◌, ◌≤◌, Bool, true, false, IsTrue, List, [], ◌∷◌, ◌++◌, length, map, flat_map, Option, None}, List.AllByRecursion}
 use Rattle.conflict_rule.specs.Decision.{AreNotes}
 use Rattle.iso_model.specs.{declared.access.Commit.Commit, declared.access.Geometry.Geometry, Effect.record_length, History.last, Geometry.{is_valid, log_place}, Image.{IsRecord, records, written}, Step.{after_commit, end_step}, World.{World, Live}, Worlds.IsWorld, declared.access.GroupReply.GroupReply, Group.{ahead, decided}}
@@ -41,7 +41,7 @@ parts_of g c = map part_of (written g c).parts
 abbrev pub all_parts : Geometry → List Commit → List PartSpan
 all_parts g commits = flat_map (parts_of g) commits
 
--- the staged records are those of these commits, the first of which has its gate at this place behind the first one of all
+-- the staged records are those of these commits, the first of which has its gate at this place after the first one of all
 abbrev pub AreStaged : Geometry → (at : ℕ) → List Staged → List Commit → Type 0
 AreStaged g at [] [] = Unit {0}
 AreStaged g at [] (c ∷ commits) = ⊥
@@ -97,7 +97,7 @@ bare_end m = without_reply (unsettled m)
 abbrev pub reply_in : GroupEnd → Option GroupReply
 reply_in m = m.reply
 
--- All members are decided, after those whose commits were planned before: the plan has the commits of all, and the replies are behind the others.
+-- All members are decided, after those whose commits were planned before: the plan has the commits of all, and the replies are after the others.
 pub record HasPlanned (W : World) (more : List Commit) (members : List Live) (plan : Plan) (old new : List GroupReply) : Type 0 where
   pub all : List Commit
   pub is : IsAhead W all plan
@@ -125,7 +125,7 @@ pub record HasStaged (W : World) (more : List Commit) (plan : Plan) : Type 0 whe
   pub staged : AreStaged W.geometry 0 plan.staged.items more
   pub parts : plan.parts.items ≡ all_parts W.geometry more
 
--- All members are decided, and all is at hand that their commits take: their records with a closed gate behind them, and memory.
+-- All members are decided, and all is at hand that their commits take: their records with a closed gate after them, and memory.
 pub record IsPlannedFor (W : World) (members : List Live) (plan : Plan) (kept : Kept) (replies : List GroupReply) : Type 0 where
   pub all : List Commit
   pub has : HasStaged W all plan

@@ -2,7 +2,7 @@
 use Rattle.std.specs.Prelude.{◌⊎◌, ℕ, Bool, true, false, List}
 use Rattle.iso_model.specs.{declared.access.Commit.Commit, Between.ShowsLast, History.with_commits, World.World}
 
--- a core is up, or a fault of the disk set it down; then these commits may stand behind its history
+-- a core is up, or a fault of the disk set it down; then these commits may stand after its history
 pub data Standing : Type 0 where
   up : Standing
   down : List Commit → Standing

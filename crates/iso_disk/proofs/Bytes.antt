@@ -23,7 +23,7 @@ module _ (old : List ℕ) (at : ℕ) (bytes : List ℕ) (fits : at + length byte
       ∙ ap (take (length bytes)) (drop_at (take at old) (bytes ++ drop (at + length bytes) old) at front)
       ∙ take_at bytes (drop (at + length bytes) old) (length bytes) refl
 
-  -- the bytes behind the range stay
+  -- the bytes after the range stay
   pub drop-spliced : (k : ℕ) → at + length bytes ≤ k → drop k (spliced old at bytes) ≡ drop k old
   drop-spliced k le =
       let end : length (take at old ++ bytes) ≡ at + length bytes = omega (arith, length-append (take at old) bytes, front) in
@@ -47,7 +47,7 @@ module _ {at n : ℕ} {old new : List ℕ} (torn : Torn at n old new) where
   pub take-torn : (k : ℕ) → k ≤ at → take k new ≡ take k old
   take-torn k le = sym (take-take k at new le) ∙ ap (take k) torn.before ∙ take-take k at old le
 
-  -- the bytes behind the range stay
+  -- the bytes after the range stay
   pub drop-torn : (k : ℕ) → at + n ≤ k → drop k new ≡ drop k old
   drop-torn k le =
       let far : at + n + (k - (at + n)) ≡ k = omega arith in
@@ -89,7 +89,7 @@ torn_whole {at = at} {old = old} {new = new} bytes torn here =
     rest : drop (length bytes) (drop at new) ≡ drop (at + length bytes) old
     rest = drop-drop (length bytes) at new ∙ torn.after
 
--- two writes, one behind the other, are one
+-- two writes, one after the other, are one
 pub spliced_behind : (old : List ℕ) (at : ℕ) (xs ys : List ℕ) → at + length xs + length ys ≤ length old → spliced (spliced old at xs) (at + length xs) ys ≡ spliced old at (xs ++ ys)
 spliced_behind old at xs ys fits =
     let end : length (take at old ++ xs) ≡ at + length xs = omega (arith, length-append (take at old) xs, length-take-le at old (omega arith)) in

@@ -1,7 +1,7 @@
 -- Bytes are their pieces, from the front on.
 use Rattle.iso_format.proofs.Words.{◌≡◌, ℕ, ◌+◌, ◌<◌, ◌≤◌, ◌==◌, List, [], ◌∷◌, ◌++◌, length, get_or, take, drop, replicate, IsTrue, nat_eq, refl, sym, ap, ◌∙◌, arith, take-add, drop-cons, eqb-true, and_parts, length-take, length-drop, be_bytes_2, be_bytes_4, be_bytes_8, w16, w32, w64, to_be_bytes, from_be_bytes, pointwise, list_all, AreBytes, bytes_drop, bytes_take, number_at, are_zero}
 
--- a piece behind a front
+-- a piece after a front
 pub grow : (bytes front piece : List ℕ) (n m : ℕ) → take n bytes ≡ front → take m (drop n bytes) ≡ piece → take (n + m) bytes ≡ front ++ piece
 grow bytes front piece n m e f = take-add n m bytes ∙ ap (λ (x : List ℕ). x ++ take m (drop n bytes)) e ∙ ap (λ (x : List ℕ). front ++ x) f
 

@@ -1,4 +1,4 @@
--- What a failed test of a record tells: its number, and where in the record its field stands.
+-- What a failed test of a record tells: its number, and where in the record its field is.
 use Rattle.std.specs.Prelude.{ℕ}
 use Rattle.iso_format.specs.{declared.format_error.FormatError.FormatError, declared.format_error.FormatError.TheVariants.{Short, Kind, NotZero, Count, Order, Range, Length, Number}}
 

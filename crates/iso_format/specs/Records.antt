@@ -42,7 +42,7 @@ follows (Some before) body = nat_lt before.0 (number_at w32 0 body) || ((before.
 abbrev pub lies_in : Geometry → List ℕ → Bool
 lies_in g body = nat_lt (number_at w32 0 body) g.blocks && nat_le 1 (number_at w16 6 body) && nat_le (number_at w16 4 body + number_at w16 6 body) g.block
 
--- the first test that the part fails, which stands at this place of the record
+-- the first test that the part fails, which is at this place of the record
 abbrev pub part_fault : Geometry → (before : Option (ℕ × ℕ)) → (at : ℕ) → List ℕ → Option FormatError
 part_fault g before at body =
     if nat_lt (length body) 8 then Some (Length at)
@@ -50,7 +50,7 @@ part_fault g before at body =
     else (if not (lies_in g body) then Some (Range at)
     else (if nat_lt (length body) (part_size body) then Some (Length at) else None)))
 
--- the block of the part, and the byte behind its run
+-- the block of the part, and the byte after its run
 abbrev pub part_end : List ℕ → ℕ × ℕ
 part_end body = (number_at w32 0 body, number_at w16 4 body + number_at w16 6 body)
 
@@ -64,7 +64,7 @@ parts_fault g before at (suc n) body =
 abbrev pub is_kind : Geometry → ℕ → Bool
 is_kind g kind = (kind == 1) || ((kind == 2) && (g.form == 2))
 
--- how many bytes have to be there for the record to be read: those that its head says, and the gate behind it
+-- how many bytes have to be there for the record to be read: those that its head says, and the gate after it
 abbrev pub record_window : List ℕ → ℕ
 record_window bytes = 21 + number_at w32 8 bytes
 

@@ -1,4 +1,4 @@
--- Records that are spelled one behind another, and how a buffer holds them.
+-- Records that are spelled one after another, and how a buffer holds them.
 use Rattle.std.specs.{Prelude.{◌≡◌, ℕ, ◌+◌, ◌≤◌, List, length, take, drop, flat_map, slice_index}, List.AllByRecursion}
 use Rattle.iso_model.specs.{declared.access.Run.Run, Image.part}
 use Rattle.iso_format.specs.Records.{IsSmall, runs_of}
@@ -8,11 +8,11 @@ pub record Spelled : Type 0 where
   pub records : List ℕ
   pub parts : List Run
 
--- the parts behind a head
+-- the parts after a head
 abbrev pub parts_behind : (start count : ℕ) → List ℕ → List Run
 parts_behind start count bytes = runs_of count (drop (start + 20) bytes)
 
--- the bytes are records up to a place, then a head with a closed gate that is not written yet, and parts behind it
+-- the bytes are records up to a place, then a head with a closed gate that is not written yet, and parts after it
 pub record HoldsParts (start count : ℕ) (bytes : List ℕ) : Type 0 where
   pub head : start + 20 ≤ length bytes
   pub gate : slice_index bytes start ≡ 0

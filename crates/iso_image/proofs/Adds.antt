@@ -59,7 +59,7 @@ added g x more bytes old new may is has whole =
     frame g x old new has (in_log g x more bytes old may is has new torn) (x.told ++ more) (each_more g x more bytes old may is has) (last_more g x more bytes old may is has)
     (log_whole (log_place g x.at) g.log g (x.base + 1) x.told more bytes old new (spelled g x more bytes old may is has) inside less (held_log g x old has) whole)
 
--- Where their bodies stand behind the gate and it opens, too.
+-- Where their bodies stand after the gate and it opens, too.
 pub added_by_gate : (g : Geometry) (x : Half) (more : List Written) (body old new : List ℕ) → MayFollow g x more → 1 ∷ body ≡ records g (last_told x + 1) more ++ 0 ∷ []
     → IsHeld g x old → take (length body) (drop (next_gate g x + 1) old) ≡ body → Torn (next_gate g x) 1 old new → IsOpen (next_gate g x) new
     → IsHeld g (with_records more x) new
@@ -72,7 +72,7 @@ added_by_gate g x more body old new may is has stands torn opened =
       | inr whole ↦ added g x more (1 ∷ body) old new may is has whole
     ]
 
--- Bytes behind the gate of the next record are free.
+-- Bytes after the gate of the next record are free.
 pub free_behind : (g : Geometry) (x : Half) (from count : ℕ) (old new : List ℕ) → IsHeld g x old → next_gate g x < from → from + count ≤ log_place g x.at + g.log
     → Torn from count old new → IsHeld g x new
 free_behind g x from count old new has starts ends torn =

@@ -8,12 +8,12 @@ appending_body gate b body old new closed torn = record {
   state = inl (λ is. closed (sym (get_or-torn torn gate 0 (inl (omega arith))) ∙ is));
 }
 
--- the bytes from an open gate on, where the body stands behind it
+-- the bytes from an open gate on, where the body is after it
 opened : (gate : ℕ) (body mid new : List ℕ) → gate + 1 + length body ≤ length mid → take (length body) (drop (gate + 1) mid) ≡ body → Torn gate 1 mid new → get_or new gate 0 ≡ 1
     → take (length (1 ∷ body)) (drop gate new) ≡ 1 ∷ body
 opened gate body mid new fits has torn is = grind (arith, drop-torn, drop_more)
 
--- while the gate is written it is closed, or all stands
+-- while the gate is written it is closed, or all is there
 pub appending_gate : (gate : ℕ) (body old mid new : List ℕ) → gate + 1 + length body ≤ length old → Torn (gate + 1) (length body) old mid
     → take (length body) (drop (gate + 1) mid) ≡ body → Torn gate 1 mid new → Appending gate (1 ∷ body) old new
 appending_gate gate body old mid new fits torn has gate_torn =

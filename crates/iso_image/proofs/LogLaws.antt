@@ -44,7 +44,7 @@ kind_known g w form is =
     either : (same : Bool) → IsTrue ((cond same 1 2 == 1) || ((cond same 1 2 == 2) && true))
     either same = grind arith
 
--- ---- a record and what stands behind it
+-- ---- a record and what is after it
 
 behind : (gate kind n : ℕ) (parts : List Run) (rest : List ℕ) → body_length parts < 2 ^ 30 →
     drop (record_bytes (spell gate kind n parts ++ rest)) (spell gate kind n parts ++ rest) ≡ rest

@@ -1,7 +1,7 @@
 -- The records of a log, and what becomes of them as more are appended.
 use Rattle.iso_image.proofs.Words.{◌≡◌, ◌⊎◌, inl, inr, ◌<◌, ◌≤◌, ◌+◌, ℕ, List, [], ◌∷◌, ◌++◌, length, take, drop, get_or, refl, sym, ◌∙◌, ap, arith, length-append, length-drop, append_assoc, take-append-drop, subst, take_at, drop_more, take-take, length-take, length-take-le, get_or-take, get_or-drop, get_or_at, drop-drop, Geometry, Written, kind_of, records, spell, spliced, Torn, slice-torn, take-drop-spliced, get_or-spliced, spliced_torn, IsClosed, HasLog, Appending}
 
--- the records of two lists, one behind the other
+-- the records of two lists, one after the other
 pub records-append : (g : Geometry) (n : ℕ) (told more : List Written) → records g n (told ++ more) ≡ records g n told ++ records g (n + length told) more
 records-append g n [] more = let e : n + 0 ≡ n = omega arith in rw e refl
 records-append g n (w ∷ told) more =
@@ -10,7 +10,7 @@ records-append g n (w ∷ told) more =
     ∙ sym (append_assoc (spell 1 (kind_of g w.mode) n w.parts) (records g (n + 1) told) (records g (n + 1 + length told) more))
     ∙ ap (λ (k : ℕ). spell 1 (kind_of g w.mode) n w.parts ++ records g (n + 1) told ++ records g k more) e
 
--- a list by its front, the item behind it and the rest
+-- a list by its front, the item after it and the rest
 front_item_rest : (xs : List ℕ) (n : ℕ) → n < length xs → xs ≡ take n xs ++ get_or xs n 0 ∷ drop (n + 1) xs
 front_item_rest xs n inside = sym (take-append-drop n xs) ∙ ap (λ (l : List ℕ). take n xs ++ l) (drop_more xs n 0 inside)
 
@@ -31,7 +31,7 @@ log_gate place room g first told c has = λ at_one.
     closed (sym (get_or_at (records g first told) gate rest 0 n refl) ∙ sym (ap (λ (l : List ℕ). get_or l n 0) is)
     ∙ get_or-take room (drop place c) n 0 inside ∙ get_or-drop place c n 0 ∙ at_one)
 
--- an image has the log where its log's bytes begin with the records, and the gate behind them is closed
+-- an image has the log where its log's bytes begin with the records, and the gate after them is closed
 pub has_log : (place room : ℕ) (g : Geometry) (first : ℕ) (told : List Written) (c : List ℕ) → place + room ≤ length c → length (records g first told) < room
     → take (length (records g first told)) (drop place c) ≡ records g first told → IsClosed (place + length (records g first told)) c → HasLog place room g first told c
 has_log place room g first told c fits short front closed =

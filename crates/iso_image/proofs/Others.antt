@@ -1,7 +1,7 @@
 -- An image whose bytes change in the half that is not the current one.
 use Rattle.iso_image.proofs.{Words.{◌≡◌, ◌⊎◌, inl, inr, ◌<◌, ◌≤◌, ◌+◌, ◌-◌, ℕ, zero, suc, List, take, drop, get_or, Bool, true, false, Some, refl, sym, ◌∙◌, ap, arith, subst, eq-eqb, ne_eqb, from_be_bytes, to_be_bytes, w64, cases_eq, drop-drop, drop-take, take-take, get_or-take, get_or-drop, from_be_bytes-to_be_bytes_8, Geometry, LAST, half_size, header_place, base_place, log_place, IsLog, blocks_of, chosen_half, current_half, generation_at, half_header, is_open_at, Torn, slice-torn, get_or-torn, take-torn, IsClosed, IsOpen, Half, IsHeld, InHalf}, Frames.blocks_same}
 
--- what stands in the one half stands outside the other
+-- what is in the one half is outside the other
 pub apart : (g : Geometry) (half other at n i len : ℕ) → half + other ≡ 1 → header_place g other ≤ at → at + n ≤ header_place g other + half_size g
     → header_place g half ≤ i → i + len ≤ header_place g half + half_size g → (i + len ≤ at) ⊎ (at + n ≤ i)
 apart g zero zero at n i len both from to start end = absurd (omega arith)
@@ -144,7 +144,7 @@ stays zero (suc (suc other)) both g old new torn current is open_too = absurd (o
 stays (suc zero) (suc other) both g old new torn current is open_too = absurd (omega arith)
 stays (suc (suc half)) other both g old new torn current is open_too = absurd (omega arith)
 
--- An open gate of the other half is shut: whatever stands there meanwhile, the image holds what it held.
+-- An open gate of the other half is shut: whatever is there meanwhile, the image holds what it held.
 pub beside_shut : (g : Geometry) (x : Half) (other : ℕ) (old new : List ℕ) → x.at + other ≡ 1 → IsHeld g x old → IsOpen (header_place g other) old → Torn (header_place g other) 1 old new → IsHeld g x new
 beside_shut g x other old new both has is_open torn =
     beside g x other old new both has (record { from = header_place g other; count = 1; starts = omega arith; ends = omega arith; torn = torn })

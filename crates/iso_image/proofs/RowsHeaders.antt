@@ -32,7 +32,7 @@ pub superblocks : AreRefused (
     (with_byte 24 2 (with_byte 36 1 blank), Some (BadGeometry 5)) ∷
     -- The last byte is missing.
     (take 1151 blank, Some (WrongSize 1152 1151)) ∷
-    -- The size comes behind the geometry and before the halves.
+    -- The size comes after the geometry and before the halves.
     (take 1151 (with_byte 36 1 blank), Some (BadGeometry 6)) ∷
     (take 1151 (with_byte 64 0 blank), Some (WrongSize 1152 1151)) ∷
     [])
@@ -49,7 +49,7 @@ pub halves : AreRefused (
     (with_byte 608 1 (with_byte 623 2 blank), Some (UnknownForm 0)) ∷
     -- A byte of the header that is to be zero, in front of its numbers.
     (with_byte 66 1 blank, Some (Damaged 66 3)) ∷
-    -- A byte of the header that is to be zero, behind its numbers, comes before a generation that is too large.
+    -- A byte of the header that is to be zero, after its numbers, comes before a generation that is too large.
     (with_byte 88 1 (with_byte 72 128 blank), Some (Damaged 88 3)) ∷
     -- The form comes before the zero bytes.
     (with_byte 65 3 (with_byte 66 1 blank), Some (UnknownForm 3)) ∷

@@ -23,7 +23,7 @@ pub fresh_images : OpenTo (λ image. image) (
     (blank, fresh) ∷
     -- The gate of the record is closed: the log ends in front of it.
     (with_byte 352 7 one_commit, fresh) ∷
-    -- What stands behind a closed gate is not tested: a record of two parts that touch.
+    -- What is after a closed gate is not tested: a record of two parts that touch.
     (with_piece 352 (7 ∷ 1 ∷ 0 ∷ 0 ∷ 0 ∷ 0 ∷ 0 ∷ 2 ∷ 0 ∷ 0 ∷ 0 ∷ 18 ∷ 0 ∷ 0 ∷ 0 ∷ 0 ∷ 0 ∷ 0 ∷ 0 ∷ 1 ∷ 0 ∷ 0 ∷ 0 ∷ 2 ∷ 0 ∷ 0 ∷ 0 ∷ 1 ∷ 170 ∷ 0 ∷ 0 ∷ 0 ∷ 1 ∷ 0 ∷ 0 ∷ 0 ∷ 1 ∷ 187 ∷ []) blank, fresh) ∷
     [])
 unfolding blank one_commit refusal opened super_of half_of fault_of parts_fault put
@@ -33,7 +33,7 @@ fresh_images = refl
 pub images_with_commits : OpenTo glance (
     -- With one commit, which shows.
     (one_commit, 1 ∷ 0 ∷ 171 ∷ 205 ∷ 0 ∷ []) ∷
-    -- A whole record behind a closed one is not kept.
+    -- A whole record after a closed one is not kept.
     (with_byte 352 0 (with_piece 382 put_record (with_byte 371 2 one_commit)), 0 ∷ 0 ∷ 0 ∷ 0 ∷ 0 ∷ []) ∷
     -- Two commits: the second writes 01 at byte 6 of block 2.
     (with_piece 382 (1 ∷ 1 ∷ 0 ∷ 0 ∷ 0 ∷ 0 ∷ 0 ∷ 1 ∷ 0 ∷ 0 ∷ 0 ∷ 9 ∷ 0 ∷ 0 ∷ 0 ∷ 0 ∷ 0 ∷ 0 ∷ 0 ∷ 2 ∷ 0 ∷ 0 ∷ 0 ∷ 2 ∷ 0 ∷ 6 ∷ 0 ∷ 1 ∷ 1 ∷ []) one_commit, 2 ∷ 0 ∷ 171 ∷ 1 ∷ 0 ∷ []) ∷

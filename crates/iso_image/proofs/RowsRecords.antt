@@ -18,9 +18,9 @@ pub logs : AreRefused (
     (with_byte 363 255 one_commit, Some (Damaged 360 1)) ∷
     -- The record ends with the log, so that no gate follows it.
     (with_byte 363 236 one_commit, Some (Damaged 360 1)) ∷
-    -- With a body one byte shorter the gate is the last byte, and bytes are left behind the part.
+    -- With a body one byte shorter the gate is the last byte, and bytes are left after the part.
     (with_byte 363 235 one_commit, Some (Damaged 382 7)) ∷
-    -- One byte of the body behind the part.
+    -- One byte of the body after the part.
     (with_byte 363 11 one_commit, Some (Damaged 382 7)) ∷
     -- Commit 2 as the first one.
     (with_byte 371 2 one_commit, Some (Damaged 364 8)) ∷

@@ -29,7 +29,7 @@ same_told g (suc most) (suc more) log a b =
 pub closed : (g : Geometry) (place n most : ℕ) (log : List ℕ) → get_or log 0 0 ≢ 1 → (log_refusal g place n most log ≡ None) × (told_by g most log ≡ [])
 closed g place n most log shut = grind arith
 
--- an open gate, and the first test that the record behind it fails
+-- an open gate, and the first test that the record after it fails
 pub failed : (g : Geometry) (place n most : ℕ) (log : List ℕ) (fault : FormatError) → get_or log 0 0 ≡ 1 → length log ≤ most → fault_of g n log ≡ Some fault
     → log_refusal g place n most log ≡ Some (damaged place fault)
 failed g place n zero [] fault opens short fails = absurd (omega arith)

@@ -1,4 +1,4 @@
--- Where a record stands in a log.
+-- Where a record is in a log.
 use Rattle.iso_image.proofs.{Words.{◌≡◌, ◌≤◌, ◌+◌, ◌-◌, ℕ, suc, List, ◌∷◌, ◌++◌, length, take, drop, refl, sym, ◌∙◌, ap, arith, length-append, subst, take_at, drop_at, drop-take, take-take, drop-drop, length-take, Geometry, log_place, Written, kind_of, records, spell, Half, HasLog, IsHeld}, Adds.held_log, Logs.{log_front, records-append}}
 
 slice_front : (k at n : ℕ) (bytes : List ℕ) → at + n ≤ k → take n (drop at (take k bytes)) ≡ take n (drop at bytes)
@@ -6,7 +6,7 @@ slice_front k at n bytes inside =
     let far : at + (k - at) ≡ k = omega arith in
     ap (λ (m : ℕ). take n (drop at (take m bytes))) (sym far) ∙ ap (take n) (drop-take at (k - at) bytes) ∙ take-take n (k - at) (drop at bytes) (omega arith)
 
--- the record stands behind those before it
+-- the record is after those before it
 pub record_at : (place room : ℕ) (g : Geometry) (first : ℕ) (before : List Written) (w : Written) (after : List Written) (c : List ℕ)
     → HasLog place room g first (before ++ w ∷ after) c
     → take (length (spell 1 (kind_of g w.mode) (first + length before) w.parts)) (drop (place + length (records g first before)) c) ≡ spell 1 (kind_of g w.mode) (first + length before) w.parts

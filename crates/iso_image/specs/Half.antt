@@ -34,7 +34,7 @@ half_of g at generation b H = record {
 abbrev pub half_of_world : World → (at : ℕ) → Half
 half_of_world W at = half_of W.geometry at W.generation W.base W.history
 
--- the half with these records behind its others
+-- the half with these records after its others
 abbrev pub with_records : List Written → Half → Half
 with_records more x = record x { told = x.told ++ more }
 
@@ -46,11 +46,11 @@ last_told x = x.base + length x.told
 abbrev pub told_bytes : Geometry → Half → List ℕ
 told_bytes g x = records g (x.base + 1) x.told
 
--- where the gate of the next record stands
+-- where the gate of the next record is
 abbrev pub next_gate : Geometry → Half → ℕ
 next_gate g x = log_place g x.at + length (told_bytes g x)
 
--- records that may follow: their numbers are not above the last one, and they fit the log with the gate behind them
+-- records that may follow: their numbers are not above the last one, and they fit the log with the gate after them
 pub record MayFollow (g : Geometry) (x : Half) (more : List Written) : Type 0 where
   pub each : AllByRecursion (IsRecord g) more
   pub numbers : last_told x + length more ≤ LAST
@@ -64,7 +64,7 @@ in_form form g = record g { form = form }
 abbrev pub HasLog : (place room : ℕ) → Geometry → (first : ℕ) → List Written → List ℕ → Type 0
 HasLog place room g first told image = IsLog g first told (take room (drop place image))
 
--- The half is written behind its gate, in the form of the geometry.
+-- The half is written after its gate, in the form of the geometry.
 pub record IsFilled (g : Geometry) (x : Half) (bytes : List ℕ) : Type 0 where
   pub header : take 31 (drop (header_place g x.at + 1) bytes) ≡ take 31 (drop 1 (half_header 1 g.form x.generation x.base))
   pub array : x.array ≡ blocks_of g.block g.blocks (drop (base_place g x.at) bytes)

@@ -25,11 +25,11 @@ first_number g half bytes = (half_of (header_at g half bytes)).base + 1
 abbrev pub record_bytes : List ℕ → ℕ
 record_bytes log = record_window log - 1
 
--- a test of a record that stands at this place of the image has failed
+-- a test of a record that is at this place of the image has failed
 abbrev pub damaged : (place : ℕ) → FormatError → OpenError
 damaged place fault = Damaged (place + offset_of fault) (test_number fault)
 
--- The first test that a record of the log fails, up to the first closed gate. The log stands at this place of the image,
+-- The first test that a record of the log fails, up to the first closed gate. The log is at this place of the image,
 -- n is the number of its first record, and at most `most` are tested: with the log's length or more, all of them.
 abbrev pub log_refusal : Geometry → (place n most : ℕ) → List ℕ → Option OpenError
 log_refusal g place n zero log = None
@@ -45,7 +45,7 @@ number_refusal place h =
     else if nat_lt LAST h.base then Some (Damaged (place + 16) 8)
     else None
 
--- the first test that the header of a half fails, which stands at this place of the image
+-- the first test that the header of a half fails, which is at this place of the image
 abbrev pub header_refusal : (place : ℕ) → List ℕ → Option OpenError
 header_refusal place header =
     if ((half_of header).form == 1) || ((half_of header).form == 2)

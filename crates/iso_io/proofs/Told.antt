@@ -20,7 +20,7 @@ pub prepend_known-nil : (known : Option (List ℕ)) → prepend_known [] known �
 prepend_known-nil None = refl
 prepend_known-nil (Some zs) = refl
 
--- a sink that took the front of a piece up to i, and then n bytes of what is behind
+-- a sink that took the front of a piece up to i, and then n bytes of what is after
 pub put_more : (known next after : Option (List ℕ)) (piece : List ℕ) (i n : ℕ) → next ≡ append_known known (take i piece)
     → after ≡ append_known next (take n (take (length piece - i) (drop i piece))) → after ≡ append_known known (take (i + n) piece)
 put_more known next after piece i n before more =
@@ -42,7 +42,7 @@ lost_after old mid new bytes room limit before fits lost = record {
   took = taken_more old.rest mid.rest new.rest bytes lost.bytes (bytes ++ lost.bytes) before lost.took refl;
 }
 
--- what is behind a place is the n bytes that were given from there, and then what is behind those
+-- what is after a place is the n bytes that were given from there, and then what is after those
 pub given_front : (xs given : List ℕ) (i n : ℕ) → given ≡ take n (take (length xs - i) (drop i xs)) → given ++ drop (i + n) xs ≡ drop i xs
 given_front xs given i n copied =
     let behind : take (length xs - i) (drop i xs) ≡ drop i xs = take_all (length xs - i) (drop i xs) (omega (arith, length-drop i xs)) in

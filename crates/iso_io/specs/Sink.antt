@@ -29,7 +29,7 @@ pub record NoCountFell (old new : SinkState) : Type 0 where
   pub faults : old.faults ≤ new.faults
   pub refusals : old.refusals ≤ new.refusals
 
--- each count of the sink stands where it stood
+-- each count of the sink is what it was
 pub record CountsStand (old new : SinkState) : Type 0 where
   pub faults : new.faults ≡ old.faults
   pub refusals : new.refusals ≡ old.refusals

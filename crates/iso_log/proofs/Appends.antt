@@ -1,14 +1,14 @@
 -- The images of a disk through the two steps of an append: the body, and then the gate.
 use Rattle.iso_log.proofs.Words.{◌≡◌, inl, inr, ◌≤◌, ◌+◌, ◌-◌, ℕ, List, [], ◌∷◌, length, take, drop, get_or, sym, ◌∙◌, ap, arith, subst, take_rest, TornFrom, IsClosed, HasBody, Appending, appending_body, appending_gate, AppendingFrom, AppendedTo}
 
--- with an open gate all stands
+-- with an open gate all is there
 pub appended : {images : List ℕ → Type 0} (gate : ℕ) (bytes c : List ℕ) → AppendingFrom gate bytes images c → get_or c gate 0 ≡ 1 → AppendedTo gate bytes images c
 appended gate bytes c from is = elim from.appending.state [
   | inl closed ↦ absurd (closed is)
   | inr whole ↦ record { old = from.old; was = from.was; whole = whole }
 ]
 
--- the bytes behind the first
+-- the bytes after the first
 abbrev pub body_of : List ℕ → List ℕ
 body_of bytes = take (length bytes - 1) (drop 1 bytes)
 

@@ -50,7 +50,7 @@ unfolding as_refused
 place_is {T = T} place fault e is at cause same =
     sym (ap as_refused (sym is ∙ error_is e (Damaged at cause) same))
 
--- it names a place before one that the test's field stands before
+-- it names a place before one that the test's field is before
 pub test_before : {T : Type 0} (place end : ℕ) (fault : FormatError) (e : LogError) → e ≡ Damaged (place + offset_of fault) (test_number fault) → place + offset_of fault < end
     → (at cause : ℕ) → IsErrOf {T = T} {E = LogError} (Err e) (Damaged at cause) → IsTestBefore end at cause
 test_before {T = T} place end fault e is before at cause same =

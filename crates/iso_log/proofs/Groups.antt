@@ -41,7 +41,7 @@ module _ (log : Extent) (g : Geometry) (first : ℕ) (told more : List Written) 
   spelled = next.bytes_are ∙ ap (λ (n : ℕ). records g n more ++ 0 ∷ []) has.last
 
   module _ (fits : (c : List ℕ) → images c → log.place + log.room ≤ length c) (short : log.used + length bytes ≤ log.room) where
-    -- at a moment of the append the log has its records, or these behind them
+    -- at a moment of the append the log has its records, or these after them
     pub told_moment : (c : List ℕ) → AppendingFrom (next_place log) bytes images c → HasLog log.place log.room g first told c ⊎ HasLog log.place log.room g first (told ++ more) c
     told_moment c from =
         log_step log.place log.room g first told more bytes from.old c spelled (fits from.old from.was) (omega (arith, has.used)) (has.each from.old from.was)

@@ -25,7 +25,7 @@ full_fails n need free = record { later = omega arith; failed = λ is. absurd cc
 pub blames_none : {U : Type 0} (before now : ℕ) (y : U) → now ≡ before → BlamesDisk before now (Ok y)
 blames_none before now y same = record { later = omega (arith, same); failed = λ is. absurd cc; passed = same; other = tt }
 
--- and a record that is damaged behind them
+-- and a record that is damaged after them
 pub blames_record : {U : Type 0} (before now : ℕ) (e : LogError) (at cause : ℕ) → e ≡ Damaged at cause → now ≡ before → BlamesDisk {T = U} before now (Err e)
 blames_record before now e at cause is same = record { later = omega (arith, same); failed = λ fault. absurd cc; passed = tt; other = λ no_fault. same }
 

@@ -1,7 +1,7 @@
 -- A test of a record that fails names a place in the bytes that the record needs, and is one of eight.
 use Rattle.iso_log.proofs.Words.{◌≡◌, ◌<◌, ◌≤◌, ◌+◌, ◌-◌, ◌==◌, ◌&&◌, not, cond, ℕ, zero, suc, Bool, true, false, List, [], ◌∷◌, length, drop, Option, Some, None, nat_le, refl, arith, length-drop, subst, IfSome, w32, w64, same_Some, length-take, Geometry, or_else, FormatError, Number, good, offset_of, test_number, number_at, fault_of, head_fault, number_fault, parts_fault, part_fault, part_size, part_end, body_of, record_window}
 
--- the place of a fault, where there is one, is not behind this one
+-- the place of a fault, where there is one, is not after this one
 abbrev Below : ℕ → Option FormatError → Type 0
 Below top fault = IfSome fault (λ e. offset_of e ≤ top)
 

@@ -19,18 +19,18 @@ stand_more place have want old new c count le fits stands is =
 pub range_size : (from end : ℕ) (l : List ℕ) → end ≤ length l → length (slice_range l from end) ≡ end - from
 range_size from end l within = length-take-le (end - from) (drop from l) (omega (arith, within, length-drop from l))
 
--- the range behind the first of its bytes
+-- the range after the first of its bytes
 pub range_behind : (from end n : ℕ) (l : List ℕ) → from + n ≤ end → slice_range l (from + n) end ≡ drop n (slice_range l from end)
 range_behind from end n l le =
     let far : end - from ≡ n + (end - (from + n)) = omega (arith, le) in
     sym (ap (λ (k : ℕ). drop n (take k (drop from l))) far ∙ drop-take n (end - (from + n)) (drop from l) ∙ ap (take (end - (from + n))) (drop-drop n from l))
 
--- the front of what stands there
+-- the front of what is there
 pub stand_front : (place n : ℕ) (bytes c : List ℕ) → n ≤ length bytes → StandAt place bytes c → StandAt place (take n bytes) c
 stand_front place n bytes c le stands =
     ap (take n) stands ∙ take-take n (length bytes) (drop place c) le ∙ ap (λ (k : ℕ). take k (drop place c)) (sym (length-take-le n bytes le))
 
--- what stands behind it
+-- what is after it
 pub stand_behind : (place n : ℕ) (bytes c : List ℕ) → n ≤ length bytes → StandAt place bytes c → StandAt (place + n) (drop n bytes) c
 stand_behind place n bytes c le stands =
     let far : length bytes ≡ n + (length bytes - n) = omega arith in

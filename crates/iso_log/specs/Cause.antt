@@ -3,7 +3,7 @@ use Rattle.std.specs.Prelude.{◌≡◌, ◌≢◌, ℕ, ◌≤◌, Result, OnOk
 use Rattle.counts.specs.Count.{Rose}
 use Rattle.iso_log.specs.{declared.log_error.LogError.LogError, declared.log_error.LogError.TheVariants.Disk}
 
--- the count of the disk's faults did not fall, a call that blames the disk raised it, and after any other answer it stands where it stood
+-- the count of the disk's faults did not fall, a call that blames the disk raised it, and after any other answer it is what it was
 pub record BlamesDisk {T : Type 0} (before now : ℕ) (result : Result T LogError) : Type 0 where
   pub later : before ≤ now
   pub failed : IsErrOf result Disk → Rose before now

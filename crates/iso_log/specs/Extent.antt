@@ -1,4 +1,4 @@
--- Where a log stands in an image, and how far it goes.
+-- Where a log is in an image, and how far it goes.
 use Rattle.std.specs.Prelude.{ℕ, ◌+◌, length}
 use Rattle.iso_model.specs.{declared.access.Geometry.Geometry, Geometry.log_place}
 use Rattle.iso_image.specs.Half.{Half, last_told, told_bytes}

@@ -5,7 +5,7 @@ use Rattle.iso_disk.specs.Disk.{spliced}
 use Rattle.iso_image.specs.{Changes.Appending, Half.HasLog}
 use Rattle.iso_log.specs.Extent.{Extent}
 
--- The bytes are these records, numbered on from the last one of the log, and a closed gate behind them.
+-- The bytes are these records, numbered on from the last one of the log, and a closed gate after them.
 pub record IsNext (log : Extent) (g : Geometry) (more : List Written) (bytes : List ℕ) : Type 0 where
   pub some : 0 < length more
   pub each : AllByRecursion (IsRecord g) more

@@ -6,7 +6,7 @@ use Rattle.iso_format.specs.{declared.format_error.FormatError.FormatError, Reco
 use Rattle.iso_image.specs.{declared.open_error.OpenError.TheVariants.Damaged, Refusal.{damaged, told_first}}
 use Rattle.iso_log.specs.Extent.{Extent}
 
--- The bytes are the record with this number, and one gate behind it.
+-- The bytes are the record with this number, and one gate after it.
 pub record IsNextRecord (g : Geometry) (number : ℕ) (bytes : List ℕ) : Type 0 where
   pub is_record : IsRecord g (told_first g bytes)
   pub below : number ≤ LAST
@@ -28,7 +28,7 @@ pub record IsFirst (g : Geometry) (place rest number : ℕ) (image : List ℕ) :
   pub opens : IsOpen place image
   pub passes : fault_of g number (take rest (drop place image)) ≡ None
 
--- The gate is open, and they do not: the first test that they fail is the one with this number, and stands there.
+-- The gate is open, and they do not: the first test that they fail is the one with this number, and is there.
 pub record IsDamaged (g : Geometry) (place rest number : ℕ) (at cause : ℕ) (image : List ℕ) : Type 0 where
   pub opens : IsOpen place image
   pub fault : FormatError
@@ -41,7 +41,7 @@ pub record IsTestBefore (end at cause : ℕ) : Type 0 where
   pub first : 1 ≤ cause
   pub last : cause ≤ 8
 
--- The log has passed the next record, which these bytes are with the gate behind it.
+-- The log has passed the next record, which these bytes are with the gate after it.
 pub record IsTaken (g : Geometry) (old new : Extent) (bytes : List ℕ) : Type 0 where
   pub next : IsNextRecord g (old.last + 1) bytes
   pub grown : new ≡ record old { used = old.used + (length bytes - 1); last = old.last + 1 }

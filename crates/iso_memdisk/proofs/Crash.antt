@@ -1,4 +1,4 @@
--- A crash after all calls: those up to the last sync were done, and those behind it may be torn.
+-- A crash after all calls: those up to the last sync were done, and those after it may be torn.
 use Rattle.iso_memdisk.proofs.{Words.{◌≡◌, ℕ, List, length, take, drop, refl, sym, ◌∙◌, ap, subst, take-append-drop, Call, written, images_after, AllFit, TornBy, written-image}, Calls.{written-append, images_after-join, torn_image}}
 
 module _ (calls : List Call) (stable : ℕ) (first mid last : List ℕ) (replayed : mid ≡ written (take stable calls) first) where

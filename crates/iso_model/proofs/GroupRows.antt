@@ -22,7 +22,7 @@ pub answers_in_the_order_of_the_labels :
 unfolding clash runs commit_step end_step group_step
 answers_in_the_order_of_the_labels = refl
 
--- Their commits stand in that order behind the history, none of them is live, and whoever is at a client is left.
+-- Their commits stand in that order after the history, none of them is live, and whoever is at a client is left.
 pub commits_in_the_order_of_the_labels :
     (group_step asked (codes "b" ∷ codes "zz" ∷ codes "a" ∷ [])).1
     ≡ record asked { history = history (commit_put 0 0 1 (187 ∷ []) ∷ commit_put 0 0 0 (170 ∷ []) ∷ []); live = writer 3 (client 7) 2 1 ∷ [] }

@@ -198,7 +198,7 @@ one_more_found : (P : Live → Type 0) (o : Option Live) (found : List (Option L
 one_more_found P None found first all = all
 one_more_found P (Some t) found first all = (first t refl, all)
 
--- what the looks find is live behind them
+-- what the looks find is live after them
 found_are_live : (texts : List (List ℕ)) (W : World) → IsWorld W → AllByRecursion (IsLive (looks W texts).1) (found_ones (looks W texts).0)
 found_are_live [] W is = tt
 found_are_live (text ∷ texts) W is =

@@ -31,7 +31,7 @@ shown_by_each_access = refl
 abbrev several : List Access
 several = put_access 64 1 2 (5 ∷ []) ∷ put_access 64 0 1 (2 ∷ 3 ∷ []) ∷ put_access 64 0 0 (1 ∷ []) ∷ put_access 64 0 5 (7 ∷ []) ∷ read_access 3 ∷ put_access 64 0 2 (9 ∷ []) ∷ []
 
--- Of two writes of one byte the later one stands; the runs are as long as they can be, by block and then by place.
+-- Of two writes of one byte the later one is; the runs are as long as they can be, by block and then by place.
 pub runs_of_several_writes :
     runs small several
     ≡ record { block = 0; off = 0; bytes = 1 ∷ 2 ∷ 9 ∷ [] } ∷ record { block = 0; off = 5; bytes = 7 ∷ [] } ∷ record { block = 1; off = 2; bytes = 5 ∷ [] } ∷ []
@@ -48,7 +48,7 @@ pub bytes_after_several_writes :
 unfolding put
 bytes_after_several_writes = refl
 
--- Under two marks a write has its bytes, and what is between and behind them is kept.
+-- Under two marks a write has its bytes, and what is between and after them is kept.
 pub bytes_under_two_marks :
     map (λ block. take 6 block) (own (zeros 64 1) (record { kind = Write; block = 0; spans = record { off = 0; len = 1 } ∷ record { off = 3; len = 2 } ∷ []; bytes = 1 ∷ 2 ∷ 3 ∷ 4 ∷ 5 ∷ 6 ∷ replicate 58 7 } ∷ []))
     ≡ (1 ∷ 0 ∷ 0 ∷ 4 ∷ 5 ∷ 0 ∷ []) ∷ []

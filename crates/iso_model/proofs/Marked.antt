@@ -9,7 +9,7 @@ marked_last span (b ∷ c ∷ accesses) a = ap (λ xs. b ∷ xs) (marked_last sp
 or_false : (b : Bool) → (b || false) ≡ b
 or_false b = grind arith
 
--- the first mark stands in the place of the whole block
+-- the first mark is in the place of the whole block
 pub first_covers : (span : Span) (p : ℕ) → covered (span ∷ []) p ≡ in_span p span
 first_covers span p = or_false (in_span p span)
 

@@ -1,4 +1,4 @@
--- The writes that a record stands for have the effect of those that it was made of.
+-- The writes that a record represents have the effect of those that it was made of.
 use Rattle.iso_model.proofs.{Words.{◌≡◌, ◌∙◌, sym, refl, ap, ℕ, zero, suc, ◌+◌, ◌-◌, ◌<◌, ◌≤◌, Bool, true, false, ◌&&◌, ◌||◌, ◌==◌, cond, IfSome, List, [], ◌∷◌, ◌++◌, length, get_or, map, take, replicate, Some, None, slice_get, unwrap_or, arith, AllByRecursion, and_parts, length-replicate, length-append, get_or_append_left, get_or-append_right, ext_get_or, Access, Commit, Geometry, Run, Span, Write, Array, in_span, byte_at, put, is_write, covers, or_else, effect_at, own, runs, History, array_at, all_own, AreRuns, SameEffect, SameCommit, written, commits_of, recorded, put_access, block_at, AreBytes, HasShape, HasBytes, AreAccesses, IsHistory, in_run, value_of, value_in}, ByteLists.merged_bytes, Bytes.{written_block, other_block, own_at, length-own, length-block_own}, Lookups.value_runs, Maximal.are_runs}
 
 -- a byte of bytes between two others

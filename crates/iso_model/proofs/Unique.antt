@@ -1,11 +1,11 @@
 -- Runs are told apart by the bytes that they have.
 use Rattle.iso_model.proofs.{Words.{◌≡◌, ◌⊎◌, ◌∙◌, sym, refl, ap, ℕ, ◌+◌, ◌-◌, ◌<◌, Bool, true, false, ◌&&◌, ◌==◌, nat_le, nat_lt, List, [], ◌∷◌, length, get_or, Some, None, arith, inl, inr, eq-eqb, ne_eqb, subst, AllByRecursion, and_from, and_parts, cases_order, eqb-true, ltb-true, none-some, same_Some, nat_tests, ext_get_or, Geometry, Run, in_span, or_else, runs, IsRun, AreRuns, recorded, in_run, value_of, value_in}, Lookups.{value_runs, or_else_none, value_of_within, value_of_outside}, Maximal.are_runs, Recorded.effect_recorded}
 
--- the byte (b, q) stands before (c, p)
+-- the byte (b, q) is before (c, p)
 abbrev Before : (b q c p : ℕ) → Type 0
 Before b q c p = (b < c) ⊎ ((b ≡ c) × (q < p))
 
--- every run begins behind the byte
+-- every run begins after the byte
 abbrev AllBehind : (b q : ℕ) → List Run → Type 0
 AllBehind b q list = AllByRecursion (λ run. Before b q run.block run.off) list
 
@@ -19,7 +19,7 @@ all_behind_on : (b q c p : ℕ) (list : List Run) → Before b q c p → AllBehi
 all_behind_on b q c p [] before all = tt
 all_behind_on b q c p (run ∷ list) before all = (before_on b q c p run.block run.off before all.0, all_behind_on b q c p list before all.1)
 
--- runs behind a byte do not have it
+-- runs after a byte do not have it
 behind_value : (b q : ℕ) (run : Run) → Before b q run.block run.off → value_of run b q ≡ None
 behind_value b q run (inl later) = value_of_outside run b q (let not : (run.block == b) ≡ false = ne_eqb run.block b (λ e. omega arith) in rw not refl)
 behind_value b q run (inr behind) = grind (arith, value_of_outside)
@@ -28,7 +28,7 @@ behind_none : (b q : ℕ) (list : List Run) → AllBehind b q list → value_in 
 behind_none b q [] all = refl
 behind_none b q (run ∷ list) all = rw (behind_none b q list all.1) (behind_value b q run all.0)
 
--- the runs after a run begin behind the byte after it
+-- the runs after a run begin after the byte after it
 rest_behind : (g : Geometry) (x : Run) (list : List Run) → AreRuns g (x ∷ list) → AllBehind x.block (x.off + length x.bytes) list
 rest_behind g x [] all = tt
 rest_behind g x (y ∷ list) all = (
@@ -151,6 +151,6 @@ same_runs g (x ∷ xs) (y ∷ ys) first second same =
     let tail : xs ≡ ys = same_runs g xs ys (tail_are g x xs first) (tail_are g x ys again) (same_rest g x xs ys first again values) in
     λ i. head i ∷ tail i
 
--- the runs of the writes that a record stands for are its runs
+-- the runs of the writes that a record represents are its runs
 pub runs_recorded : (g : Geometry) (list : List Run) → AreRuns g list → runs g (recorded g list) ≡ list
 runs_recorded g list all = grind (arith, same_runs, are_runs, value_runs, effect_recorded)

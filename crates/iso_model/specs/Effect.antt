@@ -48,7 +48,7 @@ joined b p value [] = record { block = b; off = p; bytes = value ∷ [] } ∷ []
 joined b p value (run ∷ runs) =
     cond (run.off == p + 1) (record { block = b; off = p; bytes = value ∷ run.bytes } ∷ runs) (record { block = b; off = p; bytes = value ∷ [] } ∷ run ∷ runs)
 
--- the maximal runs of the values of block b, the first of which stands at p
+-- the maximal runs of the values of block b, the first of which is at p
 abbrev pub runs_from : (b p : ℕ) → List (Option ℕ) → List Run
 runs_from b p [] = []
 runs_from b p (None ∷ values) = runs_from b (p + 1) values

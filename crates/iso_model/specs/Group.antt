@@ -60,7 +60,7 @@ group_step W texts =
 
 -- ---- the same result, decided first: all members stay live until the last of them is decided
 
--- the world with these commits behind its history, in which all are live still
+-- the world with these commits after its history, in which all are live still
 abbrev pub ahead : World → List Commit → World
 ahead W more = record W { history = with_commits more W.history }
 

@@ -12,7 +12,7 @@ pub record History : Type 0 where
 abbrev pub last : History → ℕ
 last H = H.first + length H.commits - 1
 
--- the history with these commits behind the others
+-- the history with these commits after the others
 abbrev pub with_commits : List Commit → History → History
 with_commits more H = record H { commits = H.commits ++ more }
 

@@ -2,7 +2,7 @@
 use Rattle.std.specs.{Prelude.{◌≡◌, ◌≢◌, ◌⊎◌, ℕ, zero, suc, ◌+◌, ◌-◌, ◌<◌, ◌≤◌, Bool, true, false, ◌==◌, if◌then◌else◌, List, [], ◌∷◌, ◌++◌, Option, Some, None, IsTrue, IfSome, length, nat_lt, take, drop, map, replicate, flat_map, sum_by, slice_get, slice_index, codes}, List.AllByRecursion, Int.{to_be_bytes, from_be_bytes, w16, w32, w64}}
 use Rattle.iso_model.specs.{declared.access.Access.Access, declared.access.Commit.Commit, declared.access.Geometry.Geometry, declared.access.Mode.Mode, declared.access.Mode.TheVariants.{Serial, Snapshot}, declared.access.Run.Run, declared.limits.TheConstants.LAST, Array.Array, Effect.{runs, effect_at}, Geometry.{is_valid, same_mode, image_size, header_place, base_place, log_place}, History.{History, last, array_at}, Step.put_access}
 
--- the writes that a record with these runs stands for
+-- the writes that a record with these runs represents
 abbrev pub recorded : Geometry → List Run → List Access
 recorded g runs = map (λ run. put_access g.block run.block run.off run.bytes) runs
 
@@ -52,7 +52,7 @@ abbrev pub records : Geometry → (n : ℕ) → List Written → List ℕ
 records g n [] = []
 records g n (w ∷ more) = spell 1 (kind_of g w.mode) n w.parts ++ records g (n + 1) more
 
--- the commit that a record stands for: a write for each part
+-- the commit that a record represents: a write for each part
 abbrev pub commit_of : Geometry → (n : ℕ) → Written → Commit
 commit_of g n w = record { begin = n - 1; mode = w.mode; accesses = recorded g w.parts }
 
@@ -74,7 +74,7 @@ pub record IsRun (g : Geometry) (run : Run) : Type 0 where
   pub some : 0 < length run.bytes
   pub fits : run.off + length run.bytes ≤ g.block
 
--- run y may follow run x: it begins in a later block, or in the same one behind the byte after x
+-- run y may follow run x: it begins in a later block, or in the same one after the byte after x
 abbrev pub ComesAfter : Run → Run → Type 0
 ComesAfter x y = (x.block < y.block) ⊎ ((x.block ≡ y.block) × (x.off + length x.bytes < y.off))
 

@@ -6,7 +6,7 @@ use Rattle.iso_model.specs.{declared.access.Access.Access, declared.access.MarkE
 abbrev pub is_outside : (size off len : ℕ) → Bool
 is_outside size off len = (len == 0) || nat_lt size (off + len)
 
--- the accesses with one more mark on the last of them; the first mark of an access stands in the place of its whole block
+-- the accesses with one more mark on the last of them; the first mark of an access is in the place of its whole block
 abbrev pub marked : Span → List Access → List Access
 marked span [] = []
 marked span (a ∷ []) = record a { spans = a.spans ++ span ∷ [] } ∷ []

@@ -1,4 +1,4 @@
--- What a call of a disk hands on at an exit, and what a test hands on behind the last call.
+-- What a call of a disk hands on at an exit, and what a test hands on after the last call.
 use Rattle.iso_recover.proofs.Words.{◌≡◌, ◌+◌, ◌==◌, ◌||◌, nat_lt, ℕ, Bool, true, false, List, Option, Some, None, Result, Ok, Err, IfErr, IsErrOf, ap, inl, inr, ◌⊎◌, arith, cond, option_map, subst, Geometry, or_else, header_place, OpenError, Disk, Memory, Damaged, UnknownForm, LAST, half_of, unclean_place, halves_refusal, header_of, BlamesDisk, IsTest}
 use Rattle.iso_recover.proofs.Steps.{is_error}
 
@@ -10,7 +10,7 @@ fault_no_memory e is memory = cc
 pub test_no_memory : (e : OpenError) → IsTest e → e ≡ Memory → ⊥
 test_no_memory e test is = subst IsTest is test
 
--- a run that blamed nobody, and a test behind it
+-- a run that blamed nobody, and a test after it
 pub blames_test : {T : Type 0} {before now : ℕ} (r : Result T OpenError) → now ≡ before → IfErr r IsTest → BlamesDisk before now r
 blames_test (Ok x) same tests = record { later = omega (arith, same); failed = λ is. absurd cc; passed = same; other = tt }
 blames_test (Err e) same test = record { later = omega (arith, same); failed = λ is. absurd (subst IsTest (is_error e Disk is) test); passed = tt; other = λ no_fault. same }

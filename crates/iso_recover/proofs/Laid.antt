@@ -58,7 +58,7 @@ gate_written mid c long torn = elim (cases_eq (get_or c 63 0) 1) [
   | inr not ↦ inl not
 ]
 
--- a block by what stands before its last byte
+-- a block by what is before its last byte
 pub block_is : (block : List ℕ) → length block ≡ 64 → get_or block 63 0 ≡ 1 → take 63 block ++ 1 ∷ [] ≡ block
 block_is block count one =
     let rest : drop 63 block ≡ 1 ∷ [] = drop_more block 63 0 (omega (arith, count)) ∙ (λ i. one i ∷ drop_all 64 block (omega (arith, count)) i) in

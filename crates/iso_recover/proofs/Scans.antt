@@ -127,7 +127,7 @@ module _ (f : Front) (told : List Written) (log : Extent) (index : List BlockVer
   short_rest : length rest ≤ f.geometry.log
   short_rest = omega (arith, ap length rest_is, length-take (f.geometry.log - length (read_bytes f told)) (drop (f.log + length (read_bytes f told)) c))
 
-  -- an open gate stands at the front of the rest
+  -- an open gate is at the front of the rest
   opens_rest : get_or c (next_place log) 0 ≡ 1 → get_or rest 0 0 ≡ 1
   opens_rest opens =
       let there : f.log + length (read_bytes f told) + 0 ≡ f.log + length (read_bytes f told) = omega arith in
@@ -146,7 +146,7 @@ module _ (f : Front) (told : List Written) (log : Extent) (index : List BlockVer
       ∙ failed f.geometry (f.log + length (read_bytes f told)) (f.base + 1 + length told) f.geometry.log rest d.fault (opens_rest d.opens) short_rest (sym fault_rest ∙ d.fails)
       ∙ ap Some (sym (d.error_is ∙ ap (λ (n : ℕ). damaged n d.fault) next_is))
 
-  -- the closed gate behind the records
+  -- the closed gate after the records
   pub reads_all : f.log + f.geometry.log ≤ length c → IsClosed (next_place log) c → HasLog f.log f.geometry.log f.geometry (f.base + 1) told c
   reads_all fits closed =
       has_log f.log f.geometry.log f.geometry (f.base + 1) told c fits read.left begins.bytes (subst (λ (n : ℕ). IsClosed n c) next_is closed)

@@ -1,4 +1,4 @@
--- An image by its parts: a front, a base of zeros, records and zeros behind them.
+-- An image by its parts: a front, a base of zeros, records and zeros after them.
 use Rattle.iso_recover.proofs.Words.{◌≡◌, ◌<◌, ◌≤◌, ◌+◌, ◌-◌, ◌*◌, ◌==◌, ℕ, zero, suc, List, [], ◌∷◌, ◌++◌, length, take, drop, replicate, get_or, true, false, Some, IsTrue, refl, sym, ◌∙◌, ap, arith, subst, length-append, append_assoc, eq-eqb, AllByRecursion, length-replicate, drop-replicate, take-replicate, get_or-replicate, replicate-append-replicate, take_at, drop_at, take-append-le, drop-append-le, drop-drop, get_or-drop, Geometry, LAST, zeros, base_place, header_place, image_size, is_valid, log_place, IsRecord, Written, blocks_of, chosen_half, current_half, generation_at, half_header, is_open_at, records, superblock, empty_history, limits, HasLog, IsHeld, has_log, new_image, whole_image}
 use Rattle.iso_image.specs.Half.{half_of}
 
@@ -31,7 +31,7 @@ blocks_zero size (suc n) m rest fits =
     λ i. first i ∷ others i
 
 module _ (g : Geometry) (generation base : ℕ) (told : List Written) (room : length (records g (base + 1) told) + 1 ≤ g.log) where
-  -- how many zeros stand behind the records
+  -- how many zeros stand after the records
   abbrev free : ℕ
   free = image_size g - 96 - g.blocks * g.block - length (records g (base + 1) told)
 
@@ -52,7 +52,7 @@ module _ (g : Geometry) (generation base : ℕ) (told : List Written) (room : le
       sym (drop-drop (g.blocks * g.block) 96 (whole_image g generation base told)) ∙ ap (drop (g.blocks * g.block)) behind_header
       ∙ drop_at (replicate (g.blocks * g.block) 0) in_log (g.blocks * g.block) (length-replicate {A = ℕ} (g.blocks * g.block) 0)
 
-  -- the bytes behind the records are zeros
+  -- the bytes after the records are zeros
   zero_at : (k : ℕ) → k < free → get_or (whole_image g generation base told) (96 + g.blocks * g.block + (length (records g (base + 1) told) + k)) 0 ≡ 0
   zero_at k inside =
       sym (get_or-drop (96 + g.blocks * g.block) (whole_image g generation base told) (length (records g (base + 1) told) + k) 0)

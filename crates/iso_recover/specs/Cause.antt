@@ -11,7 +11,7 @@ IsTest Disk = ⊥
 IsTest Memory = ⊥
 IsTest e = Unit {0}
 
--- the count of the disk's faults did not fall, a call that blames the disk raised it, and after any other answer it stands where it stood
+-- the count of the disk's faults did not fall, a call that blames the disk raised it, and after any other answer it is what it was
 pub record BlamesDisk {T : Type 0} (before now : ℕ) (result : Result T OpenError) : Type 0 where
   pub later : before ≤ now
   pub failed : IsErrOf result Disk → Rose before now

@@ -39,7 +39,7 @@ pub record IsNew (g : Geometry) (o : Opened) : Type 0 where
   pub blocks : length o.index ≡ g.blocks
   pub none : (b : ℕ) → versions_in o.index b ≡ []
 
--- The core is up, and stands for the fresh world of what the disk told, also where it told nothing.
+-- The core is up, and represents the fresh world of what the disk told, also where it told nothing.
 pub record HasOpened {D : Type 0} (state : D → DiskState) (core : Core D) (contents : Option (List ℕ)) : Type 0 where
   pub geometry : Geometry
   pub generation : ℕ
@@ -47,7 +47,7 @@ pub record HasOpened {D : Type 0} (state : D → DiskState) (core : Core D) (con
   pub stands : StandsFor state core (fresh geometry generation history) up
   pub told : TellsImage contents geometry generation history
 
--- The core is up, and stands for the fresh world of a history that ends at commit p of this one, with its array there and
+-- The core is up, and represents the fresh world of a history that ends at commit p of this one, with its array there and
 -- at each earlier commit that it still has, in an image of this geometry of either form.
 pub record HasReopened {D : Type 0} (state : D → DiskState) (core : Core D) (g : Geometry) (H : History) (p : ℕ) : Type 0 where
   pub form : ℕ

@@ -8,7 +8,7 @@ use Rattle.iso_image.specs.{declared.open_error.OpenError.OpenError, Refusal.{da
 use Rattle.iso_recover.specs.declared.front.Front.{Front}
 use Rattle.mv_index.specs.{Placed.IsIndexOf, Versions.BlockVersions}
 
--- The gate is open, and the bytes behind it fail this test as the record with this number.
+-- The gate is open, and the bytes after it fail this test as the record with this number.
 pub record IsDamagedBy (g : Geometry) (place rest number : ℕ) (e : OpenError) (image : List ℕ) : Type 0 where
   pub opens : IsOpen place image
   pub fault : FormatError

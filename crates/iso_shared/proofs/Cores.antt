@@ -1,4 +1,4 @@
--- Each call of a core leaves an entry that is legal at its place, and the core then stands for the state after it.
+-- Each call of a core leaves an entry that is legal at its place, and the core then represents the state after it.
 use Rattle.iso_shared.proofs.Words.{◌≡◌, inl, inr, ⊎_elim, ℕ, ◌<◌, ◌≤◌, Bool, true, false, cond, List, [], ◌∷◌, Option, Some, None, Result, Ok, Err, IfOk, IfErr, OnOk, OnErr, IsSome, length, refl, sym, ap, ◌∙◌, subst, arith, is_some, nat_tests, ForSome, Begun, Stat, Core, BlamesDisk, IsAmong, IsTx, Refuses, StandsFor, disk_of, bare, Standing, up, down, is_down, DiskState, WritesNothing, Access, Commit, Mode, CoreError, array_at, last, block_at, after_begin, after_leaving, after_trim, begin_step, mode_named, versions, World, Live, floor, unattached, used, Call, Entry, Answers, IsCall, IsOfCore, MayWantMemory, answer_to, numbers_at, Holds, faults_of, standing_of, State, after, is_live, live_of, tx_of, with_world, begin_entry, cause_of, entry_of, fetch_entry, numbers_of, trim_entry, ◌≢◌, ◌⊎◌, IsErrOf, StaysTold, CoreReply, after_switch, switch_step, switch_answer, compact_entry, upgrade_entry}
 use Rattle.std.specs.Prelude.{◌==◌}
 use Rattle.iso_model.specs.declared.core_error.CoreError.TheVariants as error
@@ -24,7 +24,7 @@ pub is_tx : (W : World) (n : ℕ) (accesses : List Access) → is_live n W.live 
 is_tx W n accesses is = record { number = refl; among = among n (tx_of W n accesses) W.live is refl }
 
 module _ {D : Type 0} (disk : D → DiskState) where
-  -- the entry is legal at its place, and the core stands for the state after it
+  -- the entry is legal at its place, and the core represents the state after it
   abbrev pub Did : State → Core D → Entry → Type 0
   Did S new e = Answers S e × Holds disk new (after S e)
 
@@ -36,7 +36,7 @@ module _ {D : Type 0} (disk : D → DiskState) where
       by None is = is_up is (subst (λ v. StandsFor disk old S.world (standing_of v)) is h.world)
       by (Some lost) is = is_down lost is (subst (λ v. StandsFor disk old S.world (standing_of v)) is h.world)
 
-  -- the core stands for the state with another world, and its disk has told and counted as before
+  -- the core represents the state with another world, and its disk has told and counted as before
   pub holds_up : (S : State) (old new : Core D) (W : World) → S.lost ≡ None → Holds disk old S → StandsFor disk new W up → faults_of disk old ≤ faults_of disk new
       → (IsSome (disk (disk_of old)).contents → IsSome (disk (disk_of new)).contents) → Holds disk new (with_world S W)
   holds_up S old new W is h stands later told = grind arith

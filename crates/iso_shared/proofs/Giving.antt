@@ -1,4 +1,4 @@
--- What stands under the lock after a call of the core that leaves the labels.
+-- What is under the lock after a call of the core that leaves the labels.
 use Rattle.iso_shared.{proofs.Words.{clock_of, ◌≡◌, ◌≤◌, inr, true, Access, IsTx, Live, Standing, StandsFor, standing_of, tx_of, Checked, Doing, IsAhead, IsOwn, IsPrefix, IsTxOf, Tx, live_of, tx_view, times, faults_of, is_live, ℕ, ◌<◌, List, [], ◌∷◌, ◌++◌, Option, None, Result, Ok, Err, refl, sym, ap, ◌∙◌, subst, Recent, Core, disk_of, DiskState, LeavesOnly, WritesNothing, weakened, Commit, World, ShowsBetween, ShowsLast, CoreError, AreHeld, held_after, Call, Entry, Posted, Answers, IsLegal, ended, handed, returned, tx_in, Holds, StandsAt, whole, with_lost, Start, State, after, after_fault, opened, state_at, cause_of, entry_of, fetch_entry, recent_entry}, proofs.Cores.{Did, is_tx}, proofs.Ends.{ahead_same, own_same}, proofs.Growing.{from_last, shows_now}, proofs.Mades.{ahead_on, held_same, own_on}, proofs.Trace.after_snoc, proofs.Standings.{HoldsOut, MayLeave, Moved, held_live, stands_next}, specs.declared.guarded.Guarded.Guarded}
 use Rattle.iso_model.specs.declared.core_error.CoreError.TheVariants as error
 use Rattle.turn_lock.specs.Numbers.{without}
@@ -62,7 +62,7 @@ moved_fetch disk A es b n tx block bytes old new r holds nothing =
     subst (λ (T : State). ShowsBetween W (whole T) c) (sym (after_snoc (opened A) es e))
     (subst (λ (V : World). ShowsBetween W V c) (sym (fetch_whole (state_at A es) b n tx block bytes r)) (shows_now disk old (state_at A es) holds c here))))
 
--- What a turn lends stands for the list, and the numbers that its pass holds are out.
+-- What a turn lends represents the list, and the numbers that its pass holds are out.
 pub record Lends {D : Type 0} (disk : D → DiskState) (A : Start) (first : DiskState) (lent : Core D) (items : List (List ℕ × Posted)) (es : List Entry) (ms : List ℕ) (holds : List ℕ) : Type 0 where
   pub at : StandsAt disk A first lent items es ms
   pub out : HoldsOut holds es

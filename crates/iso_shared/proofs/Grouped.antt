@@ -1,4 +1,4 @@
--- What a group makes of a world: its commits stand behind the others, and its members leave.
+-- What a group makes of a world: its commits stand after the others, and its members leave.
 use Rattle.iso_shared.proofs.Words.{arith, ◌≡◌, ◌∙◌, sym, refl, subst, List, [], ◌∷◌, ◌++◌, append_assoc, Commit, Live, World, Extends, ahead, decided, leave_all, made_by, member_reply, with_commits, History, end_step, with_live, group_is, leave_all_is, nothing_ahead, Member, after_group, commits_made, lost_commits, txs_of}
 
 pub behind_it : (H : History) (more : List Commit) → Extends H (with_commits more H)

@@ -102,7 +102,7 @@ grows_lost : (W : World) (o : Option (List Commit)) → Grows W (with_lost W o)
 grows_lost W None = grows_itself W
 grows_lost W (Some lost) = record { geometry = refl; history = behind_it W.history lost }
 
--- what the images of now show of a core that stands for the state
+-- what the images of now show of a core that represents the state
 pub shows_now : {D : Type 0} (disk : D → DiskState) (core : Core D) (S : State) → Holds disk core S → (c : List ℕ) → (disk (disk_of core)).now c → ShowsBetween S.world (whole S) c
 shows_now disk core S h c here = by S.lost h.world
   where

@@ -5,7 +5,7 @@ use Rattle.iso_shared.specs.declared.entry.Cause.TheVariants as cause
 use Rattle.iso_shared.specs.declared.entry.Entry.TheVariants as entry
 use Rattle.iso_model.specs.declared.core_reply.CoreReply.TheVariants as reply
 
--- ---- what stands in a rack
+-- ---- what is in a rack
 
 abbrev Item : Type 0
 Item = List ℕ × Posting
@@ -74,7 +74,7 @@ pub record IsPostOf (S : State) (label : List ℕ) (p : Posting) (e : Entry) : T
   pub entry_is : e ≡ entry.Post p.number label p.accesses
   pub is : p ≡ posting_of S.world p.number p.accesses
 
--- what stands in the rack behind the entry stood there before and was not taken out, or the entry posted it
+-- what is in the rack after the entry stood there before and was not taken out, or the entry posted it
 abbrev StoodOr : State → List ℕ → Posting → Entry → Type 0
 StoodOr S label p e = (IsIn (label, p) S.rack × (takes_out p.number e ≡ false)) ⊎ IsPostOf S label p e
 

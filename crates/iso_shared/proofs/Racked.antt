@@ -1,4 +1,4 @@
--- Transactions under labels: what they have kept, and what stands under the lock after a call on labels.
+-- Transactions under labels: what they have kept, and what is under the lock after a call on labels.
 use Rattle.iso_shared.proofs.{Words.{clock_of, ◌≡◌, ℕ, ◌+◌, ◌<◌, ◌≤◌, ◌==◌, Bool, true, false, cond, List, [], ◌∷◌, ◌++◌, Option, Some, None, refl, sym, ap, ◌∙◌, subst, arith, bytes_eq, drop, option_map, lookup, remove_entry, AllByRecursion, lookup-map_values, Core, DiskState, Geometry, last, World, Live, IsLive, hit, times, hit_same, Entry, Posting, Posted, Call, Cause, Fits, LegalFrom, IsOwn, IsOn, StandsAt, posting_in, Start, State, after, after_all, after_refusal, is_live, live_of, opened, posting_of, racked, state_at, inl, Ok, Err, is_some, slice_get, map-append, held_after, PostError, Answers, handed, returned, Holds, postings, post_entry}, Follows.{Follows, follows_all, follows_next}, Giving.{fault_keeps, Lends, live_lent}, Standings.{sound_at, MayLeave, Moved, stands_next}, Trace.{IsSound, loose_is, opened_sound, sound_next}, Cores.Did}
 use Rattle.iso_shared.specs.declared.entry.Entry.TheVariants as entry
 use Rattle.iso_shared.specs.declared.entry.Cause.TheVariants as cause
@@ -120,7 +120,7 @@ found_own disk A core items es test p s is =
     let within : (live_of p.number S.world.live).begin ≤ last S.world.history = begins_within S.world p.number S.world.live world.live live in
     grind arith
 
--- ---- what stands under the lock after a call on labels
+-- ---- what is under the lock after a call on labels
 
 postings_removed_by : (test : List ℕ → Bool) (e : List ℕ × Posted) (items : List (List ℕ × Posted)) (b : Bool) → postings (remove_entry test items) ≡ remove_entry test (postings items)
     → postings (cond b items (e ∷ remove_entry test items)) ≡ cond b (postings items) ((e.0, posting_in e.1) ∷ remove_entry test (postings items))

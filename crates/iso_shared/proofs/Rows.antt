@@ -227,7 +227,7 @@ earlier_commits : group_answers (state_at start two_begun).world (two (read_acce
 unfolding put clash runs end_step commit_step
 earlier_commits = refl
 
--- one for which the log has no room is aborted, and a smaller one behind it commits
+-- one for which the log has no room is aborted, and a smaller one after it commits
 abbrev whole_block : Access
 whole_block = write_access 1 (replicate 64 5)
 
@@ -345,7 +345,7 @@ no_disk_down may = cc (may.0.0)
 no_earlier_counts : MayRefuse (state_at start two_begun) (call.EndGroup both) (cause.Disk 2 4) → ⊥
 no_earlier_counts may = let since = may.1 in absurd (omega arith)
 
--- then no member is live, the device is down, and what may stand behind the others is all commits of the group
+-- then no member is live, the device is down, and what may stand after the others is all commits of the group
 abbrev group_fallen : List Entry
 group_fallen = two_begun ++ entry.Refused (call.EndGroup both) (cause.Disk 3 4) ∷ []
 

@@ -64,7 +64,7 @@ both_shown v w = λ i. record {
   right = entries_in w.seen;
 }
 
--- what stands for the list with an entry and a moment stands for it with the two in one
+-- what represents the list with an entry and a moment represents it with the two in one
 pub stands_stamped : {D : Type 0} {disk : D → DiskState} {A : Start} {first : DiskState} {core : Core D} {items : List (List ℕ × Posted)} (xs : List Stamped) (s : Stamped)
     → StandsAt disk A first core items (entries_in xs ++ s.entry ∷ []) (moments_in xs ++ s.moment ∷ []) → StandsAt disk A first core items (entries_in (xs ++ s ∷ [])) (moments_in (xs ++ s ∷ []))
 stands_stamped {D} {disk} {A} {first} {core} {items} xs s is =

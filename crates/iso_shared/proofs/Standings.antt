@@ -116,7 +116,7 @@ module _ {D : Type 0} (disk : D → DiskState) {first : DiskState} (A : Start) w
         by (inl same) = subst (λ (d : D). LeavesOnly (disk mid) (disk d) (ShowsFrom A before (es ++ e ∷ []))) (sym same) (weakened w.since (λ c at. from_next A es e legal some answers before c at))
         by (inr run) = joined (weakened w.since (λ c at. from_next A es e legal some answers before c at)) (weakened run (λ c at. from_front A es e legal some answers before front c at))
 
-  -- the disk of a core that stands for the list is there at the whole of it
+  -- the disk of a core that represents the list is there at the whole of it
   pub was_last : (core : Core D) (es : List Entry) → IsLawful (disk (disk_of core)) → Holds disk core (state_at A es) → Came A first (disk (disk_of core)) es → WasAt disk A first (disk (disk_of core)) es es (disk_of core)
   was_last core es laws holds came = let shown = shows_now disk core (state_at A es) holds in record { until = came.moments; here = shown; since = started laws shown; tells = holds.told }
 
@@ -146,7 +146,7 @@ module _ {D : Type 0} (disk : D → DiskState) {first : DiskState} (A : Start) w
       last_is = λ past m is. sym (last_same ms past t m is);
     }
 
-  -- what stood for the list stands for it with one entry more
+  -- what stood for the list represents it with one entry more
   pub stands_next : {ms : List ℕ} (old new : Core D) (items left : List (List ℕ × Posted)) (es : List Entry) (e : Entry) (holds : List ℕ)
       → StandsAt disk A first old items es ms → HoldsOut holds es → MayLeave holds e
       → Moved disk A es e old new → Answers (state_at A es) e → Holds disk new (after (state_at A es) e) → postings left ≡ (after (state_at A es) e).rack → AllByRecursion (λ i. IsOn A.world.geometry i.1.work) left
@@ -166,7 +166,7 @@ module _ {D : Type 0} (disk : D → DiskState) {first : DiskState} (A : Start) w
         ended = ended_next old new es e ms s.lawful s.ended s.legal some moved answers came' core';
       }
 
--- where a list begins, the core stands for its start
+-- where a list begins, the core represents its start
 pub holds_first : {D : Type 0} (disk : D → DiskState) (core : Core D) (W : World) → StandsFor disk core W up → Holds disk core (opened (start_at W (disk (disk_of core))))
 holds_first disk core W stands = record { world = stands; counts = omega arith; told = λ is tells. tells }
 

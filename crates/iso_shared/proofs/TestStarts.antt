@@ -1,4 +1,4 @@
--- A list over the image of the tests may begin where a core stands for it.
+-- A list over the image of the tests may begin where a core represents it.
 use Rattle.iso_shared.proofs.{Words.{◌≡◌, Some, Result, Ok, Err, IfOk, refl, sym, subst, same_Some, result_ok, Core, StandsFor, disk_of, up, DiskState, IsLawful, empty_history, fresh, start_at, MayStart, small}, Standings.{came_first, holds_first}}
 
 -- what holds of an answer, once it was taken out of its result

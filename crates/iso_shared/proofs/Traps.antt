@@ -15,7 +15,7 @@ any_bytes = record { needs = (refl, tt); takes = tt; answers = (refl, omega arit
 not_any_bytes : Fits (state_at start two_begun) (entry.Fetch 2 3 []) → ⊥
 not_any_bytes f = let e : 0 ≡ 64 = ap (λ (l : List ℕ). length l) (f.answers.2 refl) in absurd (cc e)
 
--- in a list that is down nothing stands that a call of the core answered
+-- in a list that is down nothing is that a call of the core answered
 no_end : Fits (state_at start fallen) (entry.End 2 [] ReadOnly) → ⊥
 no_end f = cc (f.answers.0)
 
@@ -179,7 +179,7 @@ no_numbers = record { last = 0; base = 0; trim = 0; live = 0; used = 0; versions
 not_other_numbers : Fits (state_at start two_begun) (entry.Stat no_numbers) → ⊥
 not_other_numbers f = let e : 0 ≡ 2 = ap (λ (n : Numbers). n.live) f.answers in absurd (cc e)
 
--- no fault stands in a call that calls no disk
+-- no fault is in a call that calls no disk
 no_fault_of_a_begin : MayRefuse (opened start) (call.Begin None) (cause.Disk 3 4) → ⊥
 no_fault_of_a_begin may = may.0
 

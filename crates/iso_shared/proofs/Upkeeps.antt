@@ -1,4 +1,4 @@
--- What stands under the lock after a call that needs no transaction.
+-- What is under the lock after a call that needs no transaction.
 use Rattle.iso_shared.proofs.{Words.{clock_of, ◌≡◌, ◌⊎◌, ◌≢◌, inl, ap, refl, ℕ, List, [], ◌∷◌, ◌++◌, Result, Ok, Err, IfOk, IfErr, IsErrOf, OnOk, AreHeld, BlamesDisk, Commit, Core, CoreError, CoreReply, DiskState, Entry, Call, Holds, LeavesOnly, Posted, Refuses, ShowsLast, StandsAt, StandsFor, Start, State, StaysTold, World, after_switch, after_trim, disk_of, down, entry_of, faults_of, floor, state_at, switch_answer, switch_step, trim_entry, tx_in, up}, Cores.{Did, Switches, by_lost, did_trim}, Giving.{KeepsRack, Lends, moved_last, stands_answer}, Standings.MayLeave}
 use Rattle.iso_model.specs.declared.core_error.CoreError.TheVariants as error
 use Rattle.iso_model.specs.declared.core_reply.CoreReply.TheVariants as reply

@@ -25,7 +25,7 @@ end_answer W n accesses = (end_step W (tx_of W n accesses)).0
 abbrev pub switch_answer : World → (form : ℕ) → CoreReply
 switch_answer W form = (switch_step W form reply.Done).0
 
--- what the rules answer to a call that they may refuse; Done stands for all that they never refuse
+-- what the rules answer to a call that they may refuse; Done represents all that they never refuse
 abbrev pub answer_to : World → Call → CoreReply
 answer_to W (call.Begin named) = begin_answer W named
 answer_to W (call.Fetch n block) = reply.Done

@@ -35,7 +35,7 @@ takes_out n (entry.Sweep found) = is_number n found
 takes_out n e = false
 
 -- The list, which begins at this state, has the post of the transaction under the label, with what it then was, and no
--- entry behind that took it out.
+-- entry after that took it out.
 pub record WasPosted (S : State) (es : List Entry) (label : List ℕ) (p : Posting) : Type 0 where
   pub before : List Entry
   pub behind : List Entry

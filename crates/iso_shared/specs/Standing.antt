@@ -1,4 +1,4 @@
--- What lies under the lock stands for a list of entries.
+-- What lies under the lock represents a list of entries.
 use Rattle.std.specs.{Prelude.{◌≡◌, ℕ, ◌≤◌, true, List, [], ◌∷◌, ◌++◌, Option, Some, None, IsSome, is_some, length, map}, List.AllByRecursion}
 use Rattle.iso_core.specs.{declared.core_itself.Core.Core, Core.{StandsFor, disk_of}, Standing.{Standing, up, down}}
 use Rattle.iso_model.specs.{History.with_commits, declared.access.Commit.Commit, declared.access.Geometry.Geometry, declared.access.Mode.TheVariants.Serial, World.{World, fresh, empty_history}, Between.ShowsBetween}
@@ -15,7 +15,7 @@ standing_of (Some lost) = down lost
 abbrev pub faults_of : {D : Type 0} → (D → DiskState) → Core D → ℕ
 faults_of state core = (state (disk_of core)).faults
 
--- the core stands for the state, but for its labels
+-- the core represents the state, but for its labels
 pub record Holds {D : Type 0} (disk : D → DiskState) (core : Core D) (S : State) : Type 0 where
   pub world : StandsFor disk core S.world (standing_of S.lost)
   pub counts : S.faults ≤ faults_of disk core
@@ -32,12 +32,12 @@ posting_in p = record { number = p.number; begin = p.work.begin; mode = p.work.m
 abbrev pub postings : List (List ℕ × Posted) → List (List ℕ × Posting)
 postings rack = map (λ e. (e.0, posting_in e.1)) rack
 
--- the world with the lost commits behind the others
+-- the world with the lost commits after the others
 abbrev pub with_lost : World → Option (List Commit) → World
 with_lost W None = W
 with_lost W (Some lost) = record W { history = with_commits lost W.history }
 
--- the world at a place of the list, with the commits that may stand behind the others
+-- the world at a place of the list, with the commits that may stand after the others
 abbrev pub whole : State → World
 whole S = with_lost S.world S.lost
 
@@ -89,6 +89,6 @@ some_geometry = record { block = 64; blocks = 1; log = 64; mode = Serial; hash =
 abbrev pub some_start : Start
 some_start = record { world = fresh some_geometry 1 (empty_history some_geometry); faults = 0; tells = true }
 
--- where the list of a device begins whose core stands for the world, on this disk
+-- where the list of a device begins whose core represents the world, on this disk
 abbrev pub start_at : World → DiskState → Start
 start_at W d = record { world = W; faults = d.faults; tells = is_some d.contents }

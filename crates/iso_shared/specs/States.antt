@@ -19,7 +19,7 @@ pub record State : Type 0 where
   pub world : World
   -- those under labels, the one first that was posted first
   pub rack : List (List ℕ × Posting)
-  -- once a fault has set it down, the commits that may stand behind the others
+  -- once a fault has set it down, the commits that may stand after the others
   pub lost : Option (List Commit)
   -- the largest count of faults that an entry carried
   pub faults : ℕ

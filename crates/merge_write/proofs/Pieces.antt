@@ -18,7 +18,7 @@ runs_from_begin b p [] = tt
 runs_from_begin b p (None ∷ values) = begins_later (p + 1) p (runs_from b (p + 1) values) (omega arith) (runs_from_begin b (p + 1) values)
 runs_from_begin b p (Some value ∷ values) = joined_from b p value (runs_from b (p + 1) values)
 
--- a byte before runs that begin behind its neighbour stands alone
+-- a byte before runs that begin after its neighbour is alone
 joined_apart : (b p value : ℕ) (runs : List Run) → BeginsFrom (p + 2) runs → joined b p value runs ≡ record { block = b; off = p; bytes = value ∷ [] } ∷ runs
 joined_apart b p value [] from = refl
 joined_apart b p value (run ∷ runs) from = search (rules, arith)
@@ -38,7 +38,7 @@ skipped b p (suc n) masks (x ∷ bytes) room none =
     rw (none p (omega arith) (omega arith), e)
     (skipped b (p + 1) n masks bytes (omega arith) (λ k from below. none k (omega arith) (omega arith)))
 
--- the runs behind a byte that is not set, or at the end
+-- the runs after a byte that is not set, or at the end
 alone : (b p q : ℕ) (masks bytes : List ℕ) → q ≡ p + 1 → (0 < length bytes → is_set masks q ≡ false) → BeginsFrom (p + 2) (runs_from b q (values_from masks q bytes))
 alone b p q masks [] e end = tt
 alone b p q masks (x ∷ bytes) e end = search (rules, arith, begins_later, runs_from_begin)

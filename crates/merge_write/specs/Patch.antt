@@ -6,7 +6,7 @@ use Rattle.iso_model.specs.{declared.access.Span.Span, declared.access.Run.Run, 
 abbrev pub is_set : List ℕ → ℕ → Bool
 is_set masks p = bit_at (slice_index masks (p / 64)) (p % 64) == 1
 
--- the values of the bytes, the first of which stands at p
+-- the values of the bytes, the first of which is at p
 abbrev pub values_from : List ℕ → ℕ → List ℕ → List (Option ℕ)
 values_from masks p [] = []
 values_from masks p (x ∷ bytes) = cond (is_set masks p) (Some x) None ∷ values_from masks (p + 1) bytes

@@ -1,4 +1,4 @@
--- Versions that are trimmed again, at a later number, and versions that come behind.
+-- Versions that are trimmed again, at a later number, and versions that come after.
 use Rattle.mv_index.proofs.{Words.{◌≡◌, ◌∙◌, sym, refl, ap, ℕ, zero, suc, ◌+◌, ◌-◌, ◌<◌, ◌≤◌, Bool, true, false, ◌&&◌, ◌||◌, not, cond, nat_le, nat_lt, List, [], ◌∷◌, ◌++◌, length, get_or, arith, AllByRecursion, list_any, range_with_len, and_parts, leb-true, ltb-true, le-leb, lt-leb, list_any_at, list_any-append, length-range_with_len, get_or-range_with_len, Version, has, hides, shown_since, still_shows, or-true, or-false}, Gathers.any_same}
 
 pub or_parts : (a b : Bool) → (a || b) ≡ false → (a ≡ false) × (b ≡ false)
@@ -88,7 +88,7 @@ hides_before t p versions more all = grind (arith, list_any-append, above_none, 
 push_cond : (v : Version) (xs more : List Version) (b : Bool) → cond b (v ∷ (xs ++ more)) (xs ++ more) ≡ cond b (v ∷ xs) xs ++ more
 push_cond v xs more b = grind arith
 
--- Versions above t come behind those that still show.
+-- Versions above t come after those that still show.
 pub shown_more : (t : ℕ) (versions more : List Version) → AllByRecursion (λ v. t < v.number) more → shown_since t (versions ++ more) ≡ shown_since t versions ++ more
 shown_more t [] more all = above_stay t more all
 shown_more t (v ∷ versions) more all =

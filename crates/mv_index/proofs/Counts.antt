@@ -57,7 +57,7 @@ tally_blocks counts n (run ∷ parts) all =
     total_add (λ b. cond ((run.block == b) && counts run) 1 0) (λ b. tally (λ run. (run.block == b) && counts run) parts) 0 n
     ∙ (λ i. pick_one run.block (counts run) 0 n (omega arith) (omega (arith, all.0)) i + tally_blocks counts n parts all.1 i)
 
--- the runs behind a run are in later blocks or begin behind it
+-- the runs after a run are in later blocks or begin after it
 abbrev pub IsBehind : (b end : ℕ) → Run → Type 0
 IsBehind b end y = (b < y.block) ⊎ ((b ≡ y.block) × (end ≤ y.off))
 
@@ -74,7 +74,7 @@ behind_all : (g : Geometry) (x : Run) (rest : List Run) → AreRuns g (x ∷ res
 behind_all g x [] are = tt
 behind_all g x (y ∷ rest) are = far g x.block (x.off + length x.bytes) y rest (elim are.1 [ inl lt ↦ inl lt | inr same ↦ inr (same.0, omega (arith, same.1)) ]) are.2
 
--- the runs behind do not hide a byte
+-- the runs after do not hide a byte
 unhidden_step : (t p n at : ℕ) (b : ℕ) (y : Run) (tail : List Version) → hides t p tail ≡ false → (same : Bool) → (y.block == b) ≡ same → (y.block ≡ b → p < y.off) → hides t p (cond same (version_of n at y ∷ tail) tail) ≡ false
 unhidden_step t p n at b y tail rest true is below = grind (arith, and-false)
 unhidden_step t p n at b y tail rest false is below = rest

@@ -57,7 +57,7 @@ place_laid v pieces versions p was =
     ]
     ∙ sym (place_append versions (v ∷ []) p)
 
--- what is left stands in order
+-- what is left is in order
 front_order : (y x : ℕ) (q : Version) (xs rest : List Version) → y ≤ x → y ≤ q.off → 0 < q.len → (q.off < x → Follow (q.off + min q.len (x - q.off)) (map (front_of x) xs ++ rest)) → Follow y (map (front_of x) xs ++ rest)
     → (b : Bool) → nat_lt q.off x ≡ b → Follow y (map (front_of x) (cond b (q ∷ xs) xs) ++ rest)
 front_order y x q xs rest le from some here past true is = let lt = ltb-true q.off x is in (from, omega (arith, lt, some), here lt)
@@ -129,7 +129,7 @@ laid_none v pieces versions none were =
     let same : (p : ℕ) → newest_with (versions ++ v ∷ []) p ≡ newest_with versions p = λ p. newest_elsewhere versions v p (has_not p v (elim (cases_lt p v.off) [ inl lt ↦ inl lt | inr le ↦ inr (omega (arith, le, none)) ])) in
     pieces_kept pieces versions (versions ++ v ∷ []) same were
 
--- what was found by halving: the last piece that begins before the version is cut, and so is the first that ends behind it
+-- what was found by halving: the last piece that begins before the version is cut, and so is the first that ends after it
 backs_same : (x y : ℕ) (pieces : List Version) → x ≤ y → Follow y pieces → backs x pieces ≡ pieces
 backs_same x y [] le order = refl
 backs_same x y (q ∷ pieces) le order =
@@ -187,7 +187,7 @@ one_around from to first last pieces order le within below above lt = elim (case
       absurd (omega (arith, apart, next, here, le))
 ]
 
--- where a version has the bytes of one piece, it stands in its place
+-- where a version has the bytes of one piece, it is in its place
 
 ended_same : (x : ℕ) (pieces : List Version) → ((k : ℕ) → k < length pieces → (get_or pieces k no_version).off + (get_or pieces k no_version).len ≤ x) → ended x pieces ≡ pieces
 ended_same x [] le = refl

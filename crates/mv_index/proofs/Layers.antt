@@ -1,4 +1,4 @@
--- What versions show that stand one behind the other, and that hidden ones show nothing.
+-- What versions show that stand one after the other, and that hidden ones show nothing.
 use Rattle.mv_index.proofs.{Words.{◌≡◌, ◌∙◌, sym, refl, ap, ℕ, ◌+◌, ◌-◌, ◌≤◌, Bool, true, false, ◌&&◌, ◌||◌, not, cond, nat_le, List, [], ◌∷◌, ◌++◌, Option, Some, None, get_or, arith, option_map, list_any, range_with_len, and_parts, leb-true, le-leb, or_else, Version, ShowTheSame, byte_in, byte_of, newest_with, place_in, place_of, has, hides, shown_since, still_shows, upto}, Again.{hidden_at, or_parts}}
 
 pub or_else_twice : {A : Type 0} (x y z : Option A) → or_else x (or_else y z) ≡ or_else (or_else x y) z
@@ -7,7 +7,7 @@ or_else_twice x y z = grind arith
 pub or_else_none : {A : Type 0} (x : Option A) → or_else x None ≡ x
 or_else_none x = grind arith
 
--- the versions behind come first
+-- the versions after come first
 pub byte_in-append : (image : List ℕ) (xs ys : List Version) (p : ℕ) → byte_in image (xs ++ ys) p ≡ or_else (byte_in image ys p) (byte_in image xs p)
 byte_in-append image [] ys p = sym (or_else_none (byte_in image ys p))
 byte_in-append image (v ∷ xs) ys p =

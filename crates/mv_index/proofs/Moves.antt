@@ -16,12 +16,12 @@ rises_moved from to [] rises = tt
 rises_moved from to (v ∷ versions) rises =
     rises_step from to v (kept from versions) (all_moved (λ w. v.number ≤ w.number) (λ w. v.number ≤ w.number) from to versions (λ w behind le. le) rises.0) (rises_moved from to versions rises.1) (nat_lt from v.place)
 
--- a version if it stands behind the place
+-- a version if it is after the place
 abbrev if_behind : ℕ → Option Version → Option Version
 if_behind from None = None
 if_behind from (Some v) = cond (nat_lt from v.place) (Some v) None
 
--- where a version behind the place has a byte, the later ones before the place have it not
+-- where a version after the place has a byte, the later ones before the place have it not
 abbrev IsClear : ℕ → List Version → Type 0
 IsClear from [] = Unit {0}
 IsClear from (v ∷ versions) = ((p : ℕ) (w : Version) → from < v.place → has p v ≡ true → newest_with versions p ≡ Some w → from < w.place) × IsClear from versions
@@ -85,7 +85,7 @@ has_newest (u ∷ versions) p s w is own none =
     let both = none_step u (newest_with versions p) (has p u) none in
     some_step u w (newest_with versions s) (has s u) (has p u) (λ is. has_newest versions p s w is own both.0) is (λ same. ap (has p) same ∙ own) both.1
 
--- where a byte stands whose version is moved
+-- where a byte is whose version is moved
 abbrev shifted : (from to : ℕ) → Option ℕ → Option ℕ
 shifted from to None = None
 shifted from to (Some x) = cond (nat_lt from x) (Some (to + (x - from))) None

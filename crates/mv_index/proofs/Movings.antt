@@ -1,4 +1,4 @@
--- A list whose versions behind a place are gathered at its front.
+-- A list whose versions after a place are gathered at its front.
 use Rattle.mv_index.proofs.Words.{◌≡◌, ℕ, ◌≤◌, List, length, take, get_or, Version, moved_to, no_version}
 
 -- The versions before `at` were looked at, and those of them that stand behind the place are at the front, moved.

@@ -11,7 +11,7 @@ pub newest_in : (P : Version → Type 0) (versions : List Version) (p : ℕ) (v 
 newest_in P [] p v all found = cc
 newest_in P (u ∷ versions) p v all found = newest_step P u p v (newest_with versions p) (newest_in P versions p v all.1) all.0 (has p u) refl found
 
--- the version that has the byte which stands at a place
+-- the version that has the byte which is at a place
 pub record IsFrom (P : Version → Type 0) (versions : List Version) (p x : ℕ) : Type 0 where
   pub v : Version
   pub newest : newest_with versions p ≡ Some v

@@ -2,11 +2,11 @@
 use Rattle.std.specs.{Prelude.{ℕ, ◌⊎◌, ◌+◌, ◌-◌, ◌<◌, ◌≤◌, List, length, map, nat_lt, slice_index_or}, List.filter}
 use Rattle.mv_index.specs.{declared.version.Version.Version, Versions.no_version}
 
--- the version, where what stood at the first place stands at the second
+-- the version, where what stood at the first place is at the second
 abbrev pub moved : (from to : ℕ) → Version → Version
 moved from to v = record v { place = to + (v.place - from) }
 
--- of the versions those whose bytes stand behind the first place, moved to the second
+-- of the versions those whose bytes stand after the first place, moved to the second
 abbrev pub moved_to : (from to : ℕ) → List Version → List Version
 moved_to from to versions = map (moved from to) (filter (λ v. nat_lt from v.place) versions)
 

@@ -34,7 +34,7 @@ newest_with (v ∷ versions) p = or_else (newest_with versions p) (cond (has p v
 abbrev pub place_of : ℕ → Version → Option ℕ
 place_of p v = cond (has p v) (Some (v.place + (p - v.off))) None
 
--- where in an image the byte at p stands, as the last of the versions that has it says
+-- where in an image the byte at p is, as the last of the versions that has it says
 abbrev pub place_in : List Version → ℕ → Option ℕ
 place_in [] p = None
 place_in (v ∷ versions) p = or_else (place_in versions p) (place_of p v)

@@ -74,7 +74,7 @@ room_of index b = (block_of index b).room
 abbrev pub count_of : List BlockVersions → ℕ
 count_of index = sum_by (λ row. length row.versions) index
 
--- block b has the version behind its others, and room for at most one less; all other blocks are as before
+-- block b has the version after its others, and room for at most one less; all other blocks are as before
 pub record IsAdded (b : ℕ) (version : Version) (old new : List BlockVersions) : Type 0 where
   pub blocks : length new ≡ length old
   pub there : versions_in new b ≡ versions_in old b ++ version ∷ []

@@ -501,7 +501,7 @@ not_read_unnoted : Does small true (Some (record at_b { accesses = [] })) (op.Ge
 unfolding step get_step
 not_read_unnoted does = not_equal 0 1 (omega arith) (ap (λ (o : Option Own). length (accesses_had o)) (does.3))
 
--- an end that wants memory behind its look at later commits stops the client, which keeps its transaction
+-- an end that wants memory after its look at later commits stops the client, which keeps its transaction
 not_ended_unasked : Does small true (Some at_a) op.End (entry.Recent 1 0 ∷ []) (Ok reply.ReadOnly) (Some at_a) → ⊥
 not_ended_unasked does = cc (does.1.0)
 

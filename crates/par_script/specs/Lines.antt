@@ -161,7 +161,7 @@ GroupEnds found es r = ⊥
 abbrev pub GroupWants : List (Option Own) → List Entry → Result Reply Stop → Type 0
 GroupWants found es r = (es ≡ aborts_of (found_ones found)) × (r ≡ Err stop.Memory)
 
--- Behind looks that found so, a look for each of the labels that are left, in order, and then the end of the group; where memory
+-- After looks that found so, a look for each of the labels that are left, in order, and then the end of the group; where memory
 -- was wanting before its turn, the looks may be fewer.
 abbrev pub Groups : (labels : List (List ℕ)) → (found : List (Option Own)) → List Entry → Result Reply Stop → Type 0
 Groups [] found es r = GroupEnds found es r ⊎ GroupWants found es r

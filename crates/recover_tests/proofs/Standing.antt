@@ -25,6 +25,6 @@ may_fetch state core W of none tx block into g same number inside size =
 pub stays_down : {D : Type 0} (state : D → DiskState) (old new : Core D) → new ≡ old → IsDown state old → IsDown state new
 stays_down state old new same is = subst (IsDown state) (sym same) is
 
--- and stands for a world
+-- and represents a world
 pub stands_down : {D : Type 0} (state : D → DiskState) (core : Core D) → IsDown state core → (W : World) × (standing : Standing) × StandsFor state core W standing
 stands_down state core is = (is.world, down [], is.stands)

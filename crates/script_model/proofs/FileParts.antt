@@ -37,7 +37,7 @@ more_blocks q size = grind arith
 pub count_fits : (size bytes : ℕ) → 256 ≤ size → bytes ≤ most_bytes size → blocks_for size bytes ≤ entry_count size
 count_fits size bytes least few = grind (arith, more_blocks)
 
--- byte p of a file stands in one of its blocks
+-- byte p of a file is in one of its blocks
 pub place_below : (size bytes p : ℕ) → 0 < size → p < bytes → p / size < blocks_for size bytes
 place_below size bytes p some below = grind (arith, more_blocks, le-div)
 

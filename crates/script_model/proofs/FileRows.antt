@@ -42,7 +42,7 @@ pub regions_of_files :
     ≡ 12 ∷ 0 ∷ 0 ∷ 2 ∷ 1536 ∷ 1535 ∷ []
 regions_of_files = refl
 
--- what the words behind a client say
+-- what the words after a client say
 abbrev said : List (List ℕ) → Result Op ℕ
 said [] = Err 2
 said (name ∷ arguments) = operation_of name arguments

@@ -19,7 +19,7 @@ the_last_place_is_taken = refl
 abbrev busy : ℕ → Live
 busy n = record released { accesses = replicate n (read_access 0) }
 
--- The 4,097th access is refused, behind what its arguments are refused for.
+-- The 4,097th access is refused, after what its arguments are refused for.
 pub the_last_access_is_made :
     (put_step (made small) (busy 4095) 0 0 (1 ∷ [])).0 ∷ (put_step (made small) (busy 4096) 0 0 (1 ∷ [])).0 ∷ (read_step (made small) (busy 4096) 0).0 ∷ []
     ≡ Done ∷ TooManyAccesses ∷ TooManyAccesses ∷ []

@@ -45,7 +45,7 @@ live_after_looks : (texts : List (List ℕ)) (W : World) (t : Live) → IsLive W
 live_after_looks [] W t is = is
 live_after_looks (text ∷ texts) W t is = live_after_looks texts (after_look W (held W text)) t (live_looked W (held W text) t is)
 
--- what the looks find is live behind them
+-- what the looks find is live after them
 pub found_are_live : (texts : List (List ℕ)) (W : World) → IsWorld W → AllByRecursion (IsLive (looks W texts).1) (found_ones (looks W texts).0)
 found_are_live [] W is = tt
 found_are_live (text ∷ texts) W is =

@@ -49,7 +49,7 @@ pub pairs_have_their_text : reply_text (Pairs (((97 ∷ []), (49 ∷ 50 ∷ []))
 unfolding reply_text
 pairs_have_their_text = refl
 
--- Two clients that put a value at one key that is there write the value alone: both commit, and the later commit's value stands.
+-- Two clients that put a value at one key that is there write the value alone: both commit, and the later commit's value stays.
 pub values_of_one_key_do_not_conflict :
     answers (made stores) (codes "1 begin" ∷ codes "1 hput 61 30" ∷ codes "1 end" ∷ codes "1 begin" ∷ codes "2 begin" ∷ codes "1 hput 61 39" ∷ codes "2 hput 61 38" ∷ codes "1 end" ∷ codes "2 end" ∷ codes "1 begin" ∷ codes "1 hget 61" ∷ [])
     ≡ text (codes "1 ok begin 0" ∷ codes "1 ok" ∷ codes "1 ok commit 1" ∷ codes "1 ok begin 1" ∷ codes "2 ok begin 1" ∷ codes "1 ok" ∷ codes "2 ok" ∷ codes "1 ok commit 2" ∷ codes "2 ok commit 3" ∷ codes "1 ok begin 3" ∷ codes "1 ok 38" ∷ [])

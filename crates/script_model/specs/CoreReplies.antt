@@ -24,7 +24,7 @@ as_reply (core.LogFull need free) = reply.LogFull need free
 abbrev pub as_step : CoreReply × World → Reply × World
 as_step r = (as_reply r.0, r.1)
 
--- what an error of a core is answered: the model's reply that it stands for, or why there is none
+-- what an error of a core is answered: the model's reply that it represents, or why there is none
 abbrev pub refused : CoreError → Result Reply Stop
 refused error.Down = Err stop.Down
 refused error.TooManyTx = Ok reply.TooManyTx

@@ -76,7 +76,7 @@ abbrev pub dashed : List ℕ → List ℕ
 dashed [] = codes "-"
 dashed (b ∷ bytes) = hex_text (b ∷ bytes)
 
--- a pair of a store behind a space
+-- a pair of a store after a space
 abbrev pub pair_text : List ℕ × List ℕ → List ℕ
 pair_text pair = 32 ∷ dashed pair.0 ++ 61 ∷ dashed pair.1
 
@@ -97,7 +97,7 @@ label_text (Some (member.Full need free)) = full_text need free
 label_text (Some member.Worn) = codes "worn"
 label_text None = codes "none"
 
--- what the labels of a group are answered: behind a space, with a semicolon and a space between two of them
+-- what the labels of a group are answered: after a space, with a semicolon and a space between two of them
 abbrev pub labels_text : List (Option GroupReply) → List ℕ
 labels_text [] = []
 labels_text (answer ∷ answers) = 32 ∷ label_text answer ++ flat_map (λ a. codes "; " ++ label_text a) answers

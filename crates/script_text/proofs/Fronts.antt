@@ -1,4 +1,4 @@
--- What stands from a place on, once a part that begins there was written.
+-- What is from a place on, once a part that begins there was written.
 use Rattle.script_text.proofs.Words.{◌≡◌, ◌∙◌, ap, ℕ, ◌+◌, ◌≤◌, List, ◌++◌, length, take, drop, drop_at, length-take-le, drop-drop, put_mid}
 
 pub from_part : (a k end : ℕ) (xs ys : List ℕ) → a ≤ length xs → a + k ≡ end → drop a (put_mid a k xs ys) ≡ ys ++ drop end xs

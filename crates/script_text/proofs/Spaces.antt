@@ -97,7 +97,7 @@ spaced_says [] words some digits = absurd (omega arith)
 spaced_says (b ∷ word) [] some digits = not_skipped b word (and_parts (is_digit b) (list_all is_digit word) digits).0
 spaced_says (b ∷ word) (next ∷ words) some digits = not_skipped b (word ++ 32 ∷ spaced (next ∷ words)) (and_parts (is_digit b) (list_all is_digit word) digits).0
 
--- words behind a first one, each behind a space
+-- words after a first one, each after a space
 pub spaced_each : (word : List ℕ) (words : List (List ℕ)) → spaced (word ∷ words) ≡ word ++ flat_map (λ w. 32 ∷ w) words
 spaced_each word [] = sym (append-nil word)
 spaced_each word (next ∷ words) = ap (λ (rest : List ℕ). word ++ 32 ∷ rest) (spaced_each next words)

@@ -23,7 +23,7 @@ cut_more all old new cut word so is some =
 pub cut_none : (all old new : List (List ℕ)) (cut : List (Bor (List ℕ))) (word : List ℕ) → all ≡ texts cut ++ old → old ≡ word_before word new → length word ≡ 0 → all ≡ texts cut ++ new
 cut_none all old new cut word so is none = so ∙ ap (λ (l : List (List ℕ)). texts cut ++ l) (is ∙ before_none word new none)
 
--- what is cut off a line: a word and the space behind it
+-- what is cut off a line: a word and the space after it
 cut_off : (rest word behind more : List ℕ) → rest ≡ word ++ behind → behind ≡ 32 ∷ more → list_all is_word_byte word ≡ true
     → (list_all is_printable rest ≡ list_all is_printable more) × (words_of rest ≡ word_before word (words_of more))
 cut_off rest word behind more is space all =

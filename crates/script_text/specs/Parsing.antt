@@ -12,7 +12,7 @@ abbrev pub Gives : {X : Type 0} → Result X LineError → Result X ℕ → Type
 Gives (Ok x) defined = defined ≡ Ok x
 Gives (Err error) defined = Fails error defined
 
--- the items that are defined, behind those that were there, or the cause that is defined, unless memory ran out
+-- the items that are defined, after those that were there, or the cause that is defined, unless memory ran out
 abbrev pub GivesBehind : {X : Type 0} → Result (Unit {0}) LineError → Result (List X) ℕ → (old new : List X) → Type 0
 GivesBehind {X = X} (Ok done) defined old new = (more : List X) × (defined ≡ Ok more) × (new ≡ old ++ more)
 GivesBehind (Err error) defined old new = Fails error defined

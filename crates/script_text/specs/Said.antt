@@ -1,4 +1,4 @@
--- The words behind the name of an operation, each with a space before it.
+-- The words after the name of an operation, each with a space before it.
 use Rattle.std.specs.Prelude.{ℕ, List, [], ◌∷◌, ◌++◌, decimal, flat_map}
 use Rattle.script_model.specs.Text.{dashed, hex_text}
 use Rattle.script_text.specs.declared.said.{Behind.{Behind, TheVariants.{Nothing, One, Two, Three, Labels}}, Word.{Word, TheVariants.{Number, Hex, Dashed, Label}}}

@@ -39,7 +39,7 @@ abbrev pub mode_word : Mode → List ℕ
 mode_word Serial = codes "serial"
 mode_word Snapshot = codes "snapshot"
 
--- the words behind the name: numbers in decimal, bytes in hexadecimal in lower case, a dash for no key, value or name
+-- the words after the name: numbers in decimal, bytes in hexadecimal in lower case, a dash for no key, value or name
 abbrev pub arguments_of : Op → List (List ℕ)
 arguments_of (Begin None) = []
 arguments_of (Begin (Some mode)) = mode_word mode ∷ []

@@ -21,7 +21,7 @@ first_below test i (suc n) j e = elim (cases_Bool (test i)) [
       omega arith)
 ]
 
--- the next block of a chain stands in the area
+-- the next block of a chain is in the area
 next_below : (a : Area) (bucket position : ℕ) (keys : List ℕ) → is_linked a bucket position keys ≡ true → (next_of keys == 0) ≡ false → next_of keys < a.blocks
 unfolding is_linked
 next_below a bucket position keys linked more =

@@ -1,5 +1,5 @@
 -- Worked examples of the hash store, by computation: four blocks of 256 bytes, so block 0, one bucket of three cells in block 1, and
--- two blocks behind it.
+-- two blocks after it.
 use Rattle.store_model.proofs.Words.{Ok, Err, map, Access, Span, Kind, Read, Write, Area, Broken, Array, put, zeros, own, compress, digest_bytes, first_words, hash_after, rounds, schedule, sha256, bucket_of, is_linked, walk, get_program, put_program, del_program, accesses_of, answer_of, outcome}
 use Rattle.std.specs.Prelude.{◌≡◌, ℕ, List, [], ◌∷◌, None, Some, true, false, refl, replicate}
 
@@ -53,7 +53,7 @@ too_little_room : ((outcome 4 (put_program area (100 ∷ []) (52 ∷ [])) three)
 unfolding put_program walk bucket_of is_linked sha256 digest_bytes hash_after compress rounds schedule first_words put
 too_little_room = (refl, refl)
 
--- a get reads the value where the key is, behind the keys of the blocks before
+-- a get reads the value where the key is, after the keys of the blocks before
 a_get_of_the_fourth : shape (accesses_of (get_program area (100 ∷ [])) four) ≡ (Read, 1, span 0 157 ∷ []) ∷ (Read, 2, span 0 157 ∷ span 157 33 ∷ []) ∷ []
 unfolding get_program put_program walk bucket_of is_linked sha256 digest_bytes hash_after compress rounds schedule first_words put
 a_get_of_the_fourth = refl
@@ -62,7 +62,7 @@ its_value : answer_of (get_program area (100 ∷ [])) four ≡ Ok (Some (52 ∷ 
 unfolding get_program put_program walk bucket_of is_linked sha256 digest_bytes hash_after compress rounds schedule first_words put
 its_value = refl
 
--- the last key of a block behind the bucket's: the block goes back to the free map, and the link to it is cut
+-- the last key of a block after the bucket's: the block goes back to the free map, and the link to it is cut
 a_delete_that_frees_a_block : shape (accesses_of (del_program area (100 ∷ [])) four)
     ≡ (Read, 1, span 0 157 ∷ []) ∷ (Read, 2, span 0 157 ∷ []) ∷ (Read, 0, span 0 65 ∷ []) ∷ (Write, 0, span 64 1 ∷ []) ∷ (Write, 1, span 0 4 ∷ []) ∷ []
 unfolding del_program put_program walk bucket_of is_linked sha256 digest_bytes hash_after compress rounds schedule first_words put
@@ -77,7 +77,7 @@ a_cell_is_used_again : shape (accesses_of (put_program area (101 ∷ []) (53 ∷
 unfolding del_program put_program walk bucket_of is_linked sha256 digest_bytes hash_after compress rounds schedule first_words put
 a_cell_is_used_again = refl
 
--- seven keys, of which one of the bucket's block and one of the block behind it are deleted: the next new key gets the first of the
+-- seven keys, of which one of the bucket's block and one of the block after it are deleted: the next new key gets the first of the
 -- two cells, once the whole chain is read
 abbrev seven : Array
 seven = puts ((101, 53) ∷ (102, 54) ∷ (103, 55) ∷ []) four

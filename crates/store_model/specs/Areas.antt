@@ -7,7 +7,7 @@ use Rattle.store_model.specs.declared.stores.Area.{Area}
 abbrev pub hash_area : Geometry → Area
 hash_area g = record { size = g.block; start = 0; blocks = g.hash }
 
--- where the tree store is: behind the hash store
+-- where the tree store is: after the hash store
 abbrev pub tree_area : Geometry → Area
 tree_area g = record { size = g.block; start = g.hash; blocks = g.tree }
 

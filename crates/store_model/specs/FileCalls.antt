@@ -147,7 +147,7 @@ abbrev pub without_bits : (first : List ℕ) → List ℕ → List ℕ
 without_bits first [] = first
 without_bits first (k ∷ blocks) = without_bits (without_bit first k) blocks
 
--- the write of the map behind the removal of the name
+-- the write of the map after the removal of the name
 abbrev pub remove_writes : Area → (number : ℕ) → (file first : List ℕ) → Bool → Call Bool
 remove_writes a number file first there =
     Store a.start (bits_mark number (entries_of a.size file) ∷ [])

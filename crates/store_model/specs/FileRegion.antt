@@ -48,7 +48,7 @@ pub record AreFileRegions (a : FileAreas) (A : Array) : Type 0 where
   pub bits : (k : ℕ) → k < 8 * map_bytes a.files.blocks → IsTrue (map_bit (block_at A a.files.start) k) ↔ IsUsed a A k
   pub head : IsTrue (list_all is_zero (take 64 (block_at A a.files.start)))
 
--- byte p of the file of this block stands in its data block p / size
+-- byte p of the file of this block is in its data block p / size
 abbrev pub file_byte : FileAreas → Array → (file : List ℕ) → (p : ℕ) → ℕ
 file_byte a A file p = byte_at A (a.files.start + entry_at file (p / a.files.size)) (p % a.files.size)
 

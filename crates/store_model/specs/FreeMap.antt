@@ -1,4 +1,4 @@
--- The free map of a region: a bit for each block, behind the head of the region's first block.
+-- The free map of a region: a bit for each block, after the head of the region's first block.
 use Rattle.std.specs.{Prelude.{ℕ, zero, suc, ◌+◌, ◌/◌, ◌%◌, ◌^◌, Bool, ◌==◌, not, cond, List, Option, slice_index, slice_set, bit_and, bit_or, bit_xor}, Int.bit_at}
 use Rattle.iso_model.specs.{declared.access.Span.Span, Conflict.first_from}
 
@@ -10,7 +10,7 @@ map_bytes blocks = (blocks + 7) / 8
 abbrev pub map_mark : (blocks : ℕ) → Span
 map_mark blocks = record { off = 0; len = 64 + map_bytes blocks }
 
--- where the byte with the bit of a block stands, and the mark over it
+-- where the byte with the bit of a block is, and the mark over it
 abbrev pub bit_place : (block : ℕ) → ℕ
 bit_place block = 64 + block / 8
 

@@ -72,7 +72,7 @@ with_cell size cell key value block = laid_at (keys_end size + 33 * cell) (value
 abbrev pub new_block : (size bucket position : ℕ) → (key value : List ℕ) → List ℕ
 new_block size bucket position key value = with_cell size 0 key value (laid_at 8 (to_be_bytes w32 position) (laid_at 4 (to_be_bytes w32 bucket) (replicate size 0)))
 
--- a put of a key into a new block behind the last one of the chain, once block 0 is read
+-- a put of a key into a new block after the last one of the chain, once block 0 is read
 abbrev pub put_new : Area → (key value : List ℕ) → (last position : ℕ) → (map : List ℕ) → Option ℕ → Program (Result (Unit {0}) StoreError)
 put_new a key value last position map None = Done (Err (NoBlocks 1 0))
 put_new a key value last position map (Some block) =

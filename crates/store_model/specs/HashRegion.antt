@@ -110,7 +110,7 @@ pub record IsOverflow (a : Area) (keys : ℕ → List ℕ) (block : ℕ) : Type 
   pub past : buckets a < block
 
 -- A hash region that is well formed so far as heads, key parts and block 0 show: all linked blocks are; the bits of the map are
--- exactly the linked overflow blocks; the head of block 0 is zero; each key stands in its bucket, and none stands twice. That no
+-- exactly the linked overflow blocks; the head of block 0 is zero; each key is in its bucket, and none is twice. That no
 -- block is linked twice follows, since each names its bucket and its position.
 pub record IsKeyed (a : Area) (keys : ℕ → List ℕ) (first : List ℕ) : Type 0 where
   pub linked : (bucket : ℕ) → bucket < buckets a → AreLinked a keys bucket 0 (chain a keys bucket) (1 + bucket) 0

@@ -16,7 +16,7 @@ working W mode accesses = record { number = W.next; begin = last W.history; mode
 abbrev pub worked : World → Mode → List Access → World
 worked W mode accesses = with_live (after_begin W unattached mode) (working W mode accesses ∷ [])
 
--- a core that stands for a world stands for it with other transactions that began as those did
+-- a core that represents a world represents it with other transactions that began as those did
 pub stands_with : {D : Type 0} (state : D → DiskState) (core : Core D) (V : World) (was now : List Live) → StandsFor state core V up → V.live ≡ was → map bare was ≡ map bare now
     → floor_of (last V.history) was ≤ floor_of (last V.history) now → AllByRecursion (IsLive (with_live V now)) now → AreDistinct now → length now ≤ MAX_LIVE → StandsFor state core (with_live V now) up
 stands_with state core V was now of are same floors live distinct count =

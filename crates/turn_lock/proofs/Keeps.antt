@@ -54,7 +54,7 @@ module _ {X E : Type 0} (stands : X → List E → Type 0) (hands : E → Option
       ))
       (λ missed. (m.0, keeps, tt, stands_still s r 0 id m.0 at, (λ e. absurd (missed e), λ ne. refl)))
 
-  -- a step on a word behind the first two
+  -- a step on a word after the first two
   behind : (a b i n : ℕ) (others : List ℕ) → 2 ≤ i → set (a ∷ b ∷ others) i n ≡ a ∷ b ∷ set others (i - 2) n
   behind a b i n others le = search rules
 

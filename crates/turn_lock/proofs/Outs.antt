@@ -47,7 +47,7 @@ times_handed n (Some m) = once (m == n)
     once true = refl
     once false = refl
 
--- a number that leaves a list for another stands in the two as often as it stood in the one
+-- a number that leaves a list for another is in the two as often as it stood in the one
 pub times_parted : (n : ℕ) (h : Option ℕ) (ns : List ℕ) → AreHeld (option_to_list h) ns → times n ns ≤ 1 → times n (without (option_to_list h) ns) + times n (option_to_list h) ≡ times n ns
 times_parted n h ns held once = parted (is_among n (option_to_list h)) (times_without n (option_to_list h) ns) (times_handed n h) (among_all (λ m. 0 < times m ns) n (option_to_list h) held)
   where

@@ -1,4 +1,4 @@
--- Rising lists of numbers, and how often a number stands in a list.
+-- Rising lists of numbers, and how often a number is in a list.
 use Rattle.turn_lock.proofs.{Words.{◌≡◌, ℕ, zero, suc, ◌+◌, ◌<◌, ◌≤◌, Bool, true, false, nat_lt, cond, List, [], ◌∷◌, ◌++◌, refl, ap, sym, subst, arith, nat_tests, hit, times, RisesFrom, AllBelow, insert_rising, merge, count_up, places, dite, ℕ_discrete}, Totals.{total_append, hit_same, hit_other}}
 
 pub below_more : (n m : ℕ) (xs : List ℕ) → n ≤ m → AllBelow n xs → AllBelow m xs
@@ -17,7 +17,7 @@ pub rises_snoc : (k n : ℕ) (xs : List ℕ) → k ≤ n → RisesFrom k xs → 
 rises_snoc k n [] le r b = (le, tt)
 rises_snoc k n (x ∷ xs) le r b = (r.0, rises_snoc (suc x) n xs b.0 r.1 b.1)
 
--- no number stands where all are below it, or all above it
+-- no number is where all are below it, or all above it
 pub times_above : (n p : ℕ) (xs : List ℕ) → n ≤ p → AllBelow n xs → times p xs ≡ 0
 times_above n p [] le b = refl
 times_above n p (x ∷ xs) le b = let t = times_above n p xs le b.1 in let u = hit_other x p (λ e. absurd (omega arith)) in omega arith

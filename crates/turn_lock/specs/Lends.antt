@@ -7,6 +7,6 @@ use Rattle.turn_lock.specs.{declared.turn.Turn.Turn, contracts.turn.Turn.the_row
 abbrev pub with_value : {V E : Type 0} → Turn V E → V → Turn V E
 with_value t v = record t { value = v }
 
--- the turn ends with the last value behind r
+-- the turn ends with the last value after r
 abbrev pub LendsValue : (R E : RattleType) → MutBor (Turn R.Denot E.Denot) → MutBor R.Denot → Fml
 LendsValue R E t r = Lends (the_row R E) R t r (with_value t.now)

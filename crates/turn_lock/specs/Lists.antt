@@ -10,11 +10,11 @@ total f (x ∷ xs) = f x + total f xs
 abbrev pub hit : ℕ → ℕ → ℕ
 hit x n = cond (x == n) 1 0
 
--- how often n stands in the list
+-- how often n is in the list
 abbrev pub times : ℕ → List ℕ → ℕ
 times n xs = total (λ x. hit x n) xs
 
--- no number stands twice
+-- no number is twice
 abbrev pub AreDistinct : List ℕ → Type 0
 AreDistinct [] = Unit {0}
 AreDistinct (x ∷ xs) = (times x xs ≡ 0) × AreDistinct xs

@@ -31,7 +31,7 @@ module _ {E : Type 0} (hands : E → Option ℕ) (takes : E → List ℕ) where
   abbrev pub AreFree : List ℕ → List E → Type 0
   AreFree ms es = AllByRecursion (λ m. is_out m es ≡ false) ms
 
--- each of these numbers stands in the list
+-- each of these numbers is in the list
 abbrev pub AreHeld : List ℕ → List ℕ → Type 0
 AreHeld ms ns = AllByRecursion (λ m. 0 < times m ns) ms
 

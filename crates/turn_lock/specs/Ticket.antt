@@ -79,7 +79,7 @@ module _ {E : Type 0} where
     pub each : (id : ℕ) (v : View E) → get_elem? views id ≡ some v → Knows list v
 
 module _ {X E : Type 0} (stands : X → List E → Type 0) where
-  -- the value is at home and stands for the list while no pass has the turn, and else it is out
+  -- the value is at home and represents the list while no pass has the turn, and else it is out
   abbrev pub Rests : List (maybe.Option (Option X)) → List E → ℕ → Type 0
   Rests homes list holders =
       ((x : X) × (homes ≡ some (Some x) ∷ []) × stands x list × (holders ≡ 0)) ⊎ ((homes ≡ none ∷ []) × (holders ≡ 1))
@@ -87,7 +87,7 @@ module _ {X E : Type 0} (stands : X → List E → Type 0) where
   pub record Fair (hands : E → Option ℕ) (takes : E → List ℕ) (s : State (Option X) (View E)) : Type 0 where
     pub list : List E
     pub tickets : ℕ
-    -- what stands behind the first two says nothing
+    -- what is after the first two says nothing
     pub others : List ℕ
     pub words_are : s.words ≡ tickets ∷ length list ∷ others
     pub few : tickets ≤ LAST

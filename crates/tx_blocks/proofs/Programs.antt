@@ -48,7 +48,7 @@ answer_then (LookWhole block next) f A = answer_then (next (block_at A block)) f
 answer_then (Reserve count next) f A = answer_then next f A
 answer_then (Store block spans bytes next) f A = answer_then next f (put A (store_access block spans bytes))
 
--- a byte of a span stands in the block
+-- a byte of a span is in the block
 byte_in : (span : Span) (block : List ℕ) (i : ℕ) → i < span.len → get_or (bytes_in span block) i 0 ≡ get_or block (span.off + i) 0
 byte_in span block i below = get_or-take span.len (drop span.off block) i 0 below ∙ get_or-drop span.off block i 0
 

@@ -1,4 +1,4 @@
--- Entries of which the first ones have left: what stands behind them, by what is known of all.
+-- Entries of which the first ones have left: what is after them, by what is known of all.
 use Rattle.tx_table.proofs.{Words.{◌≡◌, ◌∙◌, refl, sym, ap, subst, ℕ, zero, suc, ◌+◌, ◌-◌, ◌<◌, ◌≤◌, Bool, true, false, cond, List, [], ◌∷◌, ◌++◌, length, drop, slice_get, arith, inl, inr, cases_lt, Option, Some, None, option_map, nat_eq, lookup, remove_entry, Begun, AreBefore, AreInOrder, BeginFrom, RisesFrom}, Begins.{begin_earlier, other_number, rises_earlier}}
 use Rattle.std.specs.Prelude.{IsSome, if◌then◌else◌}
 use Rattle.std.proofs.lemmas.Bool.{eq-eqb}
@@ -23,7 +23,7 @@ before_behind tx at zero live before = before
 before_behind tx at (suc p) [] before = tt
 before_behind tx at (suc p) (x ∷ live) before = before_behind tx at p live before.1
 
--- what comes after those behind comes after all
+-- what comes after those after comes after all
 pub before_all : (tx at f g p : ℕ) (live : List (ℕ × Begun)) → (0 < p → p < length live) → RisesFrom f live → BeginFrom g live → AreBefore tx at (drop p live) → AreBefore tx at live
 before_all tx at f g zero live some rises begin before = before
 before_all tx at f g (suc p) [] some rises begin before = tt

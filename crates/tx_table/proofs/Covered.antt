@@ -6,7 +6,7 @@ use Rattle.iso_model.specs.Effect as model
 pub settled_is : (n m k : ℕ) → ((n == m) && (k == m)) ≡ true → (n ≡ m) × (k ≡ m)
 settled_is n m k h = let parts = and_parts (n == m) (k == m) h in (eqb-true n m parts.0, eqb-true k m parts.1)
 
--- a byte of a span stands in the block
+-- a byte of a span is in the block
 below : (size p : ℕ) (spans : List Span) → AllByRecursion (IsSpan size) spans → list_any (in_span p) spans ≡ true → p < size
 below size p [] all some = absurd (cc)
 below size p (x ∷ spans) all some = by (in_span p x) refl (λ later. below size p spans all.1 later)

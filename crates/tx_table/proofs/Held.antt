@@ -48,7 +48,7 @@ pub has_entries : (b : ℕ) (slots others : List (List (Option ℕ))) (order : L
 has_entries b slots others [] = refl
 has_entries b slots others (e ∷ order) = ap (λ (t : Bool). (e.0 == b) || t) (has_entries b slots others order)
 
--- the first slots cleared, and none set behind them
+-- the first slots cleared, and none set after them
 pub cleared_slots : (size n : ℕ) (old new : List (List (Option ℕ))) → n ≤ length old → length new ≡ length old
     → ((k : ℕ) → k < n → get_or new k [] ≡ replicate (length (get_or old k [])) None) → ((k : ℕ) → n ≤ k → get_or new k [] ≡ get_or old k [])
     → AllByRecursion (λ slot. length slot ≡ size) old → AreBlankFrom size n old → AreBlankFrom size 0 new

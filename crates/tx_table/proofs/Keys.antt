@@ -1,4 +1,4 @@
--- What is held under a label stands under its key.
+-- What is held under a label is under its key.
 use Rattle.tx_table.proofs.Words.{all_push, map_push, ◌≡◌, ◌≢◌, ◌∙◌, refl, sym, ap, subst, ℕ, nat_eq, bytes_eq, Bool, true, false, cond, List, [], ◌∷◌, ◌++◌, map, arith, Option, Some, None, is_some, IsTrue, AllByRecursion, lookup, remove_entry, option_map, both_ways, bytes_eq-Decides, is_label, key_of, key_tells, IsKeyed}
 
 bytes_self : (xs ys : List ℕ) → xs ≡ ys → bytes_eq xs ys ≡ true

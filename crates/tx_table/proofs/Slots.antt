@@ -61,7 +61,7 @@ set_entries d items x n (suc i) b s (e ∷ order) are within lt at =
     ap (λ y. (e.0, y) ∷ entries_of d (set items s x) order) (get_or-set_other items s e.1 x d (other_slot i b s e.1 order are.1 (omega arith) at))
     ∙ ap (λ l. (e.0, get_or items e.1 d) ∷ l) (set_entries d items x n i b s order are.2 within (omega arith) at)
 
--- one more item behind the others
+-- one more item after the others
 more_at : {A : Type 0} (d : A) (items : List A) (x : A) (k : ℕ) → k < length items → get_or (items ++ x ∷ []) k d ≡ get_or items k d
 more_at d [] x k lt = absurd (omega arith)
 more_at d (y ∷ items) x zero lt = refl
@@ -101,7 +101,7 @@ slots_insert n (suc i) b [] are = (omega arith, tt, tt)
 slots_insert n (suc i) b (e ∷ order) are =
     (omega (arith, are.0), others_insert e.1 i order (b, n) are.1 (λ same. omega (arith, same, are.0)), slots_insert n i b order are.2)
 
--- the slots that are cleared, and those behind them, set no value
+-- the slots that are cleared, and those after them, set no value
 pub blank_at : {A : Type 0} (d z : A) (items : List A) (n : ℕ) (order : List (ℕ × ℕ)) → AreSlots n order → ((k : ℕ) → k < n → get_or items k d ≡ z)
     → (k : ℕ) → (x : ℕ × A) → k < length (entries_of d items order) → (get_or (entries_of d items order) k x).1 ≡ z
 blank_at d z items n [] are all k x lt = absurd (omega arith)

@@ -90,7 +90,7 @@ versions_moved b n from to d (w ∷ told) =
     ∙ (λ i. (ap (λ (k : ℕ). map (moved from to) (placed b n k w.parts)) head ∙ placed_moved b n from to (d + 20) w.parts ∙ ap (λ (k : ℕ). placed b n k w.parts) head_to) i
     ++ (ap (λ (k : ℕ). map (moved from to) (versions_of b (n + 1) k told)) one ∙ versions_moved b (n + 1) from to (d + record_length w.parts) told ∙ ap (λ (k : ℕ). versions_of b (n + 1) k told) two) i)
 
--- each stands before the place or behind it, and all behind one that stands behind it do
+-- each is before the place or after it, and all after one that is after it do
 abbrev StandApart : ℕ → List Version → Type 0
 StandApart from [] = Unit {0}
 StandApart from (v ∷ versions) = (IsBefore from v ⊎ (IsBehind from v × AllByRecursion (IsBehind from) versions)) × StandApart from versions

@@ -5,7 +5,7 @@ use Rattle.std.specs.Int.{w64}
 pub or_unwrap : (x y : Option ℕ) (z : ℕ) → unwrap_or (or_else x y) z ≡ unwrap_or x (unwrap_or y z)
 or_unwrap x y z = grind arith
 
--- the bytes of a part's run stand behind its head
+-- the bytes of a part's run stand after its head
 run_stands : (image : List ℕ) (at : ℕ) (run : Run) → StandsAt image at (part run) → StandsAt image (at + 8) run.bytes
 run_stands image at run whole =
     stands_rest image at (to_be_bytes w32 run.block ++ to_be_bytes w16 run.off ++ to_be_bytes w16 (length run.bytes)) run.bytes whole
@@ -16,7 +16,7 @@ byte_placed : (image : List ℕ) (n at p : ℕ) (run : Run) → StandsAt image (
 byte_placed image n at p run whole true same = grind arith
 byte_placed image n at p run whole false same = refl
 
--- a part and those behind it
+-- a part and those after it
 placed_step : (image : List ℕ) (b n at p : ℕ) (run : Run) (parts : List Run)
     → byte_of image (version_of n at run) p ≡ cond (in_span p (record { off = run.off; len = length run.bytes })) (Some (get_or run.bytes (p - run.off) 0)) None
     → byte_in image (placed b n (at + (8 + length run.bytes)) parts) p ≡ value_in parts b p
@@ -34,7 +34,7 @@ placed_shows image b n at p (run ∷ parts) whole = placed_step image b n at p r
     (placed_shows image b n (at + (8 + length run.bytes)) p parts (subst (λ (k : ℕ). StandsAt image (at + k) (flat_map part parts)) (length-part run) (stands_rest image at (part run) (flat_map part parts) whole)))
     (run.block == b) refl
 
--- a record's parts, behind its head
+-- a record's parts, after its head
 parts_stand : (image : List ℕ) (at gate kind n : ℕ) (parts : List Run) → StandsAt image at (spell gate kind n parts) → StandsAt image (at + 20) (flat_map part parts)
 unfolding spell
 parts_stand image at gate kind n parts whole =

@@ -19,7 +19,7 @@ other_block b i (suc n) parts fits other =
     ∙ count_by_more_no (λ part. part.block == b) parts (i + n) no_part (omega (arith, fits)) (ne_eqb (get_or parts (i + n) no_part).block b (other (i + n) (omega arith) (omega arith)))
     ∙ other_block b i n parts (omega (arith, fits)) (λ k from to. other k from (omega (arith, to)))
 
--- Room is made for the parts before a place, and no block that comes behind it was before it.
+-- Room is made for the parts before a place, and no block that comes after it was before it.
 pub record AreReserved (old cur : List BlockVersions) (parts : List PartSpan) (first : ℕ) : Type 0 where
   pub within : first ≤ length parts
   pub blocks : length cur ≡ length old

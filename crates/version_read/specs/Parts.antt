@@ -38,7 +38,7 @@ pub record IsPart (blocks : ℕ) (part : PartSpan) : Type 0 where
   pub block : part.block < blocks
   pub fits : part.off + part.len ≤ 4096
 
--- The parts may be those of the record with this number, whose gate stands at this place: no version of the index has a
+-- The parts may be those of the record with this number, whose gate is at this place: no version of the index has a
 -- higher number.
 pub record MayTake (number gate : ℕ) (parts : List PartSpan) (index : List BlockVersions) : Type 0 where
   pub parts_fit : AllByRecursion (IsPart (length index)) parts
@@ -46,7 +46,7 @@ pub record MayTake (number gate : ℕ) (parts : List PartSpan) (index : List Blo
   pub place : gate + 20 + parts_length parts < 2 ^ 64
   pub count : count_of index + length parts < 2 ^ 64
 
--- The versions of these parts, of the record with this number whose gate stands at this place, are behind those that
+-- The versions of these parts, of the record with this number whose gate is at this place, are after those that
 -- were there.
 pub record HasTaken (number gate : ℕ) (parts : List PartSpan) (old new : List BlockVersions) : Type 0 where
   pub blocks : length new ≡ length old

@@ -1,4 +1,4 @@
--- A span is all there exactly where it lies in the first extent that ends behind its begin.
+-- A span is all there exactly where it lies in the first extent that ends after its begin.
 use Rattle.byte_marks.proofs.{Words.{◌≡◌, ℕ, ◌+◌, ◌<◌, ◌≤◌, false, IsTrue, ◌∙◌, subst, arith, inl, inr, List, ◌∷◌, leb, cases_lt, lt-leb, le-leb, nat_tests, OnFalse, in_span, Span, Extent, has, in_extent, AreApartFrom}, Apart.{earlier, none_before}}
 
 spans_it : (p : ℕ) (s : Span) → s.off ≤ p → p < s.off + s.len → IsTrue (in_span p s)

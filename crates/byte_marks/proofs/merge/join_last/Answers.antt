@@ -1,4 +1,4 @@
--- The last extent with more bytes stands where it stood.
+-- The last extent with more bytes is what it was.
 use Rattle.byte_marks.proofs.{Words.{arith}, Apart.{wider_last, last_inside, last_or-append}, merge.join_last.Goals.{else-last-added-via-then-last-added+else-added-last, else-last-added-via-else-last-added}}
 
 pub push_reserved-requires : Rattle.byte_marks.proofs.merge.join_last.Goals.push_reserved-requires

@@ -2,7 +2,7 @@ use Rattle.iso_core.proofs.{Words.{◌≡◌, ◌≢◌, ◌∙◌, inr, sym, ap
 use Rattle.iso_model.specs.declared.core_reply.CoreReply.TheVariants as reply
 use Rattle.iso_core.proofs.commit.commit.Goals as goal
 
--- what stands before the first call
+-- what there is before the first call
 module _ (g : Rattle.iso_core.proofs.commit.commit.Given.Over) (c : After-last-last g) (W : World) (t : Live) (of : AreOf (g.D.Disk.state c.args.disk.now) c.args.kept.now W up) where
   number : c.last-last.result ≡ last W.history
   number = c.last-last.ensures ∙ log_last c.args.kept.now W of.kept_of.world of.kept_of.keeps
@@ -59,7 +59,7 @@ returns-in_default-prepare-clause-moments g c W t of may = still g (goal.at.retu
 pub returns-in_default-prepare-clause-same : goal.returns-in_default-prepare-clause-same
 returns-in_default-prepare-clause-same g c W of other = grind (arith, spelled_stage, prepared_stage)
 
--- what stands once the record was appended, or was not
+-- what there is once the record was appended, or was not
 module _ (g : Rattle.iso_core.proofs.commit.commit.Given.Over) (c : After-append g) (W : World) (t : Live) (of : AreOf (g.D.Disk.state c.args.disk.now) c.args.kept.now W up) (may : MayCommit W c.args.tx t c.args.work.now) where
   one : AreOf (g.D.Disk.state c.args.disk.now) c.spell_next.new.kept W up
   one = spelled_stage (g.D.Disk.state c.args.disk.now) c.args.kept.now c.spell_next.new.kept W of c.spell_next.ensures.same

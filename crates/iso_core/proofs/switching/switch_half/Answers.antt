@@ -44,7 +44,7 @@ refill-requires-clause-used g c = grind (arith, log_used)
 pub refill-requires-clause-settled : goal.refill-requires-clause-settled
 refill-requires-clause-settled g c = c.requires.1.images.settled
 
--- what stands once the other half was filled, or was not
+-- what there is once the other half was filled, or was not
 module _ (g : Rattle.iso_core.proofs.switching.switch_half.Given.Over) (c : After-refill g) (W : World) (of : AreOf (g.D.Disk.state c.args.disk.now) c.args.kept.now W up) (fits : IsForm W c.args.form) where
   to : c.floor-floor.result ≡ floor W
   to = c.floor-floor.ensures ∙ floor_is c.args.kept.now W of.kept_of c.last.result c.last.ensures

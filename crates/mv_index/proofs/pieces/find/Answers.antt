@@ -1,4 +1,4 @@
--- The piece before a version and the one behind it are cut alone.
+-- The piece before a version and the one after it are cut alone.
 use Rattle.mv_index.proofs.Laid.{begun_is, ended_is, one_around}
 
 pub returns-clause-around : Rattle.mv_index.proofs.pieces.find.Goals.returns-clause-around

@@ -1,4 +1,4 @@
--- The pieces that end behind the begin of the range, and begin before its end.
+-- The pieces that end after the begin of the range, and begin before its end.
 use Rattle.mv_index.proofs.{Words.{arith}, Meetings.meeting_same, Orders.some_at}
 
 pub prove-unreachable-requires : Rattle.mv_index.proofs.pieces.meeting.Goals.prove-unreachable-requires

@@ -1,4 +1,4 @@
--- What stands before the pieces and behind them stands together.
+-- What is before the pieces and after them is together.
 use Rattle.mv_index.proofs.Words.{◌≡◌, ◌∙◌, sym, ap, arith, ℕ, ◌+◌, ◌-◌, ◌≤◌, List, ◌++◌, drop, length, take, append_assoc, drop-drop, length-append, length-drop, length-take-le, take-append_seam, Version}
 
 without : (xs rest : List Version) (at n : ℕ) → at + n ≤ length xs → take (length xs - n) (take at xs ++ (drop n (drop at xs) ++ rest)) ≡ take at xs ++ drop (at + n) xs

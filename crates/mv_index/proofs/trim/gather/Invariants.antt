@@ -1,4 +1,4 @@
--- What shows a byte stands at the end.
+-- What shows a byte is at the end.
 use Rattle.mv_index.proofs.Gathers.{IsGathered}
 
 abbrev pub invariant-loop-left : Rattle.mv_index.proofs.trim.gather.Given.invariant-loop-left

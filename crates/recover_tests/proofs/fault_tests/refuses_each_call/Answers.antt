@@ -3,7 +3,7 @@ use Rattle.iso_memdisk.specs.MemDisk.{state_of}
 use Rattle.recover_tests.{specs.Cores.IsDown, proofs.Standing.{stands_down, stays_down}, proofs.fault_tests.refuses_each_call.Goals.{After-begin, After-trim, After-compact}}
 use Rattle.recover_tests.proofs.fault_tests.refuses_each_call.Goals as goal
 
--- ---- behind each call the core is as it was
+-- ---- after each call the core is as it was
 
 begun : (c : After-begin) → IsDown state_of c.begin.new.self
 begun c =

@@ -1,7 +1,7 @@
 use Rattle.script_text.proofs.Words.{◌≡◌, ◌∙◌, ◌*◌, ap, sym, ℕ, List, [], ◌∷◌, ◌++◌, append_assoc, codes, decimal, hex_text, WithFront}
 use Rattle.std.proofs.Common.{append-nil}
 
--- the lines of a round are their words, one behind the other
+-- the lines of a round are their words, one after the other
 one_behind_the_other : (b d get put fetch lay e f s four end p i q j v w : List ℕ)
     → (((((((b ++ []) ++ end) ++ ((d ++ []) ++ end)) ++ ((get ++ (p ++ (s ++ (i ++ (four ++ []))))) ++ end)) ++ ((put ++ (q ++ (s ++ (j ++ (s ++ (v ++ [])))))) ++ end))
     ++ ((fetch ++ (q ++ (s ++ (i ++ (four ++ []))))) ++ end)) ++ ((lay ++ (p ++ (s ++ (i ++ (s ++ (w ++ [])))))) ++ end)) ++ ((e ++ []) ++ end) ++ ((f ++ []) ++ end)

@@ -1,6 +1,6 @@
 use Rattle.script_text.proofs.Words.{◌≡◌, ◌+◌, ℕ, true, List, ◌++◌, take, drop, refl, sym, ◌∙◌, ap, arith, list_all, drop-take, take-append-drop, take-take, list_all-append, is_word_byte}
 
--- the bytes up to a place and those behind it
+-- the bytes up to a place and those after it
 both : (text : List ℕ) (n m : ℕ) → list_all is_word_byte (take n text) ≡ true → list_all is_word_byte (take m (drop n text)) ≡ true
     → list_all is_word_byte (take (n + m) text) ≡ true
 both text n m front back =

@@ -1,4 +1,4 @@
--- The word, and the space behind it or the end of the line.
+-- The word, and the space after it or the end of the line.
 use Rattle.script_text.proofs.WordCuts.{cut_at, cut_end}
 
 pub returns-in-bytes-clause-printable : Rattle.script_text.proofs.word.cut_word.Goals.returns-in-bytes-clause-printable

@@ -1,4 +1,4 @@
--- A stretch is read, and what was seen behind it is passed.
+-- A stretch is read, and what was seen after it is passed.
 use Rattle.version_read.proofs.{Words.{◌∙◌, sym, refl, ◌-◌, arith, subst, length-contents, all_passed, failed_behind, joined_unwritten, starts_unwritten, IsFilled}, Fills.{count_more, filled_more, filled_none, filled_passed}, Wanted.{unseen_le, unseen_none}}
 use Rattle.version_read.proofs.block.fill.Goals as goal
 

@@ -1,4 +1,4 @@
--- A value of no bytes, whose ghost field is the text of another with bytes behind it.
+-- A value of no bytes, whose ghost field is the text of another with bytes after it.
 use Rattle.bench_script.{proofs.Words.{List, [], ◌∷◌, ◌++◌, refl, Ura, Fn, Val, vptr, SProp, ent, Memory, Routine, Calls, Loops, WpFn, Tables, Fun, tables, tables_of, WpFn-mono, Logic, ‵, raw, ◌⊛◌, prop, ◌$◌, ◌∵◌, !, qed, move, keep, split, fsplit, fjoin, feq_l, regoal, suffices, done, agg, enter, returns, no_more, alloc_all, pass_all, free_all, look_at, sets, yes, owns, RefOf, plain, types_at, named_lft, nothing, Clauses, Ended, closing, alive, Meets, triple_of, entered, says, Stays, stay_dropped, walk_of, ends_at, walk_Meets, Goes-dropped}, proofs.Walks.{none, none_made}, specs.contracts.taken.Taken.with.Key.{name as #self}}
 use types.Kit.{drop}
 use Rattle.bench_script.specs.contracts.taken.Piece as Piece

@@ -1,4 +1,4 @@
--- A span that begins behind the last run is one run more.
+-- A span that begins after the last run is one run more.
 use Rattle.byte_marks.proofs.{Words.{arith}, Apart.AreApartFrom-append}
 
 pub invariant_of-self-then-next_free-added : Rattle.byte_marks.proofs.marks.Marks.add.Goals.invariant_of-self-then-next_free-added

@@ -27,7 +27,7 @@ returns-in_ok-union-clause-set c b p =
     ∙ ap (λ (k : ℕ). touches es b p || ((k == b) && has c.args.marks p)) block
     ∙ ap (λ (l : List (ℕ × List Extent)). touches l b p || ((c.args.block == b) && has c.args.marks p)) c.self.view_is
 
--- where no entry of the block stands at its place, all from there on are of later blocks
+-- where no entry of the block is at its place, all from there on are of later blocks
 later_blocks : (es : List (ℕ × List Extent)) (place block : ℕ) → RisesFrom 0 es → (place < length es → (d : ℕ × List Extent) → block < (get_or es place d).0)
     → (k : ℕ) → place ≤ k → k < length es → (d : ℕ × List Extent) → block < (get_or es k d).0
 later_blocks es place block rises first k le lt d =

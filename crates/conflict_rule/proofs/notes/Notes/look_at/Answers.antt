@@ -14,7 +14,7 @@ returns-then-index-number-clause-note g c =
     let same : (get_or xs (i - 1) d).0 ≡ c.args.number = sym (ap (λ (n : Note). n.0) other) ∙ c.if-index-number.true in
     sym (ap (note_of c.args.number) (sym e) ∙ note_at 0 c.args.number (i - 1) xs d c.self.invariant within same ∙ ap (λ (n : Note). Some n.1) (sym is))
 
--- no note before a place with another number, nor behind it
+-- no note before a place with another number, nor after it
 absent : (number i : ℕ) (notes : List Note) → RisesFrom 0 notes → i ≤ length notes
     → ((k : ℕ) → k < i → (d : Note) → (get_or notes k d).0 ≤ number) → ((k : ℕ) → i ≤ k → k < length notes → (d : Note) → number < (get_or notes k d).0)
     → (0 < i → (d : Note) → (get_or notes (i - 1) d).0 ≢ number) → note_of number notes ≡ None

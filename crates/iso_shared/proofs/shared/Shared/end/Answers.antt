@@ -1,7 +1,7 @@
 use Rattle.iso_shared.{proofs.Words.{view, CoreError, EndReply, Err, IfErr, Made, MadeBoth, Result, View, ap, longer, refl, sym, times, ℕ, ◌+◌, ◌≡◌, ◌≢◌, ◌∙◌, rules, subst, Doing, Entry, TookFew, end_entry, OfDisk}, specs.Ports.IsTx, proofs.Mades.{both_on, joined_seen, made_on, units_by}, proofs.shared.Shared.end.Goals.After-end_in_turn}
 use Rattle.iso_shared.proofs.shared.Shared.end.Goals as goal
 
--- what stands once the turn of the end is over
+-- what there is once the turn of the end is over
 module _ (g : Rattle.iso_shared.proofs.shared.Shared.end.Given.Over) (c : After-end_in_turn g) where
   abbrev t : View Entry
   t = (view c.tell_tx.new.tx.pass)

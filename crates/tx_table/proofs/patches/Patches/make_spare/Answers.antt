@@ -1,4 +1,4 @@
--- One blank patch more behind the others.
+-- One blank patch more after the others.
 use Rattle.tx_table.proofs.{Words.{◌≡◌, ◌∙◌, ◌+◌, ◌<◌, ℕ, ◌++◌, ◌∷◌, [], List, Option, ap, arith, length, length-append, nat_lt, true, Bool, ◌&&◌, refl, vec_capacity, common_steps, Held, entries_of}, Slots.entries_more}
 
 pub returns-clause-ok : Rattle.tx_table.proofs.patches.Patches.make_spare.Goals.returns-clause-ok

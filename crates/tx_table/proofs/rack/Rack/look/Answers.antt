@@ -1,4 +1,4 @@
--- What is held under a label stands under its key.
+-- What is held under a label is under its key.
 use Rattle.std.proofs.Common.{arith, rules}
 use Rattle.tx_table.proofs.Keys.{no_item, rest_is, rest_stands, the_item}
 use Rattle.tx_table.proofs.rack.Rack.look.Goals as goal

@@ -1,4 +1,4 @@
--- The row with the bytes stands behind the others, and its block has a patch.
+-- The row with the bytes is after the others, and its block has a patch.
 use Rattle.tx_table.proofs.{Words.{length-map, ◌≡◌, ◌∙◌, ◌⊎◌, ℕ, ◌+◌, ◌<◌, ◌≤◌, true, sym, ap, subst, arith, refl, [], map, length, Option, Some, is_ok, vec_capacity, vec_len, IfSome, both_ways, Access, Write, AreBytes, HasBytes, patch_at, AreEffects, has_patch, HavePatches, access_of, Doing, IsRow}, Last.{appended, have_kept, unmarked_row}}
 
 pub invariant_of-self : Rattle.tx_table.proofs.work.Work.write.Goals.invariant_of-self
