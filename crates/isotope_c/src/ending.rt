@@ -1,5 +1,5 @@
 // Transactions that end.
-ghost use Rattle.std.specs.Prelude.{◌≡◌, ◌≢◌, ◌<◌, ◌≤◌, IsSome, length, pos, true};
+ghost use Rattle.std.specs.Prelude.{◌≡◌, ◌≢◌, ◌<◌, ◌≤◌, IsSome, length, false, pos, true};
 ghost use Rattle.iso_core.specs.declared.group_end.TheConstants.{MAX_GROUP};
 ghost use Rattle.iso_model.specs.declared.limits.TheConstants.{MAX_LIVE};
 ghost use Rattle.iso_machine.specs.Answering.{Never};
