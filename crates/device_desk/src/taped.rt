@@ -26,10 +26,10 @@ impl Errand<QueuedDisk> for HandOn {
 struct Failure {}
 
 impl Errand<QueuedDisk> for Failure {
-    ghost use Rattle.std.specs.Prelude.{◌≡◌, true};
-    ghost use Rattle.queued_disk.specs.Queued.{is_failed};
+    ghost use Rattle.std.specs.Prelude.{◌≡◌, [], true};
+    ghost use Rattle.queued_disk.specs.Queued.{calls_of, handed_on, is_failed, tape_of};
 
-    ghost did = { λ old_self old new_self new. is_failed new ≡ true };
+    ghost did = { λ old_self old new_self new. (is_failed new ≡ true) × (tape_of new ≡ []) × (handed_on new ≡ calls_of old) };
 
     fn run(&mut self, disk: &mut QueuedDisk) {
         disk.fail();
@@ -53,10 +53,13 @@ pub fn hand_on(desk: &mut Desk<QueuedDisk>)
     desk.run(&mut HandOn {});
 }
 
-/// A call of the tape failed: the desk is down, and its disk makes no more calls.
+/// A call of the tape failed: the desk is down, its disk makes no more calls, and nothing is on the tape any more, so that no call of
+/// it is done again.
 pub fn fail(desk: &mut Desk<QueuedDisk>)
     ensures down { desk.new.up ≡ false }
     ensures failed { is_failed (disk_under desk.new) ≡ true }
+    ensures tape { tape_of (disk_under desk.new) ≡ [] }
+    ensures handed { handed_on (disk_under desk.new) ≡ calls_of (disk_under desk.old) }
 {
     desk.run(&mut Failure {});
     desk.go_down();
