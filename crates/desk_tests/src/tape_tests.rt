@@ -52,7 +52,7 @@ fn a_commit_whose_tape_was_not_done_is_not_in_the_file(rt: HostRuntime) -> Resul
 }
 
 #[test]
-fn a_desk_is_down_once_a_call_of_its_tape_failed(rt: HostRuntime) -> Result<(), Fail> {
+fn a_desk_is_down_and_its_tape_empty_once_a_call_of_it_failed(rt: HostRuntime) -> Result<(), Fail> {
     let steps = [
         Begin,
         Fill(0, 2, 7),
@@ -64,16 +64,7 @@ fn a_desk_is_down_once_a_call_of_its_tape_failed(rt: HostRuntime) -> Result<(), 
         CountTape,
     ];
     let done = (Done, 0);
-    let wanted = [
-        done,
-        done,
-        done,
-        done,
-        (Done, 4),
-        (Down, 0),
-        (Down, 0),
-        (Done, 4),
-    ];
+    let wanted = [done, done, done, done, done, (Down, 0), (Down, 0), done];
     assert_eq!(rt; played(rt.alloc(), &steps)?.as_slice(), wanted.as_slice());
     Ok(())
 }

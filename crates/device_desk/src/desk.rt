@@ -9,7 +9,7 @@ ghost use Rattle.script_runner.specs.Stopped.{GoesOn};
 ghost use Rattle.device_desk.specs.Device.{Answered, IsAsked, IsRefusedDown, StandsAt, disk_under, state_at};
 
 use crate::table::Table;
-use iso_core::{Core, Errand, Rebinding};
+use iso_core::{Core, Rebinding};
 use iso_disk::Disk;
 use iso_model::Mode;
 use script_model::{Op, Reply, Stop};
@@ -80,17 +80,6 @@ impl<D: Disk> Desk<D> {
         ensures { result.now ≡ disk_under self.now }
     {
         self.table.core.disk()
-    }
-
-    /// Does an errand at the disk.
-    pub fn run<E: Errand<D>>(&mut self, errand: &mut E)
-        ensures did { E.did errand.old (disk_under self.old) errand.new (disk_under self.new) }
-        ensures same { (W : World) → StandsAt D.state self.old W → StandsAt D.state self.new W }
-        ensures still { self.new.up ≡ self.old.up }
-        ensures unwritten { WritesNothing (state_at D.state self.old) (state_at D.state self.new) }
-        ensures faults { (state_at D.state self.new).faults ≡ (state_at D.state self.old).faults }
-    {
-        self.table.core.run(errand);
     }
 
     /// Does an errand that may bind the disk anew.

@@ -5,7 +5,7 @@ ghost use Rattle.queued_disk.specs.Queued.{calls_of, given, handed_on, is_failed
 ghost use Rattle.device_desk.specs.Device.{StandsAt, disk_under};
 
 use crate::desk::Desk;
-use iso_core::{Errand, Rebinding};
+use iso_core::Rebinding;
 use queued_disk::{Call, QueuedDisk};
 
 #[derive(Drop)]
@@ -25,11 +25,11 @@ impl Rebinding<QueuedDisk> for HandOn {
 #[derive(Drop)]
 struct Failure {}
 
-impl Errand<QueuedDisk> for Failure {
-    ghost use Rattle.std.specs.Prelude.{◌≡◌, true};
-    ghost use Rattle.queued_disk.specs.Queued.{is_failed};
+impl Rebinding<QueuedDisk> for Failure {
+    ghost use Rattle.std.specs.Prelude.{◌≡◌, [], true};
+    ghost use Rattle.queued_disk.specs.Queued.{calls_of, handed_on, is_failed, tape_of};
 
-    ghost did = { λ old_self old new_self new. is_failed new ≡ true };
+    ghost did = { λ old_self old new_self new. (is_failed new ≡ true) × (tape_of new ≡ []) × (handed_on new ≡ calls_of old) };
 
     fn run(&mut self, disk: &mut QueuedDisk) {
         disk.fail();
@@ -54,11 +54,14 @@ pub fn hand_on(desk: &mut Desk<QueuedDisk>)
     desk.rebind(&mut HandOn {});
 }
 
-/// A call of the tape failed: the desk is down, and its disk makes no more calls.
+/// A call of the tape failed: the desk is down, its disk makes no more calls, and nothing is on the tape any more, so that no call of
+/// it is done again.
 pub fn fail(desk: &mut Desk<QueuedDisk>)
     ensures down { desk.new.up ≡ false }
     ensures failed { is_failed (disk_under desk.new) ≡ true }
+    ensures tape { tape_of (disk_under desk.new) ≡ [] }
+    ensures handed { handed_on (disk_under desk.new) ≡ calls_of (disk_under desk.old) }
 {
-    desk.run(&mut Failure {});
+    desk.rebind(&mut Failure {});
     desk.go_down();
 }

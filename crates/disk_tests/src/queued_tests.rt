@@ -40,7 +40,7 @@ fn each_call_fails_once_one_of_the_tape_has_failed(rt: HostRuntime) -> Result<()
         (Write(0, &[5]), Failed, &[]),
         (Sync, Failed, &[]),
         (TryRead(0, 4), Failed, &[]),
-        (Tape, Count(1), &[]),
+        (Tape, Count(0), &[]),
     ];
     on_queued(&rt, rt.alloc(), 4, &rows)
 }

@@ -7,7 +7,7 @@ ghost use Rattle.iso_model.specs.Versions.{versions};
 use crate::answers::{Begun, Recent, Stat};
 use crate::begin::begin;
 use crate::ending::end_tx;
-use crate::errand::{Errand, Rebinding};
+use crate::rebinding::Rebinding;
 use crate::fetch::fetch;
 use crate::group_end::GroupEnd;
 use crate::kept::Kept;
@@ -67,16 +67,6 @@ impl<D: Disk> Core<D> {
         ensures { result.now ≡ disk_of self.now }
     {
         &self.disk
-    }
-
-    /// Does an errand at the disk, up or down.
-    pub fn run<E: Errand<D>>(&mut self, errand: &mut E)
-        ensures did { E.did errand.old (disk_of self.old) errand.new (disk_of self.new) }
-        ensures same { (W : World) (standing : Standing) → StandsFor D.state self.old W standing → StandsFor D.state self.new W standing }
-        ensures unwritten { WritesNothing (D.state (disk_of self.old)) (D.state (disk_of self.new)) }
-        ensures faults { (D.state (disk_of self.new)).faults ≡ (D.state (disk_of self.old)).faults }
-    {
-        errand.run(&mut self.disk);
     }
 
     /// Does an errand that may bind the disk anew, up or down.

@@ -1,5 +1,5 @@
 // The disk itself.
-ghost use Rattle.std.specs.{Prelude.{◌≡◌, ◌+◌, ◌^◌, ◌<◌, ◌≤◌, ℕ, List, Vec, [], ◌++◌, true, false, length, map, slice_index, take, OnOk, OnErr, IsOk, IsErr, Some}, List.slice_range, Option.ForSome, declared.alloc.Global.Global};
+ghost use Rattle.std.specs.{Prelude.{◌≡◌, ◌+◌, ◌^◌, ◌<◌, ◌≤◌, ℕ, List, Vec, [], ◌++◌, true, false, length, map, slice_index, take, OnOk, OnErr, IfOk, IsOk, IsErr, Some}, List.slice_range, Option.ForSome, declared.alloc.Global.Global};
 ghost use Rattle.counts.specs.Count.{one_more, Rose, HasCause};
 ghost use Rattle.iso_disk.specs.Disk.{Elapses, IsSettled, Splices, TellsTorn, TornFrom, WritesNothing};
 ghost use Rattle.iso_memdisk.specs.{declared.record.Call.TheVariants.{Write, Sync}, Record.{AllFit, written}};
@@ -25,6 +25,8 @@ pub struct QueuedDisk {
     past: Past,
     bytes: Vec<u8>,
     tape: Vec<Call>,
+    // memory for the bytes of writes that come
+    spare: Vec<Vec<u8>>,
     failed: bool,
     faults: u64,
     ghost size_fits: { length bytes.items < 2 ^ 64 },
@@ -32,6 +34,38 @@ pub struct QueuedDisk {
     ghost writes_fit: { AllFit (length given.value.items) (in_order past ++ tape.items) },
     ghost holds: { bytes.items ≡ written (in_order past ++ tape.items) given.value.items },
     ghost told_bytes: { (i : ℕ) → slice_index bytes.items i < 256 },
+}
+
+// The memory of how many writes is kept, and of which: a commit makes two short ones.
+const MOST_SPARE: usize = 4;
+
+const MOST_KEPT: usize = 4096;
+
+// Takes all calls off a tape.
+fn take_calls(tape: &mut Vec<Call>, spare: &mut Vec<Vec<u8>>)
+    ensures { tape.new.items ≡ [] }
+{
+    while let Some(call) = tape.pop() {
+        if let Call::Write { at: _, bytes } = call {
+            if bytes.len() <= MOST_KEPT && spare.len() < MOST_SPARE {
+                // Without memory for the list it is let go.
+                let _ = spare.push(bytes);
+            }
+        }
+    }
+}
+
+// A copy of these bytes, in memory that is spare if there is some.
+fn copy_into(alloc: Global, spare: &mut Vec<Vec<u8>>, bytes: &[u8]) -> Result<Vec<u8>, AllocError>
+    ensures { IfOk result (λ v. v.items ≡ bytes.now) }
+{
+    let mut copy = match spare.pop() {
+        Some(kept) => kept,
+        None => Vec::new(alloc),
+    };
+    copy.clear();
+    copy.extend_from_slice(bytes)?;
+    Ok(copy)
 }
 
 impl QueuedDisk {
@@ -53,6 +87,7 @@ impl QueuedDisk {
             past: Past::nothing(),
             bytes,
             tape: Vec::new(alloc),
+            spare: Vec::new(alloc),
             failed: false,
             faults: 0,
         }
@@ -72,8 +107,8 @@ impl QueuedDisk {
         &self.bytes
     }
 
-    /// All that is on the tape is handed on, and done to the file: nothing is on it any more. It takes no memory, and keeps what the
-    /// tape took.
+    /// All that is on the tape is handed on, and done to the file: nothing is on it any more. What the tape took of memory is kept
+    /// for the next one, but for that of long writes.
     pub fn hand_on(&mut self)
         ensures tape { tape_of self.new ≡ [] }
         ensures handed { handed_on self.new ≡ calls_of self.old }
@@ -84,13 +119,21 @@ impl QueuedDisk {
         ensures unwritten { WritesNothing (state_of self.old) (record (state_of self.new) { bound = (state_of self.old).bound }) }
     {
         self.past = self.past.with(&self.tape);
-        self.tape.clear();
+        take_calls(&mut self.tape, &mut self.spare);
     }
 
-    /// A call of the tape failed when it was done: from now on each call of this disk fails.
+    /// A call of the tape failed when it was done: from now on each call of this disk fails. Nothing is on the tape any more, so
+    /// nothing of it is done again, nor what came after the failure. Its calls count as handed on, since some of them were done.
     pub fn fail(&mut self)
-        ensures { self.new ≡ record self.old { failed = true } }
+        ensures failed { is_failed self.new ≡ true }
+        ensures tape { tape_of self.new ≡ [] }
+        ensures handed { handed_on self.new ≡ calls_of self.old }
+        ensures given { given self.new ≡ given self.old }
+        ensures bytes { bytes_of self.new ≡ bytes_of self.old }
+        ensures faults { (state_of self.new).faults ≡ (state_of self.old).faults }
+        ensures unwritten { WritesNothing (state_of self.old) (record (state_of self.new) { bound = (state_of self.old).bound }) }
     {
+        self.hand_on();
         self.failed = true;
     }
 
@@ -130,7 +173,7 @@ impl QueuedDisk {
         ensures err { OnErr result (IsUntouched self.old self.new) }
         ensures counts { (self.new.failed ≡ self.old.failed) × (self.new.faults ≡ self.old.faults) }
     {
-        let put = bytes.to_vec(self.alloc)?;
+        let put = copy_into(self.alloc, &mut self.spare, bytes)?;
         self.tape.push(Call::Write { at, bytes: put })?;
         lay(&mut self.bytes, at, bytes);
         Ok(())

@@ -1,21 +1,8 @@
-// What is done at the disk of a core between two calls.
+// What may be done at the disk of a core between two calls.
 ghost use Rattle.std.specs.Prelude.{◌≡◌};
 ghost use Rattle.iso_disk.specs.Disk.{WritesNothing};
 
 use iso_disk::Disk;
-
-/// Something that is told to a disk between two calls, or taken from it, and that changes nothing of what it is to those who
-/// call it.
-pub trait Errand<D: Disk> {
-    /// What it makes of itself and of the disk.
-    ghost did: { Self → D → Self → D → Type 0 };
-
-    /// Runs it on the disk.
-    fn run(&mut self, disk: &mut D)
-        ensures did { Self.did self.old disk.old self.new disk.new }
-        ensures unwritten { WritesNothing (D.state disk.old) (D.state disk.new) }
-        ensures faults { (D.state disk.new).faults ≡ (D.state disk.old).faults };
-}
 
 /// An errand after which the disk may be bound to something else. But for that it changes nothing of what the disk is to those who
 /// call it.
