@@ -9,7 +9,7 @@
 #include <time.h>
 #include <unistd.h>
 
-enum { KINDS = 4, MOST_ROUNDS = 100000, FLOOR_BYTES = 16 << 20, RECORD = 37 };
+enum { KINDS = 4, MOST_ROUNDS = 5000, FLOOR_BYTES = 16 << 20, RECORD = 37 };
 static const size_t members[KINDS] = {0, 1, 16, 64}; /* 0: the floor */
 static double took[KINDS][MOST_ROUNDS];
 static isotope_device device;
@@ -64,7 +64,7 @@ static int by_size(const void *one, const void *other) {
 }
 
 int main(int argc, char **argv) {
-    const isotope_geometry geometry = {64, 64, 1 << 26, ISOTOPE_SERIAL, 0, 0};
+    const isotope_geometry geometry = {64, 64, 1 << 24, ISOTOPE_SERIAL, 0, 0};
     char path[4096];
     long rounds = argc == 3 ? atol(argv[2]) : 0;
     if (rounds < 1 || rounds > MOST_ROUNDS) return 2;
