@@ -14,7 +14,7 @@
 
 /* ---- Devices ---- */
 
-enum { DEVICES = ISOTOPE_MOST_DEVICES, FIRST_ROOM = 65536, MOST_KEPT = 1 << 20, MOST_PASSED = 256, NOT_ANSWERED = -1 };
+enum { DEVICES = ISOTOPE_MOST_DEVICES, FIRST_ROOM = 65536, MOST_KEPT = 1 << 20, MOST_PASSED = 256, RUSHED = 15, NOT_ANSWERED = -1 };
 static device devices[DEVICES] = {
     [0 ... DEVICES - 1] = {.lock = PTHREAD_MUTEX_INITIALIZER, .fd = -1, .queue = PTHREAD_MUTEX_INITIALIZER}
 };
@@ -23,9 +23,9 @@ static pthread_condattr_t monotonic;
 static const uint64_t SECOND = 1000000000, MOST_WAIT = 10000000; /* in nanoseconds */
 
 /* Whether ends that wait should wait no longer: as many as a group has are there, or they let many calls go first, or nobody is on the way
- * who may end soon, neither a call that waits for the device nor a member of the last group. */
+ * who may end soon, neither a call that waits for the device nor who was in the last group. */
 static int is_ripe(device *d) {
-    return d->waiting >= ISOTOPE_MOST_GROUP || d->passed >= MOST_PASSED || (d->coming == 0 && d->returning == 0);
+    return d->waiting >= ISOTOPE_MOST_GROUP || d->passed >= MOST_PASSED || (d->coming == 0 && d->returning <= 0);
 }
 
 /* Under the lock of the queue: lets the first end go on, where it is to. */
@@ -42,7 +42,7 @@ static void take_lock(device *d) {
 
 /* Who leaves looks after the ends that wait. An end counts itself before it looks who is coming, and who comes is counted until he has
  * the lock, after which he looks here: so one of the two sees the other. */
-static int leave(device *d, int status) {
+int isotope_device_leave(device *d, int status) {
     int error = errno;
     pthread_mutex_unlock(&d->lock);
     if (d->waiting > 0) {
@@ -66,7 +66,7 @@ device *isotope_device_enter(isotope_device number) {
     if (!d) return NULL;
     take_lock(d);
     if (d->number == number) return d;
-    leave(d, 0);
+    isotope_device_leave(d, 0);
     return NULL;
 }
 
@@ -120,10 +120,9 @@ static int let_go(device *d, int status) {
     d->bytes = NULL;
     d->room = 0;
     d->fd = -1;
-    d->has_failed = 0;
     d->is_taken = 0;
     errno = error;
-    return leave(d, status);
+    return isotope_device_leave(d, status);
 }
 
 /* A free place, locked, with a number that no device had, and room to read and write. */
@@ -136,7 +135,7 @@ static int take_place(device **place) {
         if (d->is_taken) continue;
         take_lock(d);
         if (d->is_taken) {
-            leave(d, 0);
+            isotope_device_leave(d, 0);
             continue;
         }
         d->is_taken = 1;
@@ -152,7 +151,7 @@ static int take_place(device **place) {
 static int show(device *d, isotope_device *number) {
     d->number = d->next;
     *number = d->next;
-    return leave(d, ISOTOPE_OK);
+    return isotope_device_leave(d, ISOTOPE_OK);
 }
 
 /* A transaction's number has 24 bits of the device's above those that the library gives, so that another opening's is none here. */
@@ -193,15 +192,13 @@ static int do_call(device *d, uint64_t index) {
     }
 }
 
-/* Does what is on the tape, in order, before a call is answered. Once a call failed nothing is done to the file any more, and the library
- * is told, which answers that it is down from then on. */
+/* Does what is on the tape, in order, before a call is answered. Once a call failed the library is told: its tape is empty then and stays
+ * so, and it answers that it is down from then on. */
 static int settle(device *d, int status) {
     uint64_t calls = 0;
     int done = 1;
-    if (d->has_failed) return status;
     while ((done = do_call(d, calls)) > 0) calls++;
     if (done < 0) {
-        d->has_failed = 1;
         isotope_c_fail(&d->slot);
         return ISOTOPE_DISK;
     }
@@ -210,7 +207,7 @@ static int settle(device *d, int status) {
     return status;
 }
 
-int isotope_device_answer(device *d, int status) { return leave(d, settle(d, status)); }
+int isotope_device_answer(device *d, int status) { return isotope_device_leave(d, settle(d, status)); }
 
 /* ---- Ends ---- */
 
@@ -274,23 +271,32 @@ static void lead(device *d) {
     uint64_t from = now();
     end_all(d, group, n);
     uint64_t to = now();
+    /* before another end can have the lock */
+    d->returning = d->rushed > 0 ? 0 : (int)n;
+    d->lone = n == 1 ? group[0]->thread : NULL;
     pthread_mutex_unlock(&d->lock);
     pthread_mutex_lock(&d->queue);
     for (size_t i = 0; i < n; i++) {
         group[i]->is_answered = 1;
         pthread_cond_signal(&group[i]->turn); /* who leaves waits for the lock of the queue, so the end is still there */
     }
-    d->returning = (int)n;
+    d->members = (int)n;
+    d->rushed -= d->rushed > 0;
     d->until = to + ((to - from) / 2 < MOST_WAIT ? (to - from) / 2 : MOST_WAIT);
     d->has_leader = 0;
     if (d->first) pthread_cond_signal(&d->first->turn);
 }
 
-/* Under the lock of the queue: waits until somebody wakes the end, or the members of the last group were waited for long enough. */
+/* Under the lock of the queue: waits until somebody wakes the end. The first one waits for who was in the last group, so long that it would
+ * pay if all of them came; where fewer than half came, the next groups wait for nobody. */
 static void wait_for_turn(device *d, waiter *own) {
     struct timespec until = {(time_t)(d->until / SECOND), (long)(d->until % SECOND)};
-    if (d->has_leader || d->returning == 0) pthread_cond_wait(&own->turn, &d->queue);
-    else if (pthread_cond_timedwait(&own->turn, &d->queue, &until) == ETIMEDOUT) d->returning = 0;
+    if (d->has_leader || d->returning <= 0 || d->first != own) {
+        pthread_cond_wait(&own->turn, &d->queue);
+    } else if (pthread_cond_timedwait(&own->turn, &d->queue, &until) == ETIMEDOUT && !d->has_leader) {
+        if (2 * d->returning > d->members) d->rushed = RUSHED;
+        d->returning = 0;
+    }
 }
 
 /* Stands in the queue until the end is answered, and leads where nobody does. */
@@ -299,19 +305,36 @@ static void wait_for_end(device *d, waiter *own) {
     if (d->last) d->last->next = own; else d->first = own;
     d->last = own;
     d->waiting++;
+    if (d->returning > 0) d->returning--;
     while (!own->is_answered) {
         if (!d->has_leader && is_ripe(d)) lead(d);
         else wait_for_turn(d, own);
     }
-    if (d->returning > 0) d->returning--;
-    wake_first(d);
     pthread_mutex_unlock(&d->queue);
 }
 
+/* An end that comes while nobody waits, neither in the queue nor for the lock, and nobody else is waited for has no need of the queue.
+ * Whether it was so. */
+static int end_alone(device *d, waiter *own) {
+    if (d->waiting > 0 || d->coming > 0 || pthread_mutex_trylock(&d->lock) != 0) return 0;
+    if (d->returning > (d->lone == own->thread)) {
+        isotope_device_leave(d, 0);
+        return 0;
+    }
+    d->returning = 0;
+    if (d->number == own->device) {
+        isotope_c_end(&d->slot, isotope_device_inside(d, own->tx), &own->ended);
+        if (settle(d, ISOTOPE_OK) != ISOTOPE_OK) take_back(&own->ended);
+    }
+    isotope_device_leave(d, 0);
+    return 1;
+}
+
 int isotope_end(isotope_device number, isotope_transaction tx, isotope_ended *ended) {
-    waiter own = {.device = number, .tx = tx, .ended = {.status = ISOTOPE_CLOSED}};
+    static _Thread_local char here;
+    waiter own = {.thread = &here, .device = number, .tx = tx, .ended = {.status = ISOTOPE_CLOSED}};
     device *d = find(number);
-    if (d) {
+    if (d && !end_alone(d, &own)) {
         pthread_cond_init(&own.turn, &monotonic);
         wait_for_end(d, &own);
         pthread_cond_destroy(&own.turn);
@@ -332,7 +355,7 @@ int isotope_end_group(isotope_device number, const isotope_transaction *txs, siz
         if (status == ISOTOPE_OK) take_back(&ended[i]);
         else ended[i] = (isotope_ended){.status = settled};
     }
-    return leave(d, settled);
+    return isotope_device_leave(d, settled);
 }
 
 /* ---- Files ---- */

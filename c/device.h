@@ -11,6 +11,7 @@
 typedef struct waiter {
     struct waiter *next;
     pthread_cond_t turn;
+    const char *thread;                 /* a place of the thread's own */
     isotope_device device;
     isotope_transaction tx;
     isotope_ended ended;
@@ -23,7 +24,6 @@ typedef struct {
     pthread_mutex_t lock;
     isotope_slot slot;
     int fd;                             /* of its file, or -1 */
-    int has_failed;                     /* a call of the file failed: none is made any more */
     uint8_t *bytes;                     /* what is read from the file, or written */
     size_t room;
     isotope_device next;                /* the number that it gets */
@@ -35,12 +35,17 @@ typedef struct {
     atomic_int waiting;                 /* how many ends are in the queue */
     int has_leader;                     /* one of them makes a group */
     int passed;                         /* calls that were made since the last group */
-    int returning;                      /* members of the last group that have not yet seen their answer */
+    int members;                        /* of the last group */
+    const char *lone;                   /* the thread of its only member, under `lock` */
+    atomic_int returning;               /* how many of them have not come with an end again */
+    int rushed;                         /* how many groups more wait for nobody */
     uint64_t until;                     /* when the next group waits for them no longer, in nanoseconds */
 } device;
 
 /* The device of this number, locked, or NULL where none is open. */
 device *isotope_device_enter(isotope_device number);
+/* Unlocks the device, and answers the status: after a call that puts nothing onto the tape, since it ends nothing. */
+int isotope_device_leave(device *d, int status);
 /* Does what the call has put onto the tape, unlocks the device, and answers the status, or ISOTOPE_DISK where the file failed. */
 int isotope_device_answer(device *d, int status);
 /* The upper bits of the numbers of its transactions, and what the library calls this one: 0 where it is another device's. */

@@ -1,11 +1,18 @@
 /* The calls of isotope.h that are one call of the proved library (isotope_c.h): each looks its numbers up, has the device for itself, hands
- * on what it was given, and answers once the tape is done. Nothing proves this file. device.c has the others. */
+ * on what it was given, and answers; where something may be on the tape, once that is done. Nothing proves this file. device.c has the
+ * others. */
 #include "device.h"
 #include <stdio.h>
 #include <string.h>
 
-/* Answers what a call of the library comes to on the device `d` of this number, which it looks up. */
+/* Answers what a call of the library comes to on the device `d` of this number, which it looks up: one that writes nothing to the file,
+ * and one that may. */
 #define ON(number, call)                                                  \
+    do {                                                                  \
+        device *d = isotope_device_enter(number);                         \
+        return d ? isotope_device_leave(d, (call)) : ISOTOPE_CLOSED;      \
+    } while (0)
+#define AT_FILE(number, call)                                             \
     do {                                                                  \
         device *d = isotope_device_enter(number);                         \
         return d ? isotope_device_answer(d, (call)) : ISOTOPE_CLOSED;     \
@@ -19,8 +26,8 @@ static uint8_t nothing[1];
 #define LENGTH(n) ((n) ? (n) : &(uint64_t){0})
 
 int isotope_about(isotope_device number, isotope_geometry *geometry) { ON(number, isotope_c_about(&d->slot, geometry)); }
-int isotope_compact(isotope_device number) { ON(number, isotope_c_compact(&d->slot)); }
-int isotope_upgrade(isotope_device number) { ON(number, isotope_c_upgrade(&d->slot)); }
+int isotope_compact(isotope_device number) { AT_FILE(number, isotope_c_compact(&d->slot)); }
+int isotope_upgrade(isotope_device number) { AT_FILE(number, isotope_c_upgrade(&d->slot)); }
 int isotope_trim(isotope_device number) { ON(number, isotope_c_trim(&d->slot)); }
 
 int isotope_stat(isotope_device number, isotope_numbers *numbers) {
@@ -28,7 +35,7 @@ int isotope_stat(isotope_device number, isotope_numbers *numbers) {
     if (!d) return ISOTOPE_CLOSED;
     int status = isotope_c_stat(&d->slot, numbers);
     if (status == ISOTOPE_OK && numbers->oldest != 0) numbers->oldest |= isotope_device_above(d);
-    return isotope_device_answer(d, status);
+    return isotope_device_leave(d, status);
 }
 
 int isotope_begin(isotope_device number, int mode, isotope_transaction *tx, uint64_t *at) {
@@ -43,7 +50,7 @@ int isotope_begin(isotope_device number, int mode, isotope_transaction *tx, uint
     }
     if (status == ISOTOPE_OK) *tx = isotope_device_above(d) | begun;
     if (status == ISOTOPE_OK && at) *at = shown;
-    return isotope_device_answer(d, status);
+    return isotope_device_leave(d, status);
 }
 
 int isotope_abort(isotope_device number, isotope_transaction tx) { ON(number, isotope_c_abort(TX)); }
@@ -84,7 +91,7 @@ int isotope_put_ranges(isotope_device number, isotope_transaction tx, uint32_t b
     int status = test_ranges(n, ranges, count);
     if (status == ISOTOPE_OK) status = isotope_c_write(TX, block, IN(bytes, n));
     for (size_t i = 0; i < count && status == ISOTOPE_OK; i++) status = isotope_c_mark(TX, ranges[i].off, ranges[i].n);
-    return isotope_device_answer(d, status);
+    return isotope_device_leave(d, status);
 }
 
 int isotope_hash_put(isotope_device number, isotope_transaction tx, const void *key, size_t key_n, const void *value, size_t value_n) {

@@ -33,7 +33,7 @@
  *
  * THREADS. Any thread may make any call, for any device and any transaction. Calls of one device are made one after the other, those of
  * two side by side. Ends that wait at one time are made as one group of up to ISOTOPE_MOST_GROUP, which share two syncs; each is answered
- * as if they had come one after the other. An end may let calls that wait go first, 256 at most, and may wait for members of the group
+ * as if they had come one after the other. An end may let calls that wait go first, 256 at most, and may wait for who was in the group
  * before it, 10 ms at most. A child of fork() has none of the devices: it is answered ISOTOPE_CLOSED. No call may be made
  * in a signal handler.
  *

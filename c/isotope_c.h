@@ -29,6 +29,7 @@ int32_t isotope_c_upgrade(isotope_slot *);
 int32_t isotope_c_trim(isotope_slot *);
 
 int32_t isotope_c_begin(isotope_slot *, uint32_t mode, uint64_t *tx, uint64_t *at);
+int32_t isotope_c_end(isotope_slot *, uint64_t tx, isotope_ended *);
 int32_t isotope_c_end_group(isotope_slot *, const uint64_t *txs, size_t n, isotope_ended *, size_t n_ended);
 int32_t isotope_c_end_waiting(isotope_slot *, const uint64_t *txs, size_t n, isotope_ended *, size_t n_ended);
 int32_t isotope_c_abort(isotope_slot *, uint64_t tx);

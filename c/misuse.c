@@ -142,8 +142,8 @@ static void calls_are(const char *what, const char *wanted) {
 
 /* What is called of the file, in which order: docs/image.md has why. */
 static void order_of_calls(void) {
-    isotope_transaction txs[3];
-    isotope_ended ended[3];
+    isotope_transaction txs[3], many[ISOTOPE_MOST_GROUP];
+    isotope_ended ended[ISOTOPE_MOST_GROUP];
     memset(order, 0, sizeof order);
     calls = 0;
     isotope_device device = made("a.img");
@@ -161,6 +161,14 @@ static void order_of_calls(void) {
     calls_are("a commit: its record, its gate", "wdwd");
     expect_that("end of a group", isotope_end_group(device, txs + 1, 2, ended) == ISOTOPE_OK);
     calls_are("two in a group", "wdwd");
+    for (uint32_t i = 0; i < ISOTOPE_MOST_GROUP; i++) {
+        many[i] = begun(device);
+        expect_that("put", isotope_put(device, many[i], 20, i, "y", 1) == ISOTOPE_OK);
+    }
+    expect_that("end of as many as a group has", isotope_end_group(device, many, ISOTOPE_MOST_GROUP, ended) == ISOTOPE_OK);
+    for (uint64_t i = 0; i < ISOTOPE_MOST_GROUP; i++)
+        expect_that("which are all made", ended[i].status == ISOTOPE_OK && ended[i].commit == 4 + i);
+    calls_are("as many as a group has", "wdwd");
     expect_that("end", isotope_end(device, begun(device), NULL) == ISOTOPE_OK);
     calls_are("an end of what wrote nothing", "");
     isotope_close(device);

@@ -120,9 +120,11 @@ pub record HasHandedOn (old : Device QueuedDisk) (new : Slot) : Type 0 where
   pub same : (W : World) → StandsAt state_of old W → StandsAt state_of now W
   pub still : now.up ≡ old.up
 
--- a call of the tape has failed: the device is down, and its disk takes no more
-pub record HasFailed (new : Slot) : Type 0 where
+-- a call of the tape has failed: the device is down, its disk takes no more, and nothing is left on its tape to be done
+pub record HasFailed (old : Device QueuedDisk) (new : Slot) : Type 0 where
   pub now : Device QueuedDisk
   pub there : device_in new ≡ Some now
   pub down : now.up ≡ false
   pub failed : is_failed (disk_under now) ≡ true
+  pub tape : tape_of (disk_under now) ≡ []
+  pub handed : handed_on (disk_under now) ≡ calls_of (disk_under old)

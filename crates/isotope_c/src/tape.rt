@@ -72,11 +72,12 @@ pub extern "C" fn isotope_c_handed_on(slot: &mut Slot) -> i32
     0
 }
 
-/// A call of the tape could not be done: the device is down, and each further call is answered so (22).
+/// A call of the tape could not be done: the device is down, each further call is answered so (22), and nothing is on the tape any
+/// more.
 #[unsafe(no_mangle)]
 pub extern "C" fn isotope_c_fail(slot: &mut Slot) -> i32
     ensures closed { device_in slot.old ≡ None → (result ≡ pos 24) × (slot.new ≡ slot.old) }
-    ensures done { (d : Device QueuedDisk) → device_in slot.old ≡ Some d → (result ≡ pos 0) × HasFailed slot.new }
+    ensures done { (d : Device QueuedDisk) → device_in slot.old ≡ Some d → (result ≡ pos 0) × HasFailed d slot.new }
 {
     if !is_open(slot) {
         return CLOSED;
