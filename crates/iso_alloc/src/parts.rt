@@ -33,12 +33,14 @@ pub fn word_at(bytes: &[u8], at: usize) -> u32
 // More zeros than any head or part has.
 const ZEROS: [u8; 64] = [0; 64];
 
-/// Whether all bytes are zero. As many as a head or a part has are compared as a whole.
+/// Whether all bytes are zero. As many as a head or a part has are compared as a whole; more are where the first one is, and each
+/// other one is as the one before it.
 pub fn are_zero(bytes: &[u8]) -> bool
     ensures { result ≡ list_all is_zero bytes.now }
 {
     if bytes.len() > ZEROS.len() {
-        return bytes.iter().all(|b| *b == 0);
+        let others = bytes.len() - 1;
+        return bytes[0] == 0 && piece(bytes, 1, others) == piece(bytes, 0, others);
     }
     let zeros = &ZEROS[..bytes.len()];
     bytes == zeros
