@@ -33,6 +33,7 @@ pub mod PutLeaf
 pub mod PutCalls
 pub mod PutWhole
 pub mod Filling
+pub mod OneMore
 pub mod Climbing
 pub mod Rereading
 pub mod Growing

@@ -1,5 +1,5 @@
 -- The bytes of a node pass the tests of a descent.
-use Rattle.iso_tree.proofs.{Words.{◌≡◌, ◌⊎◌, ◌∙◌, sym, refl, ap, ℕ, zero, suc, ◌+◌, ◌-◌, ◌*◌, ◌<◌, ◌≤◌, Bool, true, false, ◌&&◌, ◌||◌, ◌==◌, not, nat_le, List, [], ◌∷◌, ◌++◌, drop, length, get_or, replicate, arith, inl, inr, eq-eqb, ne_eqb, flat_map, list_all, and_from, or_left, or_right, nat_tests, append-nil, drop_at, bytes_in, cell_count, key_mark, is_part, is_zero, text_of, key_at, all_from, is_unused, are_key_parts, key_part, FitCells, before, count_of, has_head, is_node, Cell, first_key, zeros_are, ◌≢◌, cond, and_parts, all_at, nat_lt, all_pass}, Bytes.{head_of, keys_of, count_is, key_text, length-key_part, after_part, first_part}}
+use Rattle.iso_tree.proofs.{Words.{◌≡◌, ◌⊎◌, ◌∙◌, sym, refl, ap, ℕ, zero, suc, ◌+◌, ◌-◌, ◌*◌, ◌<◌, ◌≤◌, Bool, true, false, ◌&&◌, ◌||◌, ◌==◌, not, nat_le, List, [], ◌∷◌, ◌++◌, take, drop, length, get_or, replicate, arith, inl, inr, eq-eqb, ne_eqb, flat_map, list_all, and_from, or_left, or_right, nat_tests, append-nil, drop_at, bytes_in, cell_count, key_mark, is_part, is_zero, text_of, key_at, all_from, is_unused, are_key_parts, key_part, FitCells, before, count_of, has_head, is_node, Cell, first_key, zeros_are, ◌≢◌, and_parts, all_at, all_pass, cases_lt, take-add, drop-drop, list_all-append}, Bytes.{head_of, keys_of, count_is, key_text, length-key_part, after_part, first_part}}
 
 -- keys that rise strictly
 abbrev pub StrictFrom : (last : List ℕ) → List Cell → Type 0
@@ -120,11 +120,10 @@ node_passes size level cs fit few rises kind low =
     let head : has_head size level K ≡ true = and_from _ _ (and_from _ _ (and_from _ _ refl (eq-eqb level level refl)) refl) (ap (λ n. nat_le n (cell_count size)) count ∙ le_is (length cs) (cell_count size) few) in
     and_from _ _ head (and_from _ _ parts (and_from _ _ (and_from _ _ (ap (λ n. all_from (λ i. is_unused K i) n (cell_count size - n)) count ∙ rest) rise) (and_from _ _ least (or_left (not (level == 31)) _ (ap not other)))))
 
--- The cells of a node that are seen in one walk.
--- whether a cell is as it has to be, where the first `count` are used
-abbrev pub fits_in : List ℕ → (count : ℕ) → (cell : ℕ) → Bool
-fits_in keys count cell =
-    is_part 28 (bytes_in (key_mark cell) keys) && cond (nat_lt cell count) ((cell == 0) || before (key_at keys (cell - 1)) (key_at keys cell)) (is_unused keys cell)
+-- The cells of a node that are seen in one walk: those that are used, and the zeros behind them.
+-- whether a used cell is as it has to be
+abbrev pub fits_in : List ℕ → (cell : ℕ) → Bool
+fits_in keys cell = is_part 28 (bytes_in (key_mark cell) keys) && ((cell == 0) || before (key_at keys (cell - 1)) (key_at keys cell))
 
 same_truth : (x y : Bool) → (x ≡ true → y ≡ true) → (y ≡ true → x ≡ true) → x ≡ y
 same_truth true true there back = refl
@@ -132,48 +131,81 @@ same_truth true false there back = sym (there refl)
 same_truth false true there back = back refl
 same_truth false false there back = refl
 
+-- a part without any text is zeros throughout
+zero_part : (part : List ℕ) → list_all is_zero part ≡ (is_part 28 part && (get_or part 0 0 == 0))
+zero_part [] = refl
+zero_part (zero ∷ xs) = elim (list_all is_zero xs) as (λ b. b ≡ (b && true)) [ true ↦ refl | false ↦ refl ]
+zero_part (suc x ∷ xs) =
+    let other : (suc x == 0) ≡ false = grind arith in
+    rw other (elim (is_part 28 (suc x ∷ xs)) as (λ b. false ≡ (b && false)) [ true ↦ refl | false ↦ refl ])
+
+-- whether a cell is not used
+abbrev is_blank : List ℕ → (cell : ℕ) → Bool
+is_blank keys cell = list_all is_zero (bytes_in (key_mark cell) keys)
+
+-- the bytes of some cells are zeros where each cell's are
+blank_cells : (keys : List ℕ) (i m : ℕ) → list_all is_zero (take (31 * m) (drop (64 + 31 * i) keys)) ≡ all_from (is_blank keys) i m
+blank_cells keys i zero = refl
+blank_cells keys i (suc m) =
+    let e : 31 * suc m ≡ 31 + 31 * m = omega arith in
+    let f : 64 + 31 * i + 31 ≡ 64 + 31 * (i + 1) = omega arith in
+    ap (λ (k : ℕ). list_all is_zero (take k (drop (64 + 31 * i) keys))) e
+    ∙ ap (list_all is_zero) (take-add 31 (31 * m) (drop (64 + 31 * i) keys))
+    ∙ list_all-append is_zero (take 31 (drop (64 + 31 * i) keys)) (take (31 * m) (drop 31 (drop (64 + 31 * i) keys)))
+    ∙ ap (λ (l : List ℕ). is_blank keys i && list_all is_zero (take (31 * m) l)) (drop-drop 31 (64 + 31 * i) keys)
+    ∙ ap (λ (k : ℕ). is_blank keys i && list_all is_zero (take (31 * m) (drop k keys))) f
+    ∙ ap (λ b. is_blank keys i && b) (blank_cells keys (i + 1) m)
+
 pub one_walk : (keys : List ℕ) (n count : ℕ) → count ≤ n
-    → all_from (fits_in keys count) 0 n ≡ (all_from (λ i. is_part 28 (bytes_in (key_mark i) keys)) 0 n
+    → (all_from (fits_in keys) 0 count && list_all is_zero (take (31 * (n - count)) (drop (64 + 31 * count) keys))) ≡ (all_from (λ i. is_part 28 (bytes_in (key_mark i) keys)) 0 n
     && (all_from (λ i. is_unused keys i) count (n - count) && all_from (λ i. before (key_at keys i) (key_at keys (i + 1))) 0 (count - 1)))
-one_walk keys n count few = same_truth _ _ there back
+one_walk keys n count few = ap (λ b. all_from (fits_in keys) 0 count && b) (blank_cells keys count (n - count)) ∙ same_truth _ _ there back
   where
-    at : (i : ℕ) → all_from (fits_in keys count) 0 n ≡ true → i < n
-        → (is_part 28 (bytes_in (key_mark i) keys) ≡ true) × (cond (nat_lt i count) ((i == 0) || before (key_at keys (i - 1)) (key_at keys i)) (is_unused keys i) ≡ true)
-    at i all below = and_parts _ _ (all_at (fits_in keys count) 0 n i all (omega arith) (omega arith))
+    used : (i : ℕ) → all_from (fits_in keys) 0 count ≡ true → i < count → (is_part 28 (bytes_in (key_mark i) keys) ≡ true) × (((i == 0) || before (key_at keys (i - 1)) (key_at keys i)) ≡ true)
+    used i all below = and_parts _ _ (all_at (fits_in keys) 0 count i all (omega arith) (omega arith))
+
+    other : (i : ℕ) → all_from (is_blank keys) count (n - count) ≡ true → count ≤ i → i < n → (is_part 28 (bytes_in (key_mark i) keys) ≡ true) × (is_unused keys i ≡ true)
+    other i all past below = and_parts _ _ (sym (zero_part (bytes_in (key_mark i) keys)) ∙ all_at (is_blank keys) count (n - count) i all past (omega arith))
 
     -- behind the first cell the key of the one before counts
     same_test : (i : ℕ) → ((i + 1 == 0) || before (key_at keys (i + 1 - 1)) (key_at keys (i + 1))) ≡ before (key_at keys i) (key_at keys (i + 1))
     same_test i = let some : (i + 1 == 0) ≡ false = grind arith in let one : i + 1 - 1 ≡ i = omega arith in rw (some, one) refl
 
-    rises_at : (i : ℕ) → ((i + 1 == 0) || before (key_at keys (i + 1 - 1)) (key_at keys (i + 1))) ≡ true → before (key_at keys i) (key_at keys (i + 1)) ≡ true
-    rises_at i is = sym (same_test i) ∙ is
+    part_at : (i : ℕ) → all_from (fits_in keys) 0 count ≡ true → all_from (is_blank keys) count (n - count) ≡ true → i < n → is_part 28 (bytes_in (key_mark i) keys) ≡ true
+    part_at i all blank below = elim (cases_lt i count) [
+      | inl low ↦ (used i all low).0
+      | inr high ↦ (other i blank high below).0
+    ]
 
-    there : all_from (fits_in keys count) 0 n ≡ true → (all_from (λ i. is_part 28 (bytes_in (key_mark i) keys)) 0 n
+    there : (all_from (fits_in keys) 0 count && all_from (is_blank keys) count (n - count)) ≡ true → (all_from (λ i. is_part 28 (bytes_in (key_mark i) keys)) 0 n
         && (all_from (λ i. is_unused keys i) count (n - count) && all_from (λ i. before (key_at keys i) (key_at keys (i + 1))) 0 (count - 1))) ≡ true
-    there all =
-        let parts = all_pass (λ i. is_part 28 (bytes_in (key_mark i) keys)) 0 n (λ i low high. (at i all (omega arith)).0) in
-        let unused = all_pass (λ i. is_unused keys i) count (n - count) (λ i low high. let e : nat_lt i count ≡ false = grind arith in (rw e at (at i all (omega arith)).1)) in
-        let rising = all_pass (λ i. before (key_at keys i) (key_at keys (i + 1))) 0 (count - 1) (λ i low high. let e : nat_lt (i + 1) count ≡ true = grind arith in rises_at i (rw e at (at (i + 1) all (omega arith)).1)) in
+    there both =
+        let all = and_parts _ _ both in
+        let parts = all_pass (λ i. is_part 28 (bytes_in (key_mark i) keys)) 0 n (λ i low high. part_at i all.0 all.1 (omega arith)) in
+        let unused = all_pass (λ i. is_unused keys i) count (n - count) (λ i low high. (other i all.1 low (omega arith)).1) in
+        let rising = all_pass (λ i. before (key_at keys i) (key_at keys (i + 1))) 0 (count - 1) (λ i low high. sym (same_test i) ∙ (used (i + 1) all.0 (omega arith)).1) in
         rw (parts, unused, rising) refl
 
     back : (all_from (λ i. is_part 28 (bytes_in (key_mark i) keys)) 0 n
         && (all_from (λ i. is_unused keys i) count (n - count) && all_from (λ i. before (key_at keys i) (key_at keys (i + 1))) 0 (count - 1))) ≡ true
-        → all_from (fits_in keys count) 0 n ≡ true
+        → (all_from (fits_in keys) 0 count && all_from (is_blank keys) count (n - count)) ≡ true
     back all =
         let parts = and_parts _ _ all in
         let others = and_parts _ _ parts.1 in
-        all_pass (fits_in keys count) 0 n (λ i low high.
-        let below : i < n = omega (arith, high) in
-        rw (all_at (λ i. is_part 28 (bytes_in (key_mark i) keys)) 0 n i parts.0 low high) (by_test i (nat_lt i count) refl below others.0 others.1))
+        let part : (i : ℕ) → i < n → is_part 28 (bytes_in (key_mark i) keys) ≡ true = λ i below. all_at (λ i. is_part 28 (bytes_in (key_mark i) keys)) 0 n i parts.0 (omega arith) (omega arith) in
+        and_from _ _ (all_pass (fits_in keys) 0 count (λ i low high. and_from _ _ (part i (omega arith)) (by_place i (omega arith) others.1)))
+        (all_pass (is_blank keys) count (n - count) (λ i low high. zero_part (bytes_in (key_mark i) keys) ∙ and_from _ _ (part i (omega arith)) (all_at (λ i. is_unused keys i) count (n - count) i others.0 low high)))
       where
-        by_test : (i : ℕ) (b : Bool) → nat_lt i count ≡ b → i < n → all_from (λ i. is_unused keys i) count (n - count) ≡ true
-            → all_from (λ i. before (key_at keys i) (key_at keys (i + 1))) 0 (count - 1) ≡ true
-            → cond b ((i == 0) || before (key_at keys (i - 1)) (key_at keys i)) (is_unused keys i) ≡ true
-        by_test zero true e below unused rising = refl
-        by_test (suc i) true e below unused rising = let one : suc i ≡ i + 1 = omega arith in rw one (same_test i) ∙ all_at (λ i. before (key_at keys i) (key_at keys (i + 1))) 0 (count - 1) i rising (omega arith) (let less : suc i < count = grind (arith, e) in omega arith)
-        by_test i false e below unused rising = all_at (λ i. is_unused keys i) count (n - count) i unused (let past : count ≤ i = grind (arith, e) in past) (omega arith)
+        by_place : (i : ℕ) → i < count → all_from (λ i. before (key_at keys i) (key_at keys (i + 1))) 0 (count - 1) ≡ true → ((i == 0) || before (key_at keys (i - 1)) (key_at keys i)) ≡ true
+        by_place zero below rising = refl
+        by_place (suc i) below rising =
+            let one : suc i ≡ i + 1 = omega arith in
+            rw one (same_test i) ∙ all_at (λ i. before (key_at keys i) (key_at keys (i + 1))) 0 (count - 1) i rising (omega arith) (omega arith)
 
 -- the tests of one cell, where the last key is that of the cell before
-pub tests_of : (keys : List ℕ) (count cell : ℕ) (last part : List ℕ) → part ≡ bytes_in (key_mark cell) keys → (cell ≢ 0 → last ≡ key_at keys (cell - 1))
-    → fits_in keys count cell ≡ (is_part 28 part && cond (nat_lt cell count) ((cell == 0) || before last (text_of part)) (get_or part 0 0 == 0))
-tests_of keys count cell last part is before_it = search (arith) steps 100000
+pub tests_of : (keys : List ℕ) (cell : ℕ) (last key : List ℕ) → key ≡ key_at keys cell → (cell ≢ 0 → last ≡ key_at keys (cell - 1))
+    → fits_in keys cell ≡ (is_part 28 (bytes_in (key_mark cell) keys) && ((cell == 0) || before last key))
+tests_of keys zero last key is before_it = refl
+tests_of keys (suc cell) last key is before_it =
+    let other : suc cell ≢ 0 = λ e. absurd (omega (arith, e)) in
+    (λ i. is_part 28 (bytes_in (key_mark (suc cell)) keys) && ((suc cell == 0) || before (sym (before_it other) i) (sym is i)))

@@ -172,7 +172,7 @@ pub fn map_mark(area: Area) -> Span
 }
 
 /// Puts a key that is in no leaf, once its leaf is full, or where the tree is empty; the path has the leaf first. It
-/// takes a buffer for the nodes of the path.
+/// takes buffers for the nodes of the path and for a block.
 ///
 /// # Errors
 ///
@@ -187,7 +187,6 @@ pub fn put_new<T: TxBlocks>(
     value: &[u8],
     path: &[(u32, u32)],
     map: &mut [u8],
-    into: &mut [u8],
 ) -> Result<(), StoreError>
     requires within { HasArea IsTreeArea (T.state tx.old) area }
     requires block_size { IsBlock area.size }
@@ -195,15 +194,17 @@ pub fn put_new<T: TxBlocks>(
     requires value { length value.now ≤ 32 }
     requires path { NeedsBlocks area (T.state tx.old) path.now }
     requires map { length map.old ≡ area.size }
-    requires into { length into.old ≡ area.size }
     ensures run { HasRun (with_map area key.now value.now path.now) (T.state tx.old) (T.state tx.new) result }
     ensures behaves { Behaves (T.state tx.old) (T.state tx.new) 66 (T.device tx.old) (T.device tx.new) result }
 {
     let Ok(mut nodes) = buffer(alloc, path.len() * area.size as usize) else {
         return Err(StoreError::Tx(TxError::Memory));
     };
+    let Ok(mut into) = buffer(alloc, area.size as usize) else {
+        return Err(StoreError::Tx(TxError::Memory));
+    };
     if let Err(e) = look(tx, area.start, map_mark(area), map) {
         return Err(StoreError::Tx(e));
     }
-    put_taken(tx, area, key, value, path, map, &mut nodes, into)
+    put_taken(tx, area, key, value, path, map, &mut nodes, &mut into)
 }

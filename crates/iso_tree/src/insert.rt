@@ -23,19 +23,17 @@ fn put_below<T: TxBlocks>(
     root: u32,
     level: u8,
     block: &mut [u8],
-    into: &mut [u8],
 ) -> Result<(), StoreError>
     requires within { HasArea IsTreeArea (T.state tx.old) area }
     requires key { length key.now ≤ 28 }
     requires value { length value.now ≤ 32 }
     requires head { IsHead area (root, level) }
     requires block { length block.old ≡ area.size }
-    requires into { length into.old ≡ area.size }
     ensures run { HasRun (put_below_root area key.now value.now root level) (T.state tx.old) (T.state tx.new) result }
     ensures behaves { Behaves (T.state tx.old) (T.state tx.new) 66 (T.device tx.old) (T.device tx.new) result }
 {
     if root == 0 {
-        return put_new(alloc, tx, area, key, value, &[], block, into);
+        return put_new(alloc, tx, area, key, value, &[], block);
     }
     let mut path = Path::empty();
     let leaf = match descend(tx, area, key, false, root, level, &mut path, block) {
@@ -43,16 +41,16 @@ fn put_below<T: TxBlocks>(
         Err(e) => return Err(e),
     };
     if let Some(cell) = leaf.cell {
-        return put_value(tx, area, leaf.block, cell, value, into);
+        return put_value(tx, area, leaf.block, cell, value, block);
     }
     if (leaf.count as usize) < cell_count(area.size as usize) {
-        return put_cell(tx, area, key, value, leaf, block, into);
+        return put_cell(alloc, tx, area, key, value, leaf, block);
     }
     path.push(leaf.block, leaf.count);
-    put_new(alloc, tx, area, key, value, path.nodes(), block, into)
+    put_new(alloc, tx, area, key, value, path.nodes(), block)
 }
 
-// Puts a value at a key, with buffers for two blocks.
+// Puts a value at a key, with a buffer for a block.
 fn put_with<T: TxBlocks>(
     alloc: Global,
     tx: &mut T,
@@ -60,18 +58,16 @@ fn put_with<T: TxBlocks>(
     key: &[u8],
     value: &[u8],
     block: &mut [u8],
-    into: &mut [u8],
 ) -> Result<(), StoreError>
     requires within { HasArea IsTreeArea (T.state tx.old) area }
     requires key { is_key key.now ≡ true }
     requires value { is_value value.now ≡ true }
     requires block { length block.old ≡ area.size }
-    requires into { length into.old ≡ area.size }
     ensures run { HasRun (put_program area key.now value.now) (T.state tx.old) (T.state tx.new) result }
     ensures behaves { Behaves (T.state tx.old) (T.state tx.new) 66 (T.device tx.old) (T.device tx.new) result }
 {
     match read_head(tx, area, block) {
-        Ok((root, level)) => { put_below(alloc, tx, area, key, value, root, level, block, into) }
+        Ok((root, level)) => put_below(alloc, tx, area, key, value, root, level, block),
         Err(e) => Err(e),
     }
 }
@@ -111,9 +107,7 @@ pub fn put<T: TxBlocks>(
     if !is_value(value) {
         return Err(StoreError::BadValue);
     }
-    let size = tx.block_size() as usize;
-    let mut block = buffer(alloc, size)?;
-    let mut into = buffer(alloc, size)?;
+    let mut block = buffer(alloc, tx.block_size() as usize)?;
     let area = area_of(tx, region);
-    put_with(alloc, tx, area, key, value, &mut block, &mut into)
+    put_with(alloc, tx, area, key, value, &mut block)
 }

@@ -1,17 +1,38 @@
 // Head and key parts of a node: tests, and the places of keys.
-ghost use Rattle.std.specs.Prelude.{◌≡◌, ◌+◌, ◌-◌, ◌<◌, ◌≤◌, ◌==◌, ◌||◌, ◌&&◌, if◌then◌else◌, nat_lt, slice_index, true, length, IfSome};
-ghost use Rattle.store_model.specs.{Cells.{cell_count, keys_end, are_key_parts, is_part, key_at, text_of}, TreeNodes.{are_cells, before, has_head, has_level, below_from, cell_of, count_of, is_node, place_of}};
+ghost use Rattle.std.specs.{Prelude.{◌≡◌, ◌≢◌, ◌-◌, ◌<◌, ◌≤◌, ◌==◌, ◌||◌, ◌&&◌, true, length, IfSome}, Str.bytes_eq};
+ghost use Rattle.store_model.specs.{Cells.{cell_count, keys_end, are_key_parts, key_at, word_at}, TreeNodes.{are_cells, before, has_head, has_level, below_from, cell_of, count_of, is_node, place_of}};
 
-use iso_alloc::{are_zero, cell_count, is_key_part, key_part, piece, text_of};
+use iso_alloc::{are_zero, cell_count, is_key_part, key_part, piece, text_of, word_at};
 
-/// Whether a key is before another in byte order. Most of two differ in the first byte.
+// Whether a key is before another, by the number of the first four bytes of each.
+fn word_before(x: &[u8], y: &[u8]) -> bool
+    requires x { 4 ≤ length x.now }
+    requires y { 4 ≤ length y.now }
+    requires differ { word_at 0 x.now ≢ word_at 0 y.now }
+    ensures { result ≡ before x.now y.now }
+{
+    word_at(x, 0) < word_at(y, 0)
+}
+
+/// Whether a key is before another in byte order. Most of two differ in their first four bytes, which are compared as one number.
 pub fn is_before(x: &[u8], y: &[u8]) -> bool
     ensures { result ≡ before x.now y.now }
 {
-    if !x.is_empty() && !y.is_empty() && x[0] != y[0] {
-        return x[0] < y[0];
+    if 4 <= x.len() && 4 <= y.len() && word_at(x, 0) != word_at(y, 0) {
+        return word_before(x, y);
     }
     x.cmp(y).is_lt()
+}
+
+// Whether two keys are the same. Most of two differ in length or in their last byte.
+fn are_same(x: &[u8], y: &[u8]) -> bool
+    ensures { result ≡ bytes_eq x.now y.now }
+{
+    let len = x.len();
+    if len != y.len() || (len != 0 && x[len - 1] != y[len - 1]) {
+        return false;
+    }
+    x == y
 }
 
 /// How many cells are used.
@@ -56,21 +77,15 @@ fn has_head(size: usize, level: u8, keys: &[u8]) -> bool
         && count_of(keys) <= cell_count(size)
 }
 
-// Whether the part of a cell may follow a key: one of the first `count` cells has a key above it, and each other one is not used.
-fn may_follow(part: &[u8], last: &[u8], cell: usize, count: usize) -> bool
-    requires part { is_part 28 part.now ≡ true }
-    requires length { length part.now ≡ 31 }
-    ensures { result ≡ if nat_lt cell count then ((cell == 0) || before last.now (text_of part.now)) else slice_index part.now 0 == 0 }
+// Whether the keys of two cells in a row rise, where there is one before the second.
+fn may_follow(last: &[u8], key: &[u8], cell: usize) -> bool
+    ensures { result ≡ ((cell == 0) || before last.now key.now) }
 {
-    if cell < count {
-        cell == 0 || is_before(last, text_of(part))
-    } else {
-        part[0] == 0
-    }
+    cell == 0 || is_before(last, key)
 }
 
-// Whether all key parts are well formed, those of the first `count` cells with keys that rise, and the others are not used. All of it
-// is seen in one walk.
+// Whether all key parts are well formed, those of the first `count` cells with keys that rise, and the others are not used, which
+// are zeros throughout.
 fn are_cells(size: usize, keys: &[u8], count: usize) -> bool
     requires size { 256 ≤ size }
     requires keys { length keys.now ≡ keys_end size }
@@ -78,17 +93,18 @@ fn are_cells(size: usize, keys: &[u8], count: usize) -> bool
     ensures { result ≡ (are_key_parts size keys.now && are_cells size keys.now count) }
 {
     let mut last: &[u8] = b"";
-    for cell in 0..cell_count(size) {
+    for cell in 0..count {
         if !is_key_part(keys, cell) {
             return false;
         }
-        let part = key_part(keys, cell);
-        if !may_follow(part, last, cell, count) {
+        let key = text_of(key_part(keys, cell));
+        if !may_follow(last, key, cell) {
             return false;
         }
-        last = text_of(part);
+        last = key;
     }
-    true
+    let others = cell_count(size) - count;
+    are_zero(piece(keys, 64 + 31 * count, 31 * others))
 }
 
 /// Whether head and key parts are those of a node of this level.
@@ -115,7 +131,7 @@ pub fn cell_of(size: usize, key: &[u8], keys: &[u8]) -> Option<usize>
     ensures below { IfSome result (λ cell. cell < count_of keys.now) }
 {
     for cell in 0..count_of(keys) {
-        if key_of(size, keys, cell) == key {
+        if are_same(key_of(size, keys, cell), key) {
             return Some(cell);
         }
     }

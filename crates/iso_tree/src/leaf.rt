@@ -1,16 +1,19 @@
 // A put into a leaf that has the key, or room for it.
-ghost use Rattle.std.specs.Prelude.{◌≡◌, ◌+◌, ◌*◌, ◌<◌, ◌≤◌, ℕ, List, length, take, true, Ok, IfErr, [], ◌∷◌};
+ghost use Rattle.std.specs.Prelude.{◌≡◌, ◌+◌, ◌*◌, ◌<◌, ◌≤◌, ℕ, List, length, take, true, Ok, IfErr, IfOk, [], ◌∷◌};
 ghost use Rattle.store_model.specs.{Cells.{block_with, cell_count, keys_end, value_mark, value_part}, Stores.{Done, Store}, TreeNodes.{count_of, is_node, node_bytes, used_cells, Cell, IsBlock}, Trees.put_after, TreeCalls.edit_leaf, TreeRegion.IsTreeArea};
 ghost use Rattle.tx_blocks.specs.Runs.{HasArea, HasBlock, AreBytesOf, Behaves, HasRun};
 ghost use Rattle.iso_tree.specs.Walks.{IsLeaf, IsWalkError};
 
 use crate::descent::{Leaf, value_mark};
-use crate::fill::{fill_row, upto};
+use crate::fill::upto;
+use crate::grown::grown_node;
 use iso_alloc::{cell_count, lay_alone, piece, value_part};
-use store_model::{Area, StoreError};
+use iso_model::Memory;
+use std::alloc::Global;
+use store_model::{Area, StoreError, TxError};
 use tx_blocks::{TxBlocks, last_store, look_whole, store};
 
-/// Writes the value of the cell that has the key.
+/// Writes the value of the cell that has the key, from a buffer of a block.
 ///
 /// # Errors
 ///
@@ -69,19 +72,19 @@ pub fn store_leaf<T: TxBlocks, R: Copy>(
     }
 }
 
-/// Writes the leaf with a new cell; the buffer of its bytes is read into again.
+/// Writes the leaf with a new cell, from a buffer of its own; the one that has the leaf's bytes is read into again.
 ///
 /// # Errors
 ///
-/// As those of `store_leaf`.
+/// As those of `store_leaf`, and want of memory for the buffer.
 pub fn put_cell<T: TxBlocks>(
+    alloc: Global,
     tx: &mut T,
     area: Area,
     key: &[u8],
     value: &[u8],
     leaf: Leaf,
     old: &mut [u8],
-    into: &mut [u8],
 ) -> Result<(), StoreError>
     requires within { HasArea IsTreeArea (T.state tx.old) area }
     requires block_size { IsBlock area.size }
@@ -91,28 +94,35 @@ pub fn put_cell<T: TxBlocks>(
     requires key { length key.now ≤ 28 }
     requires value { length value.now ≤ 32 }
     requires old { length old.old ≡ area.size }
-    requires into { length into.old ≡ area.size }
     ensures run { HasRun (edit_leaf area leaf.block (put_after key.now (key.now, value_part value.now)) (Ok tt)) (T.state tx.old) (T.state tx.new) result }
     ensures behaves { Behaves (T.state tx.old) (T.state tx.new) 1 (T.device tx.old) (T.device tx.new) result }
 {
-    fill_leaf(into, old, key, &value_part(value), leaf.count as usize);
-    store_leaf(tx, area, leaf.block, into, (), old)
+    let part = value_part(value);
+    let Ok(bytes) = leaf_with(alloc, old, key, &part, leaf.count as usize) else {
+        return Err(StoreError::Tx(TxError::Memory));
+    };
+    store_leaf(tx, area, leaf.block, &bytes, (), old)
 }
 
 // The bytes of a leaf with a new cell.
-fn fill_leaf(into: &mut [u8], old: &[u8], key: &[u8], part: &[u8], count: usize)
+fn leaf_with(
+    alloc: Global,
+    old: &[u8],
+    key: &[u8],
+    part: &[u8],
+    count: usize,
+) -> Result<Vec<u8>, Memory>
     requires size { IsBlock (length old.now) }
     requires least { 256 ≤ length old.now }
-    requires into { length into.old ≡ length old.now }
     requires node { is_node (length old.now) 0 (take (keys_end (length old.now)) old.now) ≡ true }
     requires count { count ≡ count_of (take (keys_end (length old.now)) old.now) }
     requires room { count < cell_count (length old.now) }
     requires key { length key.now ≤ 28 }
     requires part { length part.now ≡ 33 }
-    ensures { into.new ≡ node_bytes (length old.now) 0 (put_after key.now (key.now, part.now) (used_cells (length old.now) old.now)) }
+    ensures bytes { IfOk result (λ v. v.items ≡ node_bytes (length old.now) 0 (put_after key.now (key.now, part.now) (used_cells (length old.now) old.now))) }
+    ensures long { IfOk result (λ v. length v.items ≡ length old.now) }
 {
     let size = old.len();
-    let keys = piece(old, 0, 64 + 31 * cell_count(size));
-    let place = upto(size, key, keys, 0);
-    fill_row(into, 0, old, place, key, part, 0, count + 1);
+    let place = upto(size, key, piece(old, 0, 64 + 31 * cell_count(size)), 0);
+    grown_node(alloc, 0, old, place, count, key, part)
 }

@@ -12,6 +12,7 @@ mod enlarge;
 mod fill;
 mod first;
 mod grow;
+mod grown;
 mod insert;
 mod keys;
 mod leaf;

@@ -6,6 +6,10 @@ pub returns-in_default-clause-run : goal.returns-in_default-clause-run
 returns-in_default-clause-run g c =
     map_refused c.args.area c.args.key.now c.args.value.now c.args.path.now (g.T.TxBlocks.state c.args.tx.now) (g.T.TxBlocks.state c.args.tx.now) (g.T.TxBlocks.device c.args.tx.now) (g.T.TxBlocks.device c.args.tx.now) error.Memory refl refl
 
+pub returns-in_default-buffer-clause-run : goal.returns-in_default-buffer-clause-run
+returns-in_default-buffer-clause-run g c =
+    map_refused c.args.area c.args.key.now c.args.value.now c.args.path.now (g.T.TxBlocks.state c.args.tx.now) (g.T.TxBlocks.state c.args.tx.now) (g.T.TxBlocks.device c.args.tx.now) (g.T.TxBlocks.device c.args.tx.now) error.Memory refl refl
+
 pub returns-in-Err-clause-run : goal.returns-in-Err-clause-run
 returns-in-Err-clause-run g c = grind (arith, map_refused) steps 100000
 

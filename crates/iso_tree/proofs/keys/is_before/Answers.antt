@@ -1,7 +1,4 @@
-use Rattle.iso_tree.proofs.Words.{◌≡◌, ◌≢◌, ℕ, ◌<◌, List, [], ◌∷◌, length, get_or, arith, nat_lt, nat_tests, before}
+use Rattle.iso_tree.proofs.Words.{◌∙◌, sym}
 
--- keys that differ in their first byte
-first_decides : (x y : List ℕ) → 0 < length x → 0 < length y → get_or x 0 0 ≢ get_or y 0 0 → nat_lt (get_or x 0 0) (get_or y 0 0) ≡ before x y
-first_decides [] y some more other = absurd (omega arith)
-first_decides (a ∷ x) [] some more other = absurd (omega arith)
-first_decides (a ∷ x) (b ∷ y) some more other = grind (arith, nat_tests) steps 100000
+pub word_before-requires-clause-differ : Rattle.iso_tree.proofs.keys.is_before.Goals.word_before-requires-clause-differ
+word_before-requires-clause-differ c = λ same. c.if-word_at.true (c.word_at.ensures ∙ same ∙ sym c.word_at-then-y-ge4.ensures)
