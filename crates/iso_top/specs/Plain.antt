@@ -148,7 +148,7 @@ pub record GoesOnIsolated (W V : World) : Type 0 where
 
 -- The lines of all clients have one order, each client's in theirs. Where each commit along it keeps to the stores, the calls that lines
 -- tell of a commit answer as one thread's, on the maps directly before it, and those of a transaction that wrote nothing by the maps at
--- its begin.
+-- its begin, and so those of one that is live once a line of its client was answered.
 pub record AnswerInOneOrder (S : SecondStore) (A : Start) (lines : List (ℕ × Line)) (parts : List Part) (E : List Entry) : Type 0 where
   pub order : List Event
   pub has_all : IsTrace A lines parts E order

@@ -1,5 +1,5 @@
 -- Events of several clients, put together.
-use Rattle.par_calls.{proofs.Words.{◌≡◌, ◌∙◌, sym, refl, ap, subst, cond, AreLines, ℕ, ◌==◌, Bool, true, false, List, [], ◌∷◌, ◌++◌, eq-eqb, eqb-true, IsOp, Event, Made, entries_in, events_of, lines_in}, specs.Trace.Done}
+use Rattle.par_calls.{proofs.Words.{◌≡◌, ◌∙◌, sym, refl, ap, subst, cond, AreLines, ℕ, ◌==◌, Bool, true, false, List, [], ◌∷◌, ◌++◌, eq-eqb, eqb-true, IsOp, Event, Made, entries_in, events_of, lines_in}, specs.Trace.{Done, Step}}
 
 -- lines of good operations
 abbrev pub AreOps : List Event → Type 0
@@ -16,6 +16,11 @@ pub ops_front : (xs ys : List Event) → AreOps (xs ++ ys) → AreOps xs
 ops_front [] ys all = tt
 ops_front (Made c e ∷ xs) ys all = ops_front xs ys all
 ops_front (Done c s ∷ xs) ys all = (all.0, ops_front xs ys all.1)
+
+pub ops_at : (xs ys : List Event) (c : ℕ) (s : Step) → AreOps (xs ++ Done c s ∷ ys) → IsOp s.line.1.op
+ops_at [] ys c s all = all.0
+ops_at (Made d e ∷ xs) ys c s all = ops_at xs ys c s all
+ops_at (Done d r ∷ xs) ys c s all = ops_at xs ys c s all.1
 
 -- good lines, of all events and of each client's
 pub ops_lines : (events : List Event) → AreLines (lines_in events) → AreOps events

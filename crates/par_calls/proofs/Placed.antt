@@ -1,5 +1,5 @@
 -- The calls that are told of each commit of a trace answer in order.
-use Rattle.par_calls.{proofs.Words.{◌≡◌, ◌∙◌, sym, refl, ap, subst, ℕ, ◌<◌, Bool, true, IsTrue, List, [], ◌∷◌, ◌++◌, append_assoc, Option, Some, None, Access, Commit, Committed, Geometry, GroupReply, Array, is_valid, History, array_at, HasShape, Extends, Entry, Member, MemberEnd, AreLoose, Fits, LegalFrom, State, after, after_all, is_live, is_loose, member_numbers, members_of, follows_all, loose_is, Own, member_for, members_for, commit_at, commits_as, BothInOrder, IsOfBoth, MixedParts, firsts, seconds, answers_in, calls_in, run, IsToldOf, ToldInOrder, SecondStore, image_hash, second_store, Told, SecondGoes, all_are, all_parts, array_extends, IsSecond, AreByCalls, BothByMap, ToldByMap, ends_bare, begin_array, Mode, ReadOnly, map, EachBare, WhereBare, EachCommit, WhereCommitted, after_entry, after_line, notes_after, Event, Made, OfOwn, entries_in, events_of}, specs.Notes.Notes, specs.Trace.Done, proofs.Events.AreOps, proofs.Running.{IsAt, IsClientAt, by_client, done_next, made_next}, proofs.Standing.{AllHeld, IsHeld, OptionHeld}}
+use Rattle.par_calls.{proofs.Words.{◌≡◌, ◌∙◌, sym, refl, ap, subst, ℕ, ◌<◌, Bool, true, IsTrue, List, [], ◌∷◌, ◌++◌, append_assoc, Option, Some, None, Access, Commit, Committed, Geometry, GroupReply, Array, is_valid, History, array_at, HasShape, Extends, Entry, Member, MemberEnd, AreLoose, Fits, LegalFrom, State, after, after_all, is_live, is_loose, member_numbers, members_of, follows_all, loose_is, Own, member_for, members_for, commit_at, commits_as, BothInOrder, IsOfBoth, MixedParts, firsts, seconds, answers_in, calls_in, run, IsToldOf, ToldInOrder, SecondStore, image_hash, second_store, Told, SecondGoes, all_are, all_parts, array_extends, IsSecond, AreByCalls, BothByMap, ToldByMap, ends_bare, begin_array, Mode, ReadOnly, map, EachBare, WhereBare, EachCommit, WhereCommitted, after_entry, after_line, notes_after, Event, Made, OfOwn, entries_in, events_of, IsOp}, specs.Notes.Notes, specs.Trace.{Done, Step}, proofs.Events.AreOps, proofs.Running.{IsAt, IsClientAt, by_client, done_next, made_next, told_after_line}, proofs.Standing.{AllHeld, IsHeld, OptionHeld}}
 use Rattle.iso_model.specs.declared.access.GroupReply.TheVariants as member
 use Rattle.iso_shared.specs.declared.entry.Entry.TheVariants as entry
 use Rattle.iso_shared.specs.States.{live_of}
@@ -84,6 +84,28 @@ module _ (S : SecondStore) (lawful : IsSecond S) (second : SecondGoes S) (g : Ge
         of = record { parts = all_parts S g (array_at G c.begin) c.accesses c.mode told is; are = are.are; made = are.made; mode = are.serial };
         answers = λ A B order. in_order told (all_parts S g (array_at G c.begin) c.accesses c.mode told is) A B are.hash_calls are.hash_answers are.second_calls are.second_answers order;
       }
+
+  -- a transaction that is live: its accesses are by calls, and the calls that are told are those of its parts
+  pub record IsMade (A : Array) (accesses : List Access) (told : Told S) : Type 0 where
+    pub by : AreByCalls (second_store S g) g A accesses
+    pub answers : (B C : Array) → BothInOrder (image_hash g) (second_store S g) by.parts B C → ToldInOrder S g told B C
+
+  is_made : (A : Array) (accesses : List Access) (mode : Mode) (told : Told S) → IsToldOf S g A accesses mode told → IsMade A accesses told
+  is_made A accesses mode told is =
+      let are = all_are S g A accesses mode told is in
+      record {
+        by = record { parts = all_parts S g A accesses mode told is; are = are.are; made = are.made };
+        answers = λ B C order. in_order told (all_parts S g A accesses mode told is) B C are.hash_calls are.hash_answers are.second_calls are.second_answers order;
+      }
+
+  pub live_told : (U : State) (N : Notes S) (c : ℕ) (s : Step) (t : Own) (events : List Event) → At U N (Done c s ∷ events) → IsOp s.line.1.op → s.after ≡ Some t → is_live t.number U.world.live ≡ true → Extends U.world.history H
+      → let told = (after_line S g c s N).of c in IsTrue told.kept → IsMade (begin_array U.world t.number) t.accesses told
+  live_told U N c s t events is isop after live more kept =
+      let told : Told S = (after_line S g c s N).of c in
+      let held : IsHeld S g H U t told = subst (λ (o : Option Own). OptionHeld S g H U o told) after (told_after_line S lawful second g valid H shapes tells all U N c s events is isop) in
+      let here : IsToldOf S g (array_at U.world.history t.begin) t.accesses t.mode told =
+      subst (λ (B : Array). IsToldOf S g B t.accesses t.mode told) (array_extends U.world.history H t.begin is.first more held.within) (held.good.made kept) in
+      is_made (begin_array U.world t.number) t.accesses t.mode told (subst (λ (n : ℕ). IsToldOf S g (array_at U.world.history n) t.accesses t.mode told) (sym (held.posting.begin live)) here)
 
   -- an end that commits
   pub end_told : (U : State) (N : Notes S) (c n k : ℕ) (accesses : List Access) (events : List Event) → At U N (Made c (entry.End n accesses (Committed k)) ∷ events) → Fits U (entry.End n accesses (Committed k))

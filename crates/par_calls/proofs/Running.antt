@@ -309,6 +309,16 @@ module _ (S : SecondStore) (lawful : IsSecond S) (second : SecondGoes S) (g : Ge
       runs = k.runs;
     }
 
+    -- what is told of the client's transaction after the line
+    pub told_after_line : OptionHeld S g H U s.after ((after_line S g c s N).of c)
+    told_after_line =
+        let same : (c == c) ≡ true = eq-eqb c c refl in
+        let k : IsClientAt U (N.of c) (N.found c) (Done c s ∷ events_of c events) =
+        subst (λ b. IsClientAt U (N.of c) (N.found c) (cond b (Done c s ∷ events_of c events) (events_of c events))) same (is.each c) in
+        let told_is : put_at c (told_by S g s.before s (N.of c) (N.found c)) N.of c ≡ told_by S g k.own s (N.of c) (N.found c) =
+        put_here c c (told_by S g s.before s (N.of c) (N.found c)) N.of same ∙ ap (λ o. told_by S g o s (N.of c) (N.found c)) k.runs.0 in
+        subst (OptionHeld S g H U s.after) (sym told_is) (line_held U s k.own k.made (N.of c) (N.found c) isop k.held k.looked k.tell k.runs.1)
+
     pub done_next : IsAt U (after_line S g c s N) events
     done_next = record {
       sound = is.sound;

@@ -1,5 +1,5 @@
 -- The store theorem of clients that run concurrently, by what their lines say.
-use Rattle.par_calls.{proofs.Words.{◌≡◌, ◌∙◌, sym, refl, ap, subst, ℕ, ◌-◌, true, List, [], ◌∷◌, ◌++◌, append_assoc, None, Access, Committed, ReadOnly, Geometry, History, array_at, HasShape, Extends, IsWorld, array_shape, Entry, MemberEnd, Fits, IsLegal, LegalFrom, Start, State, after_all, opened, state_at, follows_all, after_append, legal_append, opened_sound, AnswersWithAt, AreCallsInOrderAt, CommitsAreByCalls, commit_at, commits_as, world_at, IsOfBoth, ToldInOrder, SecondStore, image_hash, second_store, SecondGoes, IsSecond, begin_array, ToldByMap, IsTrue, OfReads, ReadsByMap, CallsAnswer, CommitsInOrder, CommitsKeep, OfCommits, no_notes, notes_after, Event, Made, Runs, entries_in, events_of, found_in}, specs.Notes.Notes, proofs.Events.{AreOps, entries_joined, ops_front}, proofs.Histories.history_all, proofs.Placed.{members_read, read_told, AreSweeps, IsTold, at_place, end_told, located, member_told, members_told}, proofs.Running.{IsAt, IsClientAt, by_client}}
+use Rattle.par_calls.{proofs.Words.{◌≡◌, ◌∙◌, sym, refl, ap, subst, ℕ, ◌-◌, true, List, [], ◌∷◌, ◌++◌, append_assoc, None, Some, Own, own, LiveInOrder, Access, Committed, ReadOnly, Geometry, History, array_at, HasShape, Extends, IsWorld, array_shape, Entry, MemberEnd, Fits, IsLegal, LegalFrom, Start, State, after_all, opened, state_at, follows_all, after_append, legal_append, opened_sound, AnswersWithAt, AreCallsInOrderAt, CommitsAreByCalls, commit_at, commits_as, world_at, IsOfBoth, ToldInOrder, SecondStore, image_hash, second_store, SecondGoes, IsSecond, begin_array, ToldByMap, IsTrue, OfReads, ReadsByMap, CallsAnswer, CommitsInOrder, CommitsKeep, OfCommits, no_notes, notes_after, Event, Made, Runs, entries_in, events_of, found_in}, specs.Notes.Notes, specs.Trace.{Done, Step}, proofs.Events.{AreOps, entries_joined, ops_at, ops_front}, proofs.Histories.history_all, proofs.Placed.{live_told, members_read, read_told, AreSweeps, IsTold, at_place, end_told, located, member_told, members_told}, proofs.Running.{IsAt, IsClientAt, by_client}}
 use Rattle.iso_shared.specs.declared.entry.Entry.TheVariants as entry
 
 module _ (S : SecondStore) (lawful : IsSecond S) (second : SecondGoes S) (A : Start) (E : List Entry) (events : List Event) (tail : List Entry) (sound : IsWorld A.world) (none : A.world.live ≡ []) (legal : IsLegal A E)
@@ -126,7 +126,21 @@ module _ (S : SecondStore) (lawful : IsSecond S) (second : SecondGoes S) (A : St
       by (entry.End n accesses r) is = tt
       by e is = tt
 
+  live_in_order : A.tells ≡ true → AreCallsInOrderAt (second_store S g) A E → LiveInOrder S A events
+  live_in_order tells order before later c s t is after live kept =
+      let rest : List Entry = entries_in later ++ tail in
+      let U : State = before_it tells before in
+      let split : E ≡ entries_in before ++ rest =
+      whole tells before (Done c s ∷ later) is ∙ ap (λ v. v ++ tail) (entries_joined before (Done c s ∷ later)) ∙ append_assoc (entries_in before) (entries_in later) tail in
+      let more : Extends U.world.history H =
+      subst (λ (T : State). Extends U.world.history T.world.history) (sym (after_append (opened A) (entries_in before) rest) ∙ ap (after_all (opened A)) (sym split)) (follows_all U rest).history in
+      let made =
+      live_told S lawful second g sound.valid H shapes A.tells tells U (notes_after S g (no_notes S) before) c s t later (placed tells before (Done c s ∷ later) is)
+      (ops_at before later c s (subst AreOps is ops)) after live more kept in
+      let B = begin_array U.world t.number in
+      made.answers B (own B t.accesses) (order.live (entries_in before) rest t.number t.accesses split live made.by)
+
   pub calls_answer : CallsAnswer S A E events
   calls_answer tells well keep =
       let order = answers well (by_calls tells keep) in
-      record { commits = in_order tells keep order; read_only = reads_by_map tells order }
+      record { commits = in_order tells keep order; read_only = reads_by_map tells order; live = live_in_order tells order }

@@ -1,12 +1,12 @@
 -- The store theorem of clients that run concurrently, by what their lines say, as one word.
-use Rattle.std.specs.Prelude.{◌≡◌, ℕ, ◌-◌, true, IsTrue, List, [], ◌∷◌, ◌++◌}
-use Rattle.iso_model.specs.{declared.access.EndReply.TheVariants.{Committed, ReadOnly}, declared.access.Geometry.Geometry, declared.access.GroupReply.GroupReply, History.{History, array_at, last}}
+use Rattle.std.specs.Prelude.{◌≡◌, ℕ, ◌-◌, true, IsTrue, List, [], ◌∷◌, ◌++◌, Some}
+use Rattle.iso_model.specs.{declared.access.EndReply.TheVariants.{Committed, ReadOnly}, declared.access.Geometry.Geometry, declared.access.GroupReply.GroupReply, Effect.own, History.{History, array_at, last}}
 use Rattle.iso_model.specs.declared.access.GroupReply.TheVariants as member
 use Rattle.script_model.specs.declared.script.Line.{Line}
-use Rattle.iso_shared.specs.{declared.entry.Entry.Entry, declared.entry.MemberEnd.MemberEnd, States.Start}
+use Rattle.iso_shared.specs.{declared.entry.Entry.Entry, declared.entry.MemberEnd.MemberEnd, States.{Start, is_live}}
 use Rattle.iso_shared.specs.declared.entry.Entry.TheVariants as entry
-use Rattle.par_script.specs.declared.part.Part.{Part}
-use Rattle.par_calls.specs.{EntriesInOrder.{begin_array, world_at}, Notes.{Notes, no_notes, notes_after}, Trace.{Event, IsTrace, Made, entries_in}}
+use Rattle.par_script.specs.{Lines.Own, declared.part.Part.Part}
+use Rattle.par_calls.specs.{EntriesInOrder.{begin_array, world_at}, Notes.{Notes, after_line, no_notes, notes_after}, Trace.{Done, Event, IsTrace, Made, Step, entries_in}}
 use Rattle.store_laws.specs.Both.{BothWellFormed}
 use Rattle.store_scripts.specs.{Kept.{ToldByMap, ToldInOrder}, Stores.{SecondStore, image_hash, second_store, the_files, the_tree}, Told.Told}
 
@@ -62,10 +62,18 @@ abbrev pub ReadsByMap : SecondStore → Start → List Event → Type 0
 ReadsByMap S A events = (before later : List Event) (c : ℕ) (e : Entry) → events ≡ before ++ Made c e ∷ later
     → OfReads S (λ n told. IsTrue told.kept → ToldByMap S A.world.geometry told (begin_array (world_at A (entries_in before)) n)) c e (notes_after S A.world.geometry (no_notes S) before)
 
--- the calls that are told of commits, and of transactions that wrote nothing
+-- Once a line was answered: the calls that are told of its client's transaction, if that is live and keeps to the stores, answered as one
+-- thread's calls on the maps at its begin, which end in those of what it is shown.
+abbrev pub LiveInOrder : SecondStore → Start → List Event → Type 0
+LiveInOrder S A events = (before later : List Event) (c : ℕ) (s : Step) (t : Own) → events ≡ before ++ Done c s ∷ later → s.after ≡ Some t
+    → is_live t.number (world_at A (entries_in before)).live ≡ true → let told = (after_line S A.world.geometry c s (notes_after S A.world.geometry (no_notes S) before)).of c in IsTrue told.kept
+    → let B = begin_array (world_at A (entries_in before)) t.number in ToldInOrder S A.world.geometry told B (own B t.accesses)
+
+-- the calls that are told of commits, of transactions that wrote nothing, and of those that are live
 pub record AreInOrder (S : SecondStore) (A : Start) (E : List Entry) (events : List Event) : Type 0 where
   pub commits : CommitsInOrder S A.world.geometry (world_at A E).history events
   pub read_only : ReadsByMap S A events
+  pub live : LiveInOrder S A events
 
 -- Where the device tells its bytes, a store and the hash store begin well formed, and each commit of the events keeps to them, the calls
 -- that are told answer so.
