@@ -11,6 +11,7 @@ pub mod Committing
 pub mod Covering
 pub mod Filling
 pub mod Keeping
+pub mod Knowing
 pub mod Giving
 pub mod Grouping
 pub mod Whole

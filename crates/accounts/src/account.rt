@@ -1,7 +1,7 @@
 // Accounts, what is done with them, and why it is refused.
 
 use handle_pass::{BeginError, EndError};
-use iso_model::{CoreError, LabelReplies};
+use iso_model::CoreError;
 use store_model::StoreError;
 
 /// An account: its name, and the amount that it opens with.
@@ -33,9 +33,9 @@ pub(crate) enum Step {
     Take(Transfer),
 }
 
-/// What is done with accounts. One thread fills transactions that another one ends as one group, 64 of them at most, and makes the
-/// first half of a transfer that the other one makes the second half of and ends; and each of the two makes transfers of its own, which
-/// are tried so often after conflicts.
+/// What is done with accounts. One thread fills transactions that another one ends as one group, `MAX_GROUP` of them at most, and makes the
+/// first half of a transfer that the other one makes the second half of and ends; and each of the two makes transfers of its own. The
+/// first one learns how each of its members ended, and makes those transfers again that clashed. Each is tried so often after conflicts.
 #[derive(Clone, Copy)]
 pub struct Plan<'k> {
     pub accounts: &'k [Account],
@@ -75,13 +75,22 @@ pub enum AccountError {
     Conflict,
 }
 
+/// What a thread has learned of the transactions that it gave away: how many were ended as members of the group, and how many of them
+/// have committed there. And how many of the transfers that clashed there it has then committed by itself.
+#[derive(Clone, Copy)]
+pub struct Members {
+    pub ended: u32,
+    pub committed: u32,
+    pub again: u32,
+}
+
 /// What came of a plan: how the opening ended, how many transfers of each thread were committed, how the one ended that went from the
-/// one thread to the other, and what was told of the group.
+/// one thread to the other, and what the first thread has learned of its members, or why their group was refused.
 #[derive(Drop)]
 pub struct Report {
     pub opened: Result<u64, AccountError>,
     pub first: u32,
     pub second: u32,
     pub halved: Result<u64, AccountError>,
-    pub group: Result<LabelReplies, CoreError>,
+    pub group: Result<Members, CoreError>,
 }

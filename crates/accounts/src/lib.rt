@@ -1,5 +1,5 @@
 //! Accounts in the hash store of a shared device: threads move amounts between them, in transactions of their own, in a group, and
-//! half by half.
+//! half by half. Who hands transactions to a group learns the end of each, and goes on (`learned`).
 //!
 //! Where the list began well formed on a known disk, the sum stays after each commit, also one that a fault left open, and in each
 //! image that opens (`run`, `SumStays`); laws say it of legal lists (`history`, `images`). Without memory the core is handed back
@@ -13,11 +13,12 @@ mod gathered;
 mod half;
 mod jobs;
 pub mod laws;
+mod learning;
 mod moving;
 mod run;
 mod sessions;
 mod tellers;
 mod threads;
 
-pub use account::{Account, AccountError, Plan, Report, Transfer};
+pub use account::{Account, AccountError, Members, Plan, Report, Transfer};
 pub use run::run_accounts;

@@ -4,18 +4,21 @@ ghost use Rattle.group_commit.specs.Groups.{found_in, units_all};
 ghost use Rattle.iso_core.specs.{Core.disk_of, declared.group_end.TheConstants.MAX_GROUP};
 ghost use Rattle.iso_shared.specs.{Groups.units_of, Ports.{IsPort, first_geometry, port_view}, Standing.{Came, Holds}, States.{opened as opened_at}};
 ghost use Rattle.turn_lock.specs.Views.{fresh};
-ghost use Rattle.accounts.specs.{Ends.SumStays, Jobs.{IsEnder, IsMover, planned}, Kept.{AreGiven, HasStore, Hold, IsHalf, IsKept, Stays, half_units}};
+ghost use Rattle.accounts.specs.{Ends.SumStays, Jobs.{IsEnder, IsMover, planned}, Kept.{AreGiven, HasStore, Hold, IsHalf, IsKept, Stays, half_units}, Learned.{AreTold, told_units}};
 
 use crate::account::{AccountError, Plan, Report, Work};
+use crate::amounts::Place;
 use crate::gathered::{gather, session_on};
 use crate::half::Half;
 use crate::jobs::run_both;
+use crate::learning::{given_of, learn};
 use crate::sessions::commit;
 use crate::tellers::{Ender, Giver, Mover};
+use group_commit::Ended;
 use handle_pass::Session;
 use iso_core::Core;
 use iso_disk::Disk;
-use iso_model::{CoreError, LAST, LabelReplies, Memory};
+use iso_model::{CoreError, LAST, Memory};
 use iso_shared::{Origin, Port, Shared, Tx};
 use std::alloc::Global;
 use std::sync::Wait;
@@ -80,10 +83,9 @@ fn give_beside<'a, D: Disk + Drop + Send, O: Origin + Send + Sync, R: Threads + 
 }
 
 /// How a gift was ended.
-#[derive(Drop)]
-struct Outcome {
+struct Outcome<D: Disk + Drop, O: Origin> {
     halved: Result<u64, AccountError>,
-    group: Result<LabelReplies, CoreError>,
+    group: Result<Vec<Ended<D, O>>, CoreError>,
 }
 
 // The other thread ends what was given to it, by its session and by a port, while the first one makes transfers of its own.
@@ -96,14 +98,15 @@ fn end_beside<'a, D: Disk + Drop + Send, O: Origin + Send + Sync, R: Threads + W
     Session<'a, D, O>,
     Port<D, O>,
     u32,
-    Outcome,
+    Outcome<D, O>,
 )
     requires mover { IsMover O.start mover }
     requires ender { IsEnder O.start ender }
     ensures first { IsKept (planned mover.entry.plan) O.start result.0 × Stays mover.entry.session result.0 }
     ensures second { IsKept (planned ender.entry.plan) O.start result.1 × (result.1.device ≡ ender.entry.session.device) × (result.1.units ≡ ender.entry.session.units + half_units ender.entry.half) }
     ensures port { IsPort ender.entry.shared.now result.2 × Hold (planned ender.entry.plan) O.start result.2 }
-    ensures units { IfSome ender.entry.members (λ v. (port_view result.2).units ≡ units_all (port_view ender.entry.port) (found_in v.items)) }
+    ensures units { IfSome ender.entry.members (λ v. (port_view result.2).units + told_units result.4.group ≡ units_all (port_view ender.entry.port) (found_in v.items)) }
+    ensures told { IfSome ender.entry.members (λ v. AreTold ender.entry.shared.now O.start (found_in v.items) result.4.group) }
 {
     let (mut mover, mut ender) = (mover, ender);
     let (done, (halved, group)) = run_both(rt, &mut mover, &mut ender);
@@ -133,7 +136,7 @@ fn end_beside<'a, D: Disk + Drop + Send, O: Origin + Send + Sync, R: Threads + W
     (first, second, port, done, Outcome { halved, group })
 }
 
-// Both, over two sessions and the first port of a device, which has all units again at the end.
+// All of it, over two sessions and the first port of a device, which has all units again at the end.
 fn run_on<'a, D: Disk + Drop + Send, O: Origin + Send + Sync, R: Threads + Wait + Sync>(
     rt: &R,
     alloc: Global,
@@ -156,6 +159,7 @@ fn run_on<'a, D: Disk + Drop + Send, O: Origin + Send + Sync, R: Threads + Wait 
     let opened = commit(rt, alloc, &mut first, region, plan.accounts, Work::Open, 1);
     let (first, second, gift, done) = give_beside(rt, alloc, region, plan, first, second);
     let Gift { members, half } = gift;
+    let given = given_of(alloc, plan.handed, members.as_slice());
     let mover = Mover {
         alloc,
         region,
@@ -173,22 +177,25 @@ fn run_on<'a, D: Disk + Drop + Send, O: Origin + Send + Sync, R: Threads + Wait 
         port,
         members: Some(members),
     };
-    let (first, second, mut port, other, outcome) = end_beside(rt, mover, ender);
+    let (mut first, second, mut port, other, outcome) = end_beside(rt, mover, ender);
+    let Outcome { halved, group } = outcome;
+    let place = Place { alloc, region };
+    let group = learn(rt, place, shared, &mut first, &plan, given, group);
     gather(rt, shared, &mut port, first, plan.accounts);
     gather(rt, shared, &mut port, second, plan.accounts);
     let report = Report {
         opened,
         first: other,
         second: done,
-        halved: outcome.halved,
-        group: outcome.group,
+        halved,
+        group,
     };
     (report, port)
 }
 
-/// Opens accounts on a device over a core, has two threads move amounts between them, and gives the core back. The sum of all accounts
-/// is the same after every commit, and in every image that a crash might have left since the core was handed in. Without memory
-/// nothing is run.
+/// Opens accounts on a device over a core, has two threads move amounts between them, and gives the core back. The thread that gives
+/// transactions away learns how each of them has ended. The sum of all accounts is the same after every commit, and in every image
+/// that a crash might have left since the core was handed in. Without memory nothing is run.
 ///
 /// # Errors
 ///

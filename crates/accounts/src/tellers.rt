@@ -5,9 +5,10 @@ use crate::half::Half;
 use crate::jobs::Job;
 use crate::sessions::give_half;
 use crate::threads::{commit_all, end_members, end_taken, give_all};
+use group_commit::Ended;
 use handle_pass::Session;
 use iso_disk::Disk;
-use iso_model::{CoreError, LabelReplies};
+use iso_model::CoreError;
 use iso_shared::{Origin, Port, Shared, Tx};
 use std::alloc::Global;
 use std::sync::Wait;
@@ -82,7 +83,8 @@ impl<'a, D: Disk + Drop + Send, O: Origin + Send + Sync> Job for Mover<'a, D, O>
     }
 }
 
-/// It ends what was given to it: the transfer that is half made, and the others as one group, through a port.
+/// It ends what was given to it: the transfer that is half made, and the others as one group, through a port. It answers how each of
+/// these ended, for whoever gave it away.
 pub(crate) struct Ender<'a, D: Disk + Drop, O: Origin> {
     pub(crate) alloc: Global,
     pub(crate) region: Region,
@@ -95,18 +97,24 @@ pub(crate) struct Ender<'a, D: Disk + Drop, O: Origin> {
 }
 
 impl<'a, D: Disk + Drop + Send, O: Origin + Send + Sync> Job for Ender<'a, D, O> {
-    ghost use Rattle.accounts.specs.Jobs.{Ended, IsEnder};
+    ghost use Rattle.accounts.specs.Jobs.{HasEndedGift, IsEnder};
 
-    type Answer = (Result<u64, AccountError>, Result<LabelReplies, CoreError>);
+    type Answer = (
+        Result<u64, AccountError>,
+        Result<Vec<Ended<D, O>>, CoreError>,
+    );
 
     ghost fits = { λ c. IsEnder O.start c };
 
-    ghost does = { λ c d r. Ended O.start c d };
+    ghost does = { λ c d r. HasEndedGift O.start c d r.1 };
 
     fn run<R: Wait>(
         &mut self,
         rt: &R,
-    ) -> (Result<u64, AccountError>, Result<LabelReplies, CoreError>) {
+    ) -> (
+        Result<u64, AccountError>,
+        Result<Vec<Ended<D, O>>, CoreError>,
+    ) {
         let halved = end_taken(
             rt,
             self.alloc,

@@ -4,15 +4,15 @@ ghost use Rattle.iso_core.specs.declared.group_end.TheConstants.{MAX_GROUP};
 ghost use Rattle.iso_shared.specs.{Ports.{IsPort, port_view}, Groups.units_of};
 ghost use Rattle.group_commit.specs.Groups.{found_in, units_all};
 ghost use Rattle.handle_pass.specs.Sessions.{device_of};
-ghost use Rattle.accounts.specs.{Kept.{AreGiven, HasStore, Hold, IsHalf, IsKept, IsReady, Stays, half_units}, Made.opening_of};
+ghost use Rattle.accounts.specs.{Kept.{AreGiven, HasStore, Hold, IsHalf, IsKept, IsReady, Stays, half_units}, Learned.{AreTold, told_units}, Made.opening_of};
 
 use crate::account::{Account, AccountError, Transfer, Work};
 use crate::half::Half;
 use crate::sessions::{commit, end_half, give};
-use group_commit::commit_group;
+use group_commit::{Ended, commit_each};
 use handle_pass::Session;
 use iso_disk::Disk;
-use iso_model::{CoreError, LabelReplies};
+use iso_model::CoreError;
 use iso_shared::{Origin, Port, Shared, Tx};
 use std::alloc::Global;
 use std::sync::Wait;
@@ -75,7 +75,7 @@ pub(crate) fn give_all<'a, D: Disk + Drop, O: Origin, R: Wait>(
     members
 }
 
-// Ends transactions that were given away as one group.
+// Ends transactions that were given away as one group, of which each is told how it ended.
 fn end_group<D: Disk + Drop, O: Origin, R: Wait>(
     rt: &R,
     alloc: Global,
@@ -83,20 +83,24 @@ fn end_group<D: Disk + Drop, O: Origin, R: Wait>(
     port: &mut Port<D, O>,
     accounts: &[Account],
     members: Vec<Option<Tx<D, O>>>,
-) -> Result<LabelReplies, CoreError>
+) -> Result<Vec<Ended<D, O>>, CoreError>
     requires port { IsPort shared.now port.old }
     requires kept { Hold (opening_of accounts.now) O.start port.old }
     requires ready { IsReady O.start }
     requires few { length members.items ≤ MAX_GROUP }
     requires given { AreGiven (opening_of accounts.now) O.start (device_of shared.now) members.items }
     ensures port { IsPort shared.now port.new }
-    ensures units { (port_view port.new).units ≡ units_all (port_view port.old) (found_in members.items) }
+    ensures units { (port_view port.new).units + told_units result ≡ units_all (port_view port.old) (found_in members.items) }
+    ensures told { AreTold shared.now O.start (found_in members.items) result }
     ensures kept { Hold (opening_of accounts.now) O.start port.new }
 {
-    commit_group(rt, alloc, shared, port, members)
+    match commit_each(rt, alloc, shared, port, members) {
+        Ok(told) => Ok(told),
+        Err(error) => Err(error),
+    }
 }
 
-/// Ends those that lie in this place as one group; then it is empty.
+/// Ends those that lie in this place as one group, of which each is told how it ended; then the place is empty.
 pub(crate) fn end_members<D: Disk + Drop, O: Origin, R: Wait>(
     rt: &R,
     alloc: Global,
@@ -104,14 +108,15 @@ pub(crate) fn end_members<D: Disk + Drop, O: Origin, R: Wait>(
     port: &mut Port<D, O>,
     accounts: &[Account],
     place: &mut Option<Vec<Option<Tx<D, O>>>>,
-) -> Result<LabelReplies, CoreError>
+) -> Result<Vec<Ended<D, O>>, CoreError>
     requires port { IsPort shared.now port.old }
     requires kept { Hold (opening_of accounts.now) O.start port.old }
     requires ready { IsReady O.start }
     requires few { IfSome place.old (λ v. length v.items ≤ MAX_GROUP) }
     requires given { IfSome place.old (λ v. AreGiven (opening_of accounts.now) O.start (device_of shared.now) v.items) }
     ensures port { IsPort shared.now port.new }
-    ensures units { IfSome place.old (λ v. (port_view port.new).units ≡ units_all (port_view port.old) (found_in v.items)) }
+    ensures units { IfSome place.old (λ v. (port_view port.new).units + told_units result ≡ units_all (port_view port.old) (found_in v.items)) }
+    ensures told { IfSome place.old (λ v. AreTold shared.now O.start (found_in v.items) result) }
     ensures kept { Hold (opening_of accounts.now) O.start port.new }
     ensures place { place.new ≡ None }
 {

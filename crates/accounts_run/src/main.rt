@@ -221,10 +221,11 @@ fn main(rt: HostRuntime) -> io::Result<()> {
         first,
         second,
         members,
+        made,
         whole,
     } = told;
     println!(rt;
-        "transfers of the threads: {first} and {second}; members of the group: {members}; each commit was told of: {whole}"
+        "transfers of the threads: {first} and {second}; members of the group: {members}, made in it or after a clash: {made}; each commit was told of: {whole}"
     )?;
     let stays = opens_to(&rt, alloc, &disk, plan.accounts, 800);
     let (accounts, sum) = shown(sum_on_image(&rt, alloc, disk, NAME, plan.accounts));

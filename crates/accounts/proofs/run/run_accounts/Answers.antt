@@ -1,7 +1,7 @@
 use Rattle.accounts.proofs.{Words.{refl, ◌∙◌, ap, Geometry, port_view, planned}, Whole.{has_run, ready_of}}
 
-pub run_on-report-requires-clause-store : Rattle.accounts.proofs.run.run_accounts.Goals.run_on-report-requires-clause-store
-run_on-report-requires-clause-store g c κs within = record {
+pub run_on-port-requires-clause-store : Rattle.accounts.proofs.run.run_accounts.Goals.run_on-port-requires-clause-store
+run_on-port-requires-clause-store g c κs within = record {
   ready = ready_of g.D.Disk.state g.O.Origin.start c.args.core c.requires.start.0 c.requires.start.1;
   some = c.requires.store;
   start = refl;
@@ -10,6 +10,6 @@ run_on-report-requires-clause-store g c κs within = record {
 
 pub returns-in-Ok-clause-run : Rattle.accounts.proofs.run.run_accounts.Goals.returns-in-Ok-clause-run
 returns-in-Ok-clause-run g c =
-    let view = port_view c.run_on-report.result.1 in
+    let view = port_view c.run_on-port.result.1 in
     has_run g.D.Disk.state g.O.Origin.start g.O.Origin.disk (planned c.args.plan.now) c.close-core.result view.seen view.mine (ready_of g.D.Disk.state g.O.Origin.start c.args.core c.requires.start.0 c.requires.start.1)
-    c.close-core.ensures.legal c.close-core.ensures.core c.close-core.ensures.came c.close-core.ensures.all c.run_on-report.ensures.kept
+    c.close-core.ensures.legal c.close-core.ensures.core c.close-core.ensures.came c.close-core.ensures.all c.run_on-port.ensures.kept
