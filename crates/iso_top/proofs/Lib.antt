@@ -18,5 +18,6 @@ mod Plainly
 mod Statuses
 mod ListLaws
 mod Failures
+mod Accessed
 mod Counted
 mod OpenedRows

@@ -8,3 +8,4 @@ pub mod Begun
 pub mod Founded
 pub mod Ran
 pub mod Plain
+pub mod ByAccesses

@@ -11,6 +11,7 @@ mod clients;
 mod digest;
 mod ended;
 mod engine;
+pub mod history_laws;
 mod last_line;
 pub mod laws;
 mod opened;
