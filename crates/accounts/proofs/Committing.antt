@@ -18,7 +18,7 @@ module _ (accounts : Accounts) (A : Start) (E W before : List Entry) (o : Own) (
       let l = legal_last (opened A) first e filled.legal in
       (l.0, l.1.answers.1, began_last (world_at A first) o.mode o.begin l.1.answers.2)
 
-  -- it is live behind its begin alone
+  -- it is live after its begin alone
   later : IsPrefix begun before
   later =
       let begunW : IsPrefix begun W = Rattle.turn_lock.proofs.Prefixes.prefix_trans begun E W filled.known within in

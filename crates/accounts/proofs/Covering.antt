@@ -1,7 +1,7 @@
 -- The places that a session, a transaction or a port has, and the entries that stand there.
 use Rattle.accounts.proofs.Words.{◌≡◌, ◌⊎◌, inl, inr, sym, refl, subst, ℕ, ◌+◌, ◌<◌, ◌≤◌, ◌==◌, Bool, true, false, cond, List, [], ◌∷◌, ◌++◌, arith, length, Accounts, IsPrefix, eqb-true, cases_lt, AllByRecursion, prefix_trans, next_prefix, AreNext, Next, World, Entry, Start, world_at, IsOfAccountsAt, commits_by, CommitsAccounts, Covers}
 
--- the entry makes no commit, wherever it stands
+-- the entry makes no commit, wherever it is
 abbrev pub IsQuiet : Entry → Type 0
 IsQuiet e = (W : World) → commits_by W e ≡ []
 

@@ -92,7 +92,7 @@ module _ {D O : Type 0} (accounts : Accounts) (A : Start) (d : DeviceId) (ready 
   quiet_made : (v w : View Entry) (txs : List (Tx D O)) (es : List Entry) → HasMade A v txs es w → AllByRecursion IsQuiet es → Covers accounts A w.seen (count_all v txs) → Covers accounts A w.seen (λ p. times p w.mine)
   quiet_made v w txs es made quiet is = covers_quiet accounts A w.seen v.seen w.seen (count_all v txs) (λ p. times p w.mine) es made quiet (prefix_self w.seen) is
 
-  -- one entry, and quiet ones behind it
+  -- one entry, and quiet ones after it
   then_quiet : (v w : View Entry) (txs : List (Tx D O)) (e : Entry) (es : List Entry) → HasMade A v txs (e ∷ es) w
       → ((before : List Entry) → IsLegal A (before ++ e ∷ []) → IsPrefix (before ++ e ∷ []) w.seen → A.tells ≡ true → IsOfAccountsAt accounts A before e) → AllByRecursion IsQuiet es
       → Covers accounts A w.seen (count_all v txs) → Covers accounts A w.seen (λ p. times p w.mine)

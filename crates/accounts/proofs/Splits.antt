@@ -1,4 +1,4 @@
--- Where an element stands in a list that has one more at its end, or in one behind another.
+-- Where an element is in a list that has one more at its end, or in one after another.
 use Rattle.accounts.proofs.SumWords.{◌≡◌, ◌⊎◌, ◌+◌, ◌<◌, inl, inr, refl, ap, arith, AllByRecursion, List, [], ◌∷◌, ◌++◌, Option, Some, ◌∙◌, length, slice_get, suc, zero, ℕ}
 
 module _ {X : Type 0} where

@@ -5,7 +5,7 @@ use Rattle.iso_shared.specs.declared.entry.Call.TheVariants as call
 use Rattle.iso_shared.specs.declared.entry.Cause.TheVariants as cause
 use Rattle.iso_shared.specs.declared.entry.Entry.TheVariants as entry
 
--- The entry adds commits to the history, or leaves them open behind it, as an entry tells of them that a device makes which is up.
+-- The entry adds commits to the history, or leaves them open after it, as an entry tells of them that a device makes which is up.
 record Adds (S : State) (e : Entry) : Type 0 where
   told : Entry
   up : S.lost ≡ None
@@ -183,7 +183,7 @@ by_their_calls accounts A es legal all = record {
       (all before later (entry.EndGroup xs) is))).of;
 }
 
--- an element behind the first part of a list
+-- an element after the first part of a list
 behind : {X : Type 0} (b m later : List X) (x : X) → (b ++ x ∷ m) ++ later ≡ b ++ x ∷ (m ++ later)
 behind b m later x = append_assoc b (x ∷ m) later
 

@@ -14,7 +14,7 @@ times_up k (suc n) p from below =
       | inr here ↦ let same : k ≡ p = omega arith in let one : hit k p ≡ 1 = ap (λ (j : ℕ). hit j p) same ∙ hit_itself p in omega (arith, one)
     ]
 
--- two beginnings of one list that are as long, with what stands behind them
+-- two beginnings of one list that are as long, with what is after them
 record Same (b c : List Entry) (e d : Entry) : Type 0 where
   front : b ≡ c
   here : e ≡ d
@@ -40,7 +40,7 @@ all_of_accounts accounts A E tells all before later e are =
     let same = same_place s.before before s.known.0 later s.e e s.place is in
     subst (λ (b : List Entry). IsOfAccountsAt accounts A b e) same.front (subst (IsOfAccountsAt accounts A s.before) same.here (s.well tells))
 
--- what a core stands for, is sound
+-- what a core represents, is sound
 pub ready_of : {D : Type 0} (state : D → DiskState) (A : Start) (core : Core D) → Holds state core (opened A) → A.world.live ≡ [] → IsReady A
 ready_of state A core holds idle = record { sound = holds.world.kept_of.world; idle = idle }
 

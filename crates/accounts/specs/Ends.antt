@@ -14,7 +14,7 @@ pub record BeginsWithSum (accounts : Accounts) (A : Start) : Type 0 where
   pub well : StoresAreWell (image_tree A.world.geometry) A.world.geometry A.world.history
   pub sum : KeepsSumIn accounts A.world.geometry (array_at A.world.history (last A.world.history))
 
--- The core stands for one legal list. Begun so, the sum of all accounts is the same after every commit of its history, once they are
+-- The core represents one legal list. Begun so, the sum of all accounts is the same after every commit of its history, once they are
 -- open; and every image that a crash might have left at any moment since, and that opens, opens to accounts with that sum, or to none.
 pub record SumStays {D : Type 0} (state : D → DiskState) (A : Start) (first : DiskState) (accounts : Accounts) (core : Core D) : Type 0 where
   pub entries : List Entry

@@ -10,7 +10,7 @@ use Rattle.par_calls.specs.EntriesInOrder.{commit_at, world_at}
 use Rattle.store_scripts.specs.Stores.{image_hash}
 use Rattle.accounts.specs.{Sums.{Accounts, KeepsSum}, Transactions.CommitsAccounts}
 
--- the commits that an entry makes where the world is this, or leaves open behind a fault of the disk
+-- the commits that an entry makes where the world is this, or leaves open after a fault of the disk
 abbrev pub commits_by : World → Entry → List Commit
 commits_by W (entry.End n accesses (Committed k)) = commit_at W n accesses ∷ []
 commits_by W (entry.EndGroup ends) = lost_commits W (members_of ends)
@@ -18,7 +18,7 @@ commits_by W (entry.Refused (call.End n accesses) (cause.Disk was now)) = commit
 commits_by W (entry.Refused (call.EndGroup members) (cause.Disk was now)) = lost_commits W members
 commits_by W e = []
 
--- those of this entry behind these are of accounts
+-- those of this entry after these are of accounts
 abbrev pub IsOfAccountsAt : Accounts → Start → (before : List Entry) → Entry → Type 0
 IsOfAccountsAt accounts A before e = AllByRecursion (CommitsAccounts accounts A.world.geometry (world_at A before).history) (commits_by (world_at A before) e)
 

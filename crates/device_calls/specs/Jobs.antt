@@ -9,7 +9,7 @@ use Rattle.handle_pass.specs.{Calls.HasFinished, Sessions.SessionState}
 use Rattle.device_calls.specs.Beginnings.{BeginsAt}
 
 -- The session had seen nothing, and did as is said. With what its end makes its entries are the whole list, which is legal. Each commit
--- in it is isolated, and the core stands for it.
+-- in it is isolated, and the core represents it.
 pub record HasDone {D : Type 0} (state : D → DiskState) (A : Start) (first : DiskState) (Says : (s t : SessionState) → Type 0) (core : Core D) : Type 0 where
   pub before : SessionState
   pub new : before.seen ≡ []

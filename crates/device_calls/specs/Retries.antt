@@ -8,7 +8,7 @@ use Rattle.device_calls.specs.declared.retry.Retry.TheVariants as retry
 use Rattle.device_calls.specs.declared.retry.RetryError.TheVariants as error
 
 module _ (A : Start) where
-  -- the transaction met a conflict, and a begin was made behind its end
+  -- the transaction met a conflict, and a begin was made after its end
   pub record Conflicted (s : SessionState) (mode : Option Mode) (r : Result ℕ BeginError) (t : SessionState) : Type 0 where
     pub between : SessionState
     pub clash : Clash

@@ -57,7 +57,7 @@ TreePuts a key value r t u before now = Puts (IsTreeRegion a) (tree_map a) (put_
 abbrev pub TreeRemoves : Area → List ℕ → Result Bool StoreError → (t u : Tx) → (before now : Device) → Type 0
 TreeRemoves a key r t u before now = Removes (IsTreeRegion a) (tree_map a) (del_op key) (tree.del_program a key) 1 key r t u before now
 
--- a scan, which may want memory for its pairs behind its last read too
+-- a scan, which may want memory for its pairs after its last read too
 pub record TreeScans (a : Area) (from to : List ℕ) (most : ℕ) (result : Result (List (List ℕ × List ℕ)) StoreError) (t u : Tx) (before now : Device) : Type 0 where
   pub answers : Answers (IsTreeRegion a) (tree_map a) (scan_op from to most) (is_key from && is_key to) 1 result t u before now
   pub ended : HasEnded (tree.scan_program a from to most) t u result ⊎ WantsMemory (tree.scan_program a from to most) t u result

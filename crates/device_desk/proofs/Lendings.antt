@@ -29,7 +29,7 @@ set_twice [] i y z = refl
 set_twice (x ∷ xs) zero y z = refl
 set_twice {X = X} (x ∷ xs) (suc i) y z = ap (λ (l : List X). x ∷ l) (set_twice xs i y z)
 
--- two lists with one item behind each
+-- two lists with one item after each
 last_same : {X : Type 0} (xs ys : List X) (x y : X) → xs ++ x ∷ [] ≡ ys ++ y ∷ [] → (xs ≡ ys) × (x ≡ y)
 last_same [] [] x y is = (refl, cc is)
 last_same [] (y' ∷ []) x y is = absurd (cc is)

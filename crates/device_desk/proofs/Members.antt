@@ -1,4 +1,4 @@
--- A group over a table: what is taken out of its list is what the model finds by the numbers, and stands for the same world.
+-- A group over a table: what is taken out of its list is what the model finds by the numbers, and represents the same world.
 use Rattle.iso_machine.proofs.{Words.{◌≡◌, ◌≢◌, ◌∙◌, sym, refl, ap, subst, ℕ, ◌≤◌, ◌<◌, ◌==◌, not, List, [], ◌∷◌, ◌++◌, length, get_or, map, arith, Option, Some, None, Result, Ok, Err, OnOk, append-nil, append_assoc, map-append, AllByRecursion, remove, all_filter, all_find, all_append, distinct_filter, DiskState, GroupReply, Geometry, World, Live, is_at_client, without, AreDistinct, found_ones, group, label_replies, Core, IsAmong, StandsFor, AreEach, IsMember, GroupEnd, up, reply_in, filled, stand_in, without_found}, Groups.{AreOther, all_among, filled_is, group_geometry, group_live, none_found, out, without_all}, Lists.{all_at, all_remove}}
 use Rattle.iso_model.specs.declared.access.GroupReply.TheVariants as member
 use Rattle.device_desk.specs.{declared.seat.Seat.Seat, Numbers.{HasTaken, found_of, left_of, member_of, numbers_step, of_number}, Seats.{AreOf, IsSized, live_of}}

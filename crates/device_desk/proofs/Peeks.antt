@@ -41,7 +41,7 @@ settled_work W t old new settled work is = record {
   accesses = ap (λ (w : Doing). w.accesses) is ∙ work.accesses;
 }
 
--- what holds in any case holds behind an error
+-- what holds in any case holds after an error
 pub on_any : {P : Type 0} (result : Result Reply Stop) → P → IfErr result (λ why. P)
 on_any (Ok r) is = tt
 on_any (Err e) is = is

@@ -89,7 +89,7 @@ module _ {stands : World → Type 0} where
         passed = λ other. (still_so why (λ e. other (ap Some e)) is).1;
       })
 
-  -- one end, and those behind it
+  -- one end, and those after it
   pub goes_on : {before : World → Type 0} {old mid new : DiskState} {W : World} (number : ℕ) (numbers all : List ℕ) (r : Reply) (more : List Reply) (why : Option Stop) → all ≡ number ∷ numbers
       → Answers Wanting before old mid W (step W number op.End) (Ok r) → Waits stands mid new (step W number op.End).1 numbers more why → Waits stands old new W all (r ∷ more) why
   goes_on {old = old} {new = new} {W = W} number numbers all r more why are is later =
@@ -184,7 +184,7 @@ tried_first first {stands = stands} {old = old} {new = new} {W = W} numbers befo
       passed = λ e. later.passed e ∙ is.3;
     })
 
--- From the world W the ends of some numbers were made, whose replies are behind those of before, and the others follow.
+-- From the world W the ends of some numbers were made, whose replies are after those of before, and the others follow.
 pub record GoneOn {D : Type 0} (state : D → DiskState) (old now : Table D) (W : World) (numbers rest : List ℕ) (before so_far : List Reply) : Type 0 where
   pub done : List Reply
   pub pushed : so_far ≡ before ++ done

@@ -13,7 +13,7 @@ pub record Device (D : Type 0) : Type 0 where
   pub table : Table D
   pub up : Bool
 
--- it is up, and stands for the world
+-- it is up, and represents the world
 pub record StandsAt {D : Type 0} (state : D → DiskState) (d : Device D) (W : World) : Type 0 where
   pub is_up : d.up ≡ true
   pub table : IsTableOf state d.table W
@@ -36,7 +36,7 @@ IsAsked (Group texts) = ⊥
 IsAsked op = Unit {0}
 
 -- From the world W the operation of the transaction of this number is answered as the model answers that of the client of this
--- number, and the desk then stands for the model's world.
+-- number, and the desk then represents the model's world.
 abbrev pub Answered : {D : Type 0} (state : D → DiskState) (old new : Device D) (W : World) (number : ℕ) → Op → Result Reply Stop → Type 0
 Answered state old new W number op result =
     AnswersTold (GoesOn op) (StandsAt state new) (state_at state old) (state_at state new) W (step W number op) (IsPlain op) result

@@ -12,7 +12,7 @@ abbrev pub ArePlaces : ℕ → List ℕ → Type 0
 ArePlaces n [] = Unit {0}
 ArePlaces n (i ∷ places) = (i < n) × AllByRecursion (λ j. j ≢ i) places × ArePlaces n places
 
--- what stands there
+-- what is there
 abbrev pub items_at : {X : Type 0} → List ℕ → List X → List X
 items_at [] xs = []
 items_at (i ∷ places) xs = take 1 (drop i xs) ++ items_at places xs
@@ -32,7 +32,7 @@ members_with so_far places live = so_far ++ map member_of (items_at places live)
 abbrev pub doing_of : Seat → ℕ × Doing
 doing_of a = (a.tx, record a.work.value { settled = false })
 
--- What a group of these members came to: the replies that they have, and the world that the core stands for.
+-- What a group of these members came to: the replies that they have, and the world that the core represents.
 pub record HasEnded {D T : Type 0} (state : D → DiskState) (old new : Core D) (W : World) (members : List Live) (ends : List GroupEnd) (result : Result T CoreError) : Type 0 where
   pub ended : OnOk result ((map reply_in ends ≡ map Some (group W members).0) × StandsFor state new (group W members).1 up)
   pub same : IfErr result (λ e. e ≢ error.Disk → StandsFor state new W up)

@@ -19,7 +19,7 @@ left_of [] live = live
 left_of (number ∷ numbers) live = left_of numbers (without_found live (of_number number live))
 
 -- The transactions of these numbers end one after the other: a reply for each number, none where no live transaction has it, and
--- the world behind them.
+-- the world after them.
 abbrev pub numbers_step : World → List ℕ → List (Option GroupReply) × World
 numbers_step W numbers = (label_replies (found_of numbers W.live) (group W (found_ones (found_of numbers W.live))).0, (group W (found_ones (found_of numbers W.live))).1)
 
@@ -27,7 +27,7 @@ numbers_step W numbers = (label_replies (found_of numbers W.live) (group W (foun
 abbrev pub member_of : Seat → GroupEnd
 member_of a = record { tx = a.tx; work = a.work.value; reply = None }
 
--- The transactions of these numbers have left the list and are further members, and an answer stands for each number.
+-- The transactions of these numbers have left the list and are further members, and an answer represents each number.
 pub record HasTaken (numbers : List ℕ) (old new : List Seat) (old_answers new_answers : List (Option GroupReply)) (old_ends new_ends : List GroupEnd) : Type 0 where
   pub gone : List Seat
   pub live : map live_of new ≡ left_of numbers (map live_of old)

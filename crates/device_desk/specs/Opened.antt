@@ -5,7 +5,7 @@ use Rattle.iso_model.specs.{declared.access.Geometry.Geometry, History.{History,
 use Rattle.iso_recover.specs.Opened.{TellsImage}
 use Rattle.device_desk.specs.Device.{Device, StandsAt}
 
--- It is up, and stands for the fresh world of what the disk told, also where it told nothing.
+-- It is up, and represents the fresh world of what the disk told, also where it told nothing.
 pub record IsOpenedAs {D : Type 0} (state : D → DiskState) (desk : Device D) (contents : Option (List ℕ)) : Type 0 where
   pub geometry : Geometry
   pub generation : ℕ
@@ -13,7 +13,7 @@ pub record IsOpenedAs {D : Type 0} (state : D → DiskState) (desk : Device D) (
   pub stands : StandsAt state desk (fresh geometry generation history)
   pub told : TellsImage contents geometry generation history
 
--- It is up, and stands for the fresh world of a history that ends at commit p of this one, with its array there and at each earlier
+-- It is up, and represents the fresh world of a history that ends at commit p of this one, with its array there and at each earlier
 -- commit that it still has, in an image of this geometry of either form.
 pub record IsReopenedAs {D : Type 0} (state : D → DiskState) (desk : Device D) (g : Geometry) (H : History) (p : ℕ) : Type 0 where
   pub form : ℕ

@@ -1,4 +1,4 @@
--- What a table of transactions stands for.
+-- What a table of transactions represents.
 use Rattle.std.specs.{Prelude.{◌≡◌, ℕ, List, Some, map}, List.AllByRecursion}
 use Rattle.iso_disk.specs.Disk.{DiskState}
 use Rattle.iso_model.specs.{declared.access.Geometry.Geometry, World.{World, Live, attached, client}}

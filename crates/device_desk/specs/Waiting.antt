@@ -26,7 +26,7 @@ pub record ShowsFrom (least : ℕ) (W : World) (numbers : List ℕ) (bytes : Lis
   pub shows : ShowsLast (after_ends W (take count numbers)) bytes
 
 -- From the world W the first of these ends are answered as the model answers them, and all of them where nothing stopped them. The
--- desk then stands for the world after those, unless the disk failed. At each moment an image shows the world after a whole number of
+-- desk then represents the world after those, unless the disk failed. At each moment an image shows the world after a whole number of
 -- the ends, and at the end of the call no fewer than were answered.
 pub record Waits (stands : World → Type 0) (old new : DiskState) (W : World) (numbers : List ℕ) (answers : List Reply) (why : Option Stop) : Type 0 where
   pub replies : answers ≡ end_replies W (take (length answers) numbers)

@@ -31,7 +31,7 @@ mask_rest (suc k) (x ∷ xs) =
     let e : suc k ≡ 1 + k = omega arith in
     ap (λ (n : ℕ). whole / 2 ^ n) e ∙ sym (shr-shr whole 1 k) ∙ ap (λ (n : ℕ). n / 2 ^ k) (one_less (is_other x) m) ∙ mask_rest k xs
 
--- the bytes behind a part's text, with the byte before the part and without
+-- the bytes after a part's text, with the byte before the part and without
 same_rest : (keys : List ℕ) (at len : ℕ) → 1 ≤ at → len ≤ 28 → drop (len + 2) (chunk (at - 1) 32 keys) ≡ drop (1 + len) (take 31 (drop at keys))
 same_rest keys at len some short =
     let more : 32 ≡ len + 2 + (30 - len) = omega arith in

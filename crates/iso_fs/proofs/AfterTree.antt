@@ -1,4 +1,4 @@
--- What a call of the file store does behind a call of the tree store, and behind the read of a file block.
+-- What a call of the file store does after a call of the tree store, and after the read of a file block.
 use Rattle.iso_fs.proofs.Words.{arith, ◌≡◌, ◌∙◌, ap, ℕ, true, List, ◌++◌, Option, Some, None, Result, get, Access, Area, StoreError, Array, own, is_key, AreReads, Program, accesses_of, answer_of, then_do, get_program, IsTreeRegion, tree_map, AreWhole, accesses_then, answer_then, own_reads, reads_append, whole_reads, own_append, whole_append, get_answers, get_reads, cond_reads, FileAreas, is_file, is_number, number_of, Call, at_file, goes_on, in_tree, with_file, AreFileRegions, file_at}
 
 -- what a program leaves, and then what follows it
@@ -6,7 +6,7 @@ pub own_then : {R S : Type 0} (p : Program R) (f : R → Program S) (A : Array)
     → own A (accesses_of (then_do p f) A) ≡ own (own A (accesses_of p A)) (accesses_of (f (answer_of p A)) (own A (accesses_of p A)))
 own_then p f A = ap (own A) (accesses_then p f A) ∙ own_append A (accesses_of p A) (accesses_of (f (answer_of p A)) (own A (accesses_of p A)))
 
--- behind a get of the tree store, where its region is well formed
+-- after a get of the tree store, where its region is well formed
 module _ {Y : Type 0} (a : Area) (A : Array) (region : IsTreeRegion a A) (name : List ℕ) (key : is_key name ≡ true) (next : Option (List ℕ) → Call Y) where
   abbrev reads : List Access
   reads = accesses_of (get_program a name) A
@@ -26,7 +26,7 @@ module _ {Y : Type 0} (a : Area) (A : Array) (region : IsTreeRegion a A) (name :
   pub own_got : own A (accesses_of (in_tree (get_program a name) next) A) ≡ own A (accesses_of (next found) A)
   own_got = ap (own A) accesses_got ∙ own_append A reads (accesses_of (next found) A) ∙ ap (λ (B : Array). own B (accesses_of (next found) A)) own_same
 
--- behind a get of the tree store, on whatever array
+-- after a get of the tree store, on whatever array
 module _ {Y : Type 0} (a : Area) (A : Array) (name : List ℕ) (next : Option (List ℕ) → Call Y) where
   abbrev gets : List Access
   gets = accesses_of (get_program a name) A
@@ -43,7 +43,7 @@ module _ {Y : Type 0} (a : Area) (A : Array) (name : List ℕ) (next : Option (L
   pub whole_behind_get : ((o : Option (List ℕ)) → AreWhole A (accesses_of (next o) A)) → AreWhole A (accesses_of (in_tree (get_program a name) next) A)
   whole_behind_get each = grind (arith, accesses_any, whole_append, whole_reads, get_reads) steps 100000
 
--- behind the read of a file block, where the regions are well formed
+-- after the read of a file block, where the regions are well formed
 module _ {Y : Type 0} (a : FileAreas) (A : Array) (regions : AreFileRegions a A) (name value : List ℕ) (named : get (tree_map a.tree A) name ≡ Some value) (next : ℕ → List ℕ → Call Y) where
   abbrev number : ℕ
   number = number_of value

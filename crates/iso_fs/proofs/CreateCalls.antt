@@ -5,7 +5,7 @@ use Rattle.store_model.specs.declared.files.FsError.TheVariants as fs
 no_ok : (e : FsError) (r : Unit {0}) → ◌≡◌ {A = Result (Unit {0}) FsError} (Err e) (Ok r) → ⊥
 no_ok e r is = cc
 
--- the writes behind the put of the name
+-- the writes after the put of the name
 abbrev writes : FileAreas → (first : List ℕ) → (k : ℕ) → Unit {0} → Call (Unit {0})
 writes a first k put = empty_writes a k (set_bit (Rattle.std.specs.Prelude.slice_index first (bit_place k)) k)
 

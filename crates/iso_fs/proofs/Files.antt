@@ -27,7 +27,7 @@ entry_handed a file parts i below = handed_is a.blocks (entry_at file i) (all_at
 more_blocks : (q size : ℕ) → (q + 1) * size ≡ q * size + size
 more_blocks q size = grind arith
 
--- byte p of a file stands in one of its blocks
+-- byte p of a file is in one of its blocks
 pub place_below : (size bytes p : ℕ) → 0 < size → p < bytes → p / size < blocks_for size bytes
 place_below size bytes p some below = grind (arith, more_blocks, le-div) steps 100000
 

@@ -67,7 +67,7 @@ module _ {Y : Type 0} (a : FileAreas) (name : List ℕ) (none : Y) (next : ℕ �
   find_then : then_do (find_program a name) (on_found none next) ≡ call
   find_then = then_assoc (get_program a.tree name) (goes_on (at_file a None found_file)) (on_found none next) ∙ (λ i. then_do (get_program a.tree name) (λ r. each_then r i))
 
-  -- what is done behind the look-up
+  -- what is done after the look-up
   pub found_part : {late : Bool} {writes : ℕ} {t u v : Tx} {before mid now : Device} {x : Found} {result : Result Y FsError} → IsPart false 1 (find_program a name) t u before mid (Ok x) → HasRead t u
       → IsPart late writes (on_found none next (Ok x)) u v mid now result → IsPart late writes (in_tree (get_program a.tree name) (at_file a none next)) t v before now result
   found_part {writes = writes} {t = t} {u = u} {v = v} {before = before} {mid = mid} {now = now} {x = x} {result = result} found read part =

@@ -45,7 +45,7 @@ part_refused {writes = writes} {t = t} {d = d} e known answered =
     let own = plain (refuse e) t t writes d d e answered (ran_at (refuse e) t t (Err e) (at_start (refuse e) t)) refl in
     record { run = own.0; behaves = refused_so t t writes d d e (read_none t) own.1 known (later_same d d refl) }
 
--- BEHIND A CALL OF THE TREE STORE
+-- AFTER A CALL OF THE TREE STORE
 runs_on : {X Y : Type 0} (p : Program (Result X StoreError)) (next : X → Call Y) (t u v : Tx) (x : X) (result : Result Y FsError) → Ran p t u (Ok x) → HasRun (next x) u v result → HasRun (in_tree p next) t v result
 runs_on p next t u v x result ran run = run_from (in_tree p next) (next x) t u v result (tree_done (in_tree p next) p next t t u (at_start (in_tree p next) t) x ran) run
 
@@ -77,7 +77,7 @@ put_stops {late = late} {t = t} {u = u} {e = e} p next has ended unwritten cause
   behaves = record { cause = cause; unwritten = unwritten_tree late t u e unwritten; known = λ x. cc; later = later; passed = tt };
 }
 
--- BEHIND A READ
+-- AFTER A READ
 pub map_stops : {Y : Type 0} {late : Bool} {writes : ℕ} {t v : Tx} {before now : Device} {e : TxError} (a : Area) (next : List ℕ → Call Y)
     → v ≡ t → 1 ≤ writes → IsCause v 1 before now e → IsLater before now → IsPart late writes (look_map a next) t v before now (Err (fs.Store (store.Tx e)))
 map_stops {writes = writes} {t = t} {v = v} {before = before} {now = now} {e = e} a next same le cause later = record {
@@ -110,7 +110,7 @@ whole_read {writes = writes} {t = t} {u = u} {v = v} {before = before} {mid = mi
   behaves = behaves_after t u v writes before mid now result (read_one _ is (refl, tt)) later passed part.behaves;
 }
 
--- BEHIND A WRITE
+-- AFTER A WRITE
 pub store_stops : {Y : Type 0} {late : Bool} {writes : ℕ} {t v : Tx} {before now : Device} {e : TxError} {b : ℕ} {spans : List Span} {bytes : List ℕ} {next : Call Y}
     → v ≡ t → 1 ≤ writes → IsCause v 1 before now e → now ≡ before → IsPart late writes (Store b spans bytes next) t v before now (Err (fs.Store (store.Tx e)))
 store_stops {writes = writes} {t = t} {v = v} {before = before} {now = now} {e = e} {b = b} {spans = spans} {bytes = bytes} {next = next} same le cause device = record {

@@ -111,7 +111,7 @@ module _ (a : Area) (file : List ℕ) (from to : ℕ) (found : List ℕ) (less :
       (subst (λ (xs : List ℕ). IsAt (read_pieces a file (suc most) from to found) (read_pieces a file most (from + piece_len a.size from to) to xs) t u) (sym all)
       (piece_done a file most from to found less t u bytes told_so tx is_so))
 
--- the bytes that were read, once a piece more is laid behind them
+-- the bytes that were read, once a piece more is laid after them
 pub more_read : (at n : ℕ) (piece room : List ℕ) → length piece ≡ n → at + n ≤ length room → take (at + n) (laid_at at piece room) ≡ take at room ++ piece
 more_read at n piece room is fits =
     let old : length (take at room) ≡ at = length-take-le at room (omega arith) in

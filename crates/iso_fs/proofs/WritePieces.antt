@@ -182,7 +182,7 @@ module _ (a : Area) (E : List ℕ) (old to : ℕ) (some : 0 < a.size) (inside : 
           ])
     ]
 
-    -- A byte behind the range stays, where its block is an old one.
+    -- A byte after the range stays, where its block is an old one.
     piece_behind : (from : ℕ) (bytes : List ℕ) (X : Array) (less : from < to) (whole : length bytes ≡ to - from) (shape : (i : ℕ) → i < length E → length (block_at X (at i)) ≡ size)
         → (p : ℕ) → to ≤ p → p / size < old → p / size < length E → byte_at (put X (one a E old from to bytes)) (at (p / size)) (p % size) ≡ byte_at X (at (p / size)) (p % size)
     piece_behind from bytes X less whole shape p past young below =

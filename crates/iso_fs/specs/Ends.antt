@@ -55,7 +55,7 @@ abbrev pub ExistsWhere : {X : Type 0} → FileAreas → Tx → (Pairs → Bool) 
 ExistsWhere a t test result =
     (A : Array) → t.base ≡ Some A → AreFileRegions a (own A t.accesses) → HasAnswered result → (result ≡ Err fs.Exists ↔ IsTrue (test (files a (own A t.accesses))))
 
--- Whether a refusal may come behind a write: the transaction's own may, and where a call of the tree follows a write, want of
+-- Whether a refusal may come after a write: the transaction's own may, and where a call of the tree follows a write, want of
 -- memory and a broken block may too.
 abbrev pub may_follow : (tree_call : Bool) → FsError → Bool
 may_follow tree_call (fs.Store (store.Tx e)) = true

@@ -34,7 +34,7 @@ abbrev pub got_as : (room : List ℕ) → Result (Option ℕ) FsError → Result
 got_as room (Ok o) = Ok (option_map (λ n. take n room) o)
 got_as room (Err e) = Err e
 
--- the removal of the old name, behind the put of the new one
+-- the removal of the old name, after the put of the new one
 abbrev pub drop_name : FileAreas → (old : List ℕ) → Call Bool
 drop_name a old = in_tree (del_program a.tree old) (λ there. Done (Ok true))
 

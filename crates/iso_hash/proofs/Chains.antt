@@ -26,7 +26,7 @@ pub record IsNextIn (a : Area) (position next : ℕ) : Type 0 where
 pub next_in : (a : Area) (position next : ℕ) → is_next a position next ≡ true → next ≢ 0 → IsNextIn a position next
 next_in a position next is some = grind arith steps 100000
 
--- where a block of the list stands
+-- where a block of the list is
 pub record Placed (a : Area) (keys : ℕ → List ℕ) (bucket position first k : ℕ) : Type 0 where
   pub place : ℕ
   pub low : position ≤ place
@@ -66,7 +66,7 @@ module _ (a : Area) (keys : ℕ → List ℕ) (b k : ℕ) (area : IsHashArea a) 
     | inr later ↦ (stand.past (omega arith)).1
   ]
 
--- no block stands in two chains
+-- no block is in two chains
 pub one_bucket : (a : Area) (keys : ℕ → List ℕ) (b c k : ℕ) → AreLinked a keys b 0 (chain a keys b) (1 + b) 0 → AreLinked a keys c 0 (chain a keys c) (1 + c) 0
     → IsIn k (chain a keys b) → IsIn k (chain a keys c) → b ≡ c
 one_bucket a keys b c k first second has_b has_c =

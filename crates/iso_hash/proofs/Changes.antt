@@ -181,7 +181,7 @@ remove_missing m key none = same_map nat_list_cmp_total (slice_cmp-IsAntisymmetr
           sym (get-remove nat_list_cmp_total m key q ∙ ap (λ t. cond t None (get m q)) fail))
     ])
 
--- the last block of a chain has none behind it
+-- the last block of a chain has none after it
 no_more : (a : Area) (keys : ℕ → List ℕ) (b : ℕ) (xs : List ℕ) (before k : ℕ) (ys : List ℕ) → AreLinked a keys b 0 (xs ++ (before ∷ k ∷ ys)) (1 + b) 0 → next_of (keys k) ≡ 0 → ys ≡ []
 no_more a keys b xs before k [] linked last = refl
 no_more a keys b xs before k (y ∷ ys) linked last = grind (arith, linked_split)

@@ -153,7 +153,7 @@ module _ (a : Area) (key : List ℕ) (A : Array) (s : Spot) (before x : ℕ) (fr
       let was : length (chain a (view_of a A).keys b0) ≡ length front + 2 = ap length blocks_are ∙ length-append front (before ∷ s.block ∷ []) in
       chain_of a (view_of a B).keys b0 (front ++ (before ∷ [])) linked_b0 (omega (arith, length-append front (before ∷ []), length-chain_from (view_of a A).keys (last_position a + 1) (1 + b0)))
 
-  -- where a block stands after the writes
+  -- where a block is after the writes
   in_old : (b k : ℕ) → b < buckets a → IsIn k (chain a (view_of a B).keys b) → IsIn k (chain a (view_of a A).keys b) × (k ≢ s.block)
   in_old b k below has = elim (cases_eq b b0) [
     | inr other ↦

@@ -143,11 +143,11 @@ seek a q keys value =
     })
     (seek_buckets a q keys value 0 (buckets a))
 
--- no key stands twice
+-- no key is twice
 abbrev pub AreApart : Area → (ℕ → List ℕ) → Type 0
 AreApart a keys = (b k i c l j : ℕ) → Stands a keys b k i → Stands a keys c l j → key_at (keys k) i ≡ key_at (keys l) j → (k ≡ l) × (i ≡ j)
 
--- a key that stands somewhere is found with its value
+-- a key that is somewhere is found with its value
 pub finds_it : (a : Area) (keys : ℕ → List ℕ) (value : ℕ → ℕ → List ℕ) (q : List ℕ) (b k i : ℕ) → AreApart a keys → Stands a keys b k i → key_at (keys k) i ≡ q
     → found_in q (all_pairs a keys value) ≡ Some (text_of (value k i))
 finds_it a keys value q b k i apart stands is = elim (seek a q keys value) [
@@ -158,7 +158,7 @@ finds_it a keys value q b k i apart stands is = elim (seek a q keys value) [
       some.1.0 ∙ ap (λ v. Some v) (sym has.text ∙ ap (λ (m : ℕ). text_of (value m has.cell)) same.0 ∙ ap (λ (j : ℕ). text_of (value k j)) same.1))
 ]
 
--- a key that stands nowhere is not found
+-- a key that is nowhere is not found
 pub finds_none : (a : Area) (keys : ℕ → List ℕ) (value : ℕ → ℕ → List ℕ) (q : List ℕ) → ((b k i : ℕ) → Stands a keys b k i → key_at (keys k) i ≡ q → ⊥) → found_in q (all_pairs a keys value) ≡ None
 finds_none a keys value q missing = grind (arith, seek) steps 100000
 

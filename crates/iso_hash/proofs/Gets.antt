@@ -30,12 +30,12 @@ walk_missed a key with_value A spare last place end =
     way_end a key (bucket_of a key) with_value A (last_position a + 1) 0 0 (1 + bucket_of a key) None spare last place
     (subst (Rattle.iso_hash.proofs.Ways.Way a key (bucket_of a key) with_value A (last_position a + 1) 0 0 (1 + bucket_of a key) None) end (way a key (bucket_of a key) with_value A (last_position a + 1) 0 0 (1 + bucket_of a key) None))
 
--- the cell that a walk found stands in the region
+-- the cell that a walk found is in the region
 pub found_stands : (a : Area) (key : List ℕ) (with_value : Bool) (A : Array) (s : Spot) (before : ℕ) (ks v : List ℕ) → IsHashArea a → 0 < length key
     → Found a key A with_value (chain a (view_of a A).keys (bucket_of a key)) 0 s before ks v → Stands a (view_of a A).keys (bucket_of a key) s.block s.cell
 found_stands a key with_value A s before ks v area some found = grind (arith, bucket_below, key_used) steps 100000
 
--- a key that a walk missed stands nowhere in a well-formed region
+-- a key that a walk missed is nowhere in a well-formed region
 pub missed_nowhere : (a : Area) (key : List ℕ) (A : Array) (spare : Option Spot) (last place : ℕ) → IsHashRegion a A
     → Missed a key A (chain a (view_of a A).keys (bucket_of a key)) 0 None spare last place → (b k i : ℕ) → Stands a (view_of a A).keys b k i → key_at ((view_of a A).keys k) i ≢ key
 missed_nowhere a key A spare last place region missed b k i stands is = grind arith steps 100000

@@ -1,4 +1,4 @@
--- A put into a new block behind the last one of a chain: the region stays well formed, and its map gets the value.
+-- A put into a new block after the last one of a chain: the region stays well formed, and its map gets the value.
 use Rattle.iso_hash.proofs.{Words.{◌≡◌, ◌≢◌, ◌⊎◌, ◌↔◌, ◌∙◌, sym, refl, ap, subst, ℕ, ◌+◌, ◌*◌, ◌^◌, ◌<◌, ◌≤◌, true, false, ◌||◌, ◌==◌, not, nat_eq, nat_le, nat_lt, IsTrue, List, [], ◌∷◌, ◌++◌, length, get_or, take, Option, arith, inl, inr, eq-eqb, ne_eqb, length-append, w32, to_be_bytes, list_all, cases_eq, both_ways, and_from, or_left, or_right, or_cases, eqb-true, nat_tests, from_be_bytes-to_be_bytes_4, Area, Spot, Array, merged, put, block_at, bytes_in, store_access, cell_count, keys_mark, key_mark, value_mark, next_mark, word_at, is_zero, is_part, text_of, key_part, value_part, is_unused, key_at, block_with, map_bytes, bit_place, bit_mark, map_bit, set_bit, view_of, buckets, bucket_of, last_position, next_of, is_next, is_linked, chain, hash_map, IsIn, AreLinked, Stands, IsOverflow, HaveValues, IsHashRegion, IsHashArea, new_block, length-block_put, written_block, other_block, bits_with, laid_whole, part_is_part, part_text, zero_part, zeros_are, byte_here, byte_far, head_far, length-block_with, in_block_with, in_front, in_back, in_cases}, Chains.{placed, block_inside, all_in, distinct, next_in, head_of}, Gets.bucket_below, Linking.chain_of, Moves.{IsSame, Moves, StandsAt, map_put, buckets_at, apart_at}, NewBlocks.{size_most, length-new_block, new_next, new_key_here, new_unused, new_value_here, new_value_blank, new_linked}, Relinked.{IsRelinked, some_in, first_long, chain_other, linked_anew, linked_all, stays_same, was_same, values_old}, Pigeons.fewer, Puts.{HasPut, new_used, new_key}, Ways.Missed}
 
 -- a chain that leaves out an overflow block is shorter than one of all of them
@@ -160,7 +160,7 @@ module _ (a : Area) (key value : List ℕ) (A : Array) (last place new x : ℕ) 
     ]
   ]
 
-  -- where a block stands after the writes
+  -- where a block is after the writes
   in_new : (b k : ℕ) → b < buckets a → IsIn k (chain a (view_of a B).keys b) → IsIn k (chain a (view_of a A).keys b) ⊎ ((b ≡ b0) × (k ≡ new))
   in_new b k below has = elim (cases_eq b b0) [
     | inr other ↦ inl (subst (IsIn k) (chain_other a A B b0 last bytes3 region relinks b below other) has)
@@ -195,7 +195,7 @@ module _ (a : Area) (key value : List ℕ) (A : Array) (last place new x : ℕ) 
   cells_some : 0 < cell_count a.size
   cells_some = let least = area.least_size in omega arith
 
-  -- a cell that stands after the writes stood before, or is the new one
+  -- a cell that is after the writes stood before, or is the new one
   stood : (b k i : ℕ) → Stands a (view_of a B).keys b k i → IsSame a (view_of a B).keys (view_of a A).keys (view_of a B).value (view_of a A).value b k i ⊎ ((b ≡ b0) × ((k ≡ new) × (i ≡ 0)))
   stood b k i stands = elim (in_new b k stands.bucket_is stands.block_is) [
     | inl old ↦ inl (was_same a A B b0 last bytes3 region relinks b k i stands old)

@@ -1,7 +1,7 @@
 -- A change of the cells of a region: its keys stay apart, and its map has one key changed.
 use Rattle.iso_hash.proofs.{Words.{arith, ◌≡◌, ◌≢◌, ◌∙◌, sym, refl, ap, ℕ, true, false, cond, List, Some, None, inl, inr, nat_cmp, eq_by_cmp, slice_cmp, nat_list_cmp_total, from_entries, get, insert, remove, get-insert, get-remove, same_map, slice_cmp-IsAntisymmetric, nat_cmp-IsAntisymmetric, bytes_eq-Decides, Area, Spot, text_of, key_at, Pairs, bucket_of, all_pairs, Stands}, Finding.{ties, bytes_other, cases_key, found_in, seek, AreApart, finds_it, finds_none, map_gets}}
 
--- the cell stands in another region too, with the same key and value
+-- the cell is in another region too, with the same key and value
 pub record IsSame (a : Area) (keys new : ℕ → List ℕ) (value given : ℕ → ℕ → List ℕ) (b k i : ℕ) : Type 0 where
   pub stands : Stands a new b k i
   pub key_is : key_at (new k) i ≡ key_at (keys k) i
@@ -12,17 +12,17 @@ pub record Moves (a : Area) (keys new : ℕ → List ℕ) (value given : ℕ →
   pub kept : (b k i : ℕ) → Stands a keys b k i → key_at (keys k) i ≢ key → IsSame a keys new value given b k i
   pub old : (b k i : ℕ) → Stands a new b k i → key_at (new k) i ≢ key → IsSame a new keys given value b k i
 
--- each key stands in its bucket
+-- each key is in its bucket
 abbrev pub InBuckets : Area → (ℕ → List ℕ) → Type 0
 InBuckets a keys = (b k i : ℕ) → Stands a keys b k i → bucket_of a (key_at (keys k) i) ≡ b
 
--- the key stands in this cell of its bucket, and nowhere else
+-- the key is in this cell of its bucket, and nowhere else
 pub record StandsAt (a : Area) (new : ℕ → List ℕ) (key : List ℕ) (at : Spot) : Type 0 where
   pub here : Stands a new (bucket_of a key) at.block at.cell
   pub key_is : key_at (new at.block) at.cell ≡ key
   pub only : (b k i : ℕ) → Stands a new b k i → key_at (new k) i ≡ key → (b ≡ bucket_of a key) × ((k ≡ at.block) × (i ≡ at.cell))
 
--- the key stands nowhere
+-- the key is nowhere
 abbrev pub StandsNowhere : Area → (ℕ → List ℕ) → List ℕ → Type 0
 StandsNowhere a new key = (b k i : ℕ) → Stands a new b k i → key_at (new k) i ≢ key
 

@@ -1,4 +1,4 @@
--- What stands in a new block of a bucket.
+-- What is in a new block of a bucket.
 use Rattle.iso_hash.proofs.{Words.{◌≡◌, ◌≢◌, ◌⊎◌, ◌∙◌, sym, refl, ap, ℕ, ◌+◌, ◌*◌, ◌^◌, ◌<◌, ◌≤◌, true, false, ◌==◌, cond, List, length, replicate, arith, inl, inr, eq-eqb, w32, to_be_bytes, from_be_bytes, list_all, cases_eq, and_from, nat_tests, length-replicate, from_be_bytes-to_be_bytes_4, Span, Area, bytes_in, cell_count, keys_end, keys_mark, key_mark, value_mark, word_at, is_zero, is_part, key_part, value_part, laid_at, are_key_parts, next_of, is_next, is_linked, IsHashArea, with_cell, new_block, laid_here, length-laid_at, laid_kept, piece_of, piece_zero, zeros_are, zero_part, length-part, part_is_part, all_pass}, Puts.{length-with_cell, cell_key_part, cell_value_part, cells_fit}}
 
 pub size_most : (a : Area) → IsHashArea a → a.size ≤ 4096

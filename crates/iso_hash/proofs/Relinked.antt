@@ -31,7 +31,7 @@ module _ (a : Area) (A B : Array) (bucket link : ℕ) (bytes : List ℕ) (region
   pub chain_other : (c : ℕ) → c < buckets a → c ≢ bucket → chain a (view_of a B).keys c ≡ chain a (view_of a A).keys c
   chain_other c below other = chain_of a (view_of a B).keys c (chain a (view_of a A).keys c) (linked_other c below other) (length-chain_from (view_of a A).keys (last_position a + 1) (1 + c))
 
-  -- the bucket's own chain, which has other blocks behind the one that is linked anew
+  -- the bucket's own chain, which has other blocks after the one that is linked anew
   module _ (front tail : List ℕ) (are : chain a (view_of a A).keys bucket ≡ front ++ (link ∷ tail)) where
     whole : AreLinked a (view_of a A).keys bucket 0 (front ++ (link ∷ tail)) (1 + bucket) 0
     whole = subst (λ (blocks : List ℕ). AreLinked a (view_of a A).keys bucket 0 blocks (1 + bucket) 0) are (region.keyed.linked bucket is.below)

@@ -97,7 +97,7 @@ module _ (a : Area) (block before byte : ℕ) (t : Tx) (room : 2 ≤ room_of t) 
       → IsAt (shrinking a block before byte) (unlinked a before) t u
   shrink_at_second u tx is = at_store (shrinking a block before byte) a.start (bit_mark block ∷ []) (block_with a.size (bit_place block) (byte ∷ [])) (unlinked a before) t t u shrink_at_first tx.count is
 
--- a removal whose cell stands in a block that is given back, or in one that stays
+-- a removal whose cell is in a block that is given back, or in one that stays
 pub del_there : (a : Area) (s : Spot) (before : ℕ) (ks v : List ℕ) (spent : Bool) (u w : Tx) (result : Result Bool StoreError) → is_spent a s ks ≡ spent
     → HasRun (cond spent (give_back_block a s before) (make_zero a s)) u w result → HasRun (del_at a (hash.AtCell s before ks v)) u w result
 del_there a s before ks v spent u w result is run = subst (λ (t : Bool). HasRun (cond t (give_back_block a s before) (make_zero a s)) u w result) (sym is) run

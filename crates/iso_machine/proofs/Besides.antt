@@ -1,4 +1,4 @@
--- A core that stands for a world stands for each that differs from it in accesses and places alone.
+-- A core that represents a world represents each that differs from it in accesses and places alone.
 use Rattle.iso_machine.proofs.Words.{◌≡◌, ◌∙◌, refl, sym, ap, subst, ℕ, ◌≤◌, List, map, DiskState, last, with_live, World, Live, floor_of, IsWorld, Core, StandsFor, bare, up, stands_on, kept_floor}
 
 pub stands_besides : {D : Type 0} (state : D → DiskState) (core : Core D) (W : World) (live : List Live) → StandsFor state core W up

@@ -1,4 +1,4 @@
--- A group over a machine: what is taken out of its list is what the model finds under the labels, and stands for the same world.
+-- A group over a machine: what is taken out of its list is what the model finds under the labels, and represents the same world.
 use Rattle.iso_machine.proofs.{Words.{◌≡◌, ◌≢◌, ◌∙◌, ◌⊎◌, sym, refl, ap, subst, ℕ, ◌==◌, not, Bool, true, false, cond, List, [], ◌∷◌, map, filter, Option, Some, None, inl, inr, eq-eqb, ne_eqb, cases_eq, AllByRecursion, all_filter, all_find, all_weaker, same_number, DiskState, Geometry, GroupReply, World, Live, Place, held, is_under_label, unattached, with, without, IsWorld, placed, after_leaving, with_live, after_look, ahead, decided, decided_live, found_ones, group, group_is, group_step, label_replies, leave_all, looks, made_by, member_reply, held_live, look_leads, looks_lead, looks_geometry, end_step, Core, IsAmong, StandsFor, AreEach, IsMember, bare, up, Attached, IsSized, live_of, filled, found_in, left_in, member_of, stand_in, under, without_found}, Besides.stands_besides}
 
 -- WHAT IS FOUND
@@ -134,7 +134,7 @@ pub geometry_behind : (texts : List (List ℕ)) (W : World) → (group_step W te
 unfolding group_step
 geometry_behind texts W = group_geometry (looks W texts).1 (found_ones (looks W texts).0) ∙ looks_geometry texts W
 
--- THE WORLD BEHIND THE LOOKS
+-- THE WORLD AFTER THE LOOKS
 bare_with : (t : Live) (place : Place) (live : List Live) → AllByRecursion (λ u. u.number ≡ t.number → u ≡ t) live → map bare (with (record t { place = place }) live) ≡ map bare live
 bare_with t place [] all = refl
 bare_with t place (u ∷ live) all =

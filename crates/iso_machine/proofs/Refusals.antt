@@ -5,7 +5,7 @@ use Rattle.iso_model.specs.declared.core_reply.CoreReply.TheVariants as reply
 use Rattle.script_model.specs.declared.stop.Stop.TheVariants as stop
 use Rattle.iso_core.specs.Calls as core
 
--- a reply that stands for an error of a core
+-- a reply that represents an error of a core
 abbrev pub IsRefusal : CoreReply → Type 0
 IsRefusal reply.TooManyTx = Unit {0}
 IsRefusal (reply.LogFull need free) = Unit {0}

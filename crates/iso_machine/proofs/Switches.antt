@@ -31,7 +31,7 @@ pub keeps_switch : (W : World) (form : ℕ) (answer : CoreReply) → (IsRefusal 
 unfolding switch_step
 keeps_switch W form answer none = keeps_worn W (W.generation == LAST) form answer none
 
--- an error that stands for a reply is no fault of the disk and no want of memory
+-- an error that represents a reply is no fault of the disk and no want of memory
 pub worn_still : {D : Type 0} (old new : D) (e : CoreError) → (e ≢ error.Disk → e ≢ error.Memory → new ≡ old) → IsSome (refusal_of e) → new ≡ old
 worn_still old new error.Down still some = absurd cc
 worn_still old new error.TooManyTx still some = still (λ e. cc e) (λ e. cc e)

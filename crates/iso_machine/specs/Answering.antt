@@ -19,7 +19,7 @@ Never why = ⊥
 
 -- From the world W, the reply and the world are those that are given, but for bytes that are shown and that the disk does
 -- not tell. At each moment an image shows the world before or the world after, and the world before where memory was wanting. Without
--- a reply it stands for W, if it goes on then.
+-- a reply it represents W, if it goes on then.
 pub record Answers (goes_on : Stop → Type 0) (stands : World → Type 0) (old new : DiskState) (W : World) (given : Reply × World) (result : Result Reply Stop) : Type 0 where
   pub reply : IfOk result (λ r. IfTold old (r ≡ given.0))
   pub but_shown : IfOk result (λ r. SameButShown r given.0)

@@ -23,7 +23,7 @@ abbrev pub left_in : List (List ℕ) → List Live → List Live
 left_in [] live = live
 left_in (text ∷ texts) live = left_in texts (without_found live (under text live))
 
--- the answer that stands for the one of what was found
+-- the answer that represents the one of what was found
 abbrev pub stand_in : Option Live → Option GroupReply
 stand_in None = None
 stand_in (Some t) = Some member.Worn
@@ -39,7 +39,7 @@ filled (Some r ∷ answers) (first ∷ replies) = first ∷ filled answers repli
 abbrev pub member_of : Attached → GroupEnd
 member_of a = record { tx = a.tx; work = a.work.value; reply = None }
 
--- The transactions under the labels have left the list and are further members, and an answer stands for each label.
+-- The transactions under the labels have left the list and are further members, and an answer represents each label.
 pub record HasTaken (texts : List (List ℕ)) (old new : List Attached) (old_answers new_answers : List (Option GroupReply)) (old_ends new_ends : List GroupEnd) : Type 0 where
   pub gone : List Attached
   pub live : map live_of new ≡ left_in texts (map live_of old)

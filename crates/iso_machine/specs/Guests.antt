@@ -23,13 +23,13 @@ pub record IsSameWork (old new : Doing) : Type 0 where
   pub size : new.size ≡ old.size
   pub blocks : new.blocks ≡ old.blocks
 
--- the count of the disk's faults stands, or rose where it failed in the call
+-- the count of the disk's faults stays, or rose where it failed in the call
 pub record Counts (failures before now : ℕ) : Type 0 where
   pub later : before ≤ now
   pub none : failures ≡ 0 → now ≡ before
   pub some : 0 < failures → Rose before now
 
--- The transaction is live in each world that the core stood for, and the core stands for it still: nothing was written.
+-- The transaction is live in each world that the core stood for, and the core represents it still: nothing was written.
 pub record IsGuest {D : Type 0} (state : D → DiskState) (stood : World → Type 0) (before : DiskState) (begun : Doing) (array : Option Array)
     (core : Core D) (tx : ℕ) (doing : Doing) (failures : ℕ) : Type 0 where
   pub world : World

@@ -1,4 +1,4 @@
--- What a machine stands for.
+-- What a machine represents.
 use Rattle.std.specs.{Prelude.{◌≡◌, ◌<◌, ℕ, Bool, false, IsTrue, List, Option, None, map, nat_eq, slice_index_or}, List.AllByRecursion}
 use Rattle.iso_disk.specs.Disk.{DiskState}
 use Rattle.iso_model.specs.{declared.access.Geometry.Geometry, World.{World, Live, Place, client, is_at_client, is_under_label, label}, Labels.{is_label, key_of}, Worlds.AreDistinct}

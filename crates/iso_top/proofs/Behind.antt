@@ -1,4 +1,4 @@
--- A text, and a line behind it.
+-- A text, and a line after it.
 use Rattle.iso_top.proofs.Words.{inl, inr, ◌+◌, ℕ, List, ◌++◌, length, take, length-append, sym, ◌∙◌, ap, subst, arith, take-append-add, append_known, Rose, SinkState, CountsStand, Wrote, append_known-append, Printed, SinkFailed}
 
 wrote_both : (a b c : SinkState) (xs ys : List ℕ) → Wrote a b xs → Wrote b c ys → Wrote a c (xs ++ ys)

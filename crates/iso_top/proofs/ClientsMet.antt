@@ -10,7 +10,7 @@ none_begun state made name e given left image input output_old output_new none s
     (record { unbegun = none.unbegun; once = none.once; refused = none.refused; cause = none.cause; unread = refl; printed = printed })
 
 module _ {D : Type 0} (state : D → DiskState) (lawful : (d : D) → IsLawful (state d)) (name : List ℕ) (given : D) (core : Core D) (has : HasCore state None name given core) where
-  -- the world that the core stands for is one that a list may begin with
+  -- the world that the core represents is one that a list may begin with
   pub may_begin : (o : Opened D) → o.core ≡ core → o.given.value ≡ given → (W : World) × BeginsWith state o W
   may_begin o core_is given_is = (
     has.world,

@@ -9,7 +9,7 @@ opens_at V p c s =
     let at = s.last in
     record { geometry = record V.geometry { form = s.form }; generation = s.generation; history = s.held; holds = s.image; accepted = held.free; opens = held.opens; last = omega arith }
 
--- with the commits that may stand behind the others
+-- with the commits that may stand after the others
 between_lost : (W : World) (o : Option (List Commit)) (c : List ℕ) → 0 < W.history.first → ShowsBehind o W c → ShowsBetween W (with_lost W o) c
 between_lost W None c some shown = shows_last W c shown
 between_lost W (Some lost) c some (inl before) =

@@ -3,7 +3,7 @@ use Rattle.iso_top.proofs.Words.{option_map, codes, fresh, super_of, half_of, fa
 use Rattle.std.specs.Prelude.{◌≡◌, [], ◌∷◌, ℕ, List, Some, refl}
 use Rattle.iso_image.proofs.RefusalWords.{Opened, opened, refusal}
 
--- a half with commit 5 as its base and commit 6 behind it, which writes 01 at byte 6 of block 2
+-- a half with commit 5 as its base and commit 6 after it, which writes 01 at byte 6 of block 2
 abbrev later_half : List ℕ
 later_half =
     with_piece 608 (1 ∷ 1 ∷ 0 ∷ 0 ∷ 0 ∷ 0 ∷ 0 ∷ 0 ∷ 0 ∷ 0 ∷ 0 ∷ 0 ∷ 0 ∷ 0 ∷ 0 ∷ 2 ∷ 0 ∷ 0 ∷ 0 ∷ 0 ∷ 0 ∷ 0 ∷ 0 ∷ 5 ∷ [])

@@ -1,4 +1,4 @@
--- A run, without what its machine stands for.
+-- A run, without what its machine represents.
 use Rattle.iso_top.proofs.Words.{◌≡◌, ◌⊎◌, inl, inr, subst, DiskState, SinkState, SourceState, BadLine, World, RunEnd, HasRun, IfUp}
 use Rattle.script_runner.specs.declared.run_end.RunEnd.TheVariants as end
 
@@ -6,7 +6,7 @@ nothing_up : (e : RunEnd) → IfUp e (Unit {0})
 nothing_up end.Done = tt
 nothing_up e = tt
 
--- what holds behind a run that stopped nothing
+-- what holds after a run that stopped nothing
 pub up_behind : (P : Type 0) (e : RunEnd) → IfUp e P → (e ≡ end.Done) ⊎ ((bad : BadLine) × (e ≡ end.BadLine bad)) ⊎ (e ≡ end.Input) ⊎ (e ≡ end.Output) → P
 up_behind P e up (inl done) = subst (λ (x : RunEnd). IfUp x P) done up
 up_behind P e up (inr (inl (bad, is))) = subst (λ (x : RunEnd). IfUp x P) is up

@@ -13,7 +13,7 @@ Blames (entry.Refused c (cause.Disk before now)) = Unit {0}
 Blames (entry.Refused c cause.Down) = Unit {0}
 Blames e = ⊥
 
--- such an entry stands in the list
+-- such an entry is in the list
 abbrev pub HasBlame : List Entry → Type 0
 HasBlame [] = ⊥
 HasBlame (e ∷ es) = Blames e ⊎ HasBlame es

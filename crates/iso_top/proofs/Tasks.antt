@@ -2,7 +2,7 @@
 use Rattle.iso_top.proofs.{Words.{◌≡◌, ◌≢◌, ◌⊎◌, inl, inr, ◌+◌, ◌++◌, ℕ, List, [], Option, Some, None, IfSome, IsSome, append-nil, refl, sym, ◌∙◌, ap, subst, arith, Rose, DiskState, LeavesOnly, since_bind, still_bound, SinkState, SourceState, Geometry, Line, bench_geometry, bench_output, bench_text, bench_world, recover_output, History, Script, script, IsWorld, World, empty_history, fresh, Core, StandsFor, disk_of, up, RunEnd, AreFirst, AreLinesOf, HasRun, ArePlain, IsPlain, all_first, ShowsBetween, HasCore, HasBegun, HasBenched, HasRecovered, PrintedBench, PrintedDigest, PrintedLine, PrintedResult, summary_of, IsUntouched, MayBeUnmade, OpensTo, TellsNamed}, Answered.has_begun}
 use Rattle.script_runner.specs.declared.run_end.RunEnd.TheVariants as end
 
--- a core over a new image stands for the fresh world
+-- a core over a new image represents the fresh world
 made_world : {D : Type 0} (state : D → DiskState) (g : Geometry) (name : List ℕ) (disk : D) (core : Core D) → HasCore state (Some g) name disk core → HasCore state (Some g) name disk core
 made_world state g name disk core has = record {
   world = fresh g 1 (empty_history g);

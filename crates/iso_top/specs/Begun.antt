@@ -7,7 +7,7 @@ use Rattle.iso_recover.specs.Cause.{IsBlamed, IsTest}
 use Rattle.iso_image.specs.{declared.open_error.OpenError.OpenError, Refusal.refusal}
 use Rattle.iso_top.specs.Starts.{GoesOnTelling, IsUnbegun, IsUntouched, MayBeUnmade, StartsFrom, WasBoundOnce}
 
--- The core is up and stands for the world that the call begins with, which has no live transaction. Its disk was bound to the
+-- The core is up and represents the world that the call begins with, which has no live transaction. Its disk was bound to the
 -- name; each image since then is as it is before a script, and none of this project or one that shows that world.
 pub record HasCore {D : Type 0} (state : D → DiskState) (made : Option Geometry) (name : List ℕ) (disk : D) (core : Core D) : Type 0 where
   pub world : World

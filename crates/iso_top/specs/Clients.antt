@@ -36,7 +36,7 @@ PrintedClients status parts old new =
     ⊎ ((status ≡ 5) × (status_of parts ≡ 5) × IsOutput parts text × Printed old new (text ++ disk_fault_text))
     ⊎ ((status ≡ 8) × (((status_of parts ≡ 8) × IsOutput parts text) ⊎ IsFront parts text) × Printed old new (text ++ memory_text)))
 
--- The image shows the history at its last commit; or, once a fault set the device down, that or that with the lost commits behind
+-- The image shows the history at its last commit; or, once a fault set the device down, that or that with the lost commits after
 -- it: the one commit of an end, or all commits of a group, and never some of them.
 abbrev pub ShowsBehind : (lost : Option (List Commit)) → World → (image : List ℕ) → Type 0
 ShowsBehind None W image = ShowsLast W image
@@ -79,7 +79,7 @@ pub record HasRunClients {D : Type 0} (state : D → DiskState) (name : List ℕ
   pub exit : (image : List ℕ) → (state disk_new).now image → ShowsState (state_at (start_at world (state start)) entries) image
   pub since : SinceBind (state disk_new) (ShowsSince (start_at world (state start)) entries)
   -- What was told is there: each turn of the list, in which a client was answered, has ended at its moment. Up to that moment no image
-  -- that a crash might have left shows a commit behind those of the list up to the turn, and from that moment on, until now, each one
+  -- that a crash might have left shows a commit after those of the list up to the turn, and from that moment on, until now, each one
   -- shows all of these. Each caller of the shared device knows the moments of the turns that it has seen as soon as it has seen them.
   pub moments : List ℕ
   pub turns : HaveEnded state (start_at world (state start)) (state start) (state disk_new) entries moments

@@ -40,7 +40,7 @@ pub record HasBegun (made : Option Geometry) (name : List ℕ) (disk_old start d
   -- each image that a crash might have left since the bind shows the history at a commit from the first world's last one on
   pub since : SinceBind disk_new (λ c. MayBeUnmade made c ⊎ ShowsBetween W V c)
 
--- what was put behind the replies of a run that ended so
+-- what was put after the replies of a run that ended so
 abbrev pub PrintedEnd : RunEnd → SinkState → SinkState → Type 0
 PrintedEnd end.Done old new = new ≡ old
 PrintedEnd end.Output old new = new ≡ old

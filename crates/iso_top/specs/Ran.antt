@@ -28,7 +28,7 @@ pub record PutOf (ended : ℕ) (text : List ℕ) (status : ℕ) (old new : SinkS
   pub disk : ended ≡ 5 → (status ≡ 5) × Printed old new (text ++ disk_fault_text)
   pub memory : ended ≡ 8 → (status ≡ 8) × Printed old new (text ++ memory_text)
 
--- A run from a world that the core stands for was put; or memory was wanting for the device, and the disk is as it was.
+-- A run from a world that the core represents was put; or memory was wanting for the device, and the disk is as it was.
 abbrev pub HasRunLines : {D : Type 0} → (state : D → DiskState) → Opened D → List (ℕ × Line) → (status : ℕ) → (image : D) → SinkState → SinkState → Type 0
 HasRunLines {D} state opened lines status image old new =
     ((W : World) × (end : ParEnd) × BeginsWith state opened W × HasClosed state (start_at W (state (disk_of opened.core))) (state (disk_of opened.core)) lines end image × PutOf end.status end.text status old new)

@@ -124,7 +124,7 @@ module _ (a : Area) (A B : Array) (key : List ℕ) (cs : List Cell) (region : Is
         (subst (λ (l : List (List ℕ × List ℕ)). IsSwapped (leaf_pairs (cells_in a A leaf)) (leaf_pairs cs) (pairs_in (level_of a A) (tree_at (cells_in a A) (level_of a A) (root_of a A))) l) (sym pairs_new)
         (subst (λ (c : List Cell). IsSwapped (leaf_pairs (cells_in a A leaf)) (leaf_pairs c) (pairs_in (level_of a A) (tree_at (cells_in a A) (level_of a A) (root_of a A))) (pairs_in (level_of a A) (tree_at (cells_in a B) (level_of a A) (root_of a A)))) here edited.pairs))
 
-    -- and the key stands in the leaf or nowhere
+    -- and the key is in the leaf or nowhere
     pub edit_found : found_in key (tree_pairs a B) ≡ found_in key (leaf_pairs cs)
     edit_found = grind (arith, pairs_new, found_leaf, order_at, leaf_stays, order_A, apart_A) steps 100000
 

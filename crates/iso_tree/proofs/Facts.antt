@@ -79,7 +79,7 @@ pub place_goes_on : (key keys : List ℕ) (j i n p : ℕ) → i < n → place_fr
 place_goes_on key keys j i n p below so not = grind (arith, place_step) steps 100000
 
 -- What a look-up finds among pairs.
--- the first number that passes, and what stands there
+-- the first number that passes, and what is there
 pub at_test : (t : Bool) (x : List ℕ) (i n : ℕ) (f : ℕ → List ℕ) (test : ℕ → Bool) {rest : Option (List ℕ)} → x ≡ f i → rest ≡ option_map f (first_from test (i + 1) n)
     → cond t (Some x) rest ≡ option_map f (cond t (Some i) (first_from test (i + 1) n))
 at_test true x i n f test e ih = ap (λ y. Some y) e

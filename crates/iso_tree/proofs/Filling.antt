@@ -92,7 +92,7 @@ row_split size node place new i m n = range_parts (at_row size node place new) i
 at_place : (size : ℕ) (node : List ℕ) (place : ℕ) (new : Cell) → at_row size node place new place ≡ new
 at_place size node place new = grind arith steps 100000
 
--- the cells of a row that stand behind the new one, before it, or about it
+-- the cells of a row that stand after the new one, before it, or about it
 pub row_behind : (size : ℕ) (node : List ℕ) (place : ℕ) (new : Cell) (from n : ℕ) → place < from → cells_from size node (from - 1) n ≡ row_from size node place new from n
 row_behind size node place new from n past = sym (after_place size node place new from n past)
 

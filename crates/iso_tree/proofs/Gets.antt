@@ -29,7 +29,7 @@ module _ {X : Type 0} (P : List ℕ → Option (List ℕ) → X → Type 0) (f :
       (all_weaker (λ (pair : List ℕ × List ℕ). in_range d.0 high pair.0 ≡ true) (λ (pair : List ℕ × List ℕ). in_range low high pair.0 ≡ true) (f d.1 ++ flat_map (λ x. f x.1) ds)
       (λ pair h. range_within low d.0 high pair.0 (low_of low high d.0 is.1) h) (pairs_after d.0 d.0 high d.1 ds is.3))
 
-  -- a key of the row stands below the chosen child
+  -- a key of the row is below the chosen child
   pub found_chosen : (key last low : List ℕ) (high : Option (List ℕ)) (c : X) (cs : List (List ℕ × X)) → AreAfter P last low high c cs
       → found_in key (f c ++ flat_map (λ x. f x.1) cs) ≡ found_in key (f (chosen key c cs))
   found_chosen key last low high c [] is = ap (found_in key) (append-nil (f c))

@@ -1,7 +1,7 @@
 -- The leaf of a key: what it has of the tree, and where a descent ends.
 use Rattle.iso_tree.proofs.{Words.{◌≡◌, ◌≢◌, ◌∙◌, sym, refl, ap, subst, ℕ, zero, suc, ◌+◌, ◌<◌, ◌≤◌, ◌&&◌, Bool, true, false, cond, List, [], ◌∷◌, ◌++◌, length, Option, Some, None, arith, flat_map, and_parts, append_assoc, map-append, Area, Array, block_at, Program, Done, bytes_in, further_bytes, answer_of, keys_mark, value_mark, Cell, child_of, count_of, is_node, is_child, place_of, cells_by, Tree, tree_at, pairs_in, nodes_in, IsApart, Rise, AreChildren, IsOrdered, Descent, AtLeaf, AtBroken, descend, inner_further, leaf_further, cells_in, IsNode, AreNodes, found_in}, Blocks.chosen_kid, Climbs.child_ordered, Edits.{not_leaf, leaf_of, leaf_pairs, child_once}, Enough.{path_below, counts}, Facts.child_below, Fits.length-cells, Gets.{found_chosen, ordered_in, parts_all, IsChosen, chosen_is}, Shapes.{kids, child_for}}
 
--- a key below an inner node stands below the child that is chosen
+-- a key below an inner node is below the child that is chosen
 child_found : (cells : ℕ → List Cell) (key : List ℕ) (level : ℕ) (low : List ℕ) (high : Option (List ℕ)) (cs : List Cell) → AreChildren (IsOrdered level) low high (kids cells level cs)
     → found_in key (flat_map (λ c. pairs_in level c.1) (kids cells level cs)) ≡ found_in key (pairs_in level (tree_at cells level (child_of (child_for key cs))))
 child_found cells key level low high [] is = absurd is
@@ -9,7 +9,7 @@ child_found cells key level low high (c ∷ cs) is =
     found_chosen (IsOrdered level) (pairs_in level) (ordered_in level) key [] low high (tree_at cells level (child_of c.1)) (kids cells level cs) is.1
     ∙ ap (λ (t : Tree level). found_in key (pairs_in level t)) (chosen_kid cells level key c cs)
 
--- A key of the tree stands in its leaf.
+-- A key of the tree is in its leaf.
 pub found_leaf : (cells : ℕ → List Cell) (key : List ℕ) (level block : ℕ) (low : List ℕ) (high : Option (List ℕ)) → IsOrdered level low high (tree_at cells level block)
     → found_in key (pairs_in level (tree_at cells level block)) ≡ found_in key (leaf_pairs (cells (leaf_of cells key level block)))
 found_leaf cells key zero block low high is = refl

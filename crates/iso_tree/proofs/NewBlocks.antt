@@ -57,7 +57,7 @@ module _ (a : Area) (area : IsTreeArea a) (A : Array) (region : IsTreeRegion a A
   sizes : HasSizes a
   sizes = sizes_of a area
 
-  -- all that is reached lies behind the first block
+  -- all that is reached lies after the first block
   past_of : (level root : ℕ) (D : Array) → IsNewTree a A D key text taken level root → ((j : ℕ) → IsIn j (tree_nodes a A) → 1 ≤ j)
       → (j : ℕ) → IsIn j (nodes_in level (tree_at (cells_in a D) level root)) → 1 ≤ j
   past_of level root D new old j is = elim (grown_in taken (tree_nodes a A) (nodes_in level (tree_at (cells_in a D) level root)) j new.blocks is) [

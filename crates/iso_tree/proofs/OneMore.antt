@@ -1,7 +1,7 @@
 -- The bytes of a node with a cell more, part by part.
 use Rattle.iso_tree.proofs.{Words.{◌≡◌, ◌∙◌, sym, ap, ℕ, ◌+◌, ◌-◌, ◌*◌, ◌/◌, ◌%◌, ◌<◌, ◌≤◌, true, List, [], ◌∷◌, ◌++◌, take, drop, length, replicate, arith, flat_map, append_assoc, append-nil, flat_map-append, drop-drop, drop-take, take-take, cell_count, keys_end, key_part, are_key_parts, Cell, IsBlock, node_bytes, cells_from, row_from}, Copying.{keys_are, values_are}, Bytes.length-node_bytes, Filling.{row_about, row_fits, length-row}}
 
--- parts with one more among them, and zeros behind them
+-- parts with one more among them, and zeros after them
 abbrev pub parts_with : (place to : ℕ) → (part parts : List ℕ) → List ℕ
 parts_with place to part parts = (take place parts ++ (part ++ take (to - place) (drop place parts))) ++ replicate (length parts - (to + length part)) 0
 

@@ -121,7 +121,7 @@ module _ {X : Type 0} (P : List ℕ → Option (List ℕ) → X → Type 0) wher
         rest.3,
       )
 
-  -- the cut is above the lower end, where a key stands before it
+  -- the cut is above the lower end, where a key is before it
   pub cut_above : (last low : List ℕ) (high : Option (List ℕ)) (c : X) (x : List ℕ × X) (xs : List (List ℕ × X)) (d : List ℕ × X) (ys : List (List ℕ × X)) → AreAfter P last low high c (x ∷ xs ++ d ∷ ys)
       → before low d.0 ≡ true
   cut_above last low high c x xs d ys is = through_before low x.0 d.0 (low_of low high x.0 is.1) (cut_after x.0 x.0 high x.1 xs d ys is.3).0

@@ -120,7 +120,7 @@ node_passes size level cs fit few rises kind low =
     let head : has_head size level K ≡ true = and_from _ _ (and_from _ _ (and_from _ _ refl (eq-eqb level level refl)) refl) (ap (λ n. nat_le n (cell_count size)) count ∙ le_is (length cs) (cell_count size) few) in
     and_from _ _ head (and_from _ _ parts (and_from _ _ (and_from _ _ (ap (λ n. all_from (λ i. is_unused K i) n (cell_count size - n)) count ∙ rest) rise) (and_from _ _ least (or_left (not (level == 31)) _ (ap not other)))))
 
--- The cells of a node that are seen in one walk: those that are used, and the zeros behind them.
+-- The cells of a node that are seen in one walk: those that are used, and the zeros after them.
 -- whether a used cell is as it has to be
 abbrev pub fits_in : List ℕ → (cell : ℕ) → Bool
 fits_in keys cell = is_part 28 (bytes_in (key_mark cell) keys) && ((cell == 0) || before (key_at keys (cell - 1)) (key_at keys cell))
@@ -167,7 +167,7 @@ one_walk keys n count few = ap (λ b. all_from (fits_in keys) 0 count && b) (bla
     other : (i : ℕ) → all_from (is_blank keys) count (n - count) ≡ true → count ≤ i → i < n → (is_part 28 (bytes_in (key_mark i) keys) ≡ true) × (is_unused keys i ≡ true)
     other i all past below = and_parts _ _ (sym (zero_part (bytes_in (key_mark i) keys)) ∙ all_at (is_blank keys) count (n - count) i all past (omega arith))
 
-    -- behind the first cell the key of the one before counts
+    -- after the first cell the key of the one before counts
     same_test : (i : ℕ) → ((i + 1 == 0) || before (key_at keys (i + 1 - 1)) (key_at keys (i + 1))) ≡ before (key_at keys i) (key_at keys (i + 1))
     same_test i = let some : (i + 1 == 0) ≡ false = grind arith in let one : i + 1 - 1 ≡ i = omega arith in rw (some, one) refl
 

@@ -97,7 +97,7 @@ module _ (a : Area) (area : IsTreeArea a) (A : Array) (region : IsTreeRegion a A
       let e : a.start + 0 ≡ a.start = omega arith in
       subst (λ (b : ℕ). block_at C b ≡ block_at A0 b) e (stored_kept a A0 ws 0 away) ∙ written_block A (first_access a first taken root)
 
-  -- the writes of nodes alone leave the same blocks behind the first one
+  -- the writes of nodes alone leave the same blocks after the first one
   same_after : (vs : List (ℕ × ℕ × List Cell)) (X Y : Array) (j : ℕ) → block_at X (a.start + j) ≡ block_at Y (a.start + j) → block_at (stored a X vs) (a.start + j) ≡ block_at (stored a Y vs) (a.start + j)
   same_after [] X Y j same = same
   same_after (w ∷ vs) X Y j same =

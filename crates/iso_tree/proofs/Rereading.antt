@@ -43,7 +43,7 @@ module _ (a : Area) (block count : ℕ) (rest path : List (ℕ × ℕ)) (is : pa
         (subst (λ (b : List ℕ). IsAt whole (f ((block, used_cells a.size b) ∷ nodes_from a.size nodes (i + 1) rest)) t v) (sym here)
         (at_join whole next (f ((block, used_cells a.size bytes) ∷ nodes_from a.size nodes (i + 1) rest)) t u v at_next now))
 
--- what stands on the path is usable after a read too
+-- what is on the path is usable after a read too
 pub shown_after : (a : Area) (block count : ℕ) (rest path : List (ℕ × ℕ)) (t u : Tx) (b : ℕ) → path ≡ (block, count) ∷ rest → u ≡ with_accesses t (look_access b [] ∷ []) → AreShownUsable a t path → AreShownUsable a u rest
 shown_after a block count rest path t u b is read usable = λ A told.
     let same : own A u.accesses ≡ own A t.accesses = ap (λ (w : Tx). own A w.accesses) read ∙ own_append A t.accesses (look_access b [] ∷ []) ∙ own_reads (own A t.accesses) (look_access b [] ∷ []) (refl, tt) in

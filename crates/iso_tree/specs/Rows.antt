@@ -10,7 +10,7 @@ abbrev pub upto_from : (key keys : List ℕ) → (i n : ℕ) → ℕ
 upto_from key keys i zero = 0
 upto_from key keys i (suc n) = cond (before key (key_at keys i)) 0 (suc (upto_from key keys (i + 1) n))
 
--- key and value part of a cell, once a new cell stands at a place
+-- key and value part of a cell, once a new cell is at a place
 abbrev pub key_in_row : (keys : List ℕ) → (place : ℕ) → (key : List ℕ) → (cell : ℕ) → List ℕ
 key_in_row keys place key cell = cond (nat_lt cell place) (key_at keys cell) (cond (cell == place) key (key_at keys (cell - 1)))
 

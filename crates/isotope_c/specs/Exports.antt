@@ -39,7 +39,7 @@ pub record Serves (old new : Slot) (status : ℤ) (number : ℕ) (op : Op) (IsTo
   pub closed : device_in old ≡ None → (status ≡ pos 24) × (new ≡ old)
   -- a device that is down says so, and stays as it is
   pub down : (d : Device QueuedDisk) → device_in old ≡ Some d → d.up ≡ false → IsTold (Err stop.Down) × (device_in new ≡ Some d)
-  -- one that stands for a world answers as the model
+  -- one that represents a world answers as the model
   pub answer : (d : Device QueuedDisk) (W : World) → device_in old ≡ Some d → StandsAt state_of d W → HasAnswered d new W number op IsTold
 
 -- the status is that of the answer
@@ -75,7 +75,7 @@ pub record EndsWaiting (old new : Slot) (numbers : List ℕ) (IsTold : List Repl
   pub down : (d : Device QueuedDisk) → device_in old ≡ Some d → d.up ≡ false → IsTold [] (Some stop.Down) × (device_in new ≡ Some d)
   pub answer : (d : Device QueuedDisk) (W : World) → device_in old ≡ Some d → StandsAt state_of d W → HasWaited d new W numbers IsTold
 
--- A new image: the device stands for the empty history, and at each moment its blank disk held an image of that history, or one that
+-- A new image: the device represents the empty history, and at each moment its blank disk held an image of that history, or one that
 -- is refused as none of this project.
 pub record IsMade (d : Device QueuedDisk) (g : Geometry) : Type 0 where
   pub blank : QueuedDisk

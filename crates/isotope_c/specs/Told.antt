@@ -37,7 +37,7 @@ abbrev pub found : (into : List ℕ) (len : ℕ) → Result Reply Stop → ℤ �
 found into len (Ok (reply.Found bytes)) = laid bytes into
 found into len answer = (code answer, (into, len))
 
--- a key or a value behind its length, which takes one byte: a key has at most 28 bytes, a value 32
+-- a key or a value after its length, which takes one byte: a key has at most 28 bytes, a value 32
 abbrev pub part_text : List ℕ → List ℕ
 part_text part = min (length part) 255 ∷ part
 
@@ -120,7 +120,7 @@ call_told None at into len = (pos 2, (at, (into, len)))
 call_told (Some Sync) at into len = (pos 1, (at, (into, len)))
 call_told (Some (Write place bytes)) at into len = ((laid bytes.items into).0, (place, (laid bytes.items into).1))
 
--- the mode that a number stands for: 0 is the image's
+-- the mode that a number represents: 0 is the image's
 abbrev pub mode_named : ℕ → Option (Option Mode)
 mode_named n =
     if n == 0 then Some None

@@ -80,7 +80,7 @@ module _ (g : Geometry) (tells : Bool) (c : ℕ) where
   of_own_append own made [] ys one two = two made
   of_own_append own made (x ∷ xs) ys one two = (one.0, of_own_append own (made ++ x ∷ []) xs ys one.1 two)
 
-  -- a client goes on behind its lines with entries of its own transaction, and is not answered
+  -- a client goes on after its lines with entries of its own transaction, and is not answered
   ended : (own : Option Own) (lines first others : List (ℕ × Line)) (told : List (ℕ × Reply)) (F walked_F es : List Entry) (o : OfWalk None first walked_F told own) → first ++ others ≡ lines → F ≡ walked_F ++ es → AreOfOwn own [] es → OfClient lines told F
   ended own lines first others told F walked_F es o are all of =
       let tail : List Event = made_all c es ++ [] in

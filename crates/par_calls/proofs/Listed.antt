@@ -45,7 +45,7 @@ by_all s t n S (e ∷ es) legal of by =
     (λ ends is. group_by s t n S e ends legal.0 by (λ first others m k accesses is_so. of.groups [] es first others m k accesses (ap (λ (x : Entry). x ∷ es) is_so)) is)
     (ends_live S e legal.0) by)
 
--- where the history with one commit more is the beginning of another one, the commit stands there at its number
+-- where the history with one commit more is the beginning of another one, the commit is there at its number
 at_its_number : (H G : History) (c : Commit) (k : ℕ) → 0 < H.first → k ≡ last H + 1 → Extends (appended H c) G → slice_get G.commits (k - G.first) ≡ Some c
 at_its_number H G c k some is more =
     let same : G.first ≡ H.first = more.first in
@@ -107,7 +107,7 @@ module _ (t : MapStore) (two : IsOfItsBlocks t) (A : Start) (es : List Entry) (s
   fits_here : (before later : List Entry) (e : Entry) → es ≡ before ++ e ∷ later → Fits (state_at A before) e
   fits_here before later e are = (legal_append (opened A) before (e ∷ later) (subst (IsLegal A) are legal)).1.0
 
-  -- a commit of a transaction that is live at a place, behind a history between the one there and the whole one
+  -- a commit of a transaction that is live at a place, after a history between the one there and the whole one
   placed : (before later : List Entry) (m k : ℕ) (accesses : List Access) (G : History) → es ≡ before ++ later → is_live m (world_at A before).live ≡ true → Extends (world_at A before).history G
       → k ≡ last G + 1 → Extends (appended G (commit_at (world_at A before) m accesses)) H
       → (of : IsOfBoth s t (world_at A before).history (commit_at (world_at A before) m accesses)) → BothInOrder s t of.parts (array_at H (k - 1)) (array_at H k)
@@ -133,7 +133,7 @@ module _ (t : MapStore) (two : IsOfItsBlocks t) (A : Start) (es : List Entry) (s
         mode = of.mode;
       })
 
-  -- the history behind an entry is the beginning of the whole one
+  -- the history after an entry is the beginning of the whole one
   leads_behind : (before later : List Entry) (e : Entry) → es ≡ before ++ e ∷ later → Extends (after (state_at A before) e).world.history H
   leads_behind before later e are = grind (arith, after_append, follows_all)
 

@@ -2,7 +2,7 @@
 use Rattle.par_calls.proofs.{EntryWords.{◌≡◌, sym, refl, subst, append-nil, ℕ, ◌+◌, false, List, [], ◌∷◌, ◌++◌, Access, Commit, GroupReply, History, last, appended, has_write, with_commits, Live, World, Extends, extends_on, ahead, behind_it, decided, decided_extends, end_step, made_by, member_reply, MemberEnd, members_of, replies_of, tx_of, txs_of, commit_at, commits_as, ends_bare}, Numbers.{committed_is, end_is_next, member_writes_not}}
 use Rattle.iso_model.specs.declared.access.GroupReply.TheVariants as member
 
--- between two histories there is one behind which the commit is the next
+-- between two histories there is one after which the commit is the next
 pub record IsMade (H G : History) (c : Commit) (k : ℕ) : Type 0 where
   pub at : History
   pub from : Extends H at

@@ -36,7 +36,7 @@ mine_behind : (c : ℕ) (xs ys : List Event) → AreMine c (xs ++ ys) → AreMin
 mine_behind c [] ys all = all
 mine_behind c (x ∷ xs) ys all = mine_behind c xs ys all.1
 
--- the events of a client behind its own ones, and behind those of another
+-- the events of a client after its own ones, and after those of another
 behind_mine : (c : ℕ) (xs ys : List Event) → AreMine c xs → events_of c (xs ++ ys) ≡ xs ++ events_of c ys
 behind_mine c [] ys all = refl
 behind_mine c (x ∷ xs) ys all = ap (λ b. cond b (x ∷ events_of c (xs ++ ys)) (events_of c (xs ++ ys))) (eq-eqb (client_of x) c all.0) ∙ ap (λ l. x ∷ l) (behind_mine c xs ys all.1)

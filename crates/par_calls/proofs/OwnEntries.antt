@@ -5,7 +5,7 @@ use Rattle.script_model.specs.declared.script.Reply.TheVariants as reply
 use Rattle.iso_shared.specs.declared.entry.Cause.TheVariants as cause
 use Rattle.iso_shared.specs.declared.entry.Entry.TheVariants as entry
 
--- each of these entries, behind those that were made before
+-- each of these entries, after those that were made before
 abbrev pub AreOfOwn : Option Own → (made : List Entry) → List Entry → Type 0
 AreOfOwn own made [] = Unit {0}
 AreOfOwn own made (e ∷ es) = IsOfOwn own made e × AreOfOwn own (made ++ e ∷ []) es

@@ -4,7 +4,7 @@ use Rattle.iso_model.specs.declared.access.GroupReply.TheVariants as member
 use Rattle.iso_shared.specs.declared.entry.Entry.TheVariants as entry
 use Rattle.iso_shared.specs.States.{live_of}
 
--- an entry that is no sweep stands in the trace
+-- an entry that is no sweep is in the trace
 abbrev pub IsNoSweep : Entry → Type 0
 IsNoSweep (entry.Sweep found) = ⊥
 IsNoSweep e = Unit {0}

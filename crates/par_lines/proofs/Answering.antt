@@ -122,7 +122,7 @@ module _ (A : Start) where
       by_cause (inl c) = by_entry s t op.End (entry.Refused (call.Recent h.0.number) (cause_of c.0 c.1 e)) (say.refused e) (Some h.0) h.1 c.2 (refl, refused_is c.0 c.1 e, h.2.is ∙ h.1)
       by_cause (inr c) = by_entry s t op.End (entry.Recent h.0.number c.1) (say.refused e) (Some h.0) h.1 c.2 (refl, (ap say.refused c.0, h.2.is ∙ h.1))
 
-  -- the end behind a check
+  -- the end after a check
   two : (s m t : SessionState) (o : Own) (upto : ℕ) (e : Entry) (r : Result Reply Stop) → s.own ≡ Some o → Made A s m (entry.Recent o.number upto) → Made A m t e → EndsThen o (e ∷ []) r t.own
       → Answered A s op.End r t
   two s m t o upto e r is first second ends = record {

@@ -21,7 +21,7 @@ looks_snoc [] (f ∷ found) label one same = absurd (omega (arith, same))
 looks_snoc (l ∷ labels) [] label one same = absurd (omega (arith, same))
 looks_snoc (l ∷ labels) (f ∷ found) label one same = ap (λ es. entry.Look l f ∷ es) (looks_snoc labels found label one (omega (arith, same)))
 
--- a look for each label, and then what a group may make behind them
+-- a look for each label, and then what a group may make after them
 groups_behind : (labels : List (List ℕ)) (before found : List (Option Own)) (es : List Entry) (r : Result Reply Stop) → length found ≡ length labels
     → GroupEnds (before ++ found) es r ⊎ GroupWants (before ++ found) es r → Groups labels before (looks_for labels found ++ es) r
 groups_behind [] before [] es r same ends = subst (λ all. GroupEnds all es r ⊎ GroupWants all es r) (append-nil before) ends

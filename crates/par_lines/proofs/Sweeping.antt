@@ -1,4 +1,4 @@
--- The sweeps behind all else, and what all clients were told by one legal list.
+-- The sweeps after all else, and what all clients were told by one legal list.
 use Rattle.par_lines.proofs.Words.{count_snoc, clients_rise, ◌≡◌, ◌⊎◌, inl, inr, ⊎_elim, ℕ, zero, suc, ◌+◌, ◌≤◌, ◌==◌, ◌||◌, true, List, [], ◌∷◌, ◌++◌, Some, None, length, map, refl, sym, ap, ◌∙◌, subst, arith, length-append, append_assoc, append-nil, AllByRecursion, list_any, Line, Entry, IsLegal, Start, View, count_up, places, times, AllBelow, AreDistinct, RisesFrom, prefix_whole, times_before, Part, ClientLines, clients_in, entries_of, lines_run, FoundSome, Told, dealt_entries, dealt_times, length-owners, owned_by, owners_of, AreRising, Dealt, ReadsAt, AllTold, Swept}
 use Rattle.iso_shared.specs.declared.entry.Entry.TheVariants as entry
 use Rattle.iso_shared.specs.Ports.{Made}

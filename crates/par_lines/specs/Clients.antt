@@ -7,7 +7,7 @@ use Rattle.par_runner.specs.{declared.job.Flow.Flow, declared.job.Flow.TheVarian
 use Rattle.handle_pass.specs.Sessions.{device_of}
 use Rattle.par_lines.specs.{declared.client.ParClient.ParClient, Answers.Answered}
 
--- A line that was answered has its reply behind the others; one that was not leaves them, and says why the client stops.
+-- A line that was answered has its reply after the others; one that was not leaves them, and says why the client stops.
 abbrev pub Tells : Flow → (number : ℕ) → Result Reply Stop → (told : List (ℕ × Reply)) → (was : Option Stop) → (told' : List (ℕ × Reply)) → (now : Option Stop) → Type 0
 Tells Go number (Ok r) told was told' now = (told' ≡ told ++ (number, r) ∷ []) × (now ≡ was)
 Tells Go number (Err why) told was told' now = ⊥

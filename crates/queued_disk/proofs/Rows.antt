@@ -6,7 +6,7 @@ use Rattle.iso_memdisk.specs.{declared.record.Call.TheVariants.{Write, Sync}, Re
 use Rattle.queued_disk.specs.Tape.{IsLeftBy}
 
 module _ (v w : Vec ℕ Global) (seven : v.items ≡ 7 ∷ []) (nine : w.items ≡ 9 ∷ []) where
-  -- a write that no sync came behind may have left any byte in its range
+  -- a write that no sync came after may have left any byte in its range
   pub left_torn : IsLeftBy (Write 0 v ∷ []) (0 ∷ 0 ∷ []) (5 ∷ 0 ∷ [])
   left_torn = record { stable = 0; no_sync = alone; torn = (5 ∷ 0 ∷ [], torn, refl) }
     where
@@ -32,7 +32,7 @@ module _ (v w : Vec ℕ Global) (seven : v.items ≡ 7 ∷ []) (nine : w.items �
       by (suc zero) is = whole is
       by (suc (suc s)) is = whole is
 
-  -- what a sync came behind stands
+  -- what a sync came after stays
   pub synced_stands : IsLeftBy (Write 0 v ∷ Sync ∷ Write 1 w ∷ []) (0 ∷ 0 ∷ []) (0 ∷ 9 ∷ []) → ⊥
   synced_stands left = by left.stable left.no_sync left.torn
     where

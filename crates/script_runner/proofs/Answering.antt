@@ -14,7 +14,7 @@ line_script cut bytes front held line more number done is says none =
     ∙ append_assoc front held (line ++ 10 ∷ more) ∙ ap (λ xs. front ++ xs) (sym (append_assoc held line (10 ∷ more))) in
     grind (arith, script-line)
 
--- the first lines of those behind some
+-- the first lines of those after some
 pub first_of : (lines done next later : List (ℕ × Line)) → lines ≡ done ++ (next ++ later) → length next ≤ 1 → AreFirst lines done next
 first_of lines done next later all one = record { later = later; all = all ∙ sym (append_assoc done next later); one = one }
 

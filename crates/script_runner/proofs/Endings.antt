@@ -50,7 +50,7 @@ gave_more i mid j bytes piece first second = grind (arith, prepend_known-append)
 pub gave_none : (i : SourceState) → Gave i i []
 gave_none i = record { took = sym (prepend_known-nil i.rest); faults = refl }
 
--- a take that meets the end, behind others
+-- a take that meets the end, after others
 pub met_end : (i mid j : SourceState) (bytes : List ℕ) → Gave i mid bytes → MetEnd mid j [] → MetEnd i j bytes
 met_end i mid j bytes gave met = record {
   ended = met.ended;
@@ -227,7 +227,7 @@ module _ {stands : World → Type 0} {d e : DiskState} {k l : SinkState} (W : Wo
         input = count;
       }
 
-  -- behind a line feed
+  -- after a line feed
   pub done_runs : (i j : SourceState) → Gave i j bytes → MetEnd i j bytes → length bytes < MAX_INPUT → held ≡ [] → HasRun stands d e i j k l W end.Done
   done_runs i j gave met few none =
       met_runs i j end.Done r.done [] gave met few (λ input. cc) gave.faults

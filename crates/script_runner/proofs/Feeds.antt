@@ -24,7 +24,7 @@ in_front-nothing all h = grind arith
 before-front : (b : ℕ) (text : List ℕ) (all : List (List ℕ)) → before_piece b (in_front text all) ≡ in_front (b ∷ text) all
 before-front b text all = grind arith
 
--- a byte that is no separator stands in front of the first piece
+-- a byte that is no separator is in front of the first piece
 pieces-other : (b : ℕ) (text : List ℕ) → b ≢ 10 → pieces 10 (b ∷ text) ≡ before_piece b (pieces 10 text)
 pieces-other b text other = elim (eqb_tells b 10) [ inl same ↦ absurd (other same.1) | inr test ↦ rw test.0 refl ]
 

@@ -2,7 +2,7 @@
 use Rattle.script_runner.proofs.ScriptWords.{◌≡◌, ◌≤◌, ◌<◌, refl, ℕ, Bool, true, false, List, ◌++◌, Option, Some, None, IfSome, length, length-append, take, nat_le, nat_lt, sym, ap, subst, ◌∙◌, arith, le-leb, nat_tests, take-append-le, prepend_known, MetEnd, SourceState, Took, MAX_INPUT, Script, script, script_from, pieces, ScriptError, IsWhyOf, HasNoLines}
 use Rattle.script_runner.specs.declared.lines.ScriptError.TheVariants as error
 
--- bytes behind as many as are read say nothing
+-- bytes after as many as are read say nothing
 script_same : (bytes more : List ℕ) → length bytes ≡ MAX_INPUT → script (bytes ++ more) ≡ script bytes
 unfolding script
 script_same bytes more full =

@@ -7,7 +7,7 @@ pub reply_is : (W : World) (number : ℕ) (said : Line) (answer : Reply) (given 
 reply_is W number said answer given set same line is =
     same ∙ line ∙ ap (reply_line said.client) is ∙ sym (append-nil _)
 
--- what was written, behind the replies to earlier lines
+-- what was written, after the replies to earlier lines
 pub wrote_on : (k mid l : SinkState) (first second : List ℕ) → Wrote k mid first → Wrote mid l second → Wrote k l (first ++ second)
 wrote_on k mid l first second one two = two ∙ ap (λ known. append_known known second) one ∙ append_known-append k.written first second
 
@@ -109,7 +109,7 @@ put_quiet end k l W V xs quiet done = record {
   put = quiet_replies end k l (text_of xs done.given) [] quiet done.put;
 }
 
--- the sink ended the run where it was to hand on, and no line ran behind those
+-- the sink ended the run where it was to hand on, and no line ran after those
 pub put_held : (k mid l : SinkState) (W V : World) (xs : List (ℕ × Line)) → PutReplies k mid W xs V → l.written ≡ mid.written → PutRepliesBy Output k l W xs [] V V
 put_held k mid l W V xs done same = record { given = done.given; last = []; are = done.are; last_is = refl; put = inr (refl, same ∙ done.put) }
 

@@ -34,20 +34,20 @@ all_others : (P : ℕ × Line → Type 0) (xs ys : List (ℕ × Line)) → AllBy
 all_others P [] ys all = all
 all_others P (x ∷ xs) ys all = all_others P xs ys all.1
 
--- the world behind lines, and then behind more of them
+-- the world after lines, and then after more of them
 behind_on : (d mid : DiskState) (W V U : World) (xs ys : List (ℕ × Line)) → IfTold d (IsSome mid.contents) → IsBehind d W xs V → IsBehind mid V ys U → IsBehind d W (xs ++ ys) U
 behind_on d mid W V U xs ys tells first second = grind (arith, after-append, all_others, all_first, leads_on)
 
--- behind no line
+-- after no line
 behind_none : (d : DiskState) (W : World) → IsWorld W → IsBehind d W [] W
 behind_none d W is = record { known = λ how. refl; leads = after_leads W [] is tt }
 
--- behind one line that the machine has run
+-- after one line that the machine has run
 pub behind_one : {stands : World → Type 0} {d : DiskState} (W : World) (x : ℕ × Line) → IsWorld W → IsOp x.1.op
     → (so : StandsSo stands d (IsPlain x.1.op) (step W x.1.client x.1.op).1) → IsWorld so.world → IsBehind d W (x ∷ []) so.world
 behind_one W x is good so sound = grind (arith, step_leads)
 
--- behind one line that it may have run
+-- after one line that it may have run
 pub behind_step : {d : DiskState} (W : World) (x : ℕ × Line) → IsWorld W → IsOp x.1.op → IsBehind d W (x ∷ []) (step W x.1.client x.1.op).1
 behind_step W x is good = record { known = λ how. refl; leads = step_leads W x.1.client x.1.op is good }
 
@@ -176,7 +176,7 @@ after_on : (W : World) (xs ys : List (ℕ × Line)) → IsWorld W → AreLines x
 after_on W xs ys is good more =
     subst (λ (V : World). LeadsTo (after W xs) V) (sym (after-append W xs ys)) (after_leads (after W xs) ys (after_leads W xs is good).world more)
 
--- nothing was made behind the later lines, and so behind all
+-- nothing was made after the later lines, and so after all
 made_behind : {stands : World → Type 0} {d mid e : DiskState} {k l : SinkState} (W : World) (xs : List (ℕ × Line)) → (first : Ran stands d mid k l W xs)
     → {V F : World} → MadeNothing mid e first.reached V ⊎ AllShow e F → V ≡ first.reached → MadeNothing d e W first.reached ⊎ AllShow e F
 made_behind W xs first (inr made) same = inr made
@@ -210,7 +210,7 @@ module _ {stands : World → Type 0} {d mid e : DiskState} {k mid_sink l : SinkS
         whole = second.whole ∙ first.whole;
       }
 
-  -- more lines, behind which one halts
+  -- more lines, after which one halts
   pub halted_more : (end : RunEnd) → (first : Ran before_stands d mid k mid_sink W xs) → (ys ≡ [] → ⊥) → Answered stands mid e mid_sink l first.reached end [] ys
       → Answered stands d e k l W end xs ys
   halted_more end first some second =

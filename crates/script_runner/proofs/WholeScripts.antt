@@ -17,7 +17,7 @@ pub record AreFirst (bytes rest : List ℕ) (number : ℕ) (lines : List (ℕ ×
 pub none_first : (bytes : List ℕ) → AreFirst bytes bytes 1 []
 none_first bytes = record { taken = []; split = refl; says = λ cut more. refl }
 
--- the rest, behind them
+-- the rest, after them
 pub rest_script : (bytes rest : List ℕ) (number : ℕ) (lines : List (ℕ × Line)) (cut : Bool) → AreFirst bytes rest number lines
     → script_from cut 1 (pieces 10 bytes) ≡ behind lines (script_from cut number (pieces 10 rest))
 rest_script bytes rest number lines cut first = ap (λ (xs : List ℕ). script_from cut 1 (pieces 10 xs)) first.split ∙ first.says cut rest

@@ -6,19 +6,19 @@ use Rattle.script_model.specs.{declared.script.Reply.Reply, declared.stop.Stop.S
 use Rattle.script_model.specs.declared.stop.Stop.TheVariants as stop
 use Rattle.script_runner.specs.{declared.run_end.RunEnd.RunEnd, declared.run_end.RunEnd.TheVariants.{Disk, Input, Output}}
 
--- the disk's count of faults did not fall, a step that blames the disk raised it, and after any other answer it stands where it stood
+-- the disk's count of faults did not fall, a step that blames the disk raised it, and after any other answer it is what it was
 pub record BlamesDisk (before now : ℕ) (result : Result Reply Stop) : Type 0 where
   pub later : before ≤ now
   pub failed : IsErrOf result stop.Disk → Rose before now
   pub passed : OnOk result (now ≡ before)
   pub memory : IsErrOf result stop.Memory → now ≡ before
 
--- the disk's count of faults rose where the run ended for the disk, and stands where it stood at each other end
+-- the disk's count of faults rose where the run ended for the disk, and is what it was at each other end
 abbrev pub DiskCount : RunEnd → (before now : ℕ) → Type 0
 DiskCount Disk before now = Rose before now
 DiskCount end before now = now ≡ before
 
--- the source's count of faults rose where the run ended for the source, and stands where it stood at each other end
+-- the source's count of faults rose where the run ended for the source, and is what it was at each other end
 abbrev pub SourceCount : RunEnd → (before now : ℕ) → Type 0
 SourceCount Input before now = Rose before now
 SourceCount end before now = now ≡ before

@@ -73,7 +73,7 @@ abbrev pub in_front : List ℕ → List (List ℕ) → List (List ℕ)
 in_front front [] = front ∷ []
 in_front front (piece ∷ more) = (front ++ piece) ∷ more
 
--- the script behind these lines
+-- the script after these lines
 abbrev pub behind : List (ℕ × Line) → Script → Script
 behind done rest = record { lines = done ++ rest.lines; bad = rest.bad }
 

@@ -5,7 +5,7 @@ use Rattle.script_model.specs.declared.script.LineError.TheVariants as line
 use Rattle.script_runner.specs.{Lines.lines_of, declared.lines.ScriptError.ScriptError}
 use Rattle.script_runner.specs.declared.lines.ScriptError.TheVariants as error
 
--- what a line says comes behind these lines
+-- what a line says comes after these lines
 abbrev pub Adds : (number : ℕ) → Result Parsed LineError → (old new : List (ℕ × Line)) → Type 0
 Adds number (Ok parsed) old new = new ≡ old ++ lines_of number parsed
 Adds number (Err e) old new = ⊥

@@ -12,7 +12,7 @@ pub record WroteBehind (old new : SinkState) (text next : List ℕ) : Type 0 whe
   pub wrote : Wrote old new (text ++ take count next)
 
 -- what the sink took of the replies: the whole text of those to the lines answered; where it ended the run, a front of
--- one more reply behind it, or nothing more where no line ran behind those
+-- one more reply after it, or nothing more where no line ran after those
 abbrev pub Replied : RunEnd → SinkState → SinkState → (text next : List ℕ) → Type 0
 Replied Output old new text next = WroteBehind old new text next ⊎ ((next ≡ []) × Wrote old new text)
 Replied end old new text next = Wrote old new text

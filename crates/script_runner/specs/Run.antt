@@ -13,7 +13,7 @@ pub record AreFirst (lines done next : List (ℕ × Line)) : Type 0 where
   pub one : length next ≤ 1
 
 -- which lines of a script a run has answered that ended so: all of them, or those before the bad one, or some first
--- ones, behind which it may have run one more
+-- ones, after which it may have run one more
 abbrev pub AreLinesOf : RunEnd → Script → (done next : List (ℕ × Line)) → Type 0
 AreLinesOf Done S done next = (S ≡ record { lines = done; bad = None }) × (next ≡ [])
 AreLinesOf (Bad line) S done next = (S ≡ record { lines = done; bad = Some line }) × (next ≡ [])
@@ -59,7 +59,7 @@ pub record IsBehind (d : DiskState) (W : World) (lines : List (ℕ × Line)) (V 
 abbrev pub AllShow : DiskState → World → Type 0
 AllShow d V = (c : List ℕ) → d.now c → ShowsBetween V V c
 
--- Behind the lines that led from the world W to this one nothing was made: each image shows its last commit, and at each moment of
+-- After the lines that led from the world W to this one nothing was made: each image shows its last commit, and at each moment of
 -- the run one from the last of W on to it.
 pub record MadeNothing (disk_old disk_new : DiskState) (W reached : World) : Type 0 where
   pub exit : AllShow disk_new reached
@@ -76,7 +76,7 @@ pub record Answered (stands : World → Type 0) (disk_old disk_new : DiskState) 
   pub order : LeadsTo W (after W done)
   pub order_next : LeadsTo (after W done) (after W (done ++ next))
   pub acknowledged : (n : ℕ) → Acknowledges W done n → n ≤ last (after W done).history
-  -- the worlds that the lines answered, and all lines, led to, which is one where no line may have run behind those
+  -- the worlds that the lines answered, and all lines, led to, which is one where no line may have run after those
   pub reached : World
   pub final : World
   pub reached_is : IsBehind disk_old W done reached
@@ -92,12 +92,12 @@ pub record Answered (stands : World → Type 0) (disk_old disk_new : DiskState) 
   pub moments : LeavesOnly disk_old disk_new (ShowsBetween W final)
   -- the machine answers as the world after these lines
   pub world : IfUp end (stands final)
-  -- where memory was wanting the line behind those answered made nothing, or was done as a whole, and its text alone is missing
+  -- where memory was wanting the line after those answered made nothing, or was done as a whole, and its text alone is missing
   pub unmade : end ≡ Memory → MadeNothing disk_old disk_new W reached ⊎ AllShow disk_new final
   -- no fault was passed over
   pub disk : DiskCount end disk_old.faults disk_new.faults
   pub output : SinkCounts end output_old output_new
-  -- where the sink broke, which it does where it cannot hand on, no line ran behind those answered
+  -- where the sink broke, which it does where it cannot hand on, no line ran after those answered
   pub at_once : output_old.is_broken ≡ false → IsTrue output_new.is_broken → next ≡ []
 
 -- What a run from the world W has done that ended so.
@@ -108,7 +108,7 @@ pub record HasRun (stands : World → Type 0) (disk_old disk_new : DiskState) (i
   pub took : Took input_old input_new bytes
   pub limit : length bytes ≤ MAX_INPUT
   pub ended : end ≡ Done → MetEnd input_old input_new bytes
-  -- the lines answered, and the one that may have run behind them: lines of the bytes taken, and of the whole input where it is told
+  -- the lines answered, and the one that may have run after them: lines of the bytes taken, and of the whole input where it is told
   pub done : List (ℕ × Line)
   pub next : List (ℕ × Line)
   pub lines : AreLinesOf end (script bytes) done next

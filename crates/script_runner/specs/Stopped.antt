@@ -1,4 +1,4 @@
--- What a machine stands for behind an operation that had no reply.
+-- What a machine represents after an operation that had no reply.
 use Rattle.std.specs.Prelude.{◌≡◌, [], map}
 use Rattle.iso_model.specs.{Step.with_live, World.{Live, World}}
 use Rattle.script_model.specs.{declared.script.Op.Op, declared.script.Op.TheVariants.{Compact, End, Group, Upgrade}, declared.stop.Stop.Stop}
@@ -13,7 +13,7 @@ pub record SameButAccesses (V W : World) : Type 0 where
   pub live : map without_accesses V.live ≡ map without_accesses W.live
   pub rest : with_live V W.live ≡ W
 
--- The machine stands for this world as before. Where a store was called, its transaction may have the accesses that the call has made.
+-- The machine represents this world as before. Where a store was called, its transaction may have the accesses that the call has made.
 pub record StandsStill (stands : World → Type 0) (plain : Type 0) (W : World) : Type 0 where
   pub world : World
   pub is : stands world

@@ -23,7 +23,7 @@ ArePlain lines = AllByRecursion (λ line. IsPlain line.1.op) lines
 abbrev pub IfKnown : DiskState → (plain : Type 0) → Type 0 → Type 0
 IfKnown d plain P = IsSome d.contents ⊎ plain → P
 
--- The machine stands for the world that is given, where it is known; else for one that has the same history, and other accesses.
+-- The machine represents the world that is given, where it is known; else for one that has the same history, and other accesses.
 pub record StandsSo (stands : World → Type 0) (d : DiskState) (plain : Type 0) (given : World) : Type 0 where
   pub world : World
   pub is : stands world

@@ -1,4 +1,4 @@
--- Where the list of a device begins that stands over a new image of the tests.
+-- Where the list of a device begins that is over a new image of the tests.
 use Rattle.iso_core.specs.{declared.core_itself.Core.Core, Core.disk_of}
 use Rattle.iso_memdisk.specs.{declared.disk.MemDisk.MemDisk, MemDisk.state_of}
 use Rattle.iso_model.specs.World.{empty_history, fresh}

@@ -5,7 +5,7 @@ use Rattle.store_calls.proofs.Words.{◌≡◌, ◌≢◌, ◌+◌, ◌-◌, ◌
 least_of : (m n : ℕ) → (least m n ≤ m) × (least m n ≤ n)
 least_of m n = grind (arith, nat_tests)
 
--- the files have all blocks behind the stores that the map has bits for, or none
+-- the files have all blocks after the stores that the map has bits for, or none
 chosen : (t : Bool) (n : ℕ) → (cond t 0 n ≢ 0 → t ≡ false) × (cond t 0 n ≤ n)
 chosen true n = (λ some. absurd (some refl), omega arith)
 chosen false n = (λ some. refl, omega arith)

@@ -63,7 +63,7 @@ abbrev pub is_empty_scan : Op → Bool
 is_empty_scan (TreeScan from to most) = is_key from && is_key to && (most == 0)
 is_empty_scan op = false
 
--- the accesses that a program makes, and the reply that its answer or its refusal stands for
+-- the accesses that a program makes, and the reply that its answer or its refusal represents
 abbrev pub replied : {E R : Type 0} → (E → Reply) → (R → Reply) → List Access × Option (Result R E) → List Access × Reply
 replied refusal answer ended = (ended.0, store_reply refusal answer ended.1)
 

@@ -1,4 +1,4 @@
--- Gets behind puts into a hash store and into a tree store, in one transaction.
+-- Gets after puts into a hash store and into a tree store, in one transaction.
 use Rattle.store_laws.proofs.{Words.{◌≡◌, ◌∙◌, sym, ap, subst, ℕ, List, [], ◌∷◌, Option, Some, Ok, get, insert, Area, Region, Array, IsHashArea, IsHashRegion, get_op, hash_map, put_op, IsTreeArea, IsTreeRegion, tree_map, HasEnded, IsLocalCall, area_of, Tx, added, First, Second, StorePart, AreDisjoint, Get, Got, Put, WasPut, hash_store, hash_is_of_its_blocks, OnKey, tree_store, tree_is_of_its_blocks}, BothCalls.{hash_part, tree_part}, BothGrowth.both_begun, KeyCalls.{got_local, put_local}, PutAndGet.{gets_what_was_put, same_got}, TwoStores.both_live}
 use Rattle.store_model.specs.HashCalls as hash
 use Rattle.store_model.specs.TreeCalls as tree

@@ -1,4 +1,4 @@
--- A get behind a put of its key, in one transaction.
+-- A get after a put of its key, in one transaction.
 use Rattle.store_laws.proofs.{Words.{◌≡◌, ◌∙◌, sym, refl, ap, subst, ℕ, cond, List, [], ◌∷◌, Option, Some, Ok, Err, IfOk, Result, nat_list_cmp_total, get, get-insert, insert, bytes_eq-Decides, Area, Region, StoreError, Array, get_program, put_program, IsHashArea, IsHashRegion, Pairs, get_op, hash_map, put_op, HasEnded, IsLocalCall, area_of, Tx, added, ties, Get, Got, Put, WasPut, hash_store, hash_is_of_its_blocks, Called}, Growth.{begun, called}, InOrder.live_in_order, KeyCalls.{got_local, put_local}}
 
 pub gets_what_was_put : (m : Pairs) (key value : List ℕ) → get (insert m key value) key ≡ Some value

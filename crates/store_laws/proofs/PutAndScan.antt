@@ -1,4 +1,4 @@
--- A scan behind a put, in one transaction.
+-- A scan after a put, in one transaction.
 use Rattle.store_laws.proofs.{Words.{◌≡◌, ◌⊎◌, sym, ap, subst, ℕ, List, [], ◌∷◌, Some, Ok, Err, IfOk, Result, insert, Area, Region, StoreError, Array, put_op, scan_program, IsTreeArea, IsTreeRegion, scan_op, tree_map, HasEnded, IsLocalCall, WantsMemory, area_of, scanned_ok, Tx, added, Found, Put, WasPut, Called, OnKey, Scan, tree_store, tree_is_of_its_blocks}, Growth.{begun, called}, InOrder.live_in_order, KeyCalls.{put_local, scan_local}}
 use Rattle.store_model.specs.TreeCalls.{put_program}
 

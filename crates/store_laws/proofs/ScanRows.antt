@@ -50,7 +50,7 @@ scan_leaves_out_its_end = ap (chosen (key 3) (key 5) 10) three_entries
 pub scan_stops_at_most : answers (Scan (key 3) (key 9) 2 ∷ []) ≡ Found (pair 3 30 ∷ pair 4 40 ∷ []) ∷ []
 scan_stops_at_most = ap (chosen (key 3) (key 9) 2) three_entries
 
--- a key is before those that go on behind it
+-- a key is before those that go on after it
 pub scan_goes_by_bytes : answers (Scan (3 ∷ 0 ∷ []) (4 ∷ 0 ∷ []) 10 ∷ []) ≡ Found (pair 4 40 ∷ []) ∷ []
 scan_goes_by_bytes = ap (chosen (3 ∷ 0 ∷ []) (4 ∷ 0 ∷ []) 10) three_entries
 

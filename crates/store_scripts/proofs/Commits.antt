@@ -19,7 +19,7 @@ module _ (S : SecondStore) (lawful : IsSecond S) (second : SecondGoes S) where
   after_split W [] later line = refl
   after_split W (first ∷ before) later line = after_split (step W first.1.client first.1.op).1 before later line
 
-  -- what an end told stands in each later history
+  -- what an end told is in each later history
   later_told : (n : ℕ) (V : World) (notes : Notes S) (is : IsNoted S (Unit {0}) n V notes) (c k : ℕ) (t : Live) (later : List (ℕ × Line)) → attached V c ≡ Some t → (step V c End).0 ≡ reply.Committed k
       → IsTrue (notes t.number).kept → AreLines later
       → let H = (after (step V c End).1 later).history in ToldInOrder S V.geometry (notes t.number) (array_at H (k - 1)) (array_at H k)
@@ -50,7 +50,7 @@ module _ (S : SecondStore) (lawful : IsSecond S) (second : SecondGoes S) where
       let world_is : after W (before ++ line ∷ later) ≡ after (step V c End).1 later = after_split W before later line ∙ ap (λ (op : Op). after (step V c op).1 later) is_end in
       subst (λ (U : World). ToldInOrder S V.geometry (notes_after S W (no_notes S) before t.number) (array_at U.history (k - 1)) (array_at U.history k)) (sym world_is) told
 
-  -- what a group told stands in each later history
+  -- what a group told is in each later history
   later_grouped : (n : ℕ) (V : World) (notes : Notes S) (is : IsNoted S (Unit {0}) n V notes) (c k : ℕ) (t : Live) (op : Op) (later : List (ℕ × Line)) → IsOp op → CommitKeeps S V notes c op → IsEndedAs V op t k
       → AreLines later → let H = (after (step V c op).1 later).history in ToldInOrder S V.geometry (notes t.number) (array_at H (k - 1)) (array_at H k)
   unfolding step

@@ -99,7 +99,7 @@ module _ (S : SecondStore) (lawful : IsSecond S) where
           fresh = λ number past. let later = to.next_is in is.fresh number (omega arith);
         }
 
-    -- the others are live behind it, and what is told of them is true
+    -- the others are live after it, and what is told of them is true
     behind : (W : World) (t u : Live) → IsLive W u → IsLive (after_member t (end_step W t)) u
     behind W t u live =
         let more : List Commit = made_by t (member_reply (end_step W t).0) in
@@ -208,7 +208,7 @@ module _ (S : SecondStore) (lawful : IsSecond S) where
       subst (λ (V : World). IsCommitTold W.geometry (notes t.number) V.history k) (sym same)
       (record { order = committed_told S lawful n W notes is t live holds kept k at sound; within = omega arith })
 
-  -- it stands in each later history
+  -- it is in each later history
   stands_later : (g : Geometry) (told : Told S) (H G : History) (k : ℕ) → 0 < H.first → Extends H G → IsCommitTold g told H k → IsCommitTold g told G k
   stands_later g told H G k first more is =
       let one = array_extends H G (k - 1) first more (let w = is.within in omega arith) in

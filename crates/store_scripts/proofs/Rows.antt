@@ -46,7 +46,7 @@ pub plain_writes_break_inside : (told (codes "1 begin" ∷ codes "1 tget 61" ∷
 unfolding put operation_of other_operation store_operation tree_operation step begin_step fill_step store_step tree_get_step tree.get_program words_of number_of hex_of digits
 plain_writes_break_inside = refl
 
--- A mark behind a call is on an access of it; one behind another access is not.
+-- A mark after a call is on an access of it; one after another access is not.
 pub marks_break_calls : (told (codes "1 begin" ∷ codes "1 tget 61" ∷ codes "1 mark 0 8" ∷ [])).kept ≡ false
 unfolding put operation_of other_operation store_operation tree_operation step begin_step mark_step store_step tree_get_step tree.get_program words_of number_of hex_of digits
 marks_break_calls = refl
@@ -60,7 +60,7 @@ pub refused_marks_keep : (told (codes "1 begin" ∷ codes "1 tget 61" ∷ codes 
 unfolding put operation_of other_operation store_operation tree_operation step begin_step mark_step store_step tree_get_step tree.get_program words_of number_of hex_of digits
 refused_marks_keep = refl
 
--- A plain read inside of the stores keeps to them, and so does a plain write outside behind a call that writes.
+-- A plain read inside of the stores keeps to them, and so does a plain write outside after a call that writes.
 pub plain_reads_keep_inside : (told (codes "1 begin" ∷ codes "1 tget 61" ∷ codes "1 read 1" ∷ [])).kept ≡ true
 unfolding put operation_of other_operation store_operation tree_operation step begin_step read_step store_step tree_get_step tree.get_program words_of number_of hex_of digits
 plain_reads_keep_inside = refl

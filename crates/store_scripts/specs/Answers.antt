@@ -4,7 +4,7 @@ use Rattle.script_model.specs.{declared.script.Op.Op, declared.script.Op.TheVari
 use Rattle.script_model.specs.declared.script.Reply.TheVariants as reply
 use Rattle.store_laws.specs.{Calls.{Del, Found, Get, Got, KeyCall, Put, StoreAnswer, WasPut, WasThere}, Files.{FileAnswer, FileCall, FileMade, FileRead as WasRead, FileThere, MakeFile, ReadFile, RemoveFile, RenameFile, WriteFile}, Tree.{OnKey, Scan, TreeCall}}
 
--- a call that was answered Ok, with its answer: of the hash store, or of a second one that stands beside it
+-- a call that was answered Ok, with its answer: of the hash store, or of a second one that is beside it
 pub data Answered (Call Answer : Type 0) : Type 0 where
   OfHash : (call : KeyCall) → (answer : StoreAnswer) → Answered Call Answer
   OfSecond : (call : Call) → (answer : Answer) → Answered Call Answer

@@ -7,7 +7,7 @@ use Rattle.store_scripts.specs.{Kept.{BeginsWell, ToldByMap, ToldInOrder}, Store
 
 -- From the world W on, the store calls of each commit of these lines, as their replies tell them, answer as one thread's calls on
 -- the maps directly before it and end in those directly after it, whether an end made the commit or a group; those of a transaction
--- that is live behind a front of them, and keeps to the stores, answer so from the maps at its begin to those that it is shown; and
+-- that is live after a front of them, and keeps to the stores, answer so from the maps at its begin to those that it is shown; and
 -- those of one that wrote nothing answer by the maps at its begin.
 pub record AreCallsInOrder (S : SecondStore) (W : World) (lines : List (ℕ × Line)) : Type 0 where
   -- the stores are well formed at the last commit, so that a later run begins well

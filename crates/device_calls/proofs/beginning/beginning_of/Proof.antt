@@ -1,4 +1,4 @@
--- A value of no bytes, whose ghost field is a world that the core stands for: one that the caller has shown to be there.
+-- A value of no bytes, whose ghost field is a world that the core represents: one that the caller has shown to be there.
 use mathlib.Core.Path.{refl, sym, subst}
 use Prim.Native.Nat.{ℕ}
 use Rattle.device_calls.proofs.Words.{Ghosts, World, BeginsAt, the_row, ended, clauses, List, [], ◌∷◌, ◌++◌, Ura, Fn, Dict, dcons, dnil, a_type, Val, vptr, vstruct, vnil, inst_fn, SProp, ent, via, fst∗, snd∗, Fml, Memory, Routine, Calls, Loops, WpFn, Tables, Logic, sem, ◌⊑◌, lft_at, Fun, fact, fact_use, tables, tables_of, WpFn-mono, ‵, raw, ◌⊛◌, ◌$◌, ◌∵◌, !, qed, move, keep, split, join, fjoin, use0, suffices, done, no_more, returns, enter, agg, alloc_all, pass_all, free_all, look_at, sets, RattleType, owns, yes, Are, Ises, owns_show, showss, param, bounded, Laws, makes_shadow, RefOf, types_at, type_at, plain, nothing, heard, Clauses, closing, on_entry, alive, Meets, triple_of, entered, says, Stays, stay_dropped, walk_of, ends_at, Goes-dropped, walk_Meets, #self}
@@ -43,7 +43,7 @@ module _ (Y : RattleType) (L : Laws Y) (E : Ghosts Y.Denot) (d : Dict) {M : Type
     abbrev passed : Fml
     passed = owns (types_at (ended Y E d).signature.params z.0.0) z.0.3 (vptr b o ∷ [], tt)
 
-    -- there is a world that the core stands for
+    -- there is a world that the core represents
     abbrev Given : Type 0
     Given = (W : World) × BeginsAt E.state z.0.3.0.now W
 

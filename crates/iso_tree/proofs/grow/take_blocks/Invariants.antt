@@ -1,6 +1,6 @@
 use Rattle.iso_tree.proofs.{Words.{◌≡◌, ◌≤◌, ◌++◌, take, length, with_used}, Taking.free_from}
 
--- what was taken and what is free behind it
+-- what was taken and what is free after it
 abbrev pub invariant-loop-i : Rattle.iso_tree.proofs.grow.take_blocks.Given.invariant-loop-i
 invariant-loop-i l = record {
   used : l.map ≡ with_used l.fn.map (take l.i l.news);

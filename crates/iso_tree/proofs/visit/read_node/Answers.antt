@@ -30,7 +30,7 @@ pub values-requires-clause-inside : goal.values-requires-clause-inside
 values-requires-clause-inside g c =
     let keys = keys_at g (goal.at.values-requires-clause-inside g c).After-is_node c.if-not-is_node.false in omega (arith, c.cells_between-visit.ensures.inside, keys.few, ap cell_count (c.look.auto.into ∙ c.requires.block.long))
 
--- what the exits behind the test of the value parts share
+-- what the exits after the test of the value parts share
 module _ (g : Rattle.iso_tree.proofs.visit.read_node.Given.Over) (c : After-are_parts g) where
   abbrev first : ℕ
   first = c.cells_between-visit.result.first

@@ -64,7 +64,7 @@ returns-clause-answer g c W of =
     stays_with of (g.met.D.Disk.lawful (disk_of m.core)) c.begin.ensures.disk says
     (subst (λ (l : List Seat). AreOf g.D.Disk.state c.begin.new.self l (after_begin W place mode)) (sym items) (begun of b W.next mode live_is sized is.3 world))
 
--- an error stands for no begin
+-- an error represents no begin
 not_begun : (e : CoreError) (at : ℕ) → answer_to e ≡ Ok (reply.Began at) → ⊥
 not_begun error.Down at is = cc is
 not_begun error.TooManyTx at is = cc is
