@@ -1,5 +1,5 @@
 -- What is left to do of a group, one transaction after the other.
-use Rattle.group_commit.proofs.Words.{◌≡◌, ◌⊎◌, false, true, is_some, spread, marks_of, inl, inr, CoreError, aborts_after, cause_of, refused_by, ℕ, ◌+◌, ◌<◌, ◌≤◌, List, [], ◌∷◌, ◌++◌, Option, Some, None, length, map, refl, sym, ap, ◌∙◌, subst, arith, AllByRecursion, GroupReply, IsLegal, MadeBoth, number_of, tx_view, Start, Entry, Shared, Tx, prefix_self, prefix_trans, hit, times, total, View, AreNext, Next, next_on, next_prefix, next_same, through_next, MovesThrough, SessionState, ArePaired, IsBack, MadeAll, answered, made_in, members_in, units_of, AreMembers, AreTxs, HasMade, KnowsAll, aborts_of, count_all, found_in, group_of, IsPrefix}
+use Rattle.group_commit.proofs.Words.{◌≡◌, ◌⊎◌, false, true, is_some, spread, marks_of, inl, inr, CoreError, aborts_after, cause_of, refused_by, ℕ, ◌+◌, ◌<◌, ◌≤◌, List, [], ◌∷◌, ◌++◌, Option, Some, None, Ok, length, map, refl, sym, ap, ◌∙◌, subst, arith, AllByRecursion, GroupReply, IsLegal, MadeBoth, number_of, tx_view, Start, Entry, Shared, Tx, prefix_self, prefix_trans, hit, times, total, View, AreNext, Next, next_on, next_prefix, next_same, through_next, MovesThrough, SessionState, ArePaired, IsBack, MadeAll, answered, made_in, members_in, units_of, AreMembers, AreTxs, HasEnded, HasMade, KnowsAll, aborts_of, count_all, found_in, group_of, IsPrefix}
 use Rattle.iso_model.specs.declared.core_error.CoreError.TheVariants as error
 use Rattle.iso_shared.specs.declared.entry.Call.TheVariants as call
 use Rattle.iso_shared.specs.declared.entry.Entry.TheVariants as entry
@@ -55,6 +55,10 @@ module _ {D O : Type 0} where
   told_places (None ∷ members) replies same = ap (λ marks. false ∷ marks) (told_places members replies same)
   told_places (Some t ∷ members) [] same = absurd (omega (arith, same))
   told_places (Some t ∷ members) (first ∷ replies) same = ap (λ marks. true ∷ marks) (told_places members replies (omega (arith, same)))
+
+  -- where nothing was found nothing is made
+  pub none_ended : (A : Start) (v : View Entry) (members : List (Option (Tx D O))) → found_in members ≡ [] → HasEnded A v (found_in members) (Ok []) v
+  none_ended A v members none = subst (λ (txs : List (Tx D O)). HasEnded A v txs (Ok []) v) (sym none) (refl, (prefix_self v.seen, λ p. omega arith))
 
   pub found_are : (shared : Shared D O) (A : Start) (members : List (Option (Tx D O))) → AreMembers shared A members → AreTxs shared A (found_in members)
   found_are shared A [] are = tt

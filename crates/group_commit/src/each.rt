@@ -1,5 +1,5 @@
 // A group of which each member is told how it ended, in a port of its own.
-ghost use Rattle.std.specs.{Prelude.{◌≡◌, ◌⊎◌, ◌+◌, ◌++◌, ◌<◌, ◌≤◌, ℕ, List, [], length, map, Err, IfErr, IfNone, IfOk, IfSome, MatchResult, Ok, OnOk, vec_capacity, vec_len}};
+ghost use Rattle.std.specs.{Prelude.{◌≡◌, ◌⊎◌, ◌+◌, ◌++◌, ◌<◌, ◌≤◌, ℕ, List, [], length, map, Err, IfErr, IfNone, IfOk, IfSome, IsOk, MatchResult, Ok, OnOk, vec_capacity, vec_len}};
 ghost use Rattle.iso_core.specs.declared.group_end.TheConstants.{MAX_GROUP};
 ghost use Rattle.iso_model.specs.declared.core_error.CoreError.TheVariants.{Disk as OfDisk, Down as OfDown, Memory as OfMemory};
 ghost use Rattle.iso_shared.specs.declared.entry.Call.TheVariants as TheCall;
@@ -8,7 +8,7 @@ ghost use Rattle.group_commit.specs.{Each.{IsDealt, IsEndedIn}, Groups.{AreMembe
 
 use crate::aborts::abort_found;
 use crate::commit::end_all;
-use crate::members::{Room, gather, make_room};
+use crate::members::{Room, gather, is_found, let_go, make_room};
 use iso_disk::Disk;
 use iso_model::{CoreError, GroupReply, Memory};
 use iso_shared::{Origin, Port, Shared, Tx};
@@ -50,12 +50,6 @@ fn deal_replies<D: Disk + Drop, O: Origin>(
 /// Ends a group in one turn, and tells each member how it ended: the port that made the entry splits a port off for each, in
 /// their order. Where the group is refused as down, or for want of memory, its members are handed back; after a fault of the
 /// disk there is none.
-///
-/// # Errors
-///
-/// No member has a reply.
-/// - `Down`, `Memory`: each member is handed back as it was.
-/// - `Disk`: a fault has ended them, and all commits of the group stand or none.
 pub fn end_each<D: Disk + Drop, O: Origin, R: Wait>(
     rt: &R,
     shared: &Shared<D, O>,
@@ -137,11 +131,12 @@ fn end_told<D: Disk + Drop, O: Origin, R: Wait>(
     }
 }
 
-/// Ends what was found as one group, in one turn, as `commit_group` does, and tells each member how it ended, by a port of its own.
+/// Ends what was found as one group, in one turn, as `commit_group` does, and tells each member how it ended, by a port of its own. Where
+/// nothing was found it asks for no memory.
 ///
 /// # Errors
 ///
-/// As those of `commit_group`.
+/// As those of `commit_found`.
 pub fn commit_each<D: Disk + Drop, O: Origin, R: Wait>(
     rt: &R,
     alloc: Global,
@@ -156,8 +151,13 @@ pub fn commit_each<D: Disk + Drop, O: Origin, R: Wait>(
     ensures told { IfOk result (λ told. ArePaired (IsEndedIn shared.now O.start) (found_in members.items) told.items) }
     ensures units { MatchResult result (λ _. (port_view port.new).units + length (found_in members.items) ≡ units_all (port_view port.old) (found_in members.items)) (λ _. (port_view port.new).units ≡ units_all (port_view port.old) (found_in members.items)) }
     ensures did { MatchResult result (λ _. (replies : List GroupReply) × HasEnded O.start (port_view port.old) (found_in members.items) (Ok replies) (port_view port.new)) (λ e. HasGrouped O.start (port_view port.old) members.items (Err e) (port_view port.new)) }
+    ensures none { found_in members.items ≡ [] → IsOk result }
     ensures knows { KnowsAll (found_in members.items) (port_view port.new).seen }
 {
+    if !is_found(members.as_slice()) {
+        let_go(members);
+        return Ok(Vec::new(alloc));
+    }
     let count = members.len();
     let Ok(mut told) = told_room(alloc, count) else {
         abort_found(rt, shared, port, members);
@@ -171,13 +171,8 @@ pub fn commit_each<D: Disk + Drop, O: Origin, R: Wait>(
     let Room {
         mut group,
         mut marks,
-        told: _,
     } = room;
     gather(members, &mut group, &mut marks);
-    if group.is_empty() {
-        group.destroy_empty();
-        return Ok(told);
-    }
     match end_told(rt, shared, port, group, &mut told) {
         Ok(()) => Ok(told),
         Err(error) => {

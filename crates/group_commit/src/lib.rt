@@ -2,7 +2,8 @@
 //! desks.
 //!
 //! `commit_group` and `commit_each` say which entries they make, legal and in order, and what each member is answered (`did`, `told`);
-//! `end_each` gives each a port that has seen its end. At a `Committer` one of those that wait serves all: `outcome` and `end_with`
+//! with room for its answers `commit_found` is never refused where nothing was found (`none`). `end_each` gives each a port that has
+//! seen its end. At a `Committer` one of those that wait serves all: `outcome` and `end_with`
 //! tell each its own reply (`outcome`, `did`). Calls that end may wait.
 #![tactic(auto)]
 
@@ -17,7 +18,7 @@ mod outcomes;
 mod serve;
 mod session_end;
 
-pub use commit::commit_group;
+pub use commit::{commit_found, commit_group};
 pub use committer::Committer;
 pub use each::{Ended, commit_each, end_each};
 pub use ends::{Ends, OfDevice, Outcome, hand_in};

@@ -7,7 +7,7 @@ ghost use Rattle.group_commit.specs.{Outcomes.{IsOutcome, MayEnd}, Serving.{AreT
 use crate::each::{Ended, end_each};
 use crate::ends::{Outcome, end_alone};
 use iso_disk::Disk;
-use iso_model::CoreError;
+use iso_model::{CoreError, LAST, MAX_ACCESSES, MAX_SPANS};
 use iso_shared::{Origin, Port, Shared, Tx};
 use std::sync::Wait;
 
@@ -28,18 +28,20 @@ const RECORD_HEAD: u64 = 21;
 
 const RUN_HEAD: u64 = 8;
 
-// More bytes than the records of these take in the log: each access is counted as a write of a whole block.
+// At least the bytes that the records of these take in the log: each access is counted as a write of a whole block, in as many runs as it
+// may have marks.
 fn most_bytes<D: Disk + Drop, O: Origin>(group: &[Tx<D, O>], block: u32) -> u64 {
+    let an_access = (RUN_HEAD * MAX_SPANS as u64) + block as u64;
     let mut total: u64 = 0;
     for tx in group {
-        let accesses = 4096_u32.saturating_sub(tx.room()) as u64;
-        let runs = accesses.saturating_mul(RUN_HEAD + block as u64);
+        let accesses = (MAX_ACCESSES as u64).saturating_sub(tx.room() as u64);
+        let runs = accesses.saturating_mul(an_access);
         total = total.saturating_add(RECORD_HEAD).saturating_add(runs);
     }
     total
 }
 
-// Whether the log has room for all of these. A commit that another caller makes before their turn may still take it.
+// Whether the log has room for all of these, and each has a number. A commit that another caller makes before their turn may still take it.
 fn fit<D: Disk + Drop, O: Origin, R: Wait>(
     rt: &R,
     shared: &Shared<D, O>,
@@ -50,12 +52,14 @@ fn fit<D: Disk + Drop, O: Origin, R: Wait>(
     ensures port { IsPort shared.now port.new }
     ensures units { (port_view port.new).units ≡ (port_view port.old).units }
 {
-    let used = shared.stat(rt, port).used;
+    let stat = shared.stat(rt, port);
     let geometry = shared.geometry();
-    most_bytes(group, geometry.block) <= geometry.log.saturating_sub(used) as u64
+    let free = geometry.log.saturating_sub(stat.used) as u64;
+    stat.last.saturating_add(group.len() as u64) <= LAST
+        && most_bytes(group, geometry.block) <= free
 }
 
-/// Ends these as a group, if the log has room for all of them. Else, and where there is one alone, each is left to be ended by itself,
+/// Ends these as a group, if the log has room for all of them, and each has a number. Else, and where there is one alone, each is left to be ended by itself,
 /// so that one that does not fit stays.
 pub(crate) fn end_taken<D: Disk + Drop, O: Origin, R: Wait>(
     rt: &R,

@@ -1,16 +1,5 @@
-use Rattle.group_commit.proofs.{Words.{[], ◌≡◌, ◌∙◌, ap, arith, length, nat_tests, Ok, refl, subst, sym, List, Tx, port_view, prefix_self, AreTxs, HasEnded, found_in}, Grouping.{found_are, found_few, nothing_left}}
+use Rattle.group_commit.proofs.{Words.{ap, arith, length, subst, sym, AreTxs, found_in}, Grouping.{found_are, found_few}}
 use Rattle.group_commit.proofs.each.commit_each.Goals as goal
-
-pub returns-then-is_empty-clause-did : goal.returns-then-is_empty-clause-did
-returns-then-is_empty-clause-did g c =
-    let A = g.O.Origin.start in
-    let v = port_view c.args.port.now in
-    let empty = sym c.is_empty.ensures ∙ c.if-is_empty.true in
-    let size = c.gather.new.group.ok.0 in
-    let none : found_in c.args.members.items ≡ [] = sym c.gather.ensures.group ∙ nothing_left _ (grind (arith, nat_tests)) in (
-      [],
-      subst (λ (txs : List (Tx _ _)). HasEnded A v txs (Ok []) v) (sym none) (refl, (prefix_self v.seen, λ p. omega arith)),
-    )
 
 pub end_told-requires-clause-group : goal.end_told-requires-clause-group
 end_told-requires-clause-group g c =
