@@ -7,6 +7,7 @@ use file_disk::FileDisk;
 use std::alloc::{Allocator, Global};
 use std::fs::{self, File, Metadata, OpenOptions};
 use std::io;
+use std::os::unix::fs::symlink;
 use std::process::Abort;
 use std::rt::Files;
 use std::test::Fail;
@@ -129,6 +130,27 @@ fn a_name_that_exists_is_not_made_again(rt: HostRuntime) -> Result<(), Fail> {
     ];
     on_new_file(&rt, rt.alloc(), rt.clone()?, name, &rows)?;
     fs::remove_file(&rt, name)?;
+    Ok(())
+}
+
+// A name is free until a file, a folder or a link has it, and a look at it makes nothing.
+#[test]
+fn a_name_that_something_has_is_not_free(rt: HostRuntime) -> Result<(), Fail> {
+    let name = "a_name_that_something_has_is_not_free.img";
+    let _ = fs::remove_file(&rt, name);
+    let disk = FileDisk::new(rt.clone()?, rt.alloc());
+    same(&rt, disk.is_absent(name), true);
+    same(&rt, disk.is_absent(name), true);
+    fs::write(&rt, name, &[1, 2, 3])?;
+    same(&rt, disk.is_absent(name), false);
+    fs::remove_file(&rt, name)?;
+    fs::create_dir(&rt, name)?;
+    same(&rt, disk.is_absent(name), false);
+    fs::remove_dir(&rt, name)?;
+    symlink(&rt, "nothing_has_this_name.img", name)?;
+    same(&rt, disk.is_absent(name), false);
+    fs::remove_file(&rt, name)?;
+    same(&rt, disk.is_absent(name), true);
     Ok(())
 }
 

@@ -1,14 +1,15 @@
 // The disk over a real file. It is opaque, so its clauses are on sizes, counts, causes and what is bound: what
 // the file holds is trusted.
-ghost use Rattle.std.specs.{Prelude.{◌≡◌, ◌^◌, ◌<◌, ◌≤◌, None}, Option.option_map};
-ghost use Rattle.counts.specs.Count.{HasCause, Rose};
+ghost use Rattle.std.specs.{Prelude.{◌≡◌, ◌^◌, ◌<◌, ◌≤◌, ◌↔◌, None, IsOk, IsTrue}, Option.option_map};
+ghost use Rattle.counts.specs.Count.{HasCause, Rose, faults_after, one_more};
 ghost use Rattle.iso_disk.specs.Untold.{untold, untold_is_lawful};
 
 use crate::files::{new_file, open_file, read_all, write_all};
 use counts::raise;
 use iso_disk::{Disk, DiskFault, Image};
 use std::alloc::Global;
-use std::fs::File;
+use std::fs::{self, File};
+use std::io;
 use std::rt::Files;
 
 /// A file of a fixed size, read and written in place, whose lock is held for as long as it is bound.
@@ -54,8 +55,18 @@ impl<R: Files<File = File> + Drop> FileDisk<R> {
         self.faults
     }
 
+    /// Whether there is no file of this name, nor a link of it to one that is gone. It opens nothing and takes no lock, so a file
+    /// is seen also where it is in use or may not be read. False as well where the system does not say that there is none.
+    pub fn is_absent(&self, name: &str) -> bool {
+        match fs::symlink_metadata(&self.rt, name) {
+            Ok(_) => false,
+            Err(error) => error.kind() == io::ErrorKind::NotFound,
+        }
+    }
+
     /// Counts a fault.
     fn fail(&mut self) -> DiskFault
+        ensures counted { self.new.faults ≡ one_more self.old.faults }
         ensures later { self.old.faults ≤ self.new.faults }
         ensures rose { Rose self.old.faults self.new.faults }
         ensures size { self.new.size ≡ self.old.size }
@@ -66,9 +77,11 @@ impl<R: Files<File = File> + Drop> FileDisk<R> {
         DiskFault
     }
 
-    /// Counts a fault where the call was not done.
+    /// Counts one fault where the call was not done.
     fn answer(&mut self, done: bool) -> Result<(), DiskFault>
         ensures cause { HasCause self.old.faults self.new.faults result }
+        ensures counted { self.new.faults ≡ faults_after self.old.faults result }
+        ensures done { IsTrue done ↔ IsOk result }
         ensures size { self.new.size ≡ self.old.size }
         ensures name { self.new.name ≡ self.old.name }
         ensures binds { self.new.binds ≡ self.old.binds }

@@ -1,5 +1,5 @@
 // The disk whose pages are kept.
-ghost use Rattle.std.specs.{Prelude.{◌≡◌, ◌+◌, ◌≤◌, ℕ, List, Some, None, length, replicate, OnOk, OnErr, IfNone, IfSome, IsSome, IsOk}, List.slice_range, Option.ForSome};
+ghost use Rattle.std.specs.{Prelude.{◌≡◌, ◌+◌, ◌<◌, ◌≤◌, ℕ, List, Some, None, length, replicate, OnOk, OnErr, IfNone, IfSome, IsSome, IsOk}, List.slice_range, Option.ForSome};
 ghost use Rattle.iso_disk.specs.Disk.{TornFrom, Splices, TellsTorn, IsSettled, Elapses};
 ghost use Rattle.counts.specs.Count.{one_more, HasCause};
 ghost use Rattle.kept_disk.specs.Pages.{HoldsNone, HoldsRange, Stand};
@@ -106,7 +106,7 @@ impl<D: Disk> Disk for Kept<D> {
 }
 
 impl<D: Image> Image for Kept<D> {
-    /// Binds the disk below. Whatever comes of it, no page is held.
+    /// Binds the disk below. Whatever comes of it, no page is held. A bind after the first one that found memory takes none.
     ///
     /// # Errors
     ///
@@ -123,6 +123,7 @@ impl<D: Image> Image for Kept<D> {
         ensures counted { (D.state self.new.disk).binds ≡ one_more (D.state self.old.disk).binds }
         ensures cause { HasCause (D.state self.old.disk).faults (D.state self.new.disk).faults result }
         ensures forgotten { HoldsNone self.new.pages.numbers.items }
+        ensures again { 0 < length self.old.pages.numbers.items → (self.new.pages.bytes ≡ self.old.pages.bytes) × (length self.new.pages.numbers.items ≡ length self.old.pages.numbers.items) }
     {
         self.pages.start(self.alloc);
         self.disk.bind(name, want)

@@ -57,7 +57,8 @@ impl Pages {
 
     /// Lets go of all that is held, and takes the memory for pages where none was taken. Without it there is no place.
     pub(crate) fn start(&mut self, alloc: Global)
-        ensures { HoldsNone self.new.numbers.items }
+        ensures none { HoldsNone self.new.numbers.items }
+        ensures again { 0 < length self.old.numbers.items → (self.new.bytes ≡ self.old.bytes) × (length self.new.numbers.items ≡ length self.old.numbers.items) }
     {
         self.forget_all();
         if self.numbers.is_empty() {
@@ -69,7 +70,9 @@ impl Pages {
 
     /// Lets go of all that is held.
     pub(crate) fn forget_all(&mut self)
-        ensures { HoldsNone self.new.numbers.items }
+        ensures none { HoldsNone self.new.numbers.items }
+        ensures bytes { self.new.bytes ≡ self.old.bytes }
+        ensures places { length self.new.numbers.items ≡ length self.old.numbers.items }
     {
         clear(self.numbers.as_mut_slice());
     }

@@ -14,8 +14,11 @@ pub mod Headers
 pub mod Handed
 pub mod Left
 pub mod Meets
+pub mod Naming
 pub mod Mirrored
 pub mod Raises
+pub mod Rows
 pub mod Stands
 pub mod Taking
 pub mod Telling
+pub mod Traps

@@ -1,5 +1,6 @@
 pub mod Adopting
 pub mod Becoming
+pub mod Binding
 pub mod Ended
 pub mod Failing
 pub mod Header

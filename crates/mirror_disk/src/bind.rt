@@ -1,14 +1,15 @@
 // Binding a mirror to a name.
-ghost use Rattle.std.specs.{Prelude.{◌≡◌, ◌≢◌, ◌⊎◌, ◌+◌, ◌-◌, ◌^◌, ◌<◌, ◌≤◌, [], ℕ, List, Some, None, true, false, length, replicate, IfOk, OnOk, OnErr, IfNone, IfSome, IsSome}, Option.ForSome};
+ghost use Rattle.std.specs.{Prelude.{◌≡◌, ◌≢◌, ◌⊎◌, ◌+◌, ◌^◌, ◌<◌, ◌≤◌, [], ℕ, List, Some, None, true, false, length, replicate, IfOk, OnOk, OnErr, IfNone, IfSome, IsSome}, Option.ForSome};
 ghost use Rattle.iso_disk.specs.Disk.{IsSettled};
-ghost use Rattle.counts.specs.Count.{HasCause, Rose, one_more};
-ghost use Rattle.mirror_disk.specs.{Adopting.{AdoptRefuses, WasBound}, declared.used.Used.TheVariants.{Both, Broken, OnlyFirst, OnlySecond, Plain, Unbound}, Pairs.{chosen_told, first_name, mirrored, names_mirror, second_name}, Standing.{IsPair, StandsBy, state_by}};
+ghost use Rattle.counts.specs.Count.{HasCause, Rose, faults_after, one_more};
+ghost use Rattle.mirror_disk.specs.{Adopting.{AdoptRefuses, WasBound}, Binding.{IsTaken, IsTooLarge, MakesOnFreeNames}, declared.used.Used.TheVariants.{Both, Broken, OnlyFirst, OnlySecond, Plain, Unbound}, Pairs.{chosen_told, first_name, mirrored, names_mirror, second_name}, Standing.{IsPair, StandsBy, state_by}};
 
 use crate::adopt::adopt_sides;
 use crate::header::lay_header;
+use crate::lookup::Lookup;
 use crate::marks::Marks;
 use crate::mirror::Mirror;
-use crate::name::{LONGEST, bind_side, is_mirror};
+use crate::name::{LONGEST, bind_side, is_mirror, is_side_free};
 use crate::parts::count;
 use crate::past::Past;
 use crate::sides::HEADER;
@@ -25,18 +26,21 @@ const FIRST: u8 = b'0';
 /// What that of the second one ends with.
 const SECOND: u8 = b'1';
 
-impl<A: Image, B: Image> Image for Mirror<A, B> {
+impl<A: Lookup, B: Lookup> Image for Mirror<A, B> {
     ghost use Rattle.mirror_disk.specs.State.{state_of};
 
     /// Under a name that does not end in `+` the mirror is its first side alone, with nothing added. Under one that
     /// does, both sides are bound, to that name with `0` and with `1` added, each 64 bytes longer: with a size two
-    /// headers are laid, with none the sides are adopted.
+    /// headers are laid, with none the sides are adopted. With a size both names are looked up first: where one is not
+    /// seen to be free, neither side is called. A device that comes under the second name behind that look is still a
+    /// fault that leaves the first side made.
     ///
     /// # Errors
     ///
     /// Without the `+`: the bind of the first side failed. With it, the mirror is unbound then: it has no byte, and
     /// each call fails. It fails where
     /// - a side failed,
+    /// - with a size, one of the two names was not seen to be free: then each side is as it was,
     /// - the name has more than 4,095 bytes, or the size leaves no room for a header in a `u64`,
     /// - the sides, bound without a size, differ in size, or one of them has no header of a mirror.
     fn bind(&mut self, name: &str, want: Option<u64>) -> Result<(), DiskFault>
@@ -50,6 +54,7 @@ impl<A: Image, B: Image> Image for Mirror<A, B> {
         ensures unbound { OnErr result ((state_of self.new).bound ≡ None) }
         ensures counted { (state_of self.new).binds ≡ one_more (state_of self.old).binds }
         ensures cause { HasCause (state_of self.old).faults (state_of self.new).faults result }
+        ensures exact { (state_of self.new).faults ≡ faults_after (state_of self.old).faults result }
         ensures plain { names_mirror name.now ≡ false → self.new.marks.used ≡ Plain }
         ensures alone { names_mirror name.now ≡ false → self.new.second ≡ self.old.second }
         ensures goes_on { OnOk result (names_mirror name.now ≡ true → IsPair self.new.marks.used × (self.new.marks.used ≢ Broken)) }
@@ -57,8 +62,9 @@ impl<A: Image, B: Image> Image for Mirror<A, B> {
         ensures left_first { OnOk result (names_mirror name.now ≡ true → self.new.marks.used ≡ OnlySecond → Rose (A.state self.old.first).faults (A.state self.new.first).faults) }
         ensures left_second { OnOk result (names_mirror name.now ≡ true → self.new.marks.used ≡ OnlyFirst → Rose (B.state self.old.second).faults (B.state self.new.second).faults) }
         ensures made { OnOk result (names_mirror name.now ≡ true → IfSome want (λ w. self.new.marks.used ≡ Both)) }
+        ensures made_free { names_mirror name.now ≡ true → MakesOnFreeNames A.seen B.seen want self.old.first self.new.first self.old.second self.new.second name.now }
         ensures first_fails { OnErr result (names_mirror name.now ≡ false → Rose (A.state self.old.first).faults (A.state self.new.first).faults) }
-        ensures fails { OnErr result (names_mirror name.now ≡ true → ((Rose (A.state self.old.first).faults (A.state self.new.first).faults ⊎ Rose (B.state self.old.second).faults (B.state self.new.second).faults) ⊎ (((4095 < length name.now) ⊎ IfSome want (λ w. 2 ^ 64 - 65 < w)) ⊎ ((want ≡ None) × ((x : A) × (y : B) × WasBound (A.state self.old.first) (A.state x) (first_name name.now) × WasBound (B.state self.old.second) (B.state y) (second_name name.now) × AdoptRefuses (A.state x) (B.state y)))))) }
+        ensures fails { OnErr result (names_mirror name.now ≡ true → ((Rose (A.state self.old.first).faults (A.state self.new.first).faults ⊎ Rose (B.state self.old.second).faults (B.state self.new.second).faults) ⊎ ((IsTooLarge name.now want ⊎ IsTaken A.seen B.seen want self.old.first self.old.second name.now) ⊎ ((want ≡ None) × ((x : A) × (y : B) × WasBound (A.state self.old.first) (A.state x) (first_name name.now) × WasBound (B.state self.old.second) (B.state y) (second_name name.now) × AdoptRefuses (A.state x) (B.state y)))))) }
     {
         raise(&mut self.binds);
         bind_parts(
@@ -126,8 +132,17 @@ fn take_sides<A: Image, B: Image>(
     }
 }
 
+/// Whether both sides see that their names under this one are free.
+fn are_free<A: Lookup, B: Lookup>(first: &A, second: &B, name: &str) -> bool
+    requires { length name.now ≤ 4095 }
+    ensures free { result ≡ true → A.seen first.now (first_name name.now) true × B.seen second.now (second_name name.now) true }
+    ensures taken { result ≡ false → A.seen first.now (first_name name.now) false ⊎ B.seen second.now (second_name name.now) false }
+{
+    is_side_free(first, name, FIRST) && is_side_free(second, name, SECOND)
+}
+
 /// Binds both sides under a name of a mirror.
-fn bind_sides<A: Image, B: Image>(
+fn bind_sides<A: Lookup, B: Lookup>(
     first: &mut A,
     second: &mut B,
     name: &str,
@@ -138,6 +153,7 @@ fn bind_sides<A: Image, B: Image>(
     ensures left_first { IfOk result (λ m. m.used ≡ OnlySecond → Rose (A.state first.old).faults (A.state first.new).faults) }
     ensures left_second { IfOk result (λ m. m.used ≡ OnlyFirst → Rose (B.state second.old).faults (B.state second.new).faults) }
     ensures made { IfOk result (λ m. IfSome want (λ w. m.used ≡ Both)) }
+    ensures made_free { MakesOnFreeNames A.seen B.seen want first.old first.new second.old second.new name.now }
     ensures stands { IfOk result (λ m. StandsBy (A.state first.new) (B.state second.new) m []) }
     ensures size { OnOk result (IfSome want (λ w. (A.state first.new).size ≡ w + 64)) }
     ensures blank { OnOk result (IfSome want (λ w. ForSome (chosen_told (A.state first.new).contents (B.state second.new).contents) (λ c. c ≡ replicate w 0))) }
@@ -146,7 +162,7 @@ fn bind_sides<A: Image, B: Image>(
     ensures settled { OnOk result (IfNone want (IsSettled (mirrored (A.state first.new) (B.state second.new) [] 0 0))) }
     ensures told { OnOk result (IsSome (chosen_told ((A.state first.old).named (first_name name.now)) ((B.state second.old).named (second_name name.now))) → IsSome (chosen_told (A.state first.new).contents (B.state second.new).contents)) }
     ensures bound { OnOk result ((t : ℕ) × ((A.state first.new).bound ≡ Some (t, first_name name.now))) }
-    ensures cause { OnErr result ((Rose (A.state first.old).faults (A.state first.new).faults ⊎ Rose (B.state second.old).faults (B.state second.new).faults) ⊎ (((4095 < length name.now) ⊎ IfSome want (λ w. 2 ^ 64 - 65 < w)) ⊎ ((want ≡ None) × ((x : A) × (y : B) × WasBound (A.state first.old) (A.state x) (first_name name.now) × WasBound (B.state second.old) (B.state y) (second_name name.now) × AdoptRefuses (A.state x) (B.state y))))) }
+    ensures cause { OnErr result ((Rose (A.state first.old).faults (A.state first.new).faults ⊎ Rose (B.state second.old).faults (B.state second.new).faults) ⊎ ((IsTooLarge name.now want ⊎ IsTaken A.seen B.seen want first.old second.old name.now) ⊎ ((want ≡ None) × ((x : A) × (y : B) × WasBound (A.state first.old) (A.state x) (first_name name.now) × WasBound (B.state second.old) (B.state y) (second_name name.now) × AdoptRefuses (A.state x) (B.state y))))) }
     ensures later { ((A.state first.old).faults ≤ (A.state first.new).faults) × ((B.state second.old).faults ≤ (B.state second.new).faults) }
 {
     if name.len() > LONGEST {
@@ -157,6 +173,9 @@ fn bind_sides<A: Image, B: Image>(
             if size > LARGEST {
                 return Err(DiskFault);
             }
+            if !are_free(first, second, name) {
+                return Err(DiskFault);
+            }
             make_sides(first, second, name, size)
         }
         None => take_sides(first, second, name),
@@ -164,7 +183,7 @@ fn bind_sides<A: Image, B: Image>(
 }
 
 /// Binds the first side alone, or both under a name of a mirror, and says which sides are in use then.
-fn bind_parts<A: Image, B: Image>(
+fn bind_parts<A: Lookup, B: Lookup>(
     first: &mut A,
     second: &mut B,
     marks: &mut Marks,
@@ -183,6 +202,7 @@ fn bind_parts<A: Image, B: Image>(
     ensures bound { (binds : ℕ) → OnOk result ((state_by marks.new (A.state first.new) (B.state second.new) past.new faults.new binds).bound ≡ Some ((state_by marks.new (A.state first.new) (B.state second.new) past.new faults.new binds).clock, name.now)) }
     ensures unbound { (binds : ℕ) → OnErr result ((state_by marks.new (A.state first.new) (B.state second.new) past.new faults.new binds).bound ≡ None) }
     ensures cause { HasCause faults.old faults.new result }
+    ensures exact { faults.new ≡ faults_after faults.old result }
     ensures plain { names_mirror name.now ≡ false → marks.new.used ≡ Plain }
     ensures alone { names_mirror name.now ≡ false → second.new ≡ second.old }
     ensures goes_on { OnOk result (names_mirror name.now ≡ true → IsPair marks.new.used × (marks.new.used ≢ Broken)) }
@@ -190,8 +210,9 @@ fn bind_parts<A: Image, B: Image>(
     ensures left_first { OnOk result (names_mirror name.now ≡ true → marks.new.used ≡ OnlySecond → Rose (A.state first.old).faults (A.state first.new).faults) }
     ensures left_second { OnOk result (names_mirror name.now ≡ true → marks.new.used ≡ OnlyFirst → Rose (B.state second.old).faults (B.state second.new).faults) }
     ensures made { OnOk result (names_mirror name.now ≡ true → IfSome want (λ w. marks.new.used ≡ Both)) }
+    ensures made_free { names_mirror name.now ≡ true → MakesOnFreeNames A.seen B.seen want first.old first.new second.old second.new name.now }
     ensures first_fails { OnErr result (names_mirror name.now ≡ false → Rose (A.state first.old).faults (A.state first.new).faults) }
-    ensures fails { OnErr result (names_mirror name.now ≡ true → ((Rose (A.state first.old).faults (A.state first.new).faults ⊎ Rose (B.state second.old).faults (B.state second.new).faults) ⊎ (((4095 < length name.now) ⊎ IfSome want (λ w. 2 ^ 64 - 65 < w)) ⊎ ((want ≡ None) × ((x : A) × (y : B) × WasBound (A.state first.old) (A.state x) (first_name name.now) × WasBound (B.state second.old) (B.state y) (second_name name.now) × AdoptRefuses (A.state x) (B.state y)))))) }
+    ensures fails { OnErr result (names_mirror name.now ≡ true → ((Rose (A.state first.old).faults (A.state first.new).faults ⊎ Rose (B.state second.old).faults (B.state second.new).faults) ⊎ ((IsTooLarge name.now want ⊎ IsTaken A.seen B.seen want first.old second.old name.now) ⊎ ((want ≡ None) × ((x : A) × (y : B) × WasBound (A.state first.old) (A.state x) (first_name name.now) × WasBound (B.state second.old) (B.state y) (second_name name.now) × AdoptRefuses (A.state x) (B.state y)))))) }
 {
     if !is_mirror(name.as_bytes()) {
         marks.used = Used::Plain;

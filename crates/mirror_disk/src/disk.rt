@@ -1,7 +1,7 @@
 // A mirror as a disk.
 ghost use Rattle.std.specs.{Prelude.{◌≡◌, ◌≢◌, ◌⊎◌, ◌+◌, ◌≤◌, false, length, OnOk, OnErr}, List.slice_range, Option.ForSome};
 ghost use Rattle.iso_disk.specs.Disk.{Elapses, IsSettled, Splices, TellsTorn, TornFrom};
-ghost use Rattle.counts.specs.Count.{HasCause, Rose};
+ghost use Rattle.counts.specs.Count.{HasCause, Rose, faults_after};
 ghost use Rattle.mirror_disk.specs.{declared.used.Used.TheVariants.{Both, Broken, Unbound}, Failing.{AllFailed, CannotLeave, LeavesFailed}, Standing.sides_in};
 
 use crate::mirror::Mirror;
@@ -43,6 +43,7 @@ impl<A: Image, B: Image> Disk for Mirror<A, B> {
         ensures goes_on { OnOk result (self.new.marks.used ≢ Broken) }
         ensures same { self.new.marks ≡ self.old.marks }
         ensures cause { HasCause (state_of self.old).faults (state_of self.new).faults result }
+        ensures exact { (state_of self.new).faults ≡ faults_after (state_of self.old).faults result }
         ensures first_idle { (sides_in self.old.marks.used).0 ≡ false → self.new.first ≡ self.old.first }
         ensures second_idle { (sides_in self.old.marks.used).1 ≡ false → self.new.second ≡ self.old.second }
         ensures second_last { self.old.marks.used ≡ Both → Rose (A.state self.old.first).faults (A.state self.new.first).faults ⊎ (self.new.second ≡ self.old.second) }
@@ -72,6 +73,7 @@ impl<A: Image, B: Image> Disk for Mirror<A, B> {
         ensures crash { Elapses (state_of self.old) (state_of self.new) (TornFrom at (length bytes.now) (state_of self.old).now) }
         ensures unbound { OnOk result (self.old.marks.used ≢ Unbound) }
         ensures cause { HasCause (state_of self.old).faults (state_of self.new).faults result }
+        ensures exact { (state_of self.new).faults ≡ faults_after (state_of self.old).faults result }
         ensures goes_on { OnOk result (self.new.marks.used ≢ Broken) }
         ensures breaks { OnErr result (self.old.marks.used ≡ Both → self.new.marks.used ≡ Broken) }
         ensures same { self.new.marks ≡ record self.old.marks { used = self.new.marks.used } }
@@ -102,6 +104,7 @@ impl<A: Image, B: Image> Disk for Mirror<A, B> {
         ensures crash { Elapses (state_of self.old) (state_of self.new) (state_of self.old).now }
         ensures unbound { OnOk result (self.old.marks.used ≢ Unbound) }
         ensures cause { HasCause (state_of self.old).faults (state_of self.new).faults result }
+        ensures exact { (state_of self.new).faults ≡ faults_after (state_of self.old).faults result }
         ensures goes_on { OnOk result (self.new.marks.used ≢ Broken) }
         ensures breaks { OnErr result (self.old.marks.used ≡ Both → self.new.marks.used ≡ Broken) }
         ensures same { self.new.marks ≡ record self.old.marks { used = self.new.marks.used } }

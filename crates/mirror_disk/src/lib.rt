@@ -2,8 +2,8 @@
 //!
 //! Bound to a name that ends in `+`, its images are those of the larger epoch (`sides`). `counted` and `fails` say when its count may
 //! rise. A side is left out only where it failed in that call (`left`), and has the lower epoch then (`first_leads`, `second_leads`).
-//! A call that is Ok leaves a side in use (`goes_on`). `adopt` makes both alike (`alike`, `kept`). Nothing is claimed of a side that
-//! returns wrong bytes.
+//! A call that is Ok leaves a side in use (`goes_on`). `adopt` makes both alike (`alike`, `kept`). A new mirror is made only where both
+//! names were seen to be free, and else neither side is called (`made_free`). Nothing is claimed of a side that returns wrong bytes.
 #![tactic(auto)]
 
 mod adopt;
@@ -11,6 +11,7 @@ mod bind;
 mod copy;
 mod disk;
 mod header;
+mod lookup;
 mod marks;
 mod mirror;
 mod name;
@@ -23,4 +24,5 @@ mod take;
 mod used;
 
 pub use adopt::MirrorError;
+pub use lookup::Lookup;
 pub use mirror::Mirror;

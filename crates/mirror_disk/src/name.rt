@@ -1,9 +1,10 @@
 // The names of a mirror and of its sides.
-ghost use Rattle.std.specs.{Prelude.{◌≡◌, ◌+◌, ◌<◌, ◌≤◌, [], ◌∷◌, ◌++◌, ℕ, List, Some, None, length, take, replicate, OnOk, IfNone, IfSome, IsSome}, Option.ForSome};
+ghost use Rattle.std.specs.{Prelude.{◌≡◌, ◌+◌, ◌<◌, ◌≤◌, [], ◌∷◌, ◌++◌, ℕ, List, Some, None, length, take, replicate, OnOk, IfNone, IfSome, IsSome}, Option.ForSome, Str.IsUtf8};
 ghost use Rattle.iso_disk.specs.Disk.{IsSettled};
 ghost use Rattle.counts.specs.Count.{HasCause};
 ghost use Rattle.mirror_disk.specs.Pairs.{names_mirror};
 
+use crate::lookup::Lookup;
 use iso_disk::{DiskFault, Image};
 use std::str;
 
@@ -43,8 +44,28 @@ pub(crate) fn bind_side<I: Image>(
 {
     let mut buffer = [0; LONGEST + 1];
     lay_name(&mut buffer, name.as_bytes(), digit);
-    match str::from_utf8(&buffer[..name.len() + 1]) {
-        Ok(longer) => side.bind(longer, want),
+    side.bind(head_text(&buffer, name.len() + 1), want)
+}
+
+/// Whether a side sees that a name with one byte more is free.
+pub(crate) fn is_side_free<I: Lookup>(side: &I, name: &str, digit: u8) -> bool
+    requires short { length name.now ≤ 4095 }
+    requires digit { digit < 128 }
+    ensures { I.seen side.now (name.now ++ digit ∷ []) result }
+{
+    let mut buffer = [0; LONGEST + 1];
+    lay_name(&mut buffer, name.as_bytes(), digit);
+    side.is_free(head_text(&buffer, name.len() + 1))
+}
+
+/// The text at the head of a buffer.
+fn head_text(buffer: &[u8; 4096], len: usize) -> &str
+    requires inside { len ≤ 4096 }
+    requires text { IsUtf8 (take len buffer.now) }
+    ensures { result.now ≡ take len buffer.now }
+{
+    match str::from_utf8(&buffer[..len]) {
+        Ok(text) => text,
         Err(_) => unreachable!(),
     }
 }

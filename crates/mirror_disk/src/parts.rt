@@ -1,7 +1,7 @@
 // The calls of a mirror, over its parts: which sides are asked, and what is known of them afterwards.
 ghost use Rattle.std.specs.{Prelude.{◌≡◌, ◌≢◌, ◌⊎◌, ◌+◌, ◌≤◌, ℕ, length, true, false, OnOk, OnErr}, List.slice_range, Option.ForSome};
 ghost use Rattle.iso_disk.specs.Disk.{Elapses, IsSettled, Splices, TellsTorn, TornFrom};
-ghost use Rattle.counts.specs.Count.{HasCause, Rose};
+ghost use Rattle.counts.specs.Count.{HasCause, Rose, faults_after};
 ghost use Rattle.mirror_disk.specs.{declared.used.Used.TheVariants.{Both, Broken, Unbound}, Failing.{AllFailed, CannotLeave, LeavesFailed}, Standing.{StandsBy, sides_in, state_by}};
 
 use crate::marks::Marks;
@@ -14,6 +14,7 @@ use iso_disk::{Disk, DiskFault};
 /// Counts a fault where a call was not done.
 pub(crate) fn count(faults: &mut u64, done: bool) -> Result<(), DiskFault>
     ensures cause { HasCause faults.old faults.new result }
+    ensures exact { faults.new ≡ faults_after faults.old result }
     ensures done { OnOk result (done ≡ true) }
     ensures failed { OnErr result (done ≡ false) }
 {
@@ -42,6 +43,7 @@ pub(crate) fn write_parts<A: Disk, B: Disk>(
     ensures crash { (binds : ℕ) → Elapses (state_by marks.old (A.state first.old) (B.state second.old) past.old faults.old binds) (state_by marks.new (A.state first.new) (B.state second.new) past.new faults.new binds) (TornFrom at (length bytes.now) (state_by marks.old (A.state first.old) (B.state second.old) past.old faults.old binds).now) }
     ensures bound { OnOk result (marks.old.used ≢ Unbound) }
     ensures cause { HasCause faults.old faults.new result }
+    ensures exact { faults.new ≡ faults_after faults.old result }
     ensures goes_on { OnOk result (marks.new.used ≢ Broken) }
     ensures breaks { OnErr result (marks.old.used ≡ Both → marks.new.used ≡ Broken) }
     ensures same { marks.new ≡ record marks.old { used = marks.new.used } }
@@ -90,6 +92,7 @@ pub(crate) fn sync_parts<A: Disk, B: Disk>(
     ensures crash { (binds : ℕ) → Elapses (state_by marks.old (A.state first.old) (B.state second.old) past.old faults.old binds) (state_by marks.new (A.state first.new) (B.state second.new) past.new faults.new binds) (state_by marks.old (A.state first.old) (B.state second.old) past.old faults.old binds).now }
     ensures bound { OnOk result (marks.old.used ≢ Unbound) }
     ensures cause { HasCause faults.old faults.new result }
+    ensures exact { faults.new ≡ faults_after faults.old result }
     ensures goes_on { OnOk result (marks.new.used ≢ Broken) }
     ensures breaks { OnErr result (marks.old.used ≡ Both → marks.new.used ≡ Broken) }
     ensures same { marks.new ≡ record marks.old { used = marks.new.used } }
@@ -140,6 +143,7 @@ pub(crate) fn read_parts<A: Disk, B: Disk>(
     ensures bound { OnOk result (marks.used ≢ Unbound) }
     ensures goes_on { OnOk result (marks.used ≢ Broken) }
     ensures cause { HasCause faults.old faults.new result }
+    ensures exact { faults.new ≡ faults_after faults.old result }
     ensures first_idle { (sides_in marks.used).0 ≡ false → first.new ≡ first.old }
     ensures second_idle { (sides_in marks.used).1 ≡ false → second.new ≡ second.old }
     ensures second_last { marks.used ≡ Both → Rose (A.state first.old).faults (A.state first.new).faults ⊎ (second.new ≡ second.old) }
