@@ -4,6 +4,7 @@ use crate::steps::Outcome::{Count, Done, Failed};
 use crate::steps::Step::{Bind, Faults, Length, Read, Size, Sync, Write};
 use crate::steps::{Row, on_file, on_new_file};
 use file_disk::FileDisk;
+use iso_disk::Lookup;
 use std::alloc::{Allocator, Global};
 use std::fs::{self, File, Metadata, OpenOptions};
 use std::io;
@@ -139,18 +140,18 @@ fn a_name_that_something_has_is_not_free(rt: HostRuntime) -> Result<(), Fail> {
     let name = "a_name_that_something_has_is_not_free.img";
     let _ = fs::remove_file(&rt, name);
     let disk = FileDisk::new(rt.clone()?, rt.alloc());
-    same(&rt, disk.is_absent(name), true);
-    same(&rt, disk.is_absent(name), true);
+    same(&rt, disk.is_free(name), true);
+    same(&rt, disk.is_free(name), true);
     fs::write(&rt, name, &[1, 2, 3])?;
-    same(&rt, disk.is_absent(name), false);
+    same(&rt, disk.is_free(name), false);
     fs::remove_file(&rt, name)?;
     fs::create_dir(&rt, name)?;
-    same(&rt, disk.is_absent(name), false);
+    same(&rt, disk.is_free(name), false);
     fs::remove_dir(&rt, name)?;
     symlink(&rt, "nothing_has_this_name.img", name)?;
-    same(&rt, disk.is_absent(name), false);
+    same(&rt, disk.is_free(name), false);
     fs::remove_file(&rt, name)?;
-    same(&rt, disk.is_absent(name), true);
+    same(&rt, disk.is_free(name), true);
     Ok(())
 }
 

@@ -8,8 +8,7 @@ use crate::files::{new_file, open_file, read_all, write_all};
 use counts::raise;
 use iso_disk::{Disk, DiskFault, Image};
 use std::alloc::Global;
-use std::fs::{self, File};
-use std::io;
+use std::fs::File;
 use std::rt::Files;
 
 /// A file of a fixed size, read and written in place, whose lock is held for as long as it is bound.
@@ -19,7 +18,7 @@ use std::rt::Files;
 /// stable. Each fails on a disk that is not bound, and none makes a system call anew that has failed.
 #[derive(Drop)]
 pub struct FileDisk<R: Files<File = File> + Drop> {
-    rt: R,
+    pub(crate) rt: R,
     alloc: Global,
     file: Option<File>,
     name: Option<Vec<u8>>,
@@ -53,15 +52,6 @@ impl<R: Files<File = File> + Drop> FileDisk<R> {
         ensures { result ≡ self.now.faults }
     {
         self.faults
-    }
-
-    /// Whether there is no file of this name, nor a link of it to one that is gone. It opens nothing and takes no lock, so a file
-    /// is seen also where it is in use or may not be read. False as well where the system does not say that there is none.
-    pub fn is_absent(&self, name: &str) -> bool {
-        match fs::symlink_metadata(&self.rt, name) {
-            Ok(_) => false,
-            Err(error) => error.kind() == io::ErrorKind::NotFound,
-        }
     }
 
     /// Counts a fault.

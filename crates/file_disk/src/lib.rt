@@ -2,10 +2,11 @@
 //!
 //! It meets `Disk` and `Image` as an opaque disk: sizes, counts, causes, how often a bind was asked for and which name is bound are
 //! promised (`size`, `binds`, `cause`), nothing of bytes or crashes. That the file keeps what was written is trusted. That a file
-//! which another disk has bound is a fault, and which names `is_absent` finds free, is only tested.
+//! which another disk has bound is a fault, and which names are found free, is only tested.
 #![tactic(auto)]
 
 mod file_disk;
 mod files;
+mod lookup;
 
 pub use file_disk::FileDisk;

@@ -8,6 +8,7 @@
 mod disk;
 mod draws;
 mod failures;
+mod lookup;
 mod record;
 
 pub use disk::MemDisk;

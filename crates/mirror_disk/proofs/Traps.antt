@@ -51,9 +51,9 @@ alike_stay a b new_a new_b x y told_a told_b leaves epochs bodies same few = ⊎
 -- an adopt does not fail where no side does, nor where the other one alone does and has an epoch to be left out by
 fails_by_a_fault : (a b mid_a mid_b new_a new_b : DiskState) (x y : List ℕ) → a.contents ≡ Some x → b.contents ≡ Some y → a.faults ≡ 0 → b.faults ≡ 0 → AdoptFails a b mid_a mid_b new_a new_b → new_a.faults ≡ 0 → epoch y ≤ epoch x → epoch x < 9 → mid_b.faults ≡ 0 → ⊥
 fails_by_a_fault a b mid_a mid_b new_a new_b x y told_a told_b zero_a zero_b fails none least few before = ⊎_elim
-  (λ early. ⊎_elim (λ rose. absurd (omega (arith, rose, zero_a, none, fails.first_behind))) (λ rose. absurd (omega (arith, rose, zero_b, before))) early)
-  (λ late. ⊎_elim (λ rose. absurd (omega (arith, rose, zero_a, none, fails.first_before))) (λ last. absurd (omega (arith, last.0, few))) ((late x told_a y told_b).0 least))
-  fails.by
+    (λ early. ⊎_elim (λ rose. absurd (omega (arith, rose, zero_a, none, fails.first_behind))) (λ rose. absurd (omega (arith, rose, zero_b, before))) early)
+    (λ late. ⊎_elim (λ rose. absurd (omega (arith, rose, zero_a, none, fails.first_before))) (λ last. absurd (omega (arith, last.0, few))) ((late x told_a y told_b).0 least))
+    fails.by
 
 -- where each stable side has one image, an adopt leaves what was chosen of the two at each moment
 keeps_the_choice : {a b mid_a mid_b new_a new_b : DiskState} (p q : List ℕ) → AdoptsFrom a b mid_a mid_b new_a new_b → ((x : List ℕ) → mid_a.now x → x ≡ p) → ((y : List ℕ) → mid_b.now y → y ≡ q) → (x y : List ℕ) → new_a.left mid_a.clock x → new_b.left mid_b.clock y → chosen x y ≡ chosen p q

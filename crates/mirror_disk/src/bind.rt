@@ -6,7 +6,6 @@ ghost use Rattle.mirror_disk.specs.{Adopting.{AdoptRefuses, WasBound}, Binding.{
 
 use crate::adopt::adopt_sides;
 use crate::header::lay_header;
-use crate::lookup::Lookup;
 use crate::marks::Marks;
 use crate::mirror::Mirror;
 use crate::name::{LONGEST, bind_side, is_mirror, is_side_free};
@@ -15,7 +14,7 @@ use crate::past::Past;
 use crate::sides::HEADER;
 use crate::used::Used;
 use counts::raise;
-use iso_disk::{Disk, DiskFault, Image};
+use iso_disk::{Disk, DiskFault, Image, Lookup};
 
 /// The largest size of a mirror.
 const LARGEST: u64 = u64::MAX - HEADER;

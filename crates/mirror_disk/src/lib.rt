@@ -11,7 +11,6 @@ mod bind;
 mod copy;
 mod disk;
 mod header;
-mod lookup;
 mod marks;
 mod mirror;
 mod name;
@@ -24,5 +23,4 @@ mod take;
 mod used;
 
 pub use adopt::MirrorError;
-pub use lookup::Lookup;
 pub use mirror::Mirror;

@@ -4,8 +4,7 @@ ghost use Rattle.iso_disk.specs.Disk.{IsSettled};
 ghost use Rattle.counts.specs.Count.{HasCause};
 ghost use Rattle.mirror_disk.specs.Pairs.{names_mirror};
 
-use crate::lookup::Lookup;
-use iso_disk::{DiskFault, Image};
+use iso_disk::{DiskFault, Image, Lookup};
 use std::str;
 
 /// The most bytes of a name of a mirror.
