@@ -12,8 +12,8 @@ pub tells : (d : QueuedDisk) (bytes : List ℕ) → given d ≡ bytes → calls_
 tells d bytes same none = ap (λ (calls : List Call). Some (written calls (given d))) none ∙ ap Some same
 
 -- and its file has them
-pub named : {d : QueuedDisk} {bytes : List ℕ} → handed_on d ≡ [] → given d ≡ bytes → file_of d ≡ file_with bytes []
-named none same = λ i. file_with (same i) (none i)
+pub named : (d : QueuedDisk) {bytes : List ℕ} → handed_on d ≡ [] → given d ≡ bytes → file_of d ≡ file_with bytes []
+named d none same = λ i. file_with (same i) (none i)
 
 -- an error that is no test of the image has no status of a refusal
 pub no_refusal : (e : OpenError) → (IsTest e → ⊥) → (code_of_open e ≡ pos 26 → ⊥) × (code_of_open e ≡ pos 35 → ⊥)

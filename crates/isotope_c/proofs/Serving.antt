@@ -15,9 +15,14 @@ taken_is s {held = held} {taken = taken} {d = d} there is holds =
     let same : Some taken ≡ Some d = sym (ap (λ (i : Instance). desk_in (Some i)) is) ∙ (sym (ap desk_in there) ∙ holds) in
     cc same
 
+name_in : Option (ℕ × List ℕ) → List ℕ
+name_in None = []
+name_in (Some bound) = bound.1
+
 -- a disk is bound to its file
 pub same_file : (a b : QueuedDisk) → (state_of a).bound ≡ (state_of b).bound → file_of a ≡ file_of b
-same_file a b same = cc same
+unfolding name_in
+same_file a b same = ap name_in same
 
 -- Of what was taken out (`there`) the open device (`value`, `is`) was asked, and what it became was put back (`put`).
 module _ (old new : Slot) {boxed held : Instance} {taken now : Device QueuedDisk} (there : old.inner.instance ≡ Some boxed) (value : held ≡ boxed) (is : held ≡ Open taken) (put : new.inner.instance ≡ Some (Open now)) where

@@ -12,7 +12,7 @@ returns-in-Ok-new c = subst (λ (i : Instance). HasMade (Some i) c.args.geometry
     blank = c.new.result;
     zeros = c.new.ensures.given ∙ (c.in-Ok.ensures ∙ ap (λ (n : ℕ). replicate n 0) c.image_size.ensures);
     untouched = c.new.ensures.calls;
-    file = same_file (disk_under c.in-Ok-create.desk) c.new.result c.in-Ok-create.ensures.moments.same_bound ∙ named c.new.ensures.handed (c.new.ensures.given ∙ (c.in-Ok.ensures ∙ ap (λ (n : ℕ). replicate n 0) c.image_size.ensures));
+    file = same_file (disk_under c.in-Ok-create.desk) c.new.result c.in-Ok-create.ensures.moments.same_bound ∙ named c.new.result c.new.ensures.handed (c.new.ensures.given ∙ (c.in-Ok.ensures ∙ ap (λ (n : ℕ). replicate n 0) c.image_size.ensures));
     stands = c.in-Ok-create.ensures.stands;
     moments = c.in-Ok-create.ensures.moments;
   };

@@ -8,7 +8,7 @@ pub returns-in-Ok-clause-opened : goal.returns-in-Ok-clause-opened
 returns-in-Ok-clause-opened c = record {
   now = c.in-Ok.desk;
   there = refl;
-  file = same_file (disk_under c.in-Ok.desk) c.new.result c.in-Ok.ensures.unwritten.moments.same_bound ∙ named c.new.ensures.handed c.new.ensures.given;
+  file = same_file (disk_under c.in-Ok.desk) c.new.result c.in-Ok.ensures.unwritten.moments.same_bound ∙ named c.new.result c.new.ensures.handed c.new.ensures.given;
   opened = subst (λ (told : Option (List ℕ)). IsOpenedAs state_of c.in-Ok.desk told) (tells c.new.result c.args.bytes.items c.new.ensures.given c.new.ensures.calls) c.in-Ok.ensures.opened;
 }
 
