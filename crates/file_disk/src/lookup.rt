@@ -1,5 +1,4 @@
 // Whether a file has a name.
-ghost use Rattle.std.specs.Prelude.{Unit};
 
 use crate::file_disk::FileDisk;
 use iso_disk::Lookup;
