@@ -1,9 +1,10 @@
 -- A session whose transaction was handed out, and what came back of it.
-use Rattle.group_commit.proofs.Words.{inl, inr, ◌++◌, ◌≡◌, ◌⊎◌, ◌∙◌, List, [], ◌∷◌, Some, refl, sym, ap, subst, arith, ⊎_elim, CoreError, IsLegal, IsPort, number_of, port_view, tx_view, Start, Entry, Shared, Tx, IsPrefix, prefix_self, prefix_trans, times, cause_of, SessionState}
+use Rattle.group_commit.proofs.Words.{inl, inr, ℕ, ◌++◌, ◌+◌, ◌≡◌, ◌⊎◌, ◌∙◌, List, [], ◌∷◌, None, Some, refl, sym, ap, subst, arith, ⊎_elim, CoreError, IsLegal, IsPort, number_of, port_view, tx_view, Start, Entry, Shared, Tx, IsPrefix, prefix_self, prefix_trans, times, cause_of, SessionState}
+use Rattle.iso_model.specs.declared.core_error.CoreError.TheVariants as error
 use Rattle.iso_shared.specs.{declared.shared.Port.Port, Ports.{doing_of}}
 use Rattle.iso_shared.specs.declared.entry.Entry.TheVariants as entry
-use Rattle.handle_pass.{proofs.Entering.{own_same}, specs.Inside.{own_in}, specs.Sessions.{Own}, specs.Splits.{Joined}}
-use Rattle.group_commit.specs.{declared.each.Ended.Ended, Each.IsEndedIn, Outcomes.{IsEndedAlone, IsHandedBack, IsRefusedIn}, Together.{Follows, IsAnswer, IsHandedOut, IsRefusal, Parted}}
+use Rattle.handle_pass.{proofs.Entering.{left_kept, own_same}, proofs.Handing.{upto_same}, specs.Handles.{TookOver}, specs.Held.{held_state}, specs.Inside.{own_in}, specs.Sessions.{Own}, specs.Splits.{Joined}}
+use Rattle.group_commit.specs.{declared.each.Ended.Ended, Each.IsEndedIn, Outcomes.{IsEndedAlone, IsHandedBack, IsLost, IsRefusedIn}, Together.{Follows, IsAnswer, IsHandedOut, IsRefusal, Stays, Unended}}
 
 module _ (A : Start) where
   -- what follows in one list follows in those that hold it
@@ -54,13 +55,13 @@ module _ {D O : Type 0} (A : Start) where
 
   module _ (d : Shared D O) (s m : SessionState) (u : Tx D O) (out : IsHandedOut d A s u m) where
     -- the port of a transaction that is gone was joined into the session
-    pub rejoined : (t : SessionState) (q : Port D O) → (port_view q).units ≡ 1 → (port_view q).mine ≡ [] → Joined m q t → Parted s t × (t.units ≡ s.units)
+    pub rejoined : (t : SessionState) (q : Port D O) → (port_view q).units ≡ 1 → (port_view q).mine ≡ [] → Joined m q t → (t.own ≡ None) × Stays s t × (t.units ≡ s.units)
     rejoined t q one bare j = (
+      j.tx.is ∙ out.left,
       record {
-        left = j.tx.is ∙ out.parted.left;
-        known = prefix_trans s.seen m.seen t.seen out.parted.known j.known;
-        places = λ p. (let more = j.places p in let none = ap (times p) bare in let was = out.parted.places p in omega (arith, more, none, was));
-        of = j.of ∙ out.parted.of;
+        known = prefix_trans s.seen m.seen t.seen out.stays.known j.known;
+        places = λ p. (let more = j.places p in let none = ap (times p) bare in let was = out.stays.places p in omega (arith, more, none, was));
+        of = j.of ∙ out.stays.of;
       },
       (let more = j.more in let less = out.units in omega (arith, more, less, one)),
     )
@@ -68,10 +69,37 @@ module _ {D O : Type 0} (A : Start) where
     pub answered_in : (t : SessionState) (q : Port D O) (x : Entry) → Joined m q t → Follows A (tx_view u).seen x (port_view q).seen → Follows A s.seen x t.seen
     answered_in t q x j f = widened A s.seen (tx_view u).seen (port_view q).seen t.seen x out.told f j.told
 
-    pub handed_back : (why : CoreError) (v : Tx D O) → IsHandedBack d A u why v → (s.own ≡ Some (own_in v)) × IsRefusedAt A (own_in v) why s.seen (tx_view v).seen
-    handed_back why v back =
+    -- the disk failed in the end, and the port of the transaction, which is gone, was joined into the session
+    pub lost_in : (t : SessionState) (q : Port D O) → IsLost d A u q → Joined m q t → Unended A s (own_in u) error.Disk t
+    lost_in t q lost j =
+        let back = rejoined t q lost.port.unit lost.port.bare j in
+        let r = refused_of d u error.Disk (port_view q).seen lost.refused in record {
+          was = out.was;
+          left = back.0;
+          upto = λ no. absurd (no refl);
+          stays = back.1;
+          units = back.2;
+          refusal = r.0;
+          is = r.1;
+          follows = answered_in t q r.0 j r.2;
+        }
+
+    -- the end was refused, and the transaction was taken over again
+    pub kept_in : (t : SessionState) (why : CoreError) (v : Tx D O) (at : ℕ) → IsHandedBack d A u why v → TookOver m (held_state v) at t → Unended A s (own_in u) why t
+    kept_in t why v at back over =
         let same : own_in v ≡ own_in u = own_same u v back.same in
-        let r = refused_of d u why (tx_view v).seen back.refused in (
-          out.was ∙ ap Some (sym same),
-          (r.0, subst (λ (o : Own). IsRefusal o why r.0) (sym same) r.1, widened A s.seen (tx_view u).seen (tx_view v).seen (tx_view v).seen r.0 out.told r.2 (prefix_self (tx_view v).seen)),
-        )
+        let r = refused_of d u why back.list back.refused in
+        let before : IsPrefix back.list t.seen = prefix_trans back.list (tx_view v).seen t.seen back.known over.told in record {
+          was = out.was;
+          left = over.is ∙ ap Some same ∙ sym (left_kept why (own_in u) back.live);
+          upto = λ _. over.upto ∙ upto_same u v back.same ∙ out.upto;
+          stays = record {
+            known = prefix_trans s.seen m.seen t.seen out.stays.known over.more;
+            places = λ p. (let more = over.places p in let none = ap (times p) back.bare in let was = out.stays.places p in omega (arith, more, none, was));
+            of = over.of ∙ out.stays.of;
+          };
+          units = (let more = over.units in let less = out.units in omega (arith, more, less));
+          refusal = r.0;
+          is = r.1;
+          follows = widened A s.seen (tx_view u).seen back.list t.seen r.0 out.told r.2 before;
+        }

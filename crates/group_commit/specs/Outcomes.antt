@@ -1,5 +1,5 @@
 -- What becomes of a transaction that is handed in to be ended by whoever serves.
-use Rattle.std.specs.Prelude.{◌≡◌, ◌⊎◌, ℕ, ◌++◌, List, [], ◌∷◌}
+use Rattle.std.specs.Prelude.{◌≡◌, ◌≢◌, ◌⊎◌, ℕ, ◌++◌, List, [], ◌∷◌}
 use mathlib.Core.List.{IsPrefix}
 use Rattle.iso_model.specs.{declared.access.Access.Access, declared.access.EndReply.EndReply, declared.access.GroupReply.GroupReply, declared.core_error.CoreError.CoreError}
 use Rattle.iso_model.specs.declared.access.EndReply.TheVariants as reply
@@ -60,11 +60,15 @@ module _ {D O : Type 0} (shared : Shared D O) (A : Start) where
     pub now : ℕ
     pub seen : HasSeen t (entry.Refused asked (cause_of faults now e)) list
 
-  -- and it was handed back as it was
+  -- and it was handed back as it was, without a place, and knows the refusal, which was for no fault of the disk
   pub record IsHandedBack (t : Tx D O) (e : CoreError) (u : Tx D O) : Type 0 where
     pub tx : MayEnd u
     pub same : IsSameTx t u
-    pub refused : IsRefusedIn t e (tx_view u).seen
+    pub bare : (tx_view u).mine ≡ []
+    pub live : e ≢ error.Disk
+    pub list : List Entry
+    pub refused : IsRefusedIn t e list
+    pub known : IsPrefix list (tx_view u).seen
 
   -- a fault of the disk has ended it
   pub record IsLost (t : Tx D O) (p : Port D O) : Type 0 where

@@ -1,13 +1,13 @@
 -- How the transaction of a session ends together with those of other threads: by an entry that another caller made.
-use Rattle.std.specs.Prelude.{◌≡◌, ◌⊎◌, ℕ, ◌+◌, ◌++◌, List, [], ◌∷◌, Some, None, Result, Ok, Err}
+use Rattle.std.specs.Prelude.{◌≡◌, ◌≢◌, ◌⊎◌, ℕ, ◌+◌, ◌++◌, List, [], ◌∷◌, Some, None, Result, Ok, Err}
 use mathlib.Core.List.{IsPrefix}
 use Rattle.iso_model.specs.{declared.access.EndReply.EndReply, declared.access.GroupReply.GroupReply, declared.core_error.CoreError.CoreError}
 use Rattle.iso_model.specs.declared.core_error.CoreError.TheVariants as error
-use Rattle.iso_shared.specs.{declared.entry.Call.Call, declared.entry.Entry.Entry, declared.entry.MemberEnd.MemberEnd, declared.shared.Shared.Shared, declared.tx.Tx.Tx, Legal.IsLegal, Ports.tx_view, States.Start, Told.cause_of}
+use Rattle.iso_shared.specs.{declared.entry.Call.Call, declared.entry.Entry.Entry, declared.entry.MemberEnd.MemberEnd, declared.shared.Shared.Shared, declared.tx.Tx.Tx, Legal.IsLegal, Ports.{check_of, tx_view}, States.Start, Told.cause_of}
 use Rattle.iso_shared.specs.declared.entry.Entry.TheVariants as entry
-use Rattle.handle_pass.specs.{Inside.own_in, Sessions.{Own, SessionState, count}}
-use Rattle.group_commit.specs.{declared.session_end.EndWithError.EndWithError, Each.IsAmong, Outcomes.{IsEndOf, MayEnd, as_member}}
-use Rattle.group_commit.specs.declared.session_end.EndWithError.TheVariants as end
+use Rattle.handle_pass.specs.{declared.errors.EndError.EndError, Calls.left_by, Inside.own_in, Sessions.{Own, SessionState, count}}
+use Rattle.handle_pass.specs.declared.errors.EndError.TheVariants as end
+use Rattle.group_commit.specs.{Each.IsAmong, Outcomes.{IsEndOf, MayEnd, as_member}}
 
 -- the entry ends the transaction, by itself or as a member of a group, and answers it so
 abbrev pub IsAnswer : Own → GroupReply → Entry → Type 0
@@ -26,25 +26,35 @@ pub record Follows (A : Start) (old : List Entry) (e : Entry) (new : List Entry)
   pub known : IsPrefix (before ++ e ∷ []) new
   pub legal : IsLegal A (before ++ e ∷ [])
 
--- the session made no entry, and keeps its places; its transaction has left it
-pub record Parted (s t : SessionState) : Type 0 where
-  pub left : t.own ≡ None
+-- the session made no entry, and keeps its places
+pub record Stays (s t : SessionState) : Type 0 where
   pub known : IsPrefix s.seen t.seen
   pub places : (p : ℕ) → count t p ≡ count s p
   pub of : t.device ≡ s.device
 
-module _ {D O : Type 0} (shared : Shared D O) (A : Start) where
-  -- this is the transaction, with one unit; the session's places stayed, and the transaction knows what the session did
-  pub record IsHandedOut (s : SessionState) (u : Tx D O) (t : SessionState) : Type 0 where
-    pub tx : MayEnd shared A u
-    pub was : s.own ≡ Some (own_in u)
-    pub told : IsPrefix s.seen (tx_view u).seen
-    pub parted : Parted s t
-    pub units : t.units + 1 ≡ s.units
+-- The end of the session's transaction was refused so, by an entry that another caller made. The session has the transaction that it
+-- would have behind a refusal of its own.
+pub record Unended (A : Start) (s : SessionState) (o : Own) (why : CoreError) (t : SessionState) : Type 0 where
+  pub was : s.own ≡ Some o
+  pub left : t.own ≡ left_by why o
+  pub upto : why ≢ error.Disk → t.checked ≡ s.checked
+  pub stays : Stays s t
+  pub units : t.units ≡ s.units
+  pub refusal : Entry
+  pub is : IsRefusal o why refusal
+  pub follows : Follows A s.seen refusal t.seen
 
-  abbrev pub HasEndedWith : SessionState → Result GroupReply (EndWithError D O) → SessionState → Type 0
-  HasEndedWith s (Ok reply) t = (o : Own) × (s.own ≡ Some o) × Parted s t × (t.units ≡ s.units) × (e : Entry) × IsAnswer o reply e × Follows A s.seen e t.seen
-  HasEndedWith s (Err end.NotInTx) t = (s.own ≡ None) × (t ≡ s)
-  HasEndedWith s (Err (end.Refused why u)) t =
-      (s.own ≡ Some (own_in u)) × Parted s t × (t.units + 1 ≡ s.units) × MayEnd shared A u × (e : Entry) × IsRefusal (own_in u) why e × Follows A s.seen e (tx_view u).seen
-  HasEndedWith s (Err end.Lost) t = (o : Own) × (s.own ≡ Some o) × Parted s t × (t.units ≡ s.units) × (e : Entry) × IsRefusal o error.Disk e × Follows A s.seen e t.seen
+-- this is the transaction, with one unit; the session's places stayed, and the transaction knows what the session did
+pub record IsHandedOut {D O : Type 0} (shared : Shared D O) (A : Start) (s : SessionState) (u : Tx D O) (t : SessionState) : Type 0 where
+  pub tx : MayEnd shared A u
+  pub was : s.own ≡ Some (own_in u)
+  pub upto : (check_of u).upto ≡ s.checked
+  pub told : IsPrefix s.seen (tx_view u).seen
+  pub left : t.own ≡ None
+  pub stays : Stays s t
+  pub units : t.units + 1 ≡ s.units
+
+abbrev pub HasEndedWith : Start → SessionState → Result GroupReply EndError → SessionState → Type 0
+HasEndedWith A s (Ok reply) t = (o : Own) × (s.own ≡ Some o) × (t.own ≡ None) × Stays s t × (t.units ≡ s.units) × (e : Entry) × IsAnswer o reply e × Follows A s.seen e t.seen
+HasEndedWith A s (Err end.NotInTx) t = (s.own ≡ None) × (t ≡ s)
+HasEndedWith A s (Err (end.Core why)) t = (o : Own) × Unended A s o why t

@@ -33,7 +33,7 @@ impl<D: Disk + Drop, O: Origin> OfDevice<D, O> for Brand {
 pub enum Outcome<D: Disk + Drop, O: Origin> {
     /// It has ended, as a member of a group or by itself.
     Ended(Ended<D, O>),
-    /// The device refuses its end, and it is handed back as it was.
+    /// The device refuses its end, and it is handed back as it was. The place of the refusal is the port's that made it.
     Refused(CoreError, Tx<D, O>),
     /// A fault of the disk has ended it. The port has its unit.
     Lost(Port<D, O>),
@@ -154,7 +154,10 @@ fn end_with<L: Ledger, D: Disk + Drop, O: Origin, R: Wait>(
             port: shared.port(port, 1),
         }),
         Err((error, back)) => match back {
-            Some(tx) => Outcome::Refused(error, tx),
+            Some(mut tx) => {
+                shared.leave_places(port, &mut tx);
+                Outcome::Refused(error, tx)
+            }
             None => Outcome::Lost(shared.port(port, 1)),
         },
     }

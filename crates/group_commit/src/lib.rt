@@ -22,4 +22,4 @@ pub use commit::{commit_found, commit_group};
 pub use committer::Committer;
 pub use each::{Ended, commit_each, end_each};
 pub use ends::{Ends, OfDevice, Outcome, hand_in};
-pub use session_end::{EndWithError, end_with};
+pub use session_end::end_with;

@@ -59,8 +59,8 @@ fn fit<D: Disk + Drop, O: Origin, R: Wait>(
         && most_bytes(group, geometry.block) <= free
 }
 
-/// Ends these as a group, if the log has room for all of them, and each has a number. Else, and where there is one alone, each is left to be ended by itself,
-/// so that one that does not fit stays.
+/// Ends these as a group, if the log has room for all of them, and each has a number. Else, and where there is one alone, each is
+/// left to be ended by itself, so that one that does not fit stays.
 pub(crate) fn end_taken<D: Disk + Drop, O: Origin, R: Wait>(
     rt: &R,
     shared: &Shared<D, O>,

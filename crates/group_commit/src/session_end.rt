@@ -1,31 +1,29 @@
 // The end of a session's transaction, together with those of other threads.
-ghost use Rattle.std.specs.Prelude.{◌≡◌, ◌<◌, IsSome, Some};
+ghost use Rattle.std.specs.Prelude.{◌≡◌, ◌<◌, ℕ, IsSome, None, Some};
 ghost use Rattle.ask_desk.specs.Sides.{IsClient, Rests};
-ghost use Rattle.handle_pass.specs.{Sessions.device_of, Splits.port_units};
-ghost use Rattle.group_commit.specs.Together.{HasEndedWith, IsHandedOut};
+ghost use Rattle.handle_pass.specs.{Handles.TookOver, Held.held_state, Sessions.device_of, Splits.port_units};
+ghost use Rattle.group_commit.specs.{Outcomes.MayEnd, Together.{HasEndedWith, IsHandedOut}};
 
 use crate::committer::Committer;
 use crate::each::Ended;
 use crate::ends::{Ends, OfDevice, Outcome, hand_in};
 use ask_desk::{Client, Desk};
-use handle_pass::Session;
+use handle_pass::{EndError, Handle, Session};
 use iso_disk::Disk;
 use iso_model::{CoreError, GroupReply};
 use iso_shared::{Origin, Shared, Tx};
 use std::sync::Wait;
 
-/// Why the transaction of a session has not ended with a reply.
-pub enum EndWithError<D: Disk + Drop, O: Origin> {
-    /// The session has no transaction.
-    NotInTx,
-    /// The device refuses it. The transaction is live as it was, and is handed back: the session has it no more.
-    Refused(CoreError, Tx<D, O>),
-    /// A fault of the disk has ended it.
-    Lost,
-}
-
 /// Ends the transaction of a session together with those that other threads hand in at these desks at the same time. The session
-/// keeps its places and its units, and knows the entry of the end.
+/// keeps its places and its units, and knows the entry of the end, which another caller made.
+///
+/// # Errors
+///
+/// As those of `Session::end_tx`, and what they leave. A member of a group for which the log has no room, or for which there is no
+/// number, is told so in its reply, and is aborted.
+/// - `NotInTx`: the session has no transaction.
+/// - `Core(Disk)`: there is no transaction any more.
+/// - any other `Core`: the session has the transaction as it was.
 pub fn end_with<'a, D: Disk + Drop, O: Origin, P: OfDevice<D, O>, R: Wait>(
     rt: &R,
     shared: &Shared<D, O>,
@@ -34,15 +32,15 @@ pub fn end_with<'a, D: Disk + Drop, O: Origin, P: OfDevice<D, O>, R: Wait>(
     desks: &[Desk<Ends<D, O, P>>],
     desk: &Desk<Ends<D, O, P>>,
     client: &mut Client<Ends<D, O, P>>,
-) -> Result<GroupReply, EndWithError<D, O>>
+) -> Result<GroupReply, EndError>
     requires device { (P.device ≡ Some shared.now) × (session.old.device ≡ device_of shared.now) }
     requires units { 32 < port_units session.old }
     requires client { IsClient desk.now client.old × Rests client.old }
     ensures client { IsClient desk.now client.new × Rests client.new }
-    ensures did { HasEndedWith shared.now O.start session.old result session.new }
+    ensures did { HasEndedWith O.start session.old result session.new }
 {
     if session.mode().is_none() {
-        return Err(EndWithError::NotInTx);
+        return Err(EndError::NotInTx);
     }
     let tx = hand_out(shared, session);
     hand_in(shared, desk, client, tx);
@@ -52,10 +50,13 @@ pub fn end_with<'a, D: Disk + Drop, O: Origin, P: OfDevice<D, O>, R: Wait>(
             session.join_port(port);
             Ok(reply)
         }
-        Outcome::Refused(error, tx) => Err(EndWithError::Refused(error, tx)),
+        Outcome::Refused(error, tx) => {
+            take_back(shared, session, tx);
+            Err(EndError::Core(error))
+        }
         Outcome::Lost(port) => {
             session.join_port(port);
-            Err(EndWithError::Lost)
+            Err(EndError::Core(CoreError::Disk))
         }
     }
 }
@@ -78,4 +79,22 @@ fn hand_out<'a, D: Disk + Drop, O: Origin>(
     shared.leave_places(&mut port, &mut tx);
     session.join_port(port);
     tx
+}
+
+// Gives a session, which has no transaction, one that was handed back.
+fn take_back<'a, D: Disk + Drop, O: Origin>(
+    shared: &Shared<D, O>,
+    session: &mut Session<'a, D, O>,
+    tx: Tx<D, O>,
+)
+    requires device { session.old.device ≡ device_of shared.now }
+    requires none { session.old.own ≡ None }
+    requires tx { MayEnd shared.now O.start tx }
+    ensures { (at : ℕ) × TookOver session.old (held_state tx) at session.new }
+{
+    let _ = shared;
+    match session.takeover_tx(Handle::of(tx)) {
+        Ok(_at) => {}
+        Err((_, _handle)) => unreachable!(),
+    }
 }

@@ -1,6 +1,14 @@
 -- A transaction that a session releases or takes over, and a port that is split off it or joined into it.
-use Rattle.handle_pass.proofs.{Words.{◌≡◌, ℕ, ◌+◌, ◌-◌, ◌<◌, ◌++◌, Option, Some, None, IfSome, cond, is_some, refl, sym, ap, ◌∙◌, arith, Checked, times, view, View, IsAlike, IsPrefix, Entry, Port, Tx, Start, IsSameTx, Inside, IsSession, IsPortAt, Joined, Split, device_of, given_part, kept_part, mine_of, HandleState, IsReleased, Own, Released, TookOver, checked_of, held_state, own_of, state_of, units_of}, Entering.{count_both, count_of, own_same}}
-use Rattle.iso_shared.specs.Ports.{IsTx}
+use Rattle.handle_pass.proofs.{Words.{◌≡◌, ℕ, ◌+◌, ◌-◌, ◌<◌, ◌++◌, Bool, true, false, Option, Some, None, IfSome, cond, is_some, refl, sym, ap, ◌∙◌, arith, Checked, Doing, times, view, View, IsAlike, IsPrefix, Entry, Port, Tx, Start, IsSameTx, Inside, IsSession, IsPortAt, Joined, Split, device_of, given_part, kept_part, mine_of, HandleState, IsReleased, Own, Released, TookOver, checked_of, held_state, own_of, port_units, SessionState, state_of, units_of}, Entering.{count_both, count_of, own_same}}
+use Rattle.iso_shared.specs.Ports.{IsTx, check_of}
+
+-- a session with more than 33 units has a port with more than 32
+pub more_units : (s : SessionState) → 33 < s.units → 32 < port_units s
+more_units s more = by (is_some s.own)
+  where
+    by : (b : Bool) → 32 < s.units - cond b 1 0
+    by true = omega (arith, more)
+    by false = omega (arith, more)
 
 module _ {D O : Type 0} where
   -- the units of a session's port
@@ -54,12 +62,23 @@ module _ {D O : Type 0} where
           let b = count_both (view s.port.pass) (Some t) t k refl in
           let c = places k in omega (arith, a, b, c)
 
+  -- the same transaction as one that is the same, and up to which commit it was compared ahead
+  pub same_on : (t u w : Tx D O) → IsSameTx t u → IsSameTx u w → IsSameTx t w
+  same_on t u w first second = record {
+    number = second.number ∙ first.number;
+    work = second.work ∙ ap (λ (d : Doing). record d { settled = w.work.settled }) first.work;
+    checked = second.checked ∙ first.checked;
+  }
+
+  pub upto_same : (t u : Tx D O) → IsSameTx t u → (check_of u).upto ≡ (check_of t).upto
+  upto_same t u same = ap (λ (c : Checked). c.upto) same.checked
+
   -- u is the transaction t as it was told what the session knows
   pub released : (A : Start) (s : Inside D O) (q : Port D O) (tx : Option (Tx D O)) (t u : Tx D O) → IsSession A s → s.tx ≡ Some t → tx ≡ None → IsTx s.shared.now A u → IsSameTx t u → IsAlike (view t.pass) (view u.pass)
       → (view t.pass).units ≡ 1 → view q.pass ≡ view s.port.pass → IsPrefix (view s.port.pass).seen (view u.pass).seen → Released (state_of s) (held_state u) (state_of (record { shared = s.shared; port = q; tx = tx }))
   released A s q tx t u is was none rests same alike one kept told = record {
     was = ap own_of was ∙ ap Some (sym (own_same t u same));
-    upto = ap (λ (c : Checked). c.upto) same.checked ∙ sym (ap checked_of was);
+    upto = upto_same t u same ∙ sym (ap checked_of was);
     left = ap own_of none;
     told = told;
     same = ap (λ (v : View Entry). v.seen) kept;
@@ -84,7 +103,7 @@ module _ {D O : Type 0} where
   took_over A s q tx t u at none some same kept is alike begun told more = record {
     none = ap own_of none;
     is = ap own_of some ∙ ap Some (own_same t u same);
-    upto = ap checked_of some ∙ ap (λ (c : Checked). c.upto) same.checked;
+    upto = ap checked_of some ∙ upto_same t u same;
     begun = begun ∙ ap (λ (o : Own). o.begin) (own_same t u same);
     told = told;
     more = more;

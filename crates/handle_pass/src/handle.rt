@@ -25,6 +25,14 @@ impl<D: Disk + Drop, O: Origin> Model for Handle<D, O> {
 }
 
 impl<D: Disk + Drop, O: Origin> Handle<D, O> {
+    /// A transaction that no session has, as `into_tx` gives it, or a call of the device that was refused.
+    pub fn of(tx: Tx<D, O>) -> Handle<D, O>
+        requires tx { IsReleased O.start tx }
+        ensures is { result ≡ held_state tx }
+    {
+        Handle { tx }
+    }
+
     /// The transaction itself, as calls of the device take it that end a group.
     pub fn into_tx(self) -> Tx<D, O>
         ensures tx { IsReleased O.start result }

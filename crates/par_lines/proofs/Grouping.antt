@@ -1,5 +1,5 @@
 -- What a group line makes: its looks, and the end of the group.
-use Rattle.par_lines.proofs.{Words.{◌≡◌, ◌⊎◌, ℕ, ◌+◌, ◌<◌, ◌≤◌, List, [], ◌∷◌, ◌++◌, Option, Some, None, ap, inl, inr, get_or, length, map, refl, sym, subst, take, take_all, take_more, length-take-le, ◌∙◌, arith, append_assoc, append-nil, length-append, length-map, map-append, Result, Ok, Err, Joined, MovesThrough, Split, own_in, own_of, moves_joined, moves_none, through_made, through_none, through_on, GroupReply, CoreError, Reply, Shared, Port, Entry, Member, Start, View, IsPort, IsTx, doing_of, number_of, port_view, posting_of_tx, tx_view, cause_of, members_of, replies_of, Stop, Own, Does, GroupEnds, GroupWants, Groups, found_ones, members_for, replies_to, AreMembers, HasGrouped, answered, found_in, group_of, marks_of, members_in, refused_by, spread, through_group, units_all, units_of, Answered, AreNew, HaveLooked, looks_for, told_of, IfNone, IfSome, MatchOption, PassMade, SessionState, Bool, true, false, ◌-◌, cond, is_some, port_units}, Answering.refused_is}
+use Rattle.par_lines.proofs.{Words.{◌≡◌, ◌⊎◌, ℕ, ◌+◌, ◌<◌, ◌≤◌, List, [], ◌∷◌, ◌++◌, Option, Some, None, ap, inl, inr, get_or, length, map, refl, sym, subst, take, take_all, take_more, length-take-le, ◌∙◌, arith, append_assoc, append-nil, length-append, length-map, map-append, Result, Ok, Err, Joined, MovesThrough, Split, own_in, own_of, moves_joined, moves_none, through_made, through_none, through_on, GroupReply, CoreError, Reply, Shared, Port, Entry, Member, Start, View, IsPort, IsTx, doing_of, number_of, port_view, posting_of_tx, tx_view, cause_of, members_of, replies_of, Stop, Own, Does, GroupEnds, GroupWants, Groups, found_ones, members_for, replies_to, AreMembers, HasGrouped, answered, found_in, group_of, marks_of, members_in, refused_by, spread, through_group, units_all, units_of, Answered, AreNew, HaveLooked, looks_for, told_of, IfNone, IfSome, MatchOption, PassMade, SessionState}, Answering.refused_is}
 use Rattle.iso_shared.specs.declared.tx.Tx.{Tx}
 use Rattle.iso_model.specs.declared.core_error.CoreError.TheVariants as error
 use Rattle.script_model.specs.declared.script.Op.TheVariants as op
@@ -214,11 +214,3 @@ module _ {D O : Type 0} (A : Start) (s t u : SessionState) (q seen r : Port D O)
 -- want of memory before the first look
 pub wants_memory : (A : Start) (s : SessionState) (labels : List (List ℕ)) → Answered A s (op.Group labels) (Err stop.Memory) s
 wants_memory A s labels = record { entries = []; moves = moves_none s; did = inr (refl, refl, refl); of = refl }
-
--- a session with more than 33 units has a port with more than 32
-pub more_units : (s : SessionState) → 33 < s.units → 32 < port_units s
-more_units s more = by (is_some s.own)
-  where
-    by : (b : Bool) → 32 < s.units - cond b 1 0
-    by true = omega (arith, more)
-    by false = omega (arith, more)

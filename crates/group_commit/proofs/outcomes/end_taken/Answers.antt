@@ -1,4 +1,4 @@
-use Rattle.group_commit.proofs.{Words.{arith, port_view, subst}, Lasts.{all_back, all_lost, are_txs, paired_self, units_one}}
+use Rattle.group_commit.proofs.{Words.{arith, port_view, subst}, Lasts.{all_back, all_lost, are_txs, not_disk, paired_self, units_one}}
 use Rattle.iso_model.specs.declared.core_error.CoreError.{CoreError}
 use Rattle.std.specs.List.{AllByRecursion}
 use Rattle.group_commit.specs.Outcomes.{IsRefusedIn, MayEnd}
@@ -13,7 +13,7 @@ pub returns-in-Some-clause-told : goal.returns-in-Some-clause-told
 returns-in-Some-clause-told g c =
     let kept = rw c.in-Some.is at c.in-Err.ensures.kept in
     let made = kept.3.2 in
-    all_back c.args.shared.now g.O.Origin.start c.in-Err.error kept.3.0 kept.3.1 made.before (port_view c.end_each.new.port).seen _ made.seen made.legal c.args.group.items c.in-Some.back.items made.begins (λ n accesses one. one) kept.2
+    all_back c.args.shared.now g.O.Origin.start c.in-Err.error kept.3.0 kept.3.1 made.before (port_view c.end_each.new.port).seen _ made.seen made.legal (not_disk c.in-Err.error kept.0) c.args.group.items c.in-Some.back.items made.begins (λ n accesses one. one) kept.2
 
 pub returns-in-Some-clause-units : goal.returns-in-Some-clause-units
 returns-in-Some-clause-units g c =

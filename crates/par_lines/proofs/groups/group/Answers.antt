@@ -1,4 +1,5 @@
-use Rattle.par_lines.proofs.{Words.{subst, sym, ◌∙◌, Answered, Group, IsPortAt}, Grouping.{answers, more_units, wants_memory}}
+use Rattle.par_lines.proofs.{Words.{subst, sym, ◌∙◌, Answered, Group, IsPortAt}, Grouping.{answers, wants_memory}}
+use Rattle.handle_pass.proofs.Handing.{more_units}
 
 pub returns-then-labels-gt-MAX_LABELS : Rattle.par_lines.proofs.groups.group.Goals.returns-then-labels-gt-MAX_LABELS
 returns-then-labels-gt-MAX_LABELS g c = record { did = wants_memory g.O.Origin.start c.args.session.now c.args.labels.now }
