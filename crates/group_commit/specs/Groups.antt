@@ -35,7 +35,7 @@ module _ {D O : Type 0} where
   group_of [] replies = []
   group_of (t ∷ txs) replies = entry.EndGroup (answered (members_in (t ∷ txs)) replies) ∷ []
 
-  -- the aborts behind a refusal: a fault of the disk has ended all members
+  -- the aborts after a refusal: a fault of the disk has ended all members
   abbrev pub aborts_after : CoreError → List (Tx D O) → List Entry
   aborts_after error.Disk txs = []
   aborts_after error.Down txs = aborts_of txs

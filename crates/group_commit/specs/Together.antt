@@ -19,7 +19,7 @@ IsAnswer o r e =
 abbrev pub IsRefusal : Own → CoreError → Entry → Type 0
 IsRefusal o e r = (asked : Call) × (faults : ℕ) × (now : ℕ) × (r ≡ entry.Refused asked (cause_of faults now e)) × IsEndOf o.number o.accesses asked
 
--- the entry was made behind all that had been seen, and has been seen then; it is legal there
+-- the entry was made after all that had been seen, and has been seen then; it is legal there
 pub record Follows (A : Start) (old : List Entry) (e : Entry) (new : List Entry) : Type 0 where
   pub before : List Entry
   pub told : IsPrefix old before
@@ -33,7 +33,7 @@ pub record Stays (s t : SessionState) : Type 0 where
   pub of : t.device ≡ s.device
 
 -- The end of the session's transaction was refused so, by an entry that another caller made. The session has the transaction that it
--- would have behind a refusal of its own.
+-- would have after a refusal of its own.
 pub record Unended (A : Start) (s : SessionState) (o : Own) (why : CoreError) (t : SessionState) : Type 0 where
   pub was : s.own ≡ Some o
   pub left : t.own ≡ left_by why o

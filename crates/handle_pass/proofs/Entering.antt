@@ -5,7 +5,7 @@ use Rattle.iso_shared.specs.declared.entry.Call.TheVariants as call
 use Rattle.iso_shared.specs.declared.entry.Entry.TheVariants as entry
 use Rattle.iso_shared.specs.Ports.{IsOf, IsPort, IsTx}
 
--- a number that stands in a list of such is below the bound
+-- a number that is in a list of such is below the bound
 below_of : (n p : ℕ) (xs : List ℕ) → AllBelow n xs → 0 < times p xs → p < n
 below_of n p xs below some = by (nat_lt p n) refl
   where

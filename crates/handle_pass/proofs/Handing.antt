@@ -24,7 +24,7 @@ module _ {D O : Type 0} where
   units_less v w None n less = less
   units_less v w (Some t) n less = omega (arith, less)
 
-  -- p is the session's port behind a split, and q the one that was split off
+  -- p is the session's port after a split, and q the one that was split off
   pub split_off : (s : Inside D O) (p q : Port D O) → IsPortAt (device_of s.shared.now) q → 32 < (view s.port.pass).units → view p.pass ≡ kept_part None 32 (view s.port.pass) → view q.pass ≡ given_part None 32 (view s.port.pass)
       → Split (state_of s) q (state_of (record { shared = s.shared; port = p; tx = s.tx }))
   split_off s p q port some kept given = record {
@@ -39,7 +39,7 @@ module _ {D O : Type 0} where
     of = refl;
   }
 
-  -- p is the session's port behind a join of q
+  -- p is the session's port after a join of q
   pub joined_in : (s : Inside D O) (p q : Port D O) → (view p.pass).units ≡ (view s.port.pass).units + (view q.pass).units → IsPrefix (view s.port.pass).seen (view p.pass).seen → IsPrefix (view q.pass).seen (view p.pass).seen
       → ((k : ℕ) → times k (view p.pass).mine ≡ times k (view s.port.pass).mine + times k (view q.pass).mine) → Joined (state_of s) q (state_of (record { shared = s.shared; port = p; tx = s.tx }))
   joined_in s p q more known told places = record {

@@ -31,7 +31,7 @@ log_count count after E F same l = record {
 pub log_none : (count : ℕ → ℕ) (E : List Entry) → ((p : ℕ) → count p ≡ 0) → Log count E []
 log_none count E none = record { places = []; rises = tt; below = tt; counts = λ p. sym (none p); reads = refl }
 
--- one entry more, behind all that was seen
+-- one entry more, after all that was seen
 pub log_more : (count after : ℕ → ℕ) (xs before ys F : List Entry) (e : Entry) → IsPrefix xs before → IsPrefix (before ++ e ∷ []) ys
     → ((p : ℕ) → after p ≡ count p + hit (length before) p) → Log count xs F → Log after ys (F ++ e ∷ [])
 log_more count after xs before ys F e pre more counts l =

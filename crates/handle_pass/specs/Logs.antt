@@ -18,7 +18,7 @@ pub record Log (count : ℕ → ℕ) (E F : List Entry) : Type 0 where
   pub counts : (p : ℕ) → times p places ≡ count p
   pub reads : entries_at E places ≡ F
 
--- from the one state to the other the session made these entries, behind all others of its own
+-- from the one state to the other the session made these entries, after all others of its own
 pub record Moves (s t : SessionState) (es : List Entry) : Type 0 where
   pub known : IsPrefix s.seen t.seen
   pub log : (F : List Entry) → Log (count s) s.seen F → Log (count t) t.seen (F ++ es)
@@ -29,12 +29,12 @@ abbrev pub count_with : SessionState → View Entry → ℕ → ℕ
 count_with s v p = count s p + times p v.mine
 
 -- Through a port that was split off the session, which stayed as it was, these entries were made from the one view to the other,
--- behind all others of the two.
+-- after all others of the two.
 pub record MovesThrough (s : SessionState) (v w : View Entry) (es : List Entry) : Type 0 where
   pub known : IsPrefix v.seen w.seen
   pub log : (F : List Entry) → Log (count_with s v) v.seen F → Log (count_with s w) w.seen (F ++ es)
 
--- The entry was made behind all that had been seen, and has been seen then. It is legal there, and its place came to the own ones.
+-- The entry was made after all that had been seen, and has been seen then. It is legal there, and its place came to the own ones.
 pub record Next (A : Start) (old : List Entry) (mine : ℕ → ℕ) (e : Entry) (new : List Entry) (after : ℕ → ℕ) : Type 0 where
   pub before : List Entry
   pub told : IsPrefix old before

@@ -39,7 +39,7 @@ module _ {D O : Type 0} where
   abbrev pub IsTxAt : DeviceId → Start → Tx D O → Type 0
   IsTxAt d A t = ((t.pass.table_id ≡ d) × HasNoTurn t.pass × (0 < (tx_view t).units)) × IsTxOf A t
 
--- The entry was made behind all that had been seen, and has been seen then. It is legal there, and its place, which is above all
+-- The entry was made after all that had been seen, and has been seen then. It is legal there, and its place, which is above all
 -- own places before, came to the own ones.
 pub record Entered (A : Start) (old : List Entry) (mine : ℕ → ℕ) (e : Entry) (new : List Entry) (after : ℕ → ℕ) : Type 0 where
   pub before : List Entry

@@ -1,4 +1,4 @@
--- Where the list of a device begins that stands over a new image of the tests.
+-- Where the list of a device begins that is over a new image of the tests.
 use Rattle.std.{proofs.Common.{◌≡◌, Some, Result, IfOk}, specs.Result.{result_ok}}
 use Rattle.iso_core.specs.{declared.core_itself.Core.Core, Core.{StandsFor, disk_of}, Standing.up}
 use Rattle.iso_memdisk.specs.{declared.disk.MemDisk.MemDisk, Laws.lawful, MemDisk.state_of}

@@ -13,7 +13,7 @@ part_of from n k b l le =
     ∙ drop-take from n (drop b l)
     ∙ ap (take n) (drop-drop from b l)
 
--- a part of what stands in front
+-- a part of what is in front
 pub slice_before : (k b : ℕ) (xs more : List ℕ) → b + k ≤ length xs → take k (drop b (xs ++ more)) ≡ take k (drop b xs)
 slice_before k b xs more le =
     ap (take k) (drop-append-le b xs more (omega (arith, le)))

@@ -28,7 +28,7 @@ still_has c old new n from at len torn apart has =
     ] in
     slice-torn torn from (length (page_of c n)) lies ∙ has
 
--- and where more bytes stand behind
+-- and where more bytes stand after
 pub grown_has : (c old more : List ℕ) (n from : ℕ) → from + 4096 ≤ length old → HasPage c n old from → HasPage c n (old ++ more) from
 grown_has c old more n from within has =
     let short : length (page_of c n) ≤ 4096 = omega (arith, length-slice 4096 (n * 4096) c) in
@@ -47,7 +47,7 @@ places_apart p q differ =
       | inr (inr above) ↦ inr (omega (arith, above))
     ]
 
--- a page that is held behind a change of one place is that of the place, or was held before
+-- a page that is held after a change of one place is that of the place, or was held before
 pub held_by : {X : Type 0} (numbers : List (Option ℕ)) (i n : ℕ) (new : Option ℕ) → ((n % 2048 ≡ i) → new ≡ Some n → X) → ((n % 2048 ≡ i → ⊥) → IsHeld numbers n → X) → IsHeld (set numbers i new) n → X
 held_by {X = X} numbers i n new here there held =
     let other : (n % 2048 ≡ i → ⊥) → X = λ differs. there differs (sym (get-set_other numbers i (n % 2048) new differs) ∙ held) in
@@ -73,7 +73,7 @@ module _ {ends bytes : List ℕ} {memory : ℕ} (laid : AreLaid ends bytes memor
   pub laid_same : (new : List ℕ) → length new ≡ length bytes → AreLaid ends new memory
   laid_same new size = record { whole = laid.whole; within = λ i. omega (arith, laid.within i, size); apart = laid.apart; room = omega (arith, laid.room, size) }
 
-  -- one place more has bytes, behind the others
+  -- one place more has bytes, after the others
   module _ (more : List ℕ) (place later : ℕ) (inside : place < length ends) (none : get_or ends place 0 ≡ 0) (size : length (bytes ++ more) ≡ length bytes + 4096) (enough : memory ≤ later) where
     abbrev end : ℕ
     end = length bytes + 4096
@@ -102,7 +102,7 @@ module _ {ends bytes : List ℕ} {memory : ℕ} (laid : AreLaid ends bytes memor
           room = omega (arith, laid.room, size, enough, sum, one, gone);
         }
 
--- a place that was filled, or where that failed: bytes may stand behind the others, and its own were torn
+-- a place that was filled, or where that failed: bytes may stand after the others, and its own were torn
 module _ (numbers : List (Option ℕ)) {ends later old mid new : List ℕ} {i len memory after : ℕ} (covers : Covers numbers ends) (laid : AreLaid ends old memory) (grown : (more : List ℕ) × (mid ≡ old ++ more))
     (now : AreLaid later mid after) (others : (j : ℕ) → (j ≡ i → ⊥) → get_or later j 0 ≡ get_or ends j 0) (has : 0 < get_or later i 0) (torn : Torn (from_of later i) len mid new) (small : len ≤ 4096) where
   -- the others are as they were

@@ -141,7 +141,7 @@ pub told_header : {a mid : DiskState} → IsLawful mid → WritesNothing a mid �
 told_header laws still (Some k) m is read c told = (read.1 c (laws.reads_as_image c (still.same_contents ∙ told))).header
 told_header laws still None m is read c told = absurd (cc is)
 
--- a call failed behind the choice, which was made by the epochs that were read
+-- a call failed after the choice, which was made by the epochs that were read
 pub choice_fails : (a b mid_a mid_b new_a new_b : DiskState) (one two : Mark) → IsLawful mid_a → IsLawful mid_b → WritesNothing a mid_a → WritesNothing b mid_b
     → ((x : List ℕ) → mid_a.now x → HasEpoch one.slot one.epoch x) → ((y : List ℕ) → mid_b.now y → HasEpoch two.slot two.epoch y)
     → (two.epoch ≤ one.epoch → Rose mid_a.faults new_a.faults ⊎ ((last_epoch ≤ one.epoch) × Rose mid_b.faults new_b.faults))

@@ -58,7 +58,7 @@ synced_second {b = b} {new_b = new_b} past e one two law_a law_b law_b' pair lea
 pub none_torn : {images : List ℕ → Type 0} (c : List ℕ) → TornFrom 0 0 images c → images c
 none_torn {images = images} c t = subst images (sym t.torn.after) t.was
 
--- What a mirror is at its first moment: two sides that are settled, with headers of the same epoch and the same bytes behind them.
+-- What a mirror is at its first moment: two sides that are settled, with headers of the same epoch and the same bytes after them.
 pub first_pair : (a b : DiskState) → IsLawful a → IsLawful b → b.size ≡ a.size → 64 ≤ a.size → IsSettled a → IsSettled b → ((x : List ℕ) → a.now x → IsHeader x) → ((y : List ℕ) → b.now y → IsHeader y) → ArePair a b []
 first_pair a b law_a law_b sizes room settled_a settled_b header_a header_b = record {
   first_header = λ x from. header_a x (law_a.only_now x from);

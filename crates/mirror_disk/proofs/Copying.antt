@@ -40,7 +40,7 @@ piece_laid c at bytes y inside is =
 pub read_torn : {old new : DiskState} (at n : ℕ) → new.contents ≡ old.contents → TellsTorn at n old new
 read_torn at n same = record { told = λ c is. (c, same ∙ is, torn_same at n c); untold = λ is. same ∙ is }
 
--- and a write behind the read is one from before it
+-- and a write after the read is one from before it
 pub torn_behind : {old mid new : DiskState} (at n : ℕ) → mid.contents ≡ old.contents → TellsTorn at n mid new → TellsTorn at n old new
 torn_behind at n same tells = record { told = λ c is. tells.told c (same ∙ is); untold = λ is. tells.untold (same ∙ is) }
 

@@ -21,7 +21,7 @@ rose_before l m n rose le = omega (arith, rose, le)
 pub rose_behind : (l m n : ℕ) → l ≤ m → Rose m n → Rose l n
 rose_behind l m n le rose = omega (arith, rose, le)
 
--- a side that failed in the call, or in the raise behind it
+-- a side that failed in the call, or in the raise after it
 pub rose_in_all : {T E : Type 0} (old mid new : DiskState) (r : Result T E) {p : Bool} → p ≡ is_ok r → HasCause old.faults mid.faults r → mid.faults ≤ new.faults → HasFailed p mid new → Rose old.faults new.faults
 rose_in_all old mid new r is cause later failed = ⊎_elim (λ not. rose_before _ _ _ (rose_of r (sym is ∙ not) cause) later) (λ rose. rose_behind _ _ _ cause.later rose) failed
 
@@ -122,7 +122,7 @@ left_settled a b mid_a mid_b new_a new_b past e one two at n law_a law_b first s
 left_settled a b mid_a mid_b new_a new_b past e one two at n law_a law_b first second Plain left ended not = absurd (ended.is_pair.0 refl)
 left_settled a b mid_a mid_b new_a new_b past e one two at n law_a law_b first second Unbound left ended not = absurd (ended.is_pair.1 refl)
 
--- a range behind the header
+-- a range after the header
 pub range_behind : (x : List ℕ) (at m len : ℕ) → m ≡ len → slice_range x (64 + at) (64 + at + m) ≡ slice_range (body x) at (at + len)
 range_behind x at m len same =
     let count : 64 + at + m - (64 + at) ≡ at + len - at = omega (arith, same) in

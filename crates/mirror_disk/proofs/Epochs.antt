@@ -95,7 +95,7 @@ shut_stays slot e {x = x} {y = y} has open_before torn =
       | inr closed ↦ omega (arith, closed_slot at y closed)
     ]) (least_epoch has) (header_slot (other slot) has.header torn (omega arith) (omega arith) (slot_shut at (slot_in (other slot) has.header) open_before torn))
 
--- what stands behind a closed gate is written
+-- what is after a closed gate is written
 pub body_written : (slot : Slot) (e : ℕ) {x y : List ℕ} → HasEpoch slot e x → IsClosed (place (other slot)) y → Torn (place (other slot) + 1) 15 x y → HasEpoch slot e y
 body_written slot e {x = x} {y = y} has closed torn =
     let at = place (other slot) in
@@ -116,7 +116,7 @@ gate_written slot e next {x = x} {y = y} has le last holds torn =
       | inr closed ↦ inl (by_slot slot e y stays (omega (arith, closed_slot at y closed)) (least_epoch has) header)
     ]
 
--- once it stands open the epoch is the next
+-- once it is open the epoch is the next
 pub open_raises : (slot : Slot) (e next : ℕ) {x y : List ℕ} → HasEpoch slot e x → e ≤ next → next ≤ last_epoch → HoldsEpoch (place (other slot)) next x → Torn (place (other slot)) 1 x y → IsOpen (place (other slot)) y
     → HasEpoch (other slot) next y
 open_raises slot e next {x = x} {y = y} has le last holds torn is =

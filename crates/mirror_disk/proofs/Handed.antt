@@ -6,7 +6,7 @@ use Rattle.iso_disk.proofs.Moments.{goes_on_unwritten}
 pub synced : {old new : DiskState} → IsLawful old → new.contents ≡ old.contents → Elapses old new old.now → WritesNothing old new
 synced laws contents_are call = goes_on_unwritten laws (starts_unwritten laws) contents_are call
 
--- a count that stands, and one that does not fall in two calls
+-- a count that stays, and one that does not fall in two calls
 pub stands_still : (n : ℕ) → n ≤ n
 stands_still n = omega arith
 

@@ -20,7 +20,7 @@ slot_shut {x = x} {y = y} at slot was torn =
     let number : number_at (at + 8) y ≡ number_at (at + 8) x = ap (from_be_bytes w64) (slice-torn torn (at + 8) 8 (inr (omega arith))) in
     grind arith
 
--- a slot with this epoch behind its gate, which is written
+-- a slot with this epoch after its gate, which is written
 pub slot_held : {x y : List ℕ} (at e : ℕ) → HoldsEpoch at e x → 1 ≤ e → e ≤ last_epoch → Torn at 1 x y → IsSlot at y
 slot_held {x = x} {y = y} at e holds least most torn =
     let zeros : take 7 (drop (at + 1) y) ≡ take 7 (drop (at + 1) x) = slice-torn torn (at + 1) 7 (inr (omega arith)) in
@@ -31,7 +31,7 @@ pub slot_in : (slot : Slot) {x : List ℕ} → IsHeader x → IsSlot (place slot
 slot_in First header = header.first
 slot_in Second header = header.second
 
--- bytes behind the header are written
+-- bytes after the header are written
 pub header_behind : {k n : ℕ} {x y : List ℕ} → IsHeader x → Torn k n x y → 64 ≤ k → epoch y ≡ epoch x → IsHeader y
 header_behind header torn le same = record {
   size = omega (arith, header.size, torn.size);

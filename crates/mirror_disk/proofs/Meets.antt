@@ -1,7 +1,7 @@
 -- Which images meet in a call, by the epochs of the sides.
 use Rattle.mirror_disk.proofs.{Words.{◌≡◌, ◌⊎◌, inl, inr, ⊎_elim, ℕ, ◌+◌, ◌<◌, ◌≤◌, List, drop, refl, sym, ◌∙◌, ap, subst, arith, length-drop, drop-take, drop-drop, DiskState, Torn, body, epoch, pair_at}, Calls.Meet, Epochs.{chosen_first, chosen_second}}
 
--- what is torn behind the header is torn in the mirrored bytes
+-- what is torn after the header is torn in the mirrored bytes
 pub torn_body : (at n : ℕ) {x y : List ℕ} → Torn (64 + at) n x y → Torn at n (body x) (body y)
 torn_body at n {x = x} {y = y} torn = record {
   before = sym (drop-take 64 at y) ∙ ap (drop 64) torn.before ∙ drop-take 64 at x;

@@ -56,7 +56,7 @@ open_image old slot e next settled each le last holds x t =
     (λ (raised : HasEpoch (other slot) next x). (raised.header, inr (raised.epoch_is, (t.old, settled t.old t.was, same))))
     (gate_written slot e next (each t.old t.was) le last (holds t.old t.was) t.torn)
 
--- and stands open then
+-- and is open then
 pub raised_image : (old : DiskState) (slot : Slot) (e next : ℕ) → ((x : List ℕ) → old.now x → HasEpoch slot e x) → e ≤ next → next ≤ last_epoch → ((x : List ℕ) → old.now x → HoldsEpoch (place (other slot)) next x)
     → (x : List ℕ) → TornFrom (place (other slot)) 1 old.now x → IsOpen (place (other slot)) x → HasEpoch (other slot) next x
 raised_image old slot e next each le last holds x t is_open = open_raises slot e next (each t.old t.was) le last (holds t.old t.was) t.torn is_open
@@ -96,7 +96,7 @@ both_hold one two = record {
   keeps = one.keeps;
 }
 
--- the number that stands behind a gate
+-- the number that is after a gate
 pub number_of_body : (gate next : ℕ) (x : List ℕ) → next < 2 ^ 64 → take 15 (drop (gate + 1) x) ≡ slot_body next → number_at (gate + 8) x ≡ next
 number_of_body gate next x fits is =
     ap (from_be_bytes w64) (
@@ -106,7 +106,7 @@ number_of_body gate next x fits is =
     ∙ ap (drop 7) is)
     ∙ from_be_bytes-to_be_bytes_8 next fits
 
--- what stands behind a gate, by the bytes that were put there
+-- what is after a gate, by the bytes that were put there
 pub holds_body : (gate next : ℕ) (x : List ℕ) → next < 2 ^ 64 → take 15 (drop (gate + 1) x) ≡ slot_body next → HoldsEpoch gate next x
 holds_body gate next x fits is = record {
   zeros = sym (take-take 7 15 (drop (gate + 1) x) (omega arith)) ∙ ap (take 7) is;

@@ -3,11 +3,11 @@ use Rattle.std.specs.Prelude.{◌≡◌, ℕ, ◌+◌, ◌-◌, ◌^◌, ◌==�
 use Rattle.iso_disk.specs.Disk.{DiskState}
 use Rattle.mirror_disk.specs.{Header.{blank_header, body, chosen, epoch, last_epoch, number_at, slot_epoch, word}, Pairs.{first_name, names_mirror, pair_at, second_name, shorter}, Slots.{other, place}, Standing.{sides_in, state_in}, declared.slot.Slot.TheVariants.{First, Second}, declared.used.Used.Used, declared.used.Used.TheVariants.{Both, Broken, OnlyFirst, OnlySecond, Plain, Unbound}}
 
--- a slot with this epoch behind an open gate, or a closed one for 0
+-- a slot with this epoch after an open gate, or a closed one for 0
 abbrev slot : ℕ → List ℕ
 slot e = cond (e == 0) (replicate 16 0) (1 ∷ replicate 14 0 ++ e ∷ [])
 
--- a side with these epochs in its slots, and one byte behind its header
+-- a side with these epochs in its slots, and one byte after its header
 abbrev pub side : (one two byte : ℕ) → List ℕ
 side one two byte = word ++ replicate 8 0 ++ slot one ++ slot two ++ replicate 16 0 ++ byte ∷ []
 
@@ -32,7 +32,7 @@ disk_of bytes whose = record {
   named = λ name. Some (side 1 0 (whose + length name));
 }
 
--- the epoch is the larger one of an open slot, and the body all behind the header
+-- the epoch is the larger one of an open slot, and the body all after the header
 epochs : epoch (side 1 0 7) ∷ epoch (side 1 2 7) ∷ epoch (side 3 2 7) ∷ epoch (side 0 2 7) ∷ epoch (side 0 0 7) ∷ [] ≡ 1 ∷ 2 ∷ 3 ∷ 2 ∷ 0 ∷ []
 epochs = refl
 

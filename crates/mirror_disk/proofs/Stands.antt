@@ -13,7 +13,7 @@ module _ {a b : DiskState} (past : List (ℕ × ℕ)) (one : IsLawful a) (two : 
   pub now_from_b : (y : List ℕ) → b.now y → FromB a b past y
   now_from_b y now = two.counts_now _ y (at_most past (a.clock, b.clock) rising 0).1 now
 
--- a side that was left out is behind, at each image of now
+-- a side that was left out lags, at each image of now
 pub second_behind : {a b : DiskState} {past : List (ℕ × ℕ)} {e : ℕ} → IsLawful a → IsLawful b → ArePair a b past → FirstLeads a b past e → (x y : List ℕ) → a.now x → b.now y → epoch y < epoch x
 second_behind {past = past} one two pair leads x y here there = let more = leads.raised x here in let less = leads.second y (now_from_b past one two pair.rising y there) in omega (arith, more, less)
 
@@ -46,7 +46,7 @@ pair_on {a = a} {b = b} {new_a = new_a} {new_b = new_b} {past = past} pair run_a
   second_told = λ y from. on_b (⊎_elim (pair.second_told y) (told_q y) (from_b a b new_a new_b past pair.rising run_b y from));
 }
 
--- a torn image of a call behind the header has the epoch of one from before it
+-- a torn image of a call after the header has the epoch of one from before it
 pub epoch_of_torn : (at n : ℕ) {images : List ℕ → Type 0} {x : List ℕ} (t : TornFrom (64 + at) n images x) → epoch x ≡ epoch t.old
 epoch_of_torn at n t = epoch-torn t.torn (omega arith)
 
@@ -126,7 +126,7 @@ module _ {a b : DiskState} {past : List (ℕ × ℕ)} (one : IsLawful a) (two : 
     pub is_torn : TornFrom (64 + at) n images was
     pub same : body x ≡ body was
 
-  -- the second side is left out: the first one is raised behind the call
+  -- the second side is left out: the first one is raised after the call
   pub meets_left : (s t : Slot) → AreBoth a b past e s t → Meet a b past (Over a.now) TornB Images
   meets_left s t both =
       let firsts : (x : List ℕ) → FromA a b past x → e ≤ epoch x = λ x from. (let is = both.first x from in omega (arith, is)) in
@@ -137,7 +137,7 @@ module _ {a b : DiskState} {past : List (ℕ × ℕ)} (one : IsLawful a) (two : 
       (λ y t. let less = seconds t.old (now_from_b past one two pair.rising t.old t.was) in (omega (arith, less, epoch_of_torn at n t), some_b seconds (told_b t.old t.was)))
       (λ x z over now le. subst Images (sym over.same) (image_first firsts over.was z over.is_torn now le))
 
-  -- the first side is left out: the second one is raised behind the call, from what it tells then
+  -- the first side is left out: the second one is raised after the call, from what it tells then
   pub meets_over : (s t : Slot) → AreBoth a b past e s t → (mid : DiskState) → ((c : List ℕ) → mid.contents ≡ Some c → (d : List ℕ) × (b.contents ≡ Some d) × Torn (64 + at) n d c)
       → Meet a b past TornA (λ y. (TornB y) ⊎ (((epoch y ≡ e) × b.contents ≢ None) ⊎ ((epoch y ≡ e + 1) × ((c : List ℕ) × (mid.contents ≡ Some c) × (body y ≡ body c))))) Images
   meets_over s t both mid from_told =

@@ -1,7 +1,7 @@
 -- What a mirror tells after a call.
 use Rattle.mirror_disk.proofs.{Words.{arith, ◌≡◌, inl, inr, ℕ, ◌+◌, ◌≤◌, List, length, take, Option, Some, None, refl, sym, ◌∙◌, ap, subst, option_map, cases_lt, drop-drop, DiskState, Torn, TellsTorn, Splices, spliced, spliced_torn, take-drop-spliced, torn_whole, Becomes, MirrorBecomes, body, chosen, epoch, both_tell, chosen_told}, Epochs.{chosen_first, chosen_second}, Meets.torn_body}
 
--- bytes laid behind the header are laid in the mirrored bytes
+-- bytes laid after the header are laid in the mirrored bytes
 pub body-spliced : (c : List ℕ) (at : ℕ) (bytes : List ℕ) → 64 + at + length bytes ≤ length c → body (spliced c (64 + at) bytes) ≡ spliced (body c) at bytes
 body-spliced c at bytes fits = torn_whole bytes (torn_body at (length bytes) (spliced_torn c (64 + at) bytes fits)) (ap (take (length bytes)) (drop-drop at 64 (spliced c (64 + at) bytes)) ∙ take-drop-spliced c (64 + at) bytes fits)
 
@@ -61,7 +61,7 @@ told_alike {R = R} one two agree = told_by {Q = R} {R = R} {S = R} one two (λ x
 pub splices_of : (at : ℕ) (bytes : List ℕ) (o p : Option (List ℕ)) → MirrorBecomes (λ c d. d ≡ spliced c at bytes) o p → p ≡ option_map (λ (c : List ℕ). spliced c at bytes) o
 splices_of at bytes o p becomes = grind arith
 
--- a side that did a write behind its header
+-- a side that did a write after its header
 pub becomes_spliced : (old new : DiskState) (at : ℕ) (bytes : List ℕ) → ((c : List ℕ) → old.contents ≡ Some c → 64 + at + length bytes ≤ length c) → Splices (64 + at) bytes old new → Becomes (λ c d. d ≡ spliced c at bytes) old.contents new.contents
 becomes_spliced old new at bytes fits written = grind (arith, body-spliced)
 
@@ -69,7 +69,7 @@ becomes_spliced old new at bytes fits written = grind (arith, body-spliced)
 pub becomes_torn : (old new : DiskState) (at n : ℕ) → TellsTorn (64 + at) n old new → Becomes (Torn at n) old.contents new.contents
 becomes_torn old new at n tells = record { told = λ x is. let d = tells.told x is in (d.0, d.1, torn_body at n d.2); untold = tells.untold }
 
--- one that was raised, behind such a call
+-- one that was raised, after such a call
 pub becomes_raised : {o p q : Option (List ℕ)} {R : List ℕ → List ℕ → Type 0} → Becomes R o p → Becomes (λ c d. d ≡ c) p q → Becomes R o q
 becomes_raised {R = R} one two = record {
   told = λ x is. let y = one.told x is in let z = two.told y.0 y.1 in (z.0, z.1, subst (R (body x)) (sym z.2) y.2);

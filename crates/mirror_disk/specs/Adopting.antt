@@ -50,7 +50,7 @@ FailsByChoice a b mid_a mid_b new_a new_b =
     (epoch y ≤ epoch x → Rose mid_a.faults new_a.faults ⊎ ((last_epoch ≤ epoch x) × Rose mid_b.faults new_b.faults))
     × (epoch x < epoch y → Rose mid_b.faults new_b.faults ⊎ ((last_epoch ≤ epoch y) × Rose mid_a.faults new_a.faults))))
 
--- The same, where the sides at the choice stand between those before the adopt and those behind it.
+-- The same, where the sides at the choice stand between those before the adopt and those after it.
 pub record AdoptFails (a b mid_a mid_b new_a new_b : DiskState) : Type 0 where
   pub first_before : a.faults ≤ mid_a.faults
   pub first_behind : mid_a.faults ≤ new_a.faults

@@ -2,7 +2,7 @@
 use Rattle.std.specs.Prelude.{◌≡◌, List, Option, Some, None, ℕ}
 use Rattle.mirror_disk.specs.Header.{body}
 
--- what two disks tell, before and after: bytes so related behind the header, and nothing where nothing was told
+-- what two disks tell, before and after: bytes so related after the header, and nothing where nothing was told
 pub record Becomes (R : List ℕ → List ℕ → Type 0) (old new : Option (List ℕ)) : Type 0 where
   pub told : (x : List ℕ) → old ≡ Some x → (y : List ℕ) × (new ≡ Some y) × R (body x) (body y)
   pub untold : old ≡ None → new ≡ None

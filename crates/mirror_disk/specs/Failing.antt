@@ -17,8 +17,8 @@ AllFailed Unbound first first' second second' = Unit {0}
 abbrev pub CannotLeave : Used → (epoch first first' second second' : ℕ) → Type 0
 CannotLeave used epoch first first' second second' = (used ≡ Both) × (last_epoch ≤ epoch) × (Rose first first' ⊎ Rose second second')
 
--- Of two sides in use before a call, one that is left out behind it has failed in it; these are the counts of the first side before and
--- after the call, and those of the second one. Where not both are in use, the same are behind it.
+-- Of two sides in use before a call, one that is left out after it has failed in it; these are the counts of the first side before and
+-- after the call, and those of the second one. Where not both are in use, the same are after it.
 pub record LeavesFailed (before after : Used) (a a' b b' : ℕ) : Type 0 where
   pub first : before ≡ Both → after ≡ OnlySecond → Rose a a'
   pub second : before ≡ Both → after ≡ OnlyFirst → Rose b b'

@@ -6,14 +6,14 @@ use Rattle.commit_gate.specs.Gate.{IsOpen}
 abbrev pub number_at : (at : ℕ) → List ℕ → ℕ
 number_at at bytes = from_be_bytes w64 (take 8 (drop at bytes))
 
--- the epoch behind the gate at this place, or 0 where it is closed
+-- the epoch after the gate at this place, or 0 where it is closed
 abbrev pub slot_epoch : (at : ℕ) → List ℕ → ℕ
 slot_epoch at bytes = cond (slice_index bytes at == 1) (number_at (at + 8) bytes) 0
 
 abbrev pub larger : ℕ → ℕ → ℕ
 larger m n = cond (nat_lt m n) n m
 
--- the epoch of a side: the largest one behind an open gate
+-- the epoch of a side: the largest one after an open gate
 abbrev pub epoch : List ℕ → ℕ
 epoch bytes = larger (slot_epoch 16 bytes) (slot_epoch 32 bytes)
 
@@ -33,7 +33,7 @@ word = 73 ∷ 83 ∷ 79 ∷ 77 ∷ 73 ∷ 82 ∷ 82 ∷ 49 ∷ []
 abbrev pub last_epoch : ℕ
 last_epoch = 9223372036854775807
 
--- what stands behind the gate of a slot
+-- what is after the gate of a slot
 abbrev pub slot_body : ℕ → List ℕ
 slot_body e = replicate 7 0 ++ to_be_bytes w64 e
 

@@ -12,7 +12,7 @@ at_now (p ∷ past) now t le = cond-true (nat_lt (length past) t) now (pair_at p
 pub at_before : (past : List (ℕ × ℕ)) (p now : ℕ × ℕ) (t : ℕ) → t ≤ length past → pair_at (p ∷ past) now t ≡ pair_at past p t
 at_before past p now t le = cond-false (nat_lt (length past) t) now (pair_at past p t) (le-ltb _ _ le)
 
--- no moment is behind that of now
+-- no moment is after that of now
 pub at_most : (past : List (ℕ × ℕ)) (now : ℕ × ℕ) → IsRising past now → (t : ℕ) → ((pair_at past now t).0 ≤ now.0) × ((pair_at past now t).1 ≤ now.1)
 at_most past now rising t =
     let later = rising t (t + length past) (omega arith) in

@@ -9,7 +9,7 @@ pub record HasEpoch (slot : Slot) (e : ℕ) (image : List ℕ) : Type 0 where
   pub slot_is : slot_epoch (place slot) image ≡ e
   pub header : IsHeader image
 
--- what stands behind this gate: seven zeros, and the epoch
+-- what is after this gate: seven zeros, and the epoch
 pub record HoldsEpoch (gate e : ℕ) (image : List ℕ) : Type 0 where
   pub zeros : take 7 (drop (gate + 1) image) ≡ replicate 7 0
   pub number : number_at (gate + 8) image ≡ e

@@ -2,7 +2,7 @@ use Rattle.handle_pass.proofs.{Words.{ap, inl, inr, refl, subst, sym, ◌∙◌,
 use Rattle.iso_shared.specs.Ports.{Made}
 use Rattle.handle_pass.proofs.session.Session.check_tx.Goals as goal
 
--- the call behind which the port is told
+-- the call after which the port is told
 through : (g : Rattle.handle_pass.proofs.session.Session.check_tx.Given.Over) (c : After-tell_port g) → Through g.O.Origin.start c.self.inside c.tell_port.new.port c.in-Some.tx c.tell_tx.new.tx c.recent-recent.new.tx c.tell_port.new.tx
 through g c =
     let a = c.tell_tx.new.tx in

@@ -5,7 +5,7 @@ use Rattle.iso_shared.specs.declared.entry.Call.TheVariants as call
 use Rattle.iso_shared.specs.Ports.{IsTx, Made}
 use Rattle.handle_pass.proofs.session.Session.read_block.Goals as goal
 
--- the call behind which the port is told
+-- the call after which the port is told
 through : (g : Rattle.handle_pass.proofs.session.Session.read_block.Given.Over) (c : After-tell_port g) → Through g.O.Origin.start c.self.inside c.tell_port.new.port c.in-Some.tx c.tell_tx.new.tx c.fetch-fetched.new.tx c.tell_port.new.tx
 through g c =
     let a = c.tell_tx.new.tx in
