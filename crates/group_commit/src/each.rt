@@ -50,6 +50,12 @@ fn deal_replies<D: Disk + Drop, O: Origin>(
 /// Ends a group in one turn, and tells each member how it ended: the port that made the entry splits a port off for each, in
 /// their order. Where the group is refused as down, or for want of memory, its members are handed back; after a fault of the
 /// disk there is none.
+///
+/// # Errors
+///
+/// No member has a reply.
+/// - `Down`, `Memory`: each member is handed back as it was.
+/// - `Disk`: a fault has ended them, and all commits of the group stand or none.
 pub fn end_each<D: Disk + Drop, O: Origin, R: Wait>(
     rt: &R,
     shared: &Shared<D, O>,
