@@ -2,7 +2,7 @@
 # What no clause can say of the program: its system calls on the files of an image, and their order. A file is locked before it is read
 # or written, what a bind makes or finds is made stable, with the name of a new file in its folder, and a commit is two writes, each with
 # a sync behind it. Each of these calls is failed once: the answer is `! disk fault`, and no call is made again. Of a mirror one side
-# fails: it is called no more, the run goes on, and the next one makes both files alike.
+# fails: it is called no more, the run goes on, and the next one makes both files alike. A new one of which a name is taken makes nothing.
 #
 #   checks/file_calls.sh [PROGRAM]      the program that `rt ci` leaves where none is named
 #
@@ -144,6 +144,35 @@ sides=(m.img+0 m.img+1)
 writes > found
 same "the calls of new of a mirror" wanted found
 cmp -s m.img+0 m.img+1 || tell "the sides of a new mirror differ"
+
+# Where one of its names is taken, by whatever it is, a new mirror opens no file of it and makes none.
+taken() {
+  local what=$1 name=$2 other=$3
+  traced commit.script -- new n.img+ "${numbers[@]}"
+  ended_as "new of a mirror, where $name is $what" 5
+  [ "$(cat said)" = '! disk fault' ] || tell "new of a mirror, where $name is $what, says: $(cat said)"
+  [ ! -s called ] || tell "new of a mirror, where $name is $what, calls: $(cat called)"
+  [ ! -e "$other" ] || tell "new of a mirror, where $name is $what, makes $other"
+}
+for pair in 'n.img+0 n.img+1' 'n.img+1 n.img+0'; do
+  read -r name other <<< "$pair"
+  echo text > "$name"
+  taken 'a file' "$name" "$other"
+  exec 9< "$name"
+  ! command -v flock > /dev/null || flock 9
+  taken 'a file in use' "$name" "$other"
+  exec 9<&-
+  chmod 000 "$name"
+  taken 'a file that may not be read' "$name" "$other"
+  [ "$(stat -c %s "$name")" = 5 ] || tell "new of a mirror changes $name, which exists"
+  rm -f "$name"
+  ln -s nothing "$name"
+  taken 'a link to nothing' "$name" "$other"
+  rm "$name"
+  mkdir "$name"
+  taken 'a folder' "$name" "$other"
+  rmdir "$name"
+done
 
 # One that stands alike is not written, by a run without a commit or by recover.
 for word in run recover; do
