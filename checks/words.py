@@ -22,7 +22,7 @@ TOP = os.path.dirname(os.path.dirname(os.path.abspath(__file__)))
 # the most words of a page, whether it is there yet or not
 BUDGETS = {
     "README.md": 1300,
-    "docs/guide.md": 1500,
+    "docs/guide.md": 1550,
     "docs/script.md": 3900,
     "docs/image.md": 2400,
     "docs/stores.md": 2600,
