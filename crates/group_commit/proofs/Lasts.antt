@@ -1,5 +1,5 @@
 -- The last of several transactions, and what became of it.
-use Rattle.group_commit.proofs.Words.{inl, inr, ℕ, ◌++◌, ◌≡◌, ◌∙◌, List, [], ◌∷◌, length, map, refl, sym, ap, subst, arith, ◌≢◌, ◌⊎◌, AllByRecursion, CoreError, IsLegal, number_of, tx_view, prefix_self, Start, Entry, Shared, Tx, View, ArePaired, IsBack, cause_of, members_in, units_of, IsPrefix}
+use Rattle.group_commit.proofs.Words.{inl, inr, ℕ, ◌++◌, ◌≡◌, List, [], ◌∷◌, length, map, refl, sym, ap, subst, arith, ◌≢◌, ◌⊎◌, AllByRecursion, CoreError, IsLegal, number_of, tx_view, prefix_self, Start, Entry, Shared, Tx, View, ArePaired, IsBack, cause_of, members_in, units_of, IsPrefix}
 use Rattle.iso_model.specs.declared.access.Access.{Access}
 use Rattle.iso_model.specs.declared.core_error.CoreError.TheVariants as error
 use Rattle.iso_shared.specs.{declared.entry.Member.Member, Ports.{IsSameTx, Made, doing_of}}

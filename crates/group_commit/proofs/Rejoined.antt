@@ -1,5 +1,5 @@
 -- A session whose transaction was handed out, and what came back of it.
-use Rattle.group_commit.proofs.Words.{inl, inr, ℕ, ◌++◌, ◌+◌, ◌≡◌, ◌⊎◌, ◌∙◌, List, [], ◌∷◌, None, Some, refl, sym, ap, subst, arith, ⊎_elim, CoreError, IsLegal, IsPort, number_of, port_view, tx_view, Start, Entry, Shared, Tx, IsPrefix, prefix_self, prefix_trans, times, cause_of, SessionState}
+use Rattle.group_commit.proofs.Words.{inl, inr, ℕ, ◌++◌, ◌≡◌, ◌⊎◌, ◌∙◌, List, [], ◌∷◌, None, Some, refl, sym, ap, subst, arith, ⊎_elim, CoreError, IsLegal, IsPort, number_of, port_view, tx_view, Start, Entry, Shared, Tx, IsPrefix, prefix_self, prefix_trans, times, cause_of, SessionState}
 use Rattle.iso_model.specs.declared.core_error.CoreError.TheVariants as error
 use Rattle.iso_shared.specs.{declared.shared.Port.Port, Ports.{doing_of}}
 use Rattle.iso_shared.specs.declared.entry.Entry.TheVariants as entry

@@ -1,5 +1,5 @@
 -- The array at the begin of a session's transaction is the same at each later place of the list.
-use Rattle.handle_pass.proofs.Words.{◌≡◌, ℕ, ◌<◌, ◌≤◌, List, [], ◌∷◌, Option, Some, None, IfSome, refl, ap, ◌∙◌, arith, History, all_own, array_at, last, Extends, Call, Cause, Entry, Shared, Tx, tx_view, Start, State, after, after_all, after_fault, after_refusal, after_sweep, opened, state_at, follows_prefix, up_to_same, ahead_on, Own, own_of, IsSession, IsPrefix, Inside, HasBegin, view}
+use Rattle.handle_pass.proofs.Words.{◌≡◌, ℕ, ◌<◌, ◌≤◌, List, [], ◌∷◌, Option, Some, None, IfSome, refl, ap, ◌∙◌, arith, History, all_own, array_at, last, Extends, Call, Cause, Entry, Shared, Tx, tx_view, Start, State, after, after_all, after_fault, after_refusal, after_sweep, opened, state_at, follows_prefix, up_to_same, ahead_on, own_of, IsSession, IsPrefix, Inside, HasBegin, view}
 use Rattle.iso_shared.specs.declared.entry.Call.TheVariants as call
 use Rattle.iso_shared.specs.declared.entry.Cause.TheVariants as cause
 use Rattle.iso_shared.specs.declared.entry.Entry.TheVariants as entry

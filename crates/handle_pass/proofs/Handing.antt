@@ -1,5 +1,5 @@
 -- A transaction that a session releases or takes over, and a port that is split off it or joined into it.
-use Rattle.handle_pass.proofs.{Words.{◌≡◌, ℕ, ◌+◌, ◌-◌, ◌<◌, ◌++◌, Bool, true, false, Option, Some, None, IfSome, cond, is_some, refl, sym, ap, ◌∙◌, arith, Checked, Doing, times, view, View, IsAlike, IsPrefix, Entry, Port, Tx, Start, IsSameTx, Inside, IsSession, IsPortAt, Joined, Split, device_of, given_part, kept_part, mine_of, HandleState, IsReleased, Own, Released, TookOver, checked_of, held_state, own_of, port_units, SessionState, state_of, units_of}, Entering.{count_both, count_of, own_same}}
+use Rattle.handle_pass.proofs.{Words.{◌≡◌, ℕ, ◌+◌, ◌-◌, ◌<◌, ◌++◌, Bool, true, false, Option, Some, None, IfSome, cond, is_some, refl, sym, ap, ◌∙◌, arith, Checked, Doing, times, view, View, IsAlike, IsPrefix, Entry, Port, Tx, Start, IsSameTx, Inside, IsSession, IsPortAt, Joined, Split, device_of, given_part, kept_part, mine_of, IsReleased, Own, Released, TookOver, checked_of, held_state, own_of, port_units, SessionState, state_of, units_of}, Entering.{count_both, count_of, own_same}}
 use Rattle.iso_shared.specs.Ports.{IsTx, check_of}
 
 -- a session with more than 33 units has a port with more than 32

@@ -3,7 +3,7 @@ use Rattle.std.specs.Prelude.{◌≡◌, ℕ, ◌+◌, List, Option, Some, None,
 use mathlib.Core.List.{IsPrefix}
 use Rattle.iso_model.specs.{declared.memory.InTx.InTx, declared.memory.NotInTx.NotInTx}
 use Rattle.iso_shared.specs.declared.entry.Call.TheVariants as call
-use Rattle.iso_shared.specs.{declared.entry.Cause.Cause, declared.entry.Entry.Entry, States.Start}
+use Rattle.iso_shared.specs.{declared.entry.Cause.Cause, States.Start}
 use Rattle.iso_shared.specs.declared.entry.Cause.TheVariants as cause
 use Rattle.iso_shared.specs.declared.entry.Entry.TheVariants as entry
 use Rattle.turn_lock.specs.Lists.{times}

@@ -1,5 +1,5 @@
 -- A node's bytes, cell by cell.
-use Rattle.iso_tree.proofs.{Words.{◌≡◌, ◌∙◌, sym, refl, ap, ℕ, zero, suc, ◌+◌, ◌-◌, ◌*◌, ◌/◌, ◌%◌, ◌<◌, ◌≤◌, Bool, true, false, not, cond, List, [], ◌∷◌, ◌++◌, take, drop, length, replicate, set, arith, AllByRecursion, flat_map, filter, append_assoc, append-nil, take_at, drop_at, length-append, length-replicate, flat_map-append, cell_count, keys_end, key_part, key_at, laid_at, value_mark, bytes_in, bytes_eq, without_key, is_node, count_of, IsBlock, FitCells, Cell, node_bytes, cells_by}, Fits.cells_fit, Bytes.{length-key_part, length-keys, length-values}, Passes.zeros_more}
+use Rattle.iso_tree.proofs.{Words.{◌≡◌, ◌∙◌, sym, refl, ap, ℕ, zero, suc, ◌+◌, ◌-◌, ◌*◌, ◌/◌, ◌%◌, ◌≤◌, Bool, true, false, not, cond, List, [], ◌∷◌, ◌++◌, take, drop, length, replicate, set, arith, AllByRecursion, flat_map, filter, append_assoc, take_at, drop_at, length-append, length-replicate, flat_map-append, cell_count, keys_end, key_part, key_at, laid_at, value_mark, bytes_in, bytes_eq, without_key, is_node, count_of, IsBlock, FitCells, Cell, node_bytes, cells_by}, Fits.cells_fit, Bytes.{length-keys, length-values}, Passes.zeros_more}
 
 -- bytes in the place of as many others
 pub laid_mid : (xs ys zs ws : List ℕ) (at : ℕ) → length xs ≡ at → length zs ≡ length ys → laid_at at ys (xs ++ (zs ++ ws)) ≡ xs ++ (ys ++ ws)

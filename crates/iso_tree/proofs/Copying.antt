@@ -1,5 +1,5 @@
 -- The bytes of some cells of a node are those that the node has in their places.
-use Rattle.iso_tree.proofs.{Words.{◌≡◌, ◌∙◌, sym, refl, ap, ℕ, zero, suc, ◌+◌, ◌-◌, ◌*◌, ◌≤◌, ◌<◌, ◌==◌, ◌&&◌, Bool, true, false, List, [], ◌∷◌, ◌++◌, length, take, drop, get_or, replicate, arith, flat_map, list_all, is_zero, and_parts, leb-true, length-take, length-drop, take-append-drop, drop-drop, take-take, drop-take, cell_count, keys_end, key_mark, value_mark, is_part, are_key_parts, all_at, bytes_in, key_part, text_of, key_at, Cell, FitCells, IsBlock, cells_by, piece_of, take-add}, Fits.key_short}
+use Rattle.iso_tree.proofs.{Words.{◌≡◌, ◌∙◌, sym, refl, ap, ℕ, zero, suc, ◌+◌, ◌-◌, ◌*◌, ◌≤◌, ◌<◌, ◌==◌, true, false, List, [], ◌∷◌, ◌++◌, length, take, drop, replicate, arith, flat_map, list_all, is_zero, and_parts, leb-true, length-take, length-drop, take-append-drop, drop-drop, cell_count, keys_end, key_mark, value_mark, is_part, are_key_parts, all_at, bytes_in, key_part, text_of, key_at, Cell, FitCells, IsBlock, cells_by, piece_of, take-add}, Fits.key_short}
 
 zeros_back : (xs : List ℕ) → list_all is_zero xs ≡ true → xs ≡ replicate (length xs) 0
 zeros_back [] all = refl

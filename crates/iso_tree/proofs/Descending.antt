@@ -1,5 +1,5 @@
 -- A descent, step by step.
-use Rattle.iso_tree.proofs.Words.{arith, ◌≡◌, ◌∙◌, sym, refl, subst, ℕ, zero, suc, ◌+◌, ◌&&◌, Bool, true, false, cond, List, [], ◌∷◌, take, Result, Ok, Err, IfOk, IfErr, Area, StoreError, Program, Done, Look, further_bytes, then_do, keys_end, keys_mark, Tx, Device, IsLater, Ran, IsCut, HasRun, HasRead, IsAt, at_then, ran_at, cut_then, later_than, cause_since, cut_from, read_join, Leaf, is_node, is_child, child_of, count_of, Descent, AtLeaf, AtBroken, descend, inner_further, leaf_further, IsWalkError, OnlyReads, child_program, leaf_program, HasDescended, HasReadLeaf, at_as, at_start}
+use Rattle.iso_tree.proofs.Words.{arith, ◌≡◌, sym, subst, ℕ, zero, suc, ◌+◌, Bool, cond, List, [], ◌∷◌, take, Result, Ok, Err, IfOk, IfErr, Area, StoreError, Program, Done, Look, further_bytes, then_do, keys_end, keys_mark, Tx, Device, IsLater, Ran, IsCut, HasRun, HasRead, IsAt, at_then, ran_at, cut_then, later_than, cause_since, cut_from, read_join, Leaf, is_node, child_of, count_of, Descent, AtLeaf, AtBroken, descend, leaf_further, IsWalkError, OnlyReads, child_program, leaf_program, HasDescended, HasReadLeaf, at_as, at_start}
 use Rattle.store_model.specs.declared.stores.StoreError.TheVariants as store
 
 module _ (a : Area) (key : List ℕ) (with_value : Bool) where

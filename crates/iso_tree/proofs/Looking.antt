@@ -1,5 +1,5 @@
 -- One read of a call, and what follows from its bytes.
-use Rattle.iso_tree.proofs.Words.{arith, ◌≡◌, ◌∙◌, sym, refl, ap, subst, ℕ, ◌+◌, ◌≤◌, ◌&&◌, Bool, true, false, cond, List, [], ◌∷◌, length, Option, Some, None, Ok, Err, option_map, ForSome, false_from_ne_true, Access, Span, Area, Region, own, is_write, block_at, Program, Done, Look, bytes_in, further_bytes, with_further, look_access, keys_mark, value_mark, word_at, Tx, Device, IsLater, with_accesses, Passed, Ran, Array, own_reads, own_append, at_start, at_look, ran_at, read_none, read_more, Node, keys_in, value_in, is_node, is_child, child_of, count_of, place_of, cell_of, head_mark, is_head, leaf_further, inner_further, AreBytesOf, OnlyReads, head_program, child_program, leaf_program, marked, marked_access}
+use Rattle.iso_tree.proofs.Words.{arith, ◌≡◌, ◌∙◌, sym, ap, subst, ℕ, ◌+◌, ◌≤◌, ◌&&◌, Bool, true, false, cond, List, [], ◌∷◌, length, Option, Some, None, Ok, Err, option_map, ForSome, false_from_ne_true, Access, Span, Area, Region, own, is_write, block_at, Program, Done, Look, bytes_in, further_bytes, with_further, look_access, keys_mark, value_mark, word_at, Tx, Device, IsLater, with_accesses, Passed, Ran, own_reads, own_append, at_start, at_look, ran_at, read_none, read_more, Node, keys_in, value_in, is_node, is_child, child_of, count_of, place_of, cell_of, head_mark, is_head, leaf_further, inner_further, AreBytesOf, OnlyReads, head_program, child_program, leaf_program, marked, marked_access}
 use Rattle.store_model.specs.declared.stores.StoreError.TheVariants as store
 pub use Rattle.tx_blocks.proofs.Progress.{at_as}
 

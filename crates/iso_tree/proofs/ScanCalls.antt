@@ -1,5 +1,5 @@
 -- The pairs of an ordered tree rise: they are the entries of the region's map.
-use Rattle.iso_tree.proofs.{Words.{arith, ◌≡◌, ◌∙◌, sym, refl, ap, subst, ℕ, zero, suc, Bool, true, List, [], ◌∷◌, ◌++◌, Option, Some, AllByRecursion, flat_map, nat_cmp, slice_cmp, nat_list_cmp_total, from_entries, from_sorted, entries, entries-from_sorted, get-from_entries, get-from_sorted, same_map, slice_cmp-IsAntisymmetric, nat_cmp-IsAntisymmetric, is_sorted, below_all, T, and_from, and_parts, append-nil, before, Cell, in_range, Tree, pairs_in, AreAfter, AreChildren, IsOrdered, Rise, RiseAfter, false, ◌&&◌, ◌==◌, cond, take, None, Result, Ok, Err, IfOk, inl, inr, eq-eqb, ne_eqb, cases_eq, Area, StoreError, BadKey, Broken, Array, own, is_key, AreReads, Program, Done, accesses_of, answer_of, IsLocal, Tx, HasRun, IsLocalCall, own_reads, whole_reads, IsCorrect, local_from, run_local, tree_at, scan_below, scan_from, scan_program, with_head, Scanned, cells_in, root_of, level_of, scan_op, tree_map, tree_pairs, AreNodes, IsTreeRegion, cond_reads, same_ok, take-nil}, Edits.leaf_pairs, Gets.{ordered_in, pairs_after, head_reads}, Order.{before_trans, all_weaker, before_through, low_of}, ScanTrees.{scan_finds, scan_reads}, Scans.within}
+use Rattle.iso_tree.proofs.{Words.{arith, ◌≡◌, ◌∙◌, sym, refl, ap, subst, ℕ, zero, suc, Bool, true, List, [], ◌∷◌, ◌++◌, Option, Some, AllByRecursion, flat_map, nat_cmp, slice_cmp, nat_list_cmp_total, from_entries, from_sorted, entries, entries-from_sorted, get-from_entries, get-from_sorted, same_map, slice_cmp-IsAntisymmetric, nat_cmp-IsAntisymmetric, is_sorted, below_all, T, and_from, and_parts, append-nil, before, Cell, in_range, Tree, pairs_in, AreAfter, AreChildren, IsOrdered, Rise, RiseAfter, Result, Ok, IfOk, Area, StoreError, Array, own, is_key, AreReads, accesses_of, answer_of, IsLocal, Tx, HasRun, IsLocalCall, own_reads, whole_reads, IsCorrect, local_from, run_local, tree_at, scan_below, scan_program, cells_in, root_of, level_of, scan_op, tree_map, tree_pairs, IsTreeRegion, cond_reads, same_ok}, Edits.leaf_pairs, Gets.{ordered_in, pairs_after, head_reads}, Order.{before_trans, all_weaker, before_through, low_of}, ScanTrees.{scan_finds, scan_reads}}
 
 abbrev pub sorted : List (List ℕ × List ℕ) → Bool
 sorted pairs = is_sorted (slice_cmp nat_cmp) pairs

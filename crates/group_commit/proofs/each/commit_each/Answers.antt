@@ -1,4 +1,4 @@
-use Rattle.group_commit.proofs.{Words.{ap, arith, length, subst, sym, AreTxs, found_in}, Grouping.{found_are, found_few}}
+use Rattle.group_commit.proofs.{Words.{ap, arith, length, subst, sym, AreTxs}, Grouping.{found_are, found_few}}
 use Rattle.group_commit.proofs.each.commit_each.Goals as goal
 
 pub end_told-requires-clause-group : goal.end_told-requires-clause-group

@@ -1,4 +1,4 @@
-use Rattle.iso_tree.proofs.{Words.{◌≡◌, ◌∙◌, sym, refl, ap, ℕ, ◌+◌, ◌*◌, length, take, drop, cells_from}, Fits.length-cells, Copying.{keys_are, values_are, cells_fit_from}}
+use Rattle.iso_tree.proofs.{Words.{◌∙◌, refl, ap, ℕ, ◌+◌, ◌*◌, length, take, drop, cells_from}, Fits.length-cells, Copying.{keys_are, values_are, cells_fit_from}}
 
 pub returns : Rattle.iso_tree.proofs.build.add_cells.Goals.returns
 returns c = record {

@@ -1,4 +1,4 @@
-use Rattle.iso_tree.proofs.{Words.{◌≡◌, ◌∙◌, sym, refl, ap, subst, suc, OnOk, ◌+◌, ◌-◌, [], length, ℕ, List, arith, later_than, later_same, read_none, read_join, IsAt, at_start, AreInside, descend}, Descending.{step_on, step_refused, leaf_any}}
+use Rattle.iso_tree.proofs.{Words.{◌≡◌, refl, suc, OnOk, ◌+◌, ◌-◌, [], arith, later_than, later_same, read_none, read_join, at_start, descend}, Descending.{step_on, step_refused, leaf_any}}
 use Rattle.iso_tree.proofs.descent.descend.Goals as goal
 
 pub returns-in-Err-clause-run : goal.returns-in-Err-clause-run

@@ -1,4 +1,4 @@
-use Rattle.iso_tree.proofs.{Words.{arith, ◌∙◌, sym, ap, None, word_at, head_mark, is_head, cut_first}, Looking.{head_broken, head_read}}
+use Rattle.iso_tree.proofs.{Words.{arith, ◌∙◌, sym, ap, word_at, is_head, cut_first}, Looking.{head_broken, head_read}}
 
 pub returns-then-not-is_head-clause-run : Rattle.iso_tree.proofs.descent.read_head.Goals.returns-then-not-is_head-clause-run
 returns-then-not-is_head-clause-run g c =

@@ -1,4 +1,4 @@
-use Rattle.iso_tree.proofs.{Words.{looked_as, ◌≡◌, ◌∙◌, sym, refl, ap, subst, ◌+◌, [], ◌∷◌, Some, None, arith, Span, keys_mark, value_mark, bytes_in, look_access, mark_refusal, with_accesses, may_mark, marked_access, cell_of, cut_first}, Facts.{missing, cell_used, node_parts, nothing_is}, Looking.{IsNodeOf, bytes_after, node_of, not_node, leaf_not_node, leaf_plain, leaf_missing, leaf_found, ok_marked}, descent.read_leaf.Goals.In-Some}
+use Rattle.iso_tree.proofs.{Words.{looked_as, ◌≡◌, ◌∙◌, sym, refl, ap, ◌+◌, [], ◌∷◌, Some, arith, keys_mark, value_mark, bytes_in, look_access, with_accesses, may_mark, marked_access, cell_of, cut_first}, Facts.{missing, cell_used, node_parts, nothing_is}, Looking.{IsNodeOf, bytes_after, node_of, not_node, leaf_not_node, leaf_plain, leaf_missing, leaf_found, ok_marked}, descent.read_leaf.Goals.In-Some}
 use Rattle.iso_tree.proofs.descent.read_leaf.Goals as goal
 
 -- the leaf that the view shows

@@ -1,4 +1,4 @@
-use Rattle.iso_tree.proofs.{Words.{◌≡◌, ◌∙◌, refl, ap, ℕ, ◌+◌, ◌-◌, ◌≤◌, ◌<◌, List, [], ◌∷◌, ◌++◌, length, length-append, arith, Cell, FitCells, node_bytes, cells_from, all_append}, Copying.cells_fit_from, Filling.{row_behind, row_ahead, row_about}, Fits.length-cells}
+use Rattle.iso_tree.proofs.{Words.{◌≡◌, ◌∙◌, refl, ap, ℕ, ◌+◌, ◌-◌, ◌≤◌, ◌<◌, [], ◌∷◌, ◌++◌, length, length-append, arith, Cell, FitCells, node_bytes, cells_from, all_append}, Copying.cells_fit_from, Filling.{row_behind, row_ahead, row_about}, Fits.length-cells}
 use Rattle.iso_tree.proofs.fill.fill_row.Goals as goal
 
 pub returns-then-place-from : goal.returns-then-place-from

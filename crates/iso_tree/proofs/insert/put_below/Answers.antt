@@ -1,4 +1,4 @@
-use Rattle.iso_tree.proofs.{Words.{refl, false, [], put_at, ◌≡◌, ◌∙◌, sym, subst, ℕ, ◌+◌, ◌≤◌, List, length, take, arith, cell_count, keys_end, HasRun, behaves_next, NeedsBlocks, with_map}, Facts.{cell_used, missing, node_parts}, Getting.{below_refused, put_found, put_room, put_full, leaf_usable, full_needs}}
+use Rattle.iso_tree.proofs.{Words.{refl, false, [], put_at, ◌≡◌, ◌∙◌, sym, subst, ◌+◌, ◌≤◌, length, take, arith, cell_count, keys_end, behaves_next, NeedsBlocks, with_map}, Facts.{cell_used, missing, node_parts}, Getting.{below_refused, put_found, put_room, put_full, leaf_usable, full_needs}}
 use Rattle.iso_tree.proofs.insert.put_below.Goals as goal
 
 pub returns-in-Err-clause-run : goal.returns-in-Err-clause-run

@@ -1,4 +1,4 @@
-use Rattle.iso_tree.proofs.{Words.{is_part, ◌≡◌, ◌∙◌, ◌+◌, ◌-◌, ◌*◌, ◌≤◌, ◌&&◌, ℕ, List, sym, refl, ap, arith, Bool, true, false, take, drop, list_all, is_zero, cell_count, are_key_parts, are_cells, all_from, all_fails, all_goes_on, all_end}, Passes.{fits_in, one_walk, tests_of}}
+use Rattle.iso_tree.proofs.{Words.{◌≡◌, ◌∙◌, ◌+◌, ◌-◌, ◌*◌, ◌≤◌, ◌&&◌, ℕ, List, sym, refl, ap, arith, Bool, true, false, take, drop, list_all, is_zero, cell_count, are_key_parts, are_cells, all_from, all_fails, all_goes_on, all_end}, Passes.{fits_in, one_walk, tests_of}}
 
 -- one used cell is not as it has to be
 one_fails : (size count : ℕ) (keys : List ℕ) → count ≤ cell_count size → all_from (fits_in keys) 0 count ≡ false → false ≡ (are_key_parts size keys && are_cells size keys count)

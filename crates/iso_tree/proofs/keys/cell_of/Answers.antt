@@ -1,4 +1,4 @@
-use Rattle.iso_tree.proofs.Words.{arith, ◌≡◌, ◌∙◌, sym, ap, List, ℕ, bytes_eq, key_at, cell_of, first_found, first_goes_on}
+use Rattle.iso_tree.proofs.Words.{arith, first_found, first_goes_on}
 
 pub returns-then-are_same-clause-value : Rattle.iso_tree.proofs.keys.cell_of.Goals.returns-then-are_same-clause-value
 returns-then-are_same-clause-value c = grind (arith, first_found)

@@ -1,4 +1,4 @@
-use Rattle.iso_tree.proofs.{Words.{◌≡◌, ◌∙◌, sym, refl, ap, subst, IfOk, ℕ, ◌+◌, ◌-◌, ◌*◌, List, length, take, arith, keys_end, are_key_parts, Cell, count_of, node_bytes, row_from, upto_from}, Facts.node_parts, Filling.leaf_row_is}
+use Rattle.iso_tree.proofs.{Words.{◌≡◌, ◌∙◌, ap, subst, IfOk, ℕ, ◌+◌, ◌-◌, ◌*◌, List, length, take, arith, keys_end, are_key_parts, Cell, count_of, node_bytes, row_from, upto_from}, Facts.node_parts, Filling.leaf_row_is}
 
 pub upto-place-requires-clause-parts : Rattle.iso_tree.proofs.leaf.leaf_with.Goals.upto-place-requires-clause-parts
 upto-place-requires-clause-parts c =

@@ -1,4 +1,4 @@
-use Rattle.iso_tree.proofs.{Words.{arith, ◌∙◌, sym, subst, Area, get_program, area_of, HasRun}, Getting.{bad_key, local_any}}
+use Rattle.iso_tree.proofs.{Words.{arith, ◌∙◌, sym, area_of}, Getting.{bad_key, local_any}}
 
 pub returns-then-not-is_key-clause-ended : Rattle.iso_tree.proofs.lookup.get.Goals.returns-then-not-is_key-clause-ended
 returns-then-not-is_key-clause-ended g c =

@@ -1,4 +1,4 @@
-use Rattle.iso_tree.proofs.{Words.{arith, ◌∙◌, sym, subst, inl, Area, scan_program, area_of, HasScanned}, Scanning.{bad_keys, scan_any, scan_ended}}
+use Rattle.iso_tree.proofs.{Words.{arith}, Scanning.{bad_keys, scan_any, scan_ended}}
 
 pub returns-then-not-are_keys-clause-ended : Rattle.iso_tree.proofs.range.scan.Goals.returns-then-not-are_keys-clause-ended
 returns-then-not-are_keys-clause-ended g c = grind (arith, bad_keys)

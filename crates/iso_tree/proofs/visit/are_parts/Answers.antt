@@ -1,4 +1,4 @@
-use Rattle.iso_tree.proofs.{Words.{arith, ◌∙◌, sym, ap, ◌+◌, ◌-◌, ◌*◌, ◌&&◌, Bool, drop, list_all, parts_of, is_part_at}, Visiting.{parts_first, parts_last, parts_step}}
+use Rattle.iso_tree.proofs.{Words.{arith, ap, list_all, is_part_at}, Visiting.{parts_first, parts_last, parts_step}}
 
 pub loop-i-init : Rattle.iso_tree.proofs.visit.are_parts.Goals.loop-i-init
 loop-i-init c = ap (list_all (is_part_at c.args.area c.args.level)) (parts_first c.args.values.now c.args.many)

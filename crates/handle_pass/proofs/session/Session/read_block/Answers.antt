@@ -1,8 +1,8 @@
-use Rattle.handle_pass.proofs.{Words.{ap, refl, rules, subst, ◌∙◌, ◌≡◌, List, Some, block_at, read_access, CoreError, Entry, Fetch, Refused, IfSome, IsLegal, IsPrefix, cause_of, view, prefix_trans, with_access, own_in, own_of, Own}, Entering.{Through, down_by, fetched_is, made_through, own_by_parts, own_same, still_session}, session.Session.read_block.Goals.{After-tell_port, in-Ok, in-Err-fetched+in-Disk, in-Err-fetched+in_default-error}}
+use Rattle.handle_pass.proofs.{Words.{ap, refl, subst, ◌∙◌, ◌≡◌, List, Some, block_at, read_access, CoreError, Entry, Fetch, Refused, IsLegal, cause_of, view, prefix_trans, with_access, own_in, own_of, Own}, Entering.{Through, down_by, fetched_is, made_through, own_by_parts, own_same, still_session}, session.Session.read_block.Goals.{After-tell_port, in-Ok, in-Err-fetched+in-Disk, in-Err-fetched+in_default-error}}
 use Rattle.iso_model.specs.Effect as effect
 use Rattle.iso_model.specs.declared.core_error.CoreError.TheVariants as error
 use Rattle.iso_shared.specs.declared.entry.Call.TheVariants as call
-use Rattle.iso_shared.specs.Ports.{IsTx, Made}
+use Rattle.iso_shared.specs.Ports.{Made}
 use Rattle.handle_pass.proofs.session.Session.read_block.Goals as goal
 
 -- the call after which the port is told

@@ -1,4 +1,4 @@
-use Rattle.handle_pass.proofs.{Words.{ap, subst, sym, ◌∙◌, ◌≡◌, ℕ, IfSome, tx_view}, Handing.released}
+use Rattle.handle_pass.proofs.{Words.{subst, sym, ◌∙◌, ◌≡◌, IfSome, tx_view}, Handing.released}
 
 pub returns : Rattle.handle_pass.proofs.session.Session.release_tx.Goals.returns
 returns g c =

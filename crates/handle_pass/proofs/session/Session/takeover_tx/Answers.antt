@@ -1,4 +1,4 @@
-use Rattle.handle_pass.proofs.{Words.{ap, sym, ◌∙◌}, Entering.is_none, Handing.took_over}
+use Rattle.handle_pass.proofs.{Words.{sym, ◌∙◌}, Entering.is_none, Handing.took_over}
 
 pub returns : Rattle.handle_pass.proofs.session.Session.takeover_tx.Goals.returns
 returns g c =
