@@ -1,5 +1,5 @@
 -- Calls on accounts fill the transaction that a session has begun.
-use Rattle.accounts.proofs.{Words.{◌≡◌, ◌∙◌, sym, refl, ap, subst, ℕ, ◌+◌, ◌<◌, ◌≤◌, true, cond, List, [], ◌∷◌, ◌++◌, Option, Some, None, Ok, arith, length, Accounts, Array, Geometry, firsts, KeyCall, StoreAnswer, IsOfAccounts, IsMadeOfBoth, answers_in, calls_in, hash_area, image_hash, image_tree, IsHashArea, Area, Region, area_of, Tx, Does, IsPut, IsTakenFor, more_first_answers, more_first_calls, the_tree, IsPrefix, option_map, ext_get_or, block_shaped, length-shaped, accesses_of, tx_on, HasBegun, Own, Visited, base_in, begin_array, shaped, with_list, array_shape, Mode, Serial, array_at, last, block_at, IsWorld, began_last, follows_all, follows_prefix, legal_last, Entry, IsLegal, Start, opened, world_at, hash_area_is, array_extends, prefix_trans, sound_at, to_be_bytes, w64, Cause, area_in, HashPuts, HasCalled, HasStore, IsFilled, IsHeld, OfCalls, OwnFilled, SessionState}, Adding.{completed, does_put, put_adds, transfers}}
+use Rattle.accounts.proofs.{Words.{◌≡◌, ◌∙◌, sym, refl, ap, subst, ℕ, ◌+◌, ◌<◌, ◌≤◌, true, cond, List, [], ◌∷◌, ◌++◌, Option, Some, None, Ok, arith, length, Accounts, Array, Geometry, firsts, KeyCall, StoreAnswer, IsOfAccounts, IsMadeOfBoth, answers_in, calls_in, hash_area, image_hash, image_tree, IsHashArea, Area, Region, area_of, Tx, Does, IsPut, IsTakenFor, more_first_answers, more_first_calls, the_tree, IsPrefix, option_map, ext_get_or, block_shaped, length-shaped, accesses_of, tx_on, HasBegun, Own, Visited, base_in, begin_array, shaped, with_list, array_shape, Mode, Serial, array_at, last, block_at, IsWorld, began_last, follows_all, follows_prefix, legal_last, Entry, IsLegal, Start, opened, world_at, hash_area_is, array_extends, prefix_trans, sound_at, to_be_bytes, w64, Cause, area_in, HashPuts, HasCalled, HasStore, IsFilled, HoldsCalls, OfCalls, OwnFilled, SessionState}, Adding.{completed, does_put, put_adds, transfers}}
 use Rattle.iso_shared.specs.declared.entry.Entry.TheVariants as entry
 
 -- an array that has the image's shape is not cut
@@ -110,7 +110,7 @@ module _ (accounts : Accounts) (A : Start) (region : Region) (store : HasStore A
 
   -- the second half of a transfer comes to the first one
   pub completes : (s t : SessionState) (to : List ℕ) (more : ℕ) (o : Own) → s.own ≡ Some o → HasCalled A s t (λ x y before now. HashPuts (area_of x region) to (to_be_bytes w64 more) (Ok tt) x y before now)
-      → IsHeld accounts (IsTakenFor to more) A s → OwnFilled (IsOfAccounts accounts) A t.seen t.own
+      → HoldsCalls accounts (IsTakenFor to more) A s → OwnFilled (IsOfAccounts accounts) A t.seen t.own
   completes s t to more o was did held =
       let x : Tx = tx_on A s (base_in A s) in
       let value = to_be_bytes w64 more in

@@ -1,5 +1,5 @@
 -- A group of transactions that were given away commits as accounts do.
-use Rattle.accounts.proofs.{Words.{◌≡◌, ◌∙◌, inl, inr, sym, refl, ap, subst, suc, ℕ, true, List, [], ◌∷◌, ◌++◌, arith, length, Option, Some, None, Result, Ok, Err, Accounts, IsPrefix, AllByRecursion, prefix_self, prefix_trans, View, times, HasGrouped, HasMade, KnowsAll, aborts_after, aborts_of, count_all, found_in, group_of, refused_by, next_prefix, own_in, Commit, GroupReply, CoreError, made_by, Live, World, legal_last, loose_is, Entry, Member, answered, made_in, AreLoose, IsLegal, number_of, tx_view, Start, commits_made, group_answers, lost_commits, member_numbers, members_of, opened, state_at, txs_of, cause_of, members_in, commit_at, world_at, IsOfAccountsAt, CommitsAccounts, AreGiven, Covers, IsReady, IsWhole, DeviceId}, Committing.commits_well, Covering.{IsQuiet, covers_both, covers_none, covers_on, covers_one, covers_quiet}}
+use Rattle.accounts.proofs.{Words.{◌≡◌, ◌∙◌, inl, inr, sym, refl, ap, subst, suc, ℕ, true, List, [], ◌∷◌, ◌++◌, arith, length, Option, Some, None, Result, Ok, Err, Accounts, IsPrefix, AllByRecursion, prefix_self, prefix_trans, View, times, HasGrouped, HasMade, KnowsAll, aborts_after, aborts_of, count_all, found_in, group_of, refused_by, next_prefix, own_in, Commit, GroupReply, CoreError, made_by, Live, World, legal_last, loose_is, Entry, Member, answered, made_in, AreLoose, IsLegal, number_of, tx_view, Start, commits_made, group_answers, lost_commits, member_numbers, members_of, opened, state_at, txs_of, cause_of, members_in, commit_at, world_at, IsOfAccountsAt, CommitsAccounts, AreGiven, Covers, BeginsIdle, IsWhole, DeviceId}, Committing.commits_well, Covering.{IsQuiet, covers_both, covers_none, covers_on, covers_one, covers_quiet}}
 use Rattle.group_commit.specs.Groups.{HasEnded}
 use Rattle.iso_model.specs.declared.access.GroupReply.TheVariants as member
 use Rattle.iso_model.specs.declared.core_error.CoreError.TheVariants as error
@@ -34,7 +34,7 @@ many_members : {D O : Type 0} (txs : List (Tx D O)) → length (members_in txs) 
 many_members [] = refl
 many_members (t ∷ txs) = ap suc (many_members txs)
 
-module _ {D O : Type 0} (accounts : Accounts) (A : Start) (d : DeviceId) (ready : IsReady A) where
+module _ {D O : Type 0} (accounts : Accounts) (A : Start) (d : DeviceId) (ready : BeginsIdle A) where
   abbrev AllGiven : List (Tx D O) → Type 0
   AllGiven txs = AllByRecursion (IsWhole accounts A d) txs
 

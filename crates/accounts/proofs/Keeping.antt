@@ -1,5 +1,5 @@
 -- What calls leave of a session whose transactions are those of accounts.
-use Rattle.accounts.proofs.{Words.{◌≡◌, ◌∙◌, sym, refl, ap, subst, ℕ, true, List, [], ◌∷◌, ◌++◌, arith, Option, Some, None, Result, Ok, Err, Accounts, Access, IsPrefix, AllByRecursion, prefix_self, prefix_trans, View, times, BeginError, EndError, EndsWith, HasAborted, HasBegun, Next, Released, Made, Own, count, Visited, fetches, number_in, refusals, EndReply, Committed, Conflict, ReadOnly, Mode, CoreError, NotInTx, legal_last, loose_is, Cause, Entry, Start, opened, state_at, cause_of, commit_at, world_at, IsOfAccountsAt, CommitsAccounts, IsOfAccounts, TookOver, Covers, IsFilled, IsGiven, IsHeld, IsKept, IsReady, OfCalls, Stays, DeviceId, HandleState, IsReleased, IsWhole, SessionState, held_state}, Committing.commits_well, Covering.{IsQuiet, covers_both, covers_less, covers_on, covers_one, covers_quiet, quiet_well}}
+use Rattle.accounts.proofs.{Words.{◌≡◌, ◌∙◌, sym, refl, ap, subst, ℕ, true, List, [], ◌∷◌, ◌++◌, arith, Option, Some, None, Result, Ok, Err, Accounts, Access, IsPrefix, AllByRecursion, prefix_self, prefix_trans, View, times, BeginError, EndError, EndsWith, HasAborted, HasBegun, Next, Released, Made, Own, count, Visited, fetches, number_in, refusals, EndReply, Committed, Conflict, ReadOnly, Mode, CoreError, NotInTx, legal_last, loose_is, Cause, Entry, Start, opened, state_at, cause_of, commit_at, world_at, IsOfAccountsAt, CommitsAccounts, IsOfAccounts, TookOver, Covers, IsFilled, IsGiven, HoldsCalls, IsKept, BeginsIdle, OfCalls, Stays, DeviceId, HandleState, IsReleased, IsWhole, SessionState, held_state}, Committing.commits_well, Covering.{IsQuiet, covers_both, covers_less, covers_on, covers_one, covers_quiet, quiet_well}}
 use Rattle.handle_pass.specs.declared.errors.BeginError.TheVariants as begin
 use Rattle.handle_pass.specs.declared.errors.EndError.TheVariants as end
 use Rattle.handle_pass.specs.Calls.{HasEnded}
@@ -98,7 +98,7 @@ module _ (accounts : Accounts) (A : Start) where
   -- ---- an end
 
   -- a transaction that is filled commits as one of accounts where its end was made
-  fine : (s t : SessionState) (o : Own) (e : Entry) (m : Made A s t e) → IsReady A → IsHeld accounts (IsOfAccounts accounts) A s → s.own ≡ Some o
+  fine : (s t : SessionState) (o : Own) (e : Entry) (m : Made A s t e) → BeginsIdle A → HoldsCalls accounts (IsOfAccounts accounts) A s → s.own ≡ Some o
       → Rattle.iso_shared.specs.States.is_live o.number (world_at A m.entered.before).live ≡ true → Fine accounts A m.entered.before o.number o.accesses
   fine s t o e m ready is was live tells =
       let before : List Entry = m.entered.before in
@@ -106,7 +106,7 @@ module _ (accounts : Accounts) (A : Start) where
       (prefix_trans s.seen before t.seen m.entered.told (prefix_trans before (before ++ e ∷ []) t.seen (e ∷ [], refl) m.entered.known))
       (legal_last (opened A) before e m.entered.legal).0 (prefix_trans before (before ++ e ∷ []) t.seen (e ∷ [], refl) m.entered.known) live
 
-  pub ended : (s t : SessionState) (old new : ℕ) (r : Result EndReply EndError) → HasEnded A s old r t new → IsReady A → IsHeld accounts (IsOfAccounts accounts) A s → Covers accounts A t.seen (count t) × Stays s t
+  pub ended : (s t : SessionState) (old new : ℕ) (r : Result EndReply EndError) → HasEnded A s old r t new → BeginsIdle A → HoldsCalls accounts (IsOfAccounts accounts) A s → Covers accounts A t.seen (count t) × Stays s t
   ended s t old new (Ok reply) did ready is =
       let o : Own = did.0 in
       let e : Entry = entry.End o.number o.accesses reply in
@@ -128,12 +128,12 @@ module _ (accounts : Accounts) (A : Start) where
       )
 
   -- a session whose transaction was ended
-  pub over : (s t : SessionState) (new : ℕ) (r : EndReply) → HasEnded A s 0 (Ok r) t new → IsReady A → IsHeld accounts (IsOfAccounts accounts) A s → IsKept accounts A t
+  pub over : (s t : SessionState) (new : ℕ) (r : EndReply) → HasEnded A s 0 (Ok r) t new → BeginsIdle A → HoldsCalls accounts (IsOfAccounts accounts) A s → IsKept accounts A t
   over s t new r did ready is = record { covers = (ended s t 0 new (Ok r) did ready is).0; none = did.2 }
 
   -- ---- a transaction that is given away, and one that is taken over
 
-  pub given : (Is : OfCalls) (s t : SessionState) (h : HandleState) → Released s h t → IsHeld accounts Is A s → IsKept accounts A t × IsGiven accounts Is A h
+  pub given : (Is : OfCalls) (s t : SessionState) (h : HandleState) → Released s h t → HoldsCalls accounts Is A s → IsKept accounts A t × IsGiven accounts Is A h
   given Is s t h is held = (
     record {
       covers = covers_less accounts A t.seen (count s) (count t) (λ p. let c = is.places p in omega arith) (subst (λ (E : List Entry). Covers accounts A E (count s)) (sym is.same) held.covers);
@@ -154,10 +154,10 @@ module _ (accounts : Accounts) (A : Start) where
   }
 
   -- without a transaction it gives none away
-  pub let_go : (Is : OfCalls) (s t : SessionState) → s.own ≡ None → t ≡ s → IsHeld accounts Is A s → IsKept accounts A t
+  pub let_go : (Is : OfCalls) (s t : SessionState) → s.own ≡ None → t ≡ s → HoldsCalls accounts Is A s → IsKept accounts A t
   let_go Is s t none same held = same_kept s t same (record { covers = held.covers; none = none })
 
-  pub took_over : (Is : OfCalls) (s t : SessionState) (h : HandleState) (at : ℕ) → TookOver s h at t → IsKept accounts A s → IsGiven accounts Is A h → IsHeld accounts Is A t
+  pub took_over : (Is : OfCalls) (s t : SessionState) (h : HandleState) (at : ℕ) → TookOver s h at t → IsKept accounts A s → IsGiven accounts Is A h → HoldsCalls accounts Is A t
   took_over Is s t h at is kept given = record {
     covers = covers_both accounts A t.seen (count s) (λ p. times p h.mine) (count t) is.places (covers_on accounts A s.seen t.seen (count s) is.more kept.covers)
         (covers_on accounts A h.seen t.seen (λ p. times p h.mine) is.told given.covers);

@@ -1,5 +1,5 @@
 -- What a session comes to know of the members of a group, one after the other.
-use Rattle.accounts.proofs.Words.{◌≡◌, ◌∙◌, sym, refl, ap, subst, suc, List, [], ◌∷◌, ◌++◌, arith, length, Accounts, Entry, IsLegal, IsPrefix, AllByRecursion, prefix_trans, times, Shared, Start, count, port_view, IsKept, SessionState}
+use Rattle.accounts.proofs.Words.{◌≡◌, ◌∙◌, refl, ap, subst, suc, List, [], ◌∷◌, ◌++◌, arith, length, Accounts, Entry, IsLegal, IsPrefix, AllByRecursion, prefix_trans, times, Shared, Start, count, port_view, IsKept, SessionState}
 use Rattle.accounts.proofs.Covering.{covers_less, covers_on}
 use Rattle.accounts.specs.Learned.{IsEnded, IsLearned}
 use Rattle.group_commit.specs.{declared.each.Ended.Ended, Each.IsEndedIn}

@@ -1,5 +1,5 @@
 -- Each place of a legal list has a sound world.
-use Rattle.accounts.proofs.SumWords.{all_apart_nowhere, ◌≡◌, refl, subst, ℕ, ◌==◌, ◌&&◌, Bool, true, false, not, cond, List, [], ◌∷◌, length, Some, None, nat_le, nat_lt, arith, AllByRecursion, Access, last, Live, World, IsWorld, Entry, IsLegal, Start, State, state_at, limits, begin_leads, end_leads, group_leads, leads_on, leaves, stays, switch_leads, trim_leads, Mode, CoreReply, LAST, MAX_LIVE, same_mode, leave_all, after_begin, after_leaving, after_switch, begin_step, switch_step, Place, client, label, unattached, AreApart, IsLive, LeadsTo, ends_so, loose_is, Call, Cause, Member, AreLoose, Fits, LegalFrom, MayHaveMade, after, after_all, after_fault, after_refusal, is_live, live_of, member_numbers, members_of, opened, tx_of, txs_of, live_is}
+use Rattle.accounts.proofs.SumWords.{all_apart_nowhere, ◌≡◌, refl, subst, ℕ, ◌==◌, ◌&&◌, Bool, true, false, not, cond, List, [], ◌∷◌, length, Some, None, nat_le, nat_lt, arith, AllByRecursion, Access, last, Live, World, IsWorld, Entry, IsLegal, Start, State, state_at, limits, begin_leads, end_leads, group_leads, leads_on, leaves, stays, switch_leads, trim_leads, Mode, CoreReply, LAST, MAX_LIVE, same_mode, leave_all, after_begin, after_leaving, after_switch, begin_step, switch_step, unattached, IsLive, LeadsTo, ends_so, loose_is, Call, Cause, Member, AreLoose, Fits, LegalFrom, MayHaveMade, after, after_all, after_fault, after_refusal, is_live, live_of, member_numbers, members_of, opened, tx_of, txs_of, live_is}
 use Rattle.iso_model.specs.declared.core_reply.CoreReply.TheVariants as reply
 use Rattle.iso_shared.specs.declared.entry.Call.TheVariants as call
 use Rattle.iso_shared.specs.declared.entry.Cause.TheVariants as cause

@@ -1,5 +1,5 @@
 -- What a run of accounts has come to, once its device is closed.
-use Rattle.accounts.proofs.Words.{◌≡◌, ◌∙◌, inl, inr, sym, refl, ap, subst, zero, suc, ℕ, ◌+◌, ◌<◌, ◌≤◌, true, cond, List, [], ◌∷◌, ◌++◌, append_assoc, arith, length, Accounts, eq-eqb, length-append, cases_lt, Core, disk_of, weakened, DiskState, Entry, IsLegal, Came, Holds, Start, opened, state_at, count_up, hit, times, opens_with_sum, sum_kept, AreOfAccounts, IsOfAccountsAt, KeepsSumAt, BeginsWithSum, SumStays, Covers, IsReady}
+use Rattle.accounts.proofs.Words.{◌≡◌, ◌∙◌, inl, inr, sym, refl, ap, subst, zero, suc, ℕ, ◌+◌, ◌<◌, ◌≤◌, true, cond, List, [], ◌∷◌, ◌++◌, append_assoc, arith, length, Accounts, eq-eqb, length-append, cases_lt, Core, disk_of, weakened, DiskState, Entry, IsLegal, Came, Holds, Start, opened, state_at, count_up, hit, times, opens_with_sum, sum_kept, AreOfAccounts, IsOfAccountsAt, KeepsSumAt, BeginsWithSum, SumStays, Covers, BeginsIdle}
 use Rattle.turn_lock.specs.Lists.{places}
 
 -- each place is one of the places
@@ -41,10 +41,10 @@ all_of_accounts accounts A E tells all before later e are =
     subst (λ (b : List Entry). IsOfAccountsAt accounts A b e) same.front (subst (IsOfAccountsAt accounts A s.before) same.here (s.well tells))
 
 -- what a core represents, is sound
-pub ready_of : {D : Type 0} (state : D → DiskState) (A : Start) (core : Core D) → Holds state core (opened A) → A.world.live ≡ [] → IsReady A
+pub ready_of : {D : Type 0} (state : D → DiskState) (A : Start) (core : Core D) → Holds state core (opened A) → A.world.live ≡ [] → BeginsIdle A
 ready_of state A core holds idle = record { sound = holds.world.kept_of.world; idle = idle }
 
-pub has_run : {D : Type 0} (state : D → DiskState) (A : Start) (first : DiskState) (accounts : Accounts) (core : Core D) (E : List Entry) (mine : List ℕ) → IsReady A → IsLegal A E
+pub has_run : {D : Type 0} (state : D → DiskState) (A : Start) (first : DiskState) (accounts : Accounts) (core : Core D) (E : List Entry) (mine : List ℕ) → BeginsIdle A → IsLegal A E
     → Holds state core (state_at A E) → Came A first (state (disk_of core)) E → mine ≡ places (length E) → Covers accounts A E (λ p. times p mine) → SumStays state A first accounts core
 has_run state A first accounts core E mine ready legal holds came all held = record {
   entries = E;

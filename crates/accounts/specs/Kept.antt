@@ -1,8 +1,8 @@
--- What is known of a session, of a transaction that was given away and of a port whose transactions are those of accounts.
+-- When all commits at the own places of a session, a handed-on transaction or a port are of accounts; contracts of this crate cite them.
 use Rattle.std.specs.{Prelude.{◌≡◌, ◌≢◌, ℕ, ◌<◌, true, List, [], ◌∷◌, ◌++◌, Option, Some, None, IfSome, length}, List.AllByRecursion}
 use mathlib.Core.List.{IsPrefix}
 use Rattle.iso_model.specs.{declared.access.Mode.TheVariants.Serial, History.array_at, Worlds.IsWorld}
-use Rattle.iso_shared.specs.{declared.entry.Entry.Entry, declared.shared.Port.Port, declared.tx.Tx.Tx, Legal.IsLegal, Ports.{port_view, tx_view}, States.Start}
+use Rattle.iso_shared.specs.{declared.entry.Entry.Entry, declared.shared.Port.Port, declared.shared.Shared.Shared, declared.tx.Tx.Tx, Legal.IsLegal, Ports.{IsPort, port_view, tx_view}, States.Start}
 use Rattle.iso_shared.specs.declared.entry.Entry.TheVariants as entry
 use Rattle.par_calls.specs.EntriesInOrder.{world_at}
 use Rattle.store_laws.specs.{Both.{AreMixed, firsts}, BothStores.StorePart, Calls.{KeyCall, StoreAnswer}, Parts.{accesses_in, answers_in, calls_in}}
@@ -12,14 +12,14 @@ use Rattle.turn_lock.specs.Lists.{times}
 use Rattle.handle_pass.specs.{Held.{HandleState, held_state}, Sessions.{DeviceId, IsTxAt, Own, SessionState, count}}
 use Rattle.accounts.specs.{Lists.IsOfAccountsAt, Made.IsTakenFor, Sums.Accounts, Transactions.IsOfAccounts, declared.half.Half.Half}
 
--- a list that begins on a sound world without a transaction
-pub record IsReady (A : Start) : Type 0 where
+-- a start on a sound world in which no transaction is live
+pub record BeginsIdle (A : Start) : Type 0 where
   pub sound : IsWorld A.world
   pub idle : A.world.live ≡ []
 
--- so it begins, on an image with a hash store in this region
+-- such a start, on an image with a hash store in this region
 pub record HasStore (A : Start) (region : Region) : Type 0 where
-  pub ready : IsReady A
+  pub ready : BeginsIdle A
   pub some : A.world.geometry.hash ≢ 0
   pub start : region.start ≡ 0
   pub size : region.size ≡ A.world.geometry.hash
@@ -57,7 +57,7 @@ abbrev pub OwnFilled : OfCalls → Start → List Entry → Option Own → Type 
 OwnFilled Is A E own = A.tells ≡ true → (o : Own) → own ≡ Some o → IsFilled Is A E o
 
 -- a session all of whose entries are of accounts, and whose transaction is of such calls
-pub record IsHeld (accounts : Accounts) (Is : OfCalls) (A : Start) (s : SessionState) : Type 0 where
+pub record HoldsCalls (accounts : Accounts) (Is : OfCalls) (A : Start) (s : SessionState) : Type 0 where
   pub covers : Covers accounts A s.seen (count s)
   pub filled : OwnFilled Is A s.seen s.own
 
@@ -71,13 +71,21 @@ pub record Stays (s t : SessionState) : Type 0 where
   pub of : t.device ≡ s.device
   pub units : t.units ≡ s.units
 
+-- a session that may begin a transaction of accounts, for which it has a unit, in the hash store of this region
+abbrev pub MayBegin : Accounts → Start → Region → SessionState → Type 0
+MayBegin accounts A region s = IsKept accounts A s × (1 < s.units) × HasStore A region
+
+-- a session as before, behind transactions of accounts
+abbrev pub KeepsOn : Accounts → Start → (s t : SessionState) → Type 0
+KeepsOn accounts A s t = IsKept accounts A t × Stays s t
+
 -- a transaction that was given away, as its holder knows it
 pub record IsGiven (accounts : Accounts) (Is : OfCalls) (A : Start) (h : HandleState) : Type 0 where
   pub covers : Covers accounts A h.seen (λ p. times p h.mine)
   pub filled : OwnFilled Is A h.seen (Some h.own)
 
 module _ {D O : Type 0} where
-  -- one of this device that may end as a transaction of accounts, with one unit, and one of which a put is still wanting
+  -- a transaction of this device that may end as one of accounts, with one unit; and one that still wants one put
   pub record IsWhole (accounts : Accounts) (A : Start) (d : DeviceId) (t : Tx D O) : Type 0 where
     pub tx : IsTxAt d A t
     pub one : (tx_view t).units ≡ 1
@@ -100,3 +108,7 @@ module _ {D O : Type 0} where
   -- the entries at a port's places are of accounts
   abbrev pub Hold : Accounts → Start → Port D O → Type 0
   Hold accounts A p = Covers accounts A (port_view p).seen (λ k. times k (port_view p).mine)
+
+  -- a port of the device that is so
+  abbrev pub IsKeptPort : Shared D O → Accounts → Start → Port D O → Type 0
+  IsKeptPort shared accounts A p = IsPort shared p × Hold accounts A p

@@ -1,5 +1,5 @@
 -- What a thread learns of the transactions that it gave away, once another one has ended them as a group.
-use Rattle.std.specs.{Prelude.{◌≡◌, ℕ, ◌++◌, List, [], ◌∷◌, Result, Ok, Err, Vec, length}, declared.alloc.Global.Global}
+use Rattle.std.specs.{Prelude.{ℕ, ◌++◌, List, [], ◌∷◌, Result, Ok, Err, Vec, length}, declared.alloc.Global.Global}
 use mathlib.Core.List.{IsPrefix}
 use Rattle.iso_model.specs.{declared.access.GroupReply.GroupReply, declared.core_error.CoreError.CoreError}
 use Rattle.iso_shared.specs.{declared.entry.Entry.Entry, declared.entry.MemberEnd.MemberEnd, declared.shared.Shared.Shared, declared.tx.Tx.Tx, Groups.ArePaired, Legal.IsLegal, Ports.{doing_of, number_of, tx_view}, States.Start}

@@ -1,12 +1,16 @@
 -- What calls of the hash store add to a transaction over blocks.
-use Rattle.std.specs.{Prelude.{◌≡◌, ◌≢◌, ℕ, ◌+◌, ◌<◌, List, [], ◌∷◌, ◌++◌, Some, map}, Int.{to_be_bytes, w64}}
+use Rattle.std.specs.{Prelude.{◌≡◌, ◌≢◌, ℕ, ◌+◌, ◌<◌, ◌≤◌, List, [], ◌∷◌, ◌++◌, Some, map}, Int.{to_be_bytes, w64}}
 use Rattle.accounts.specs.{Sums.{Accounts, amount}, Transactions.IsOfAccounts, declared.account.Account.Account, declared.account.Step.Step}
 use Rattle.iso_model.specs.{declared.access.Geometry.Geometry, Array.Array}
 use Rattle.store_laws.specs.{Both.firsts, BothStores.StorePart, Calls.{Get, Got, KeyCall, Put, StoreAnswer, WasPut}, Growing.IsMadeOfBoth, Parts.{answers_in, calls_in}}
-use Rattle.store_model.specs.{declared.stores.Area.Area, Areas.hash_area}
+use Rattle.store_model.specs.{declared.stores.Area.Area, declared.stores.Region.Region, Areas.hash_area, HashRegion.IsHashArea}
 use Rattle.store_scripts.specs.Stores.{image_hash, image_tree}
-use Rattle.tx_blocks.specs.Tx.{Tx}
+use Rattle.tx_blocks.specs.{Runs.area_of, Tx.Tx}
 use Rattle.accounts.specs.declared.account.Step.TheVariants as step
+
+-- the region is that of a hash store, in the transaction's blocks
+abbrev pub HasHash : Tx → Region → Type 0
+HasHash t region = IsHashArea (area_of t region) × (region.start + region.size ≤ t.blocks)
 
 -- the transaction is on the same blocks
 pub record SameBlocks (t u : Tx) : Type 0 where
@@ -32,6 +36,13 @@ pub record Does (a : Area) (t u : Tx) (Is : List KeyCall → List StoreAnswer �
   pub answers : List StoreAnswer
   pub is : Is calls answers
   pub adds : Adds a t u calls answers
+
+-- so it is of the hash store in this region
+abbrev pub AddsIn : Region → (t u : Tx) → List KeyCall → List StoreAnswer → Type 0
+AddsIn region t u calls answers = Adds (area_of t region) t u calls answers
+
+abbrev pub DoesIn : Region → (t u : Tx) → (List KeyCall → List StoreAnswer → Type 0) → Type 0
+DoesIn region t u Is = Does (area_of t region) t u Is
 
 -- the accounts with the values that they open with
 abbrev pub opening_of : List Account → Accounts

@@ -1,9 +1,7 @@
 // One account in the hash store, by any transaction over blocks.
-ghost use Rattle.std.specs.{Prelude.{◌≡◌, ◌+◌, ◌<◌, ◌≤◌, [], ◌∷◌, List, ℕ, IfOk, IfSome, None, OnOk, Some}, Int.{to_be_bytes, w64}};
-ghost use Rattle.accounts.specs.{Made.{Adds, SameBlocks}, Sums.amount};
+ghost use Rattle.std.specs.{Prelude.{◌≡◌, ◌<◌, [], ◌∷◌, List, ℕ, IfOk, IfSome, None, OnOk, Some}, Int.{to_be_bytes, w64}};
+ghost use Rattle.accounts.specs.{Made.{AddsIn, HasHash, SameBlocks}, Sums.amount};
 ghost use Rattle.store_laws.specs.Calls.{Get, Got, Put, WasPut};
-ghost use Rattle.store_model.specs.HashRegion.{IsHashArea};
-ghost use Rattle.tx_blocks.specs.Runs.{area_of};
 
 use crate::account::AccountError;
 use iso_hash::{get, put};
@@ -35,11 +33,10 @@ pub(crate) fn amount_at<T: TxBlocks>(
     place: Place,
     name: &[u8],
 ) -> Result<u64, AccountError>
-    requires area { IsHashArea (area_of (T.state tx.old) place.region) }
-    requires fits { place.region.start + place.region.size ≤ (T.state tx.old).blocks }
+    requires store { HasHash (T.state tx.old) place.region }
     ensures same { OnOk result (SameBlocks (T.state tx.old) (T.state tx.new)) }
     ensures small { IfOk result (λ n. n < 18446744073709551616) }
-    ensures got { IfOk result (λ n. (value : List ℕ) × (amount value ≡ n) × Adds (area_of (T.state tx.old) place.region) (T.state tx.old) (T.state tx.new) (Get name.now ∷ []) (Got (Some value) ∷ [])) }
+    ensures got { IfOk result (λ n. (value : List ℕ) × (amount value ≡ n) × AddsIn place.region (T.state tx.old) (T.state tx.new) (Get name.now ∷ []) (Got (Some value) ∷ [])) }
 {
     match get(place.alloc, tx, place.region, name) {
         Ok(Some(value)) => match number_of(value.as_slice()) {
@@ -57,10 +54,9 @@ pub(crate) fn is_free<T: TxBlocks>(
     place: Place,
     name: &[u8],
 ) -> Result<(), AccountError>
-    requires area { IsHashArea (area_of (T.state tx.old) place.region) }
-    requires fits { place.region.start + place.region.size ≤ (T.state tx.old).blocks }
+    requires store { HasHash (T.state tx.old) place.region }
     ensures same { OnOk result (SameBlocks (T.state tx.old) (T.state tx.new)) }
-    ensures got { OnOk result (Adds (area_of (T.state tx.old) place.region) (T.state tx.old) (T.state tx.new) (Get name.now ∷ []) (Got None ∷ [])) }
+    ensures got { OnOk result (AddsIn place.region (T.state tx.old) (T.state tx.new) (Get name.now ∷ []) (Got None ∷ [])) }
 {
     match get(place.alloc, tx, place.region, name) {
         Ok(Some(_)) => Err(AccountError::IsOpen),
@@ -76,10 +72,9 @@ pub(crate) fn set_amount<T: TxBlocks>(
     name: &[u8],
     amount: u64,
 ) -> Result<(), AccountError>
-    requires area { IsHashArea (area_of (T.state tx.old) place.region) }
-    requires fits { place.region.start + place.region.size ≤ (T.state tx.old).blocks }
+    requires store { HasHash (T.state tx.old) place.region }
     ensures same { OnOk result (SameBlocks (T.state tx.old) (T.state tx.new)) }
-    ensures put { OnOk result (Adds (area_of (T.state tx.old) place.region) (T.state tx.old) (T.state tx.new) (Put name.now (to_be_bytes w64 amount) ∷ []) (WasPut ∷ [])) }
+    ensures put { OnOk result (AddsIn place.region (T.state tx.old) (T.state tx.new) (Put name.now (to_be_bytes w64 amount) ∷ []) (WasPut ∷ [])) }
 {
     match put(place.alloc, tx, place.region, name, &amount.to_be_bytes()) {
         Ok(()) => Ok(()),

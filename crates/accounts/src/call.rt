@@ -17,16 +17,14 @@ pub(crate) struct AccountCall<'a> {
 }
 
 impl<'a> BlocksCall for AccountCall<'a> {
-    ghost use Rattle.std.specs.Prelude.{◌+◌, ◌≤◌, IfOk};
-    ghost use Rattle.store_model.specs.HashRegion.{IsHashArea};
-    ghost use Rattle.tx_blocks.specs.Runs.{area_of};
-    ghost use Rattle.accounts.specs.Made.{Does, calls_of, opening_of};
+    ghost use Rattle.std.specs.Prelude.{IfOk};
+    ghost use Rattle.accounts.specs.Made.{DoesIn, HasHash, calls_of, opening_of};
 
     type Answer = Result<u64, AccountError>;
 
-    ghost fits = { λ c t. IsHashArea (area_of t c.region) × (c.region.start + c.region.size ≤ t.blocks) };
+    ghost fits = { λ c t. HasHash t c.region };
 
-    ghost says = { λ c t u before now r. IfOk r (λ n. Does (area_of t c.region) t u (calls_of (opening_of c.accounts.now) c.step n)) };
+    ghost says = { λ c t u before now r. IfOk r (λ n. DoesIn c.region t u (calls_of (opening_of c.accounts.now) c.step n)) };
 
     fn make<T: TxBlocks>(self, tx: &mut T) -> Result<u64, AccountError> {
         do_step(self.alloc, tx, self.region, self.accounts, self.step)

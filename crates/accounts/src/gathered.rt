@@ -1,8 +1,8 @@
 // Sessions of a device, from its first port and back into it.
 ghost use Rattle.std.specs.Prelude.{◌≡◌, ◌+◌, ◌<◌};
 ghost use Rattle.handle_pass.specs.Sessions.{device_of};
-ghost use Rattle.iso_shared.specs.Ports.{IsPort, first_geometry, port_view};
-ghost use Rattle.accounts.specs.{Kept.{Hold, IsKept}, Made.opening_of};
+ghost use Rattle.iso_shared.specs.Ports.{first_geometry, port_view};
+ghost use Rattle.accounts.specs.{Kept.{IsKept, IsKeptPort}, Made.opening_of};
 
 use crate::account::Account;
 use handle_pass::Session;
@@ -19,13 +19,11 @@ pub(crate) fn session_on<'a, D: Disk + Drop, O: Origin>(
     port: &mut Port<D, O>,
     accounts: &[Account],
 ) -> Session<'a, D, O>
-    requires port { IsPort shared.now port.old }
+    requires port { IsKeptPort shared.now (opening_of accounts.now) O.start port.old }
     requires units { 4294967296 < (port_view port.old).units }
     requires image { first_geometry shared.now ≡ O.start.world.geometry }
-    requires kept { Hold (opening_of accounts.now) O.start port.old }
-    ensures port { IsPort shared.now port.new }
+    ensures port { IsKeptPort shared.now (opening_of accounts.now) O.start port.new }
     ensures units { (port_view port.new).units + 4294967296 ≡ (port_view port.old).units }
-    ensures kept { Hold (opening_of accounts.now) O.start port.new }
     ensures session { IsKept (opening_of accounts.now) O.start result }
     ensures new { (result.device ≡ device_of shared.now) × (result.units ≡ 4294967296) }
 {
@@ -40,13 +38,11 @@ pub(crate) fn gather<'a, D: Disk + Drop, O: Origin, R: Wait>(
     session: Session<'a, D, O>,
     accounts: &[Account],
 )
-    requires port { IsPort shared.now port.old }
+    requires port { IsKeptPort shared.now (opening_of accounts.now) O.start port.old }
     requires session { IsKept (opening_of accounts.now) O.start session }
     requires of { session.device ≡ device_of shared.now }
-    requires kept { Hold (opening_of accounts.now) O.start port.old }
-    ensures port { IsPort shared.now port.new }
+    ensures port { IsKeptPort shared.now (opening_of accounts.now) O.start port.new }
     ensures units { (port_view port.new).units ≡ (port_view port.old).units + session.entry.units }
-    ensures kept { Hold (opening_of accounts.now) O.start port.new }
 {
     let from = session.finish(rt);
     shared.join(port, from);

@@ -1,9 +1,8 @@
-//! Accounts in the hash store of a shared device: threads move amounts between them, in transactions of their own, in a group, and
-//! half by half. Who hands transactions to a group learns the end of each, and goes on (`learned`).
+//! Accounts in the hash store of a shared device: threads move amounts between them, in transactions of their own, in a group, and half by
+//! half. Who hands transactions to a group learns the end of each (`learned`).
 //!
-//! Where the list began well formed on a known disk, the sum stays after each commit, also one that a fault left open, and in each
-//! image that opens (`run`, `SumStays`); laws say it of legal lists (`history`, `images`). Without memory the core is handed back
-//! (`unrun`). How many transfers commit is no clause.
+//! Where the list began well formed on a known disk, the sum stays after each commit, and in each image that opens (`run`, `SumStays`); laws say
+//! it of legal lists (`history`, `images`). Without memory the core is handed back (`unrun`).
 #![tactic(auto)]
 
 mod account;

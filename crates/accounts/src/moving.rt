@@ -1,8 +1,6 @@
 // Accounts by any transaction over blocks: an amount is moved, and accounts are opened.
-ghost use Rattle.std.specs.Prelude.{◌+◌, ◌≤◌, [], ◌∷◌, IfOk, OnOk};
-ghost use Rattle.accounts.specs.{Made.{Does, IsTaken, SameBlocks, calls_of, opening_of}, Transactions.{IsOpening, IsTransfer}};
-ghost use Rattle.store_model.specs.HashRegion.{IsHashArea};
-ghost use Rattle.tx_blocks.specs.Runs.{area_of};
+ghost use Rattle.std.specs.Prelude.{[], ◌∷◌, IfOk, OnOk};
+ghost use Rattle.accounts.specs.{Made.{DoesIn, HasHash, IsTaken, SameBlocks, calls_of, opening_of}, Transactions.{IsOpening, IsTransfer}};
 
 use crate::account::{Account, AccountError, Step, Transfer, Work};
 use crate::amounts::{Place, amount_at, is_free, set_amount};
@@ -16,10 +14,9 @@ fn take_amount<T: TxBlocks>(
     place: Place,
     transfer: &Transfer,
 ) -> Result<u64, AccountError>
-    requires area { IsHashArea (area_of (T.state tx.old) place.region) }
-    requires fits { place.region.start + place.region.size ≤ (T.state tx.old).blocks }
+    requires store { HasHash (T.state tx.old) place.region }
     ensures same { OnOk result (SameBlocks (T.state tx.old) (T.state tx.new)) }
-    ensures taken { IfOk result (λ n. Does (area_of (T.state tx.old) place.region) (T.state tx.old) (T.state tx.new) (IsTaken transfer.now.from transfer.now.to transfer.now.amount n)) }
+    ensures taken { IfOk result (λ n. DoesIn place.region (T.state tx.old) (T.state tx.new) (IsTaken transfer.now.from transfer.now.to transfer.now.amount n)) }
 {
     if transfer.from == transfer.to {
         return Err(AccountError::SameAccount);
@@ -42,9 +39,8 @@ fn move_amount<T: TxBlocks>(
     place: Place,
     transfer: &Transfer,
 ) -> Result<(), AccountError>
-    requires area { IsHashArea (area_of (T.state tx.old) place.region) }
-    requires fits { place.region.start + place.region.size ≤ (T.state tx.old).blocks }
-    ensures moved { OnOk result (Does (area_of (T.state tx.old) place.region) (T.state tx.old) (T.state tx.new) (IsTransfer transfer.now.from transfer.now.to transfer.now.amount)) }
+    requires store { HasHash (T.state tx.old) place.region }
+    ensures moved { OnOk result (DoesIn place.region (T.state tx.old) (T.state tx.new) (IsTransfer transfer.now.from transfer.now.to transfer.now.amount)) }
 {
     let more = take_amount(tx, place, transfer)?;
     set_amount(tx, place, &transfer.to, more)?;
@@ -53,10 +49,9 @@ fn move_amount<T: TxBlocks>(
 
 // Opens one account.
 fn open_one<T: TxBlocks>(tx: &mut T, place: Place, account: &Account) -> Result<(), AccountError>
-    requires area { IsHashArea (area_of (T.state tx.old) place.region) }
-    requires fits { place.region.start + place.region.size ≤ (T.state tx.old).blocks }
+    requires store { HasHash (T.state tx.old) place.region }
     ensures same { OnOk result (SameBlocks (T.state tx.old) (T.state tx.new)) }
-    ensures opened { OnOk result (Does (area_of (T.state tx.old) place.region) (T.state tx.old) (T.state tx.new) (IsOpening (opening_of (account.now ∷ [])))) }
+    ensures opened { OnOk result (DoesIn place.region (T.state tx.old) (T.state tx.new) (IsOpening (opening_of (account.now ∷ [])))) }
 {
     is_free(tx, place, &account.name)?;
     set_amount(tx, place, &account.name, account.amount)?;
@@ -65,9 +60,8 @@ fn open_one<T: TxBlocks>(tx: &mut T, place: Place, account: &Account) -> Result<
 
 // Opens accounts, none of which is there.
 fn open_all<T: TxBlocks>(tx: &mut T, place: Place, accounts: &[Account]) -> Result<(), AccountError>
-    requires area { IsHashArea (area_of (T.state tx.old) place.region) }
-    requires fits { place.region.start + place.region.size ≤ (T.state tx.old).blocks }
-    ensures opened { OnOk result (Does (area_of (T.state tx.old) place.region) (T.state tx.old) (T.state tx.new) (IsOpening (opening_of accounts.now))) }
+    requires store { HasHash (T.state tx.old) place.region }
+    ensures opened { OnOk result (DoesIn place.region (T.state tx.old) (T.state tx.new) (IsOpening (opening_of accounts.now))) }
 {
     match accounts.split_first() {
         None => Ok(()),
@@ -88,9 +82,8 @@ pub(crate) fn do_step<T: TxBlocks>(
     accounts: &[Account],
     step: Step,
 ) -> Result<u64, AccountError>
-    requires area { IsHashArea (area_of (T.state tx.old) region) }
-    requires fits { region.start + region.size ≤ (T.state tx.old).blocks }
-    ensures done { IfOk result (λ n. Does (area_of (T.state tx.old) region) (T.state tx.old) (T.state tx.new) (calls_of (opening_of accounts.now) step n)) }
+    requires store { HasHash (T.state tx.old) region }
+    ensures done { IfOk result (λ n. DoesIn region (T.state tx.old) (T.state tx.new) (calls_of (opening_of accounts.now) step n)) }
 {
     let place = Place { alloc, region };
     match step {

@@ -4,7 +4,7 @@ ghost use Rattle.group_commit.specs.Groups.{found_in, units_all};
 ghost use Rattle.iso_core.specs.{Core.disk_of, declared.group_end.TheConstants.MAX_GROUP};
 ghost use Rattle.iso_shared.specs.{Groups.units_of, Ports.{IsPort, first_geometry, port_view}, Standing.{Came, Holds}, States.{opened as opened_at}};
 ghost use Rattle.turn_lock.specs.Views.{fresh};
-ghost use Rattle.accounts.specs.{Ends.SumStays, Jobs.{IsEnder, IsMover, planned}, Kept.{AreGiven, HasStore, Hold, IsHalf, IsKept, Stays, half_units}, Learned.{AreTold, told_units}};
+ghost use Rattle.accounts.specs.{Ends.SumStays, Jobs.{IsEnder, IsMover, planned}, Kept.{AreGiven, HasStore, IsHalf, IsKept, IsKeptPort, Stays, half_units}, Learned.{AreTold, told_units}};
 
 use crate::account::{AccountError, Plan, Report, Work};
 use crate::amounts::Place;
@@ -104,7 +104,7 @@ fn end_beside<'a, D: Disk + Drop + Send, O: Origin + Send + Sync, R: Threads + W
     requires ender { IsEnder O.start ender }
     ensures first { IsKept (planned mover.entry.plan) O.start result.0 × Stays mover.entry.session result.0 }
     ensures second { IsKept (planned ender.entry.plan) O.start result.1 × (result.1.device ≡ ender.entry.session.device) × (result.1.units ≡ ender.entry.session.units + half_units ender.entry.half) }
-    ensures port { IsPort ender.entry.shared.now result.2 × Hold (planned ender.entry.plan) O.start result.2 }
+    ensures port { IsKeptPort ender.entry.shared.now (planned ender.entry.plan) O.start result.2 }
     ensures units { IfSome ender.entry.members (λ v. (port_view result.2).units + told_units result.4.group ≡ units_all (port_view ender.entry.port) (found_in v.items)) }
     ensures told { IfSome ender.entry.members (λ v. AreTold ender.entry.shared.now O.start (found_in v.items) result.4.group) }
 {
@@ -149,9 +149,8 @@ fn run_on<'a, D: Disk + Drop + Send, O: Origin + Send + Sync, R: Threads + Wait 
     requires image { first_geometry shared.now ≡ O.start.world.geometry }
     requires store { HasStore O.start region }
     requires few { length plan.handed.now ≤ MAX_GROUP }
-    ensures port { IsPort shared.now result.1 }
+    ensures port { IsKeptPort shared.now (planned plan.entry) O.start result.1 }
     ensures units { (port_view result.1).units ≡ LAST }
-    ensures kept { Hold (planned plan.entry) O.start result.1 }
 {
     let mut port = port;
     let mut first = session_on(shared, &mut port, plan.accounts);

@@ -1,6 +1,6 @@
 // Transactions of accounts by a session: each is serial, and one of its own is tried again after a conflict.
-ghost use Rattle.std.specs.Prelude.{◌≡◌, ◌+◌, ◌<◌, ◌≤◌, IfOk, IfSome, OnErr};
-ghost use Rattle.accounts.specs.{Kept.{HasStore, IsHalf, IsHeld, IsKept, IsReady, IsWhole, Stays, given_units, half_units}, Made.{calls_of, opening_of}, Transactions.IsOfAccounts};
+ghost use Rattle.std.specs.Prelude.{◌≡◌, ◌+◌, ◌≤◌, IfOk, IfSome, OnErr};
+ghost use Rattle.accounts.specs.{Kept.{HasStore, IsHalf, HoldsCalls, IsKept, BeginsIdle, IsWhole, KeepsOn, MayBegin, Stays, given_units, half_units}, Made.{calls_of, opening_of}, Transactions.IsOfAccounts};
 
 use crate::account::{Account, AccountError, Step, Transfer, Work};
 use crate::call::AccountCall;
@@ -23,10 +23,8 @@ fn fill<'a, D: Disk + Drop, O: Origin, R: Wait>(
     accounts: &[Account],
     step: Step,
 ) -> Result<u64, AccountError>
-    requires session { IsKept (opening_of accounts.now) O.start session.old }
-    requires units { 1 < session.old.units }
-    requires store { HasStore O.start region }
-    ensures filled { IfOk result (λ n. IsHeld (opening_of accounts.now) (calls_of (opening_of accounts.now) step n) O.start session.new) }
+    requires session { MayBegin (opening_of accounts.now) O.start region session.old }
+    ensures filled { IfOk result (λ n. HoldsCalls (opening_of accounts.now) (calls_of (opening_of accounts.now) step n) O.start session.new) }
     ensures kept { OnErr result (IsKept (opening_of accounts.now) O.start session.new) }
     ensures stays { Stays session.old session.new }
 {
@@ -66,8 +64,8 @@ fn end<'a, D: Disk + Drop, O: Origin, R: Wait>(
     session: &mut Session<'a, D, O>,
     accounts: &[Account],
 ) -> Result<u64, AccountError>
-    requires session { IsHeld (opening_of accounts.now) (IsOfAccounts (opening_of accounts.now)) O.start session.old }
-    requires ready { IsReady O.start }
+    requires session { HoldsCalls (opening_of accounts.now) (IsOfAccounts (opening_of accounts.now)) O.start session.old }
+    requires ready { BeginsIdle O.start }
     ensures session { IsKept (opening_of accounts.now) O.start session.new }
     ensures stays { Stays session.old session.new }
 {
@@ -89,11 +87,8 @@ fn attempt<'a, D: Disk + Drop, O: Origin, R: Wait>(
     accounts: &[Account],
     work: Work,
 ) -> Result<u64, AccountError>
-    requires session { IsKept (opening_of accounts.now) O.start session.old }
-    requires units { 1 < session.old.units }
-    requires store { HasStore O.start region }
-    ensures session { IsKept (opening_of accounts.now) O.start session.new }
-    ensures stays { Stays session.old session.new }
+    requires session { MayBegin (opening_of accounts.now) O.start region session.old }
+    ensures session { KeepsOn (opening_of accounts.now) O.start session.old session.new }
 {
     fill(rt, alloc, session, region, accounts, Step::Whole(work))?;
     end(rt, session, accounts)
@@ -109,11 +104,8 @@ pub(crate) fn commit<'a, D: Disk + Drop, O: Origin, R: Wait>(
     work: Work,
     most: u32,
 ) -> Result<u64, AccountError>
-    requires session { IsKept (opening_of accounts.now) O.start session.old }
-    requires units { 1 < session.old.units }
-    requires store { HasStore O.start region }
-    ensures session { IsKept (opening_of accounts.now) O.start session.new }
-    ensures stays { Stays session.old session.new }
+    requires session { MayBegin (opening_of accounts.now) O.start region session.old }
+    ensures session { KeepsOn (opening_of accounts.now) O.start session.old session.new }
 {
     for _ in 0..most {
         match attempt(rt, alloc, session, region, accounts, work) {
@@ -133,9 +125,7 @@ pub(crate) fn give<'a, D: Disk + Drop, O: Origin, R: Wait>(
     accounts: &[Account],
     transfer: &Transfer,
 ) -> Option<Tx<D, O>>
-    requires session { IsKept (opening_of accounts.now) O.start session.old }
-    requires units { 1 < session.old.units }
-    requires store { HasStore O.start region }
+    requires session { MayBegin (opening_of accounts.now) O.start region session.old }
     ensures session { IsKept (opening_of accounts.now) O.start session.new }
     ensures device { session.new.device ≡ session.old.device }
     ensures units { session.new.units + given_units result ≡ session.old.units }
@@ -166,9 +156,7 @@ pub(crate) fn give_half<'a, D: Disk + Drop, O: Origin, R: Wait>(
     accounts: &[Account],
     transfer: &Transfer,
 ) -> Option<Half<D, O>>
-    requires session { IsKept (opening_of accounts.now) O.start session.old }
-    requires units { 1 < session.old.units }
-    requires store { HasStore O.start region }
+    requires session { MayBegin (opening_of accounts.now) O.start region session.old }
     ensures session { IsKept (opening_of accounts.now) O.start session.new }
     ensures device { session.new.device ≡ session.old.device }
     ensures units { session.new.units + half_units result ≡ session.old.units }

@@ -1,10 +1,10 @@
 // What threads do: transactions of their own, some that are given away, and a group of those.
 ghost use Rattle.std.specs.Prelude.{◌≡◌, ◌+◌, ◌<◌, ◌≤◌, IfSome, None, length};
 ghost use Rattle.iso_core.specs.declared.group_end.TheConstants.{MAX_GROUP};
-ghost use Rattle.iso_shared.specs.{Ports.{IsPort, port_view}, Groups.units_of};
+ghost use Rattle.iso_shared.specs.{Ports.port_view, Groups.units_of};
 ghost use Rattle.group_commit.specs.Groups.{found_in, units_all};
 ghost use Rattle.handle_pass.specs.Sessions.{device_of};
-ghost use Rattle.accounts.specs.{Kept.{AreGiven, HasStore, Hold, IsHalf, IsKept, IsReady, Stays, half_units}, Learned.{AreTold, told_units}, Made.opening_of};
+ghost use Rattle.accounts.specs.{Kept.{AreGiven, HasStore, IsHalf, IsKept, IsKeptPort, BeginsIdle, KeepsOn, MayBegin, half_units}, Learned.{AreTold, told_units}, Made.opening_of};
 
 use crate::account::{Account, AccountError, Transfer, Work};
 use crate::half::Half;
@@ -28,11 +28,8 @@ pub(crate) fn commit_all<'a, D: Disk + Drop, O: Origin, R: Wait>(
     transfers: &[Transfer],
     most: u32,
 ) -> u32
-    requires session { IsKept (opening_of accounts.now) O.start session.old }
-    requires units { 1 < session.old.units }
-    requires store { HasStore O.start region }
-    ensures session { IsKept (opening_of accounts.now) O.start session.new }
-    ensures stays { Stays session.old session.new }
+    requires session { MayBegin (opening_of accounts.now) O.start region session.old }
+    ensures session { KeepsOn (opening_of accounts.now) O.start session.old session.new }
 {
     let mut done: u32 = 0;
     for transfer in transfers {
@@ -84,15 +81,13 @@ fn end_group<D: Disk + Drop, O: Origin, R: Wait>(
     accounts: &[Account],
     members: Vec<Option<Tx<D, O>>>,
 ) -> Result<Vec<Ended<D, O>>, CoreError>
-    requires port { IsPort shared.now port.old }
-    requires kept { Hold (opening_of accounts.now) O.start port.old }
-    requires ready { IsReady O.start }
+    requires port { IsKeptPort shared.now (opening_of accounts.now) O.start port.old }
+    requires ready { BeginsIdle O.start }
     requires few { length members.items ≤ MAX_GROUP }
     requires given { AreGiven (opening_of accounts.now) O.start (device_of shared.now) members.items }
-    ensures port { IsPort shared.now port.new }
+    ensures port { IsKeptPort shared.now (opening_of accounts.now) O.start port.new }
     ensures units { (port_view port.new).units + told_units result ≡ units_all (port_view port.old) (found_in members.items) }
     ensures told { AreTold shared.now O.start (found_in members.items) result }
-    ensures kept { Hold (opening_of accounts.now) O.start port.new }
 {
     match commit_each(rt, alloc, shared, port, members) {
         Ok(told) => Ok(told),
@@ -109,15 +104,13 @@ pub(crate) fn end_members<D: Disk + Drop, O: Origin, R: Wait>(
     accounts: &[Account],
     place: &mut Option<Vec<Option<Tx<D, O>>>>,
 ) -> Result<Vec<Ended<D, O>>, CoreError>
-    requires port { IsPort shared.now port.old }
-    requires kept { Hold (opening_of accounts.now) O.start port.old }
-    requires ready { IsReady O.start }
+    requires port { IsKeptPort shared.now (opening_of accounts.now) O.start port.old }
+    requires ready { BeginsIdle O.start }
     requires few { IfSome place.old (λ v. length v.items ≤ MAX_GROUP) }
     requires given { IfSome place.old (λ v. AreGiven (opening_of accounts.now) O.start (device_of shared.now) v.items) }
-    ensures port { IsPort shared.now port.new }
+    ensures port { IsKeptPort shared.now (opening_of accounts.now) O.start port.new }
     ensures units { IfSome place.old (λ v. (port_view port.new).units + told_units result ≡ units_all (port_view port.old) (found_in v.items)) }
     ensures told { IfSome place.old (λ v. AreTold shared.now O.start (found_in v.items) result) }
-    ensures kept { Hold (opening_of accounts.now) O.start port.new }
     ensures place { place.new ≡ None }
 {
     match place.take() {

@@ -7,4 +7,4 @@ pub use Rattle.store_laws.{proofs.Histories.if_some, proofs.Longer.{array_longer
 pub use Rattle.store_model.specs.HashRegion.{get_op}
 pub use Rattle.store_scripts.{proofs.Blocks.{file_blocks_are, hash_blocks, tree_blocks}, proofs.Members.array_extends, specs.Stores.{image_files, image_hash, image_tree}}
 pub use Rattle.turn_lock.specs.Lists.{times}
-pub use Rattle.par_calls.specs.EntriesInOrder.{AnswersByOne, AreByCalls, AreCallsInOrderAt, CommitsAreByCalls, FilesAnswerAt, IsInPlace, StoresAnswerAt, StoresAreWell, begin_array, commit_at, commits_as, ends_bare, world_at}
+pub use Rattle.par_calls.specs.EntriesInOrder.{AnswersByOne, AreByCalls, AreCallsInOrderAt, CommitsAreByCalls, FilesAnswerAt, IsInPlace, StoresAnswerAt, StoresAreWell, array_at_begin, commit_at, commits_as, ends_bare, world_at}

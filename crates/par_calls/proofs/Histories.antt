@@ -1,5 +1,5 @@
 -- The history of a legal list is one of the image: each commit has accesses that a transaction may have made.
-use Rattle.par_calls.proofs.{Words.{◌≡◌, ◌∙◌, sym, subst, ℕ, List, [], ◌∷◌, ◌++◌, Some, None, AllByRecursion, Commit, Committed, ReadOnly, Conflict, Geometry, GroupReply, leave_all, History, AreAccesses, IsHistory, Live, World, appended_is, Call, Cause, Entry, Member, Fits, LegalFrom, MayHaveMade, State, after, after_all, after_fault, after_refusal, commits_made, lost_commits, members_of, txs_of, follows_next, after_live, after_leaving}, Sound.accesses_in}
+use Rattle.par_calls.proofs.{Words.{◌≡◌, ◌∙◌, sym, subst, ℕ, List, [], ◌∷◌, ◌++◌, Some, None, AllByRecursion, Commit, Committed, ReadOnly, Conflict, Geometry, GroupReply, leave_all, History, AreAccesses, IsHistory, Live, World, appended_is, Call, Cause, Entry, Member, Fits, LegalFrom, MayHaveMade, State, after, after_all, after_fault, after_refusal, commits_made, lost_commits, members_of, txs_of, follows_next, after_live, after_leaving}, Sound.same_shape_accesses}
 use Rattle.iso_model.specs.declared.access.GroupReply.TheVariants as member
 use Rattle.iso_shared.specs.declared.entry.Call.TheVariants as call
 use Rattle.iso_shared.specs.declared.entry.Cause.TheVariants as cause
@@ -33,7 +33,7 @@ commits_of g W (m ∷ members) (member.Worn ∷ replies) all = commits_of g W me
 
 may_all : (g : Geometry) (U : State) (members : List Member) → HasNumbers g U → AllByRecursion (λ m. MayHaveMade U.world m.accesses) members → AllByRecursion (λ m. AreAccesses g m.accesses) members
 may_all g U [] has all = tt
-may_all g U (m ∷ members) has all = (accesses_in U.world.geometry g has.blocks has.block m.accesses all.0.each, may_all g U members has all.1)
+may_all g U (m ∷ members) has all = (same_shape_accesses U.world.geometry g has.blocks has.block m.accesses all.0.each, may_all g U members has all.1)
 
 fault_is : (g : Geometry) (U : State) (c : Call) (k : ℕ) → IsHistory g U.world.history → IsHistory g (after_fault U c k).world.history
 fault_is g U (call.Begin named) k is = is
@@ -58,7 +58,7 @@ history_next : (g : Geometry) (U : State) (e : Entry) → HasNumbers g U → Fit
 history_next g U (entry.Begin n at mode) has fits is = is
 history_next g U (entry.Fetch n block bytes) has fits is = is
 history_next g U (entry.End n accesses (Committed k)) has fits is =
-    appended_is g U.world.history _ is (accesses_in U.world.geometry g has.blocks has.block accesses fits.answers.1.each)
+    appended_is g U.world.history _ is (same_shape_accesses U.world.geometry g has.blocks has.block accesses fits.answers.1.each)
 history_next g U (entry.End n accesses ReadOnly) has fits is = is
 history_next g U (entry.End n accesses (Conflict c)) has fits is = is
 history_next g U (entry.EndGroup ends) has fits is =

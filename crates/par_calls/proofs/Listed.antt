@@ -1,5 +1,5 @@
 -- The calls of the transactions of a legal list answer in order.
-use Rattle.par_calls.proofs.{EntryWords.{◌≡◌, ◌∙◌, sym, refl, ap, subst, ℕ, ◌+◌, ◌-◌, ◌<◌, ◌≤◌, ◌==◌, true, false, IfSome, List, [], ◌∷◌, ◌++◌, length, length-append, append_assoc, Option, Some, slice_get, arith, and_parts, AllByRecursion, AnswersByOne, AreLoose, GroupReply, IsInPlace, MemberEnd, World, after_history, commits_as, commits_made, ends_bare, extends_itself, extends_on, group_is, lost_commits, member_numbers, members_of, replies_of, txs_of, Access, Commit, EndReply, Committed, ReadOnly, Array, has_write, own, History, array_at, last, appended, Live, Extends, IsWorld, slice_get_append_left, Entry, Fits, IsLegal, LegalFrom, IsIsolatedAt, Start, State, after, after_all, is_live, live_of, opened, racked, state_at, tx_of, follows_all, last_longer, after_append, legal_append, times, AreMixed, BothByMap, BothInOrder, BothWellFormed, IsByBoth, IsOfBoth, firsts, accesses_in, IsOfItsBlocks, MapStore, if_some, last_of, both_commits, both_live, both_read_only, both_well_formed, image_hash, image_tree, hash_blocks, tree_blocks, array_extends, AreByCalls, AreCallsInOrderAt, CommitsAreByCalls, StoresAnswerAt, FilesAnswerAt, file_blocks_are, image_files, StoresAreWell, begin_array, commit_at, world_at}, Members.{bare_at, decides, made_at}, Numbers.{end_is_next, end_writes_not}, Since.{IsBy, IsByAt, IsOf, IsSince, all_made, by_first, by_next, live_is}}
+use Rattle.par_calls.proofs.{EntryWords.{◌≡◌, ◌∙◌, sym, refl, ap, subst, ℕ, ◌+◌, ◌-◌, ◌<◌, ◌≤◌, ◌==◌, true, false, IfSome, List, [], ◌∷◌, ◌++◌, length, length-append, append_assoc, Option, Some, slice_get, arith, and_parts, AllByRecursion, AnswersByOne, AreLoose, GroupReply, IsInPlace, MemberEnd, after_history, commits_as, commits_made, ends_bare, extends_itself, extends_on, group_is, lost_commits, member_numbers, members_of, replies_of, txs_of, Access, Commit, EndReply, Committed, ReadOnly, Array, has_write, own, History, array_at, last, appended, Live, Extends, IsWorld, slice_get_append_left, Entry, Fits, IsLegal, LegalFrom, IsIsolatedAt, Start, State, after, after_all, is_live, live_of, opened, racked, state_at, tx_of, follows_all, last_longer, after_append, legal_append, times, AreMixed, BothByMap, BothInOrder, BothWellFormed, IsByBoth, IsOfBoth, firsts, accesses_in, IsOfItsBlocks, MapStore, if_some, last_of, both_commits, both_live, both_read_only, both_well_formed, image_hash, image_tree, hash_blocks, tree_blocks, array_extends, AreByCalls, AreCallsInOrderAt, CommitsAreByCalls, StoresAnswerAt, FilesAnswerAt, file_blocks_are, image_files, StoresAreWell, array_at_begin, commit_at, world_at}, Members.{bare_at, decides, made_at}, Numbers.{end_is_next, end_writes_not}, Since.{IsBy, IsByAt, IsOf, IsSince, all_made, by_first, by_next, live_is}}
 use Rattle.iso_shared.specs.declared.entry.Entry.TheVariants as entry
 
 -- a transaction that an end takes back is live
@@ -164,20 +164,20 @@ module _ (t : MapStore) (two : IsOfItsBlocks t) (A : Start) (es : List Entry) (s
 
   -- the calls of a transaction that is live at a place and has no write
   bare_by_map : (before later : List Entry) (m : ℕ) (accesses : List Access) → es ≡ before ++ later → is_live m (world_at A before).live ≡ true → has_write accesses ≡ false
-      → (by : AreByCalls t A.world.geometry (begin_array (world_at A before) m) accesses) → BothByMap s t by.parts (begin_array (world_at A before) m)
+      → (by : AreByCalls t A.world.geometry (array_at_begin (world_at A before) m) accesses) → BothByMap s t by.parts (array_at_begin (world_at A before) m)
   bare_by_map before later m accesses are live bare by =
       let V = world_at A before in
       let begin : ℕ = (live_of m V.live).begin in
       let since = began before later are m live in
       let high : begin ≤ last V.history = since.1 in
-      let same : array_at H begin ≡ begin_array V m = same_array before later are begin high in
+      let same : array_at H begin ≡ array_at_begin V m = same_array before later are begin high in
       let longer : last V.history ≤ last H = last_longer V.history H (by_front before later are).first (leads_on before later are) in
       let none : has_write (accesses_in (firsts by.parts)) ≡ false = ap has_write by.are ∙ bare in
       subst (λ (B : Array). BothByMap s t by.parts B) same
       (both_read_only s t one two (world_at A es).geometry H n begin by.parts history_by since.0 (omega arith) (subst (λ (B : Array). AreMixed s t B by.parts) (sym same) by.made) none)
 
   read_by_map : (before later : List Entry) (m : ℕ) (accesses : List Access) → es ≡ before ++ entry.End m accesses ReadOnly ∷ later
-      → (by : AreByCalls t A.world.geometry (begin_array (world_at A before) m) accesses) → BothByMap s t by.parts (begin_array (world_at A before) m)
+      → (by : AreByCalls t A.world.geometry (array_at_begin (world_at A before) m) accesses) → BothByMap s t by.parts (array_at_begin (world_at A before) m)
   read_by_map before later m accesses are by =
       let e = entry.End m accesses ReadOnly in
       let V = world_at A before in
@@ -185,7 +185,7 @@ module _ (t : MapStore) (two : IsOfItsBlocks t) (A : Start) (es : List Entry) (s
       bare_by_map before (e ∷ later) m accesses are (ends_live (state_at A before) e fits m accesses ReadOnly refl) (end_writes_not V (tx_of V m accesses) fits.answers.2) by
 
   member_by_map : (before later : List Entry) (first others : List MemberEnd) (m : ℕ) (accesses : List Access) → es ≡ before ++ entry.EndGroup (first ++ ends_bare m accesses ∷ others) ∷ later
-      → (by : AreByCalls t A.world.geometry (begin_array (world_at A before) m) accesses) → AnswersByOne t A by.parts (begin_array (world_at A before) m)
+      → (by : AreByCalls t A.world.geometry (array_at_begin (world_at A before) m) accesses) → AnswersByOne t A by.parts (array_at_begin (world_at A before) m)
   member_by_map before later first others m accesses are by =
       let ends : List MemberEnd = first ++ ends_bare m accesses ∷ others in
       let e = entry.EndGroup ends in
@@ -194,10 +194,10 @@ module _ (t : MapStore) (two : IsOfItsBlocks t) (A : Start) (es : List Entry) (s
       (bare_at V V first others m accesses (group_decides before later ends are)) by
 
   live_in_order : (before later : List Entry) (m : ℕ) (accesses : List Access) → es ≡ before ++ later → is_live m (world_at A before).live ≡ true
-      → (by : AreByCalls t A.world.geometry (begin_array (world_at A before) m) accesses) → BothInOrder s t by.parts (begin_array (world_at A before) m) (own (begin_array (world_at A before) m) accesses)
+      → (by : AreByCalls t A.world.geometry (array_at_begin (world_at A before) m) accesses) → BothInOrder s t by.parts (array_at_begin (world_at A before) m) (own (array_at_begin (world_at A before) m) accesses)
   live_in_order before later m accesses are live by =
       let V = world_at A before in
-      let B = begin_array V m in
+      let B = array_at_begin V m in
       let begin : ℕ = (live_of m V.live).begin in
       let since = began before later are m live in
       let high : begin ≤ last V.history = since.1 in

@@ -1,5 +1,5 @@
 -- The calls that are told of each commit of a trace answer in order.
-use Rattle.par_calls.{proofs.Words.{◌≡◌, ◌∙◌, sym, refl, ap, subst, ℕ, ◌<◌, Bool, true, IsTrue, List, [], ◌∷◌, ◌++◌, append_assoc, Option, Some, None, Access, Commit, Committed, Geometry, GroupReply, Array, is_valid, History, array_at, HasShape, Extends, Entry, Member, MemberEnd, AreLoose, Fits, LegalFrom, State, after, after_all, is_live, is_loose, member_numbers, members_of, follows_all, loose_is, Own, member_for, members_for, commit_at, commits_as, BothInOrder, IsOfBoth, MixedParts, firsts, seconds, answers_in, calls_in, run, IsToldOf, ToldInOrder, SecondStore, image_hash, second_store, Told, SecondGoes, all_are, all_parts, array_extends, IsSecond, AreByCalls, BothByMap, ToldByMap, ends_bare, begin_array, Mode, ReadOnly, map, EachBare, WhereBare, EachCommit, WhereCommitted, after_entry, after_line, notes_after, Event, Made, OfOwn, entries_in, events_of, IsOp}, specs.Notes.Notes, specs.Trace.{Done, Step}, proofs.Events.AreOps, proofs.Running.{IsAt, IsClientAt, by_client, done_next, made_next, told_after_line}, proofs.Standing.{AllHeld, IsHeld, OptionHeld}}
+use Rattle.par_calls.{proofs.Words.{◌≡◌, ◌∙◌, sym, refl, ap, subst, ℕ, ◌<◌, Bool, true, IsTrue, List, [], ◌∷◌, ◌++◌, append_assoc, Option, Some, None, Access, Commit, Committed, Geometry, GroupReply, Array, is_valid, History, array_at, HasShape, Extends, Entry, Member, MemberEnd, AreLoose, Fits, LegalFrom, State, after, after_all, is_live, is_loose, member_numbers, members_of, follows_all, loose_is, Own, member_for, members_for, commit_at, commits_as, BothInOrder, IsOfBoth, MixedParts, firsts, seconds, answers_in, calls_in, run, IsToldOf, ToldInOrder, SecondStore, image_hash, second_store, Told, SecondGoes, all_are, all_parts, array_extends, IsSecond, AreByCalls, BothByMap, ToldByMap, ends_bare, array_at_begin, Mode, ReadOnly, map, EachBare, WhereBare, EachCommit, WhereCommitted, after_entry, after_line, notes_after, Event, Made, OfOwn, entries_in, events_of, IsOp}, specs.Notes.Notes, specs.Trace.{Done, Step}, proofs.Events.AreOps, proofs.Running.{IsAt, IsClientAt, by_client, done_next, made_next, told_after_line}, proofs.Standing.{AllHeld, IsHeld, OptionHeld}}
 use Rattle.iso_model.specs.declared.access.GroupReply.TheVariants as member
 use Rattle.iso_shared.specs.declared.entry.Entry.TheVariants as entry
 use Rattle.iso_shared.specs.States.{live_of}
@@ -99,13 +99,13 @@ module _ (S : SecondStore) (lawful : IsSecond S) (second : SecondGoes S) (g : Ge
       }
 
   pub live_told : (U : State) (N : Notes S) (c : ℕ) (s : Step) (t : Own) (events : List Event) → At U N (Done c s ∷ events) → IsOp s.line.1.op → s.after ≡ Some t → is_live t.number U.world.live ≡ true → Extends U.world.history H
-      → let told = (after_line S g c s N).of c in IsTrue told.kept → IsMade (begin_array U.world t.number) t.accesses told
+      → let told = (after_line S g c s N).of c in IsTrue told.kept → IsMade (array_at_begin U.world t.number) t.accesses told
   live_told U N c s t events is isop after live more kept =
       let told : Told S = (after_line S g c s N).of c in
       let held : IsHeld S g H U t told = subst (λ (o : Option Own). OptionHeld S g H U o told) after (told_after_line S lawful second g valid H shapes tells all U N c s events is isop) in
       let here : IsToldOf S g (array_at U.world.history t.begin) t.accesses t.mode told =
       subst (λ (B : Array). IsToldOf S g B t.accesses t.mode told) (array_extends U.world.history H t.begin is.first more held.within) (held.good.made kept) in
-      is_made (begin_array U.world t.number) t.accesses t.mode told (subst (λ (n : ℕ). IsToldOf S g (array_at U.world.history n) t.accesses t.mode told) (sym (held.posting.begin live)) here)
+      is_made (array_at_begin U.world t.number) t.accesses t.mode told (subst (λ (n : ℕ). IsToldOf S g (array_at U.world.history n) t.accesses t.mode told) (sym (held.posting.begin live)) here)
 
   -- an end that commits
   pub end_told : (U : State) (N : Notes S) (c n k : ℕ) (accesses : List Access) (events : List Event) → At U N (Made c (entry.End n accesses (Committed k)) ∷ events) → Fits U (entry.End n accesses (Committed k))
@@ -185,21 +185,21 @@ module _ (S : SecondStore) (lawful : IsSecond S) (second : SecondGoes S) (g : Ge
       }
 
   pub read_told : (U : State) (N : Notes S) (c n : ℕ) (accesses : List Access) (events : List Event) → At U N (Made c (entry.End n accesses ReadOnly) ∷ events) → Fits U (entry.End n accesses ReadOnly) → Extends U.world.history H
-      → IsTrue (N.of c).kept → IsRead (begin_array U.world n) accesses (N.of c)
+      → IsTrue (N.of c).kept → IsRead (array_at_begin U.world n) accesses (N.of c)
   read_told U N c n accesses events is fits more kept = by client.own client.held client.runs.0
     where
       client : IsClientAt S lawful second g valid H shapes tells all U (N.of c) (N.found c) (Made c (entry.End n accesses ReadOnly) ∷ events_of c events)
       client = by_client S lawful second g valid H shapes tells all U N c (entry.End n accesses ReadOnly) events is fits more
 
-      by : (own : Option Own) → OptionHeld S g H U own (N.of c) → OfOwn own (λ t. (n ≡ t.number) × (accesses ≡ t.accesses)) → IsRead (begin_array U.world n) accesses (N.of c)
+      by : (own : Option Own) → OptionHeld S g H U own (N.of c) → OfOwn own (λ t. (n ≡ t.number) × (accesses ≡ t.accesses)) → IsRead (array_at_begin U.world n) accesses (N.of c)
       by None held of = absurd of
       by (Some t) held of =
-          is_read (begin_array U.world n) accesses (commit_at U.world n accesses).mode (N.of c) (told_of U t (N.of c) n accesses held kept of.0 of.1 fits.takes.0 is.first more)
+          is_read (array_at_begin U.world n) accesses (commit_at U.world n accesses).mode (N.of c) (told_of U t (N.of c) n accesses held kept of.0 of.1 fits.takes.0 is.first more)
 
   -- what `read_told` says of one transaction, of all members of a group
   pub members_read : (U : State) (first ends : List MemberEnd) (ts : List Own) (told : List (Told S)) (Q : ℕ → Told S → Type 0) → members_of ends ≡ members_for ts → AllHeld S g H U ts told
       → AreLoose (member_numbers (members_of ends)) U → 0 < U.world.history.first → Extends U.world.history H
-      → ((before later : List MemberEnd) (n : ℕ) (accesses : List Access) (m : Told S) → first ++ ends ≡ before ++ ends_bare n accesses ∷ later → (IsTrue m.kept → IsRead (begin_array U.world n) accesses m) → Q n m)
+      → ((before later : List MemberEnd) (n : ℕ) (accesses : List Access) (m : Told S) → first ++ ends ≡ before ++ ends_bare n accesses ∷ later → (IsTrue m.kept → IsRead (array_at_begin U.world n) accesses m) → Q n m)
       → EachBare Q ends told
   members_read U first [] ts told Q are held loose some more on = tt
   members_read U first (x ∷ ends) [] told Q are held loose some more on = absurd (cc are)
@@ -217,7 +217,7 @@ module _ (S : SecondStore) (lawful : IsSecond S) (second : SecondGoes S) (g : Ge
       by : (r : GroupReply) → x.reply ≡ r → WhereBare (Q x.number m) r
       by member.ReadOnly is =
           on first ends x.number x.accesses m (λ i. first ++ record x { reply = is i } ∷ ends)
-          (λ kept. is_read (begin_array U.world x.number) x.accesses (commit_at U.world x.number x.accesses).mode m
+          (λ kept. is_read (array_at_begin U.world x.number) x.accesses (commit_at U.world x.number x.accesses).mode m
           (told_of U t m x.number x.accesses held.0 kept (ap (λ (z : Member). z.number) head) (ap (λ (z : Member). z.accesses) head) loose.0 some more))
       by (member.Committed k) is = tt
       by x is = tt

@@ -1,5 +1,5 @@
 -- What is known of clients stays true along a trace.
-use Rattle.par_calls.{proofs.Words.{◌≡◌, ◌∙◌, ◌⊎◌, inl, inr, sym, refl, ap, subst, ℕ, ◌<◌, ◌==◌, Bool, true, false, cond, IsTrue, List, [], ◌∷◌, ◌++◌, append-nil, bytes_eq, Option, Some, None, Ok, arith, eq-eqb, eqb-true, AllByRecursion, lookup, remove_entry, Access, Geometry, is_valid, History, array_at, last, HasShape, Live, unattached, Extends, IsOp, Call, Cause, Entry, Posting, Fits, State, after, after_fault, after_refusal, is_live, posting_of, began_last, follows_next, IsSound, sound_next, Did, Own, SecondStore, Told, nothing_told, told_more, SecondGoes, begins_told, IsSecond, accesses_in, after_entry, after_line, first_or_nothing, if_some, put_at, Event, IsOfOwn, Made, OfOwn, Runs, Step, events_of, found_in}, specs.Notes.{Notes, told_by}, specs.Trace.Done, proofs.Events.swapped, proofs.Leaving.{HasBegun, Starts, with_tx, without_tx}, proofs.Lines.IsNext, proofs.OwnEntries.found_append, proofs.Sound.IsGood, proofs.Standing.{AllHeld, AreRacked, IsHeld, OptionHeld, Tells, all_on, all_tell_on, fetch_is, held_append, option_on, posting_is, racked_found, racked_less, racked_more, racked_on, refusal_keeps}, proofs.StoreLines.IsOfArray}
+use Rattle.par_calls.{proofs.Words.{◌≡◌, ◌∙◌, ◌⊎◌, inl, inr, sym, refl, ap, subst, ℕ, ◌<◌, ◌==◌, Bool, true, false, cond, IsTrue, List, [], ◌∷◌, ◌++◌, append-nil, bytes_eq, Option, Some, None, Ok, arith, eq-eqb, eqb-true, AllByRecursion, lookup, remove_entry, Access, Geometry, is_valid, History, array_at, last, HasShape, Live, unattached, Extends, IsOp, Call, Cause, Entry, Posting, Fits, State, after, after_fault, after_refusal, is_live, posting_of, began_last, follows_next, IsSound, sound_next, Did, Own, SecondStore, Told, nothing_told, told_more, SecondGoes, begins_told, IsSecond, own_accesses, after_entry, after_line, first_or_nothing, if_some, put_at, Event, IsOfOwn, Made, OfOwn, Runs, Step, events_of, found_in}, specs.Notes.{Notes, told_by}, specs.Trace.Done, proofs.Events.swapped, proofs.Leaving.{HasBegun, Starts, with_tx, without_tx}, proofs.Lines.IsNext, proofs.OwnEntries.found_append, proofs.Sound.IsGood, proofs.Standing.{AllHeld, AreRacked, IsHeld, OptionHeld, Tells, all_on, all_tell_on, fetch_is, held_append, option_on, posting_is, racked_found, racked_less, racked_more, racked_on, refusal_keeps}, proofs.StoreLines.IsOfArray}
 use Rattle.iso_shared.specs.declared.entry.Call.TheVariants as call
 use Rattle.iso_shared.specs.declared.entry.Cause.TheVariants as cause
 use Rattle.iso_shared.specs.declared.entry.Entry.TheVariants as entry
@@ -246,10 +246,10 @@ module _ (S : SecondStore) (lawful : IsSecond S) (second : SecondGoes S) (g : Ge
       by (with_tx S lawful second g valid (array_at H t.begin) (shapes t.begin) t told held.good tells all s.line.1.op made s.reply s.after isop (arrays_of U t made tell) did)
     where
       by : (s.after ≡ None) ⊎ IsNext S lawful second g valid (array_at H t.begin) (shapes t.begin) t told held.good s.line.1.op s.reply s.after
-          → OptionHeld S g H U s.after (told_more S g s.line.1.op s.reply t.accesses (accesses_in s.after) told (S.answered s.line.1.op s.reply))
-      by (inl none) = subst (λ o. OptionHeld S g H U o (told_more S g s.line.1.op s.reply t.accesses (accesses_in s.after) told (S.answered s.line.1.op s.reply))) (sym none) tt
+          → OptionHeld S g H U s.after (told_more S g s.line.1.op s.reply t.accesses (own_accesses s.after) told (S.answered s.line.1.op s.reply))
+      by (inl none) = subst (λ o. OptionHeld S g H U o (told_more S g s.line.1.op s.reply t.accesses (own_accesses s.after) told (S.answered s.line.1.op s.reply))) (sym none) tt
       by (inr next) =
-          subst (λ o. OptionHeld S g H U o (told_more S g s.line.1.op s.reply t.accesses (accesses_in o) told (S.answered s.line.1.op s.reply))) (sym next.is)
+          subst (λ o. OptionHeld S g H U o (told_more S g s.line.1.op s.reply t.accesses (own_accesses o) told (S.answered s.line.1.op s.reply))) (sym next.is)
           (grown U t next.accesses (told_more S g s.line.1.op s.reply t.accesses next.accesses told (S.answered s.line.1.op s.reply)) told held next.true_is)
   line_held U s None made told found isop held looked tell did = by (without_tx g tells s.line.1.op made s.reply s.after did)
     where

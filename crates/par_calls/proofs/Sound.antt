@@ -20,8 +20,8 @@ valid_second g valid =
     and_from _ _ (and_from _ _ first_is.0 (le-leb 1 2 (omega arith))) (le-leb 2 2 (omega arith))
 
 -- the form of an image says nothing of accesses
-pub accesses_in : (g h : Geometry) → h.blocks ≡ g.blocks → h.block ≡ g.block → (accesses : List Access) → AreAccesses g accesses → AreAccesses h accesses
-accesses_in g h blocks size accesses all =
+pub same_shape_accesses : (g h : Geometry) → h.blocks ≡ g.blocks → h.block ≡ g.block → (accesses : List Access) → AreAccesses g accesses → AreAccesses h accesses
+same_shape_accesses g h blocks size accesses all =
     all_weaker (IsAccess g) (IsAccess h) (λ a is. record {
       block = subst (λ n. a.block < n) (sym blocks) is.block;
       spans = subst (λ n. AllByRecursion (IsSpan n) a.spans) (sym size) is.spans;
@@ -40,7 +40,7 @@ sound_is g B o valid shape accesses few =
     (record { first = omega arith; base = record { blocks = shape.blocks; bytes = shape.bytes; values = shape.values }; commits = tt }) (λ k from to. tt) tt (omega arith) (omega arith) (omega arith) in
     with_lives (alone h B None) (live_of (as_first o) ∷ []) 1 w (
       record {
-        accesses = accesses_in g h refl refl o.accesses accesses;
+        accesses = same_shape_accesses g h refl refl o.accesses accesses;
         count = few;
         since = omega arith;
         begin = omega arith;
@@ -88,7 +88,7 @@ module _ (S : SecondStore) where
         let at : IsNoted S ⊥ 0 V (λ number. cond (0 == number) (told_more S h op r o.accesses l (only told number) (S.answered op r)) (only told number)) =
         subst (λ (x : Reply × World). IsNoted S ⊥ 0 x.1 (λ number. told_by S h 1 number op (Some (live_of (as_first o))) x (only told number))) is next in
         record {
-          accesses = accesses_in h g refl refl l at.world.live.0.accesses;
+          accesses = same_shape_accesses h g refl refl l at.world.live.0.accesses;
           count = at.world.live.0.count;
           made = λ kept. in_form S h B l o.mode (told_more S g op r o.accesses l told (S.answered op r)) (at.each.0.made kept) g.form;
         }

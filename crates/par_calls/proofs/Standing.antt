@@ -1,5 +1,5 @@
 -- What is known of the transactions of clients, of those under labels and of those that a line's looks found, at a place of the list.
-use Rattle.par_calls.proofs.{Words.{known_on, ◌≡◌, ◌∙◌, sym, refl, ap, subst, ℕ, ◌<◌, ◌≤◌, Bool, true, false, cond, List, [], ◌∷◌, ◌++◌, bytes_eq, Option, Some, None, arith, AllByRecursion, lookup, remove_entry, Access, Geometry, Array, History, array_at, last, block_at, Live, Extends, Call, Cause, Entry, Posting, State, after_refusal, is_live, is_loose, posting_of, Follows, last_longer, fault_keeps, IsPosting, loose_is, Own, SecondStore, Told, array_extends, if_some, OfOwn}, Sound.IsGood}
+use Rattle.par_calls.proofs.{Words.{known_on, ◌≡◌, ◌∙◌, sym, refl, ap, subst, ℕ, ◌<◌, ◌≤◌, Bool, true, false, cond, List, [], ◌∷◌, ◌++◌, bytes_eq, Option, Some, None, arith, AllByRecursion, lookup, remove_entry, Access, Geometry, Array, History, array_at, last, block_at, Extends, Call, Cause, Entry, Posting, State, after_refusal, is_live, is_loose, posting_of, Follows, last_longer, fault_keeps, IsPosting, loose_is, Own, SecondStore, Told, array_extends, if_some, OfOwn}, Sound.IsGood}
 use Rattle.iso_shared.specs.declared.entry.Cause.TheVariants as cause
 use Rattle.iso_shared.specs.declared.entry.Entry.TheVariants as entry
 use Rattle.iso_shared.specs.States.{live_of}

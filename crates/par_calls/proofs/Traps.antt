@@ -1,5 +1,5 @@
 -- What no commit of a list answers whose calls answer in order.
-use Rattle.par_calls.proofs.EntryWords.{◌≡◌, ◌∙◌, sym, ap, subst, AnswersByOne, IsInPlace, MapStore, MemberEnd, World, commits_as, ends_bare, ℕ, ◌-◌, List, [], ◌∷◌, ◌++◌, map, Option, Some, None, Access, Committed, ReadOnly, History, array_at, Entry, Start, get_op, First, IsOfBoth, firsts, StorePart, Get, Got, StoreAnswer, answers_in, calls_in, run, image_hash, image_tree, AreByCalls, AreCallsInOrderAt, begin_array, commit_at, world_at}
+use Rattle.par_calls.proofs.EntryWords.{◌≡◌, ◌∙◌, sym, ap, subst, AnswersByOne, IsInPlace, MapStore, MemberEnd, World, commits_as, ends_bare, ℕ, ◌-◌, List, [], ◌∷◌, ◌++◌, map, Option, Some, None, Access, Committed, ReadOnly, History, array_at, Entry, Start, get_op, First, IsOfBoth, firsts, StorePart, Get, Got, StoreAnswer, answers_in, calls_in, run, image_hash, image_tree, AreByCalls, AreCallsInOrderAt, array_at_begin, commit_at, world_at}
 use Rattle.iso_shared.specs.declared.entry.Entry.TheVariants as entry
 
 -- the value that the first answer gives
@@ -47,19 +47,19 @@ module _ (A : Start) (es before later : List Entry) (n : ℕ) (accesses : List A
   not_an_older_map_in_a_group first others k are of parts_are has = misses_none of.parts k (is.group_commits before later first others n k accesses are of) parts_are has
 
   -- nor does a look-up that answers by the map at a begin miss a key that this map has
-  misses_none_by : (parts : List StorePart) → AnswersByOne t A parts (begin_array W n) → parts ≡ missed key done → (get_op key (s.map_of (begin_array W n))).0 ≡ Some value → ⊥
+  misses_none_by : (parts : List StorePart) → AnswersByOne t A parts (array_at_begin W n) → parts ≡ missed key done → (get_op key (s.map_of (array_at_begin W n))).0 ≡ Some value → ⊥
   unfolding first_got
   misses_none_by parts by_one parts_are has =
-      let m = s.map_of (begin_array W n) in
+      let m = s.map_of (array_at_begin W n) in
       let said : answers_in (firsts (missed key done)) ≡ Got (get_op key m).0 ∷ [] =
       subst (λ (ps : List StorePart). answers_in (firsts ps) ≡ map (λ call. (s.act call m).0) (calls_in (firsts ps))) parts_are by_one.first in
       none_is_not (get_op key m).0 value (ap first_got (sym said)) has
 
   -- so that of a transaction that ended without a write, alone or in a group
-  not_a_later_map : es ≡ before ++ entry.End n accesses ReadOnly ∷ later → (by : AreByCalls t A.world.geometry (begin_array W n) accesses) → by.parts ≡ missed key done
-      → (get_op key (s.map_of (begin_array W n))).0 ≡ Some value → ⊥
+  not_a_later_map : es ≡ before ++ entry.End n accesses ReadOnly ∷ later → (by : AreByCalls t A.world.geometry (array_at_begin W n) accesses) → by.parts ≡ missed key done
+      → (get_op key (s.map_of (array_at_begin W n))).0 ≡ Some value → ⊥
   not_a_later_map are by parts_are has = misses_none_by by.parts (is.read_only before later n accesses are by) parts_are has
 
   not_a_later_map_in_a_group : (first others : List MemberEnd) → es ≡ before ++ entry.EndGroup (first ++ ends_bare n accesses ∷ others) ∷ later
-      → (by : AreByCalls t A.world.geometry (begin_array W n) accesses) → by.parts ≡ missed key done → (get_op key (s.map_of (begin_array W n))).0 ≡ Some value → ⊥
+      → (by : AreByCalls t A.world.geometry (array_at_begin W n) accesses) → by.parts ≡ missed key done → (get_op key (s.map_of (array_at_begin W n))).0 ≡ Some value → ⊥
   not_a_later_map_in_a_group first others are by parts_are has = misses_none_by by.parts (is.group_read_only before later first others n accesses are by) parts_are has

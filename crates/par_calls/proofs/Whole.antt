@@ -1,5 +1,5 @@
 -- The store theorem of clients that run concurrently, by what their lines say.
-use Rattle.par_calls.{proofs.Words.{◌≡◌, ◌∙◌, sym, refl, ap, subst, ℕ, ◌-◌, true, List, [], ◌∷◌, ◌++◌, append_assoc, None, Some, Own, own, LiveInOrder, Access, Committed, ReadOnly, Geometry, History, array_at, HasShape, Extends, IsWorld, array_shape, Entry, MemberEnd, Fits, IsLegal, LegalFrom, Start, State, after_all, opened, state_at, follows_all, after_append, legal_append, opened_sound, AnswersWithAt, AreCallsInOrderAt, CommitsAreByCalls, commit_at, commits_as, world_at, IsOfBoth, ToldInOrder, SecondStore, image_hash, second_store, SecondGoes, IsSecond, begin_array, ToldByMap, IsTrue, OfReads, ReadsByMap, CallsAnswer, CommitsInOrder, CommitsKeep, OfCommits, no_notes, notes_after, Event, Made, Runs, entries_in, events_of, found_in}, specs.Notes.Notes, specs.Trace.{Done, Step}, proofs.Events.{AreOps, entries_joined, ops_at, ops_front}, proofs.Histories.history_all, proofs.Placed.{live_told, members_read, read_told, AreSweeps, IsTold, at_place, end_told, located, member_told, members_told}, proofs.Running.{IsAt, IsClientAt, by_client}}
+use Rattle.par_calls.{proofs.Words.{◌≡◌, ◌∙◌, sym, refl, ap, subst, ℕ, ◌-◌, true, List, [], ◌∷◌, ◌++◌, append_assoc, None, own, LiveInOrder, Access, Committed, ReadOnly, Geometry, History, array_at, HasShape, Extends, IsWorld, array_shape, Entry, MemberEnd, Fits, IsLegal, LegalFrom, Start, State, after_all, opened, state_at, follows_all, after_append, legal_append, opened_sound, AnswersWithAt, AreCallsInOrderAt, CommitsAreByCalls, commit_at, commits_as, world_at, IsOfBoth, ToldInOrder, SecondStore, image_hash, second_store, SecondGoes, IsSecond, array_at_begin, ToldByMap, IsTrue, OfReads, ReadsByMap, CallsAnswer, CommitsInOrder, CommitsKeep, OfCommits, no_notes, notes_after, Event, Made, Runs, entries_in, events_of, found_in}, specs.Notes.Notes, specs.Trace.{Done}, proofs.Events.{AreOps, entries_joined, ops_at, ops_front}, proofs.Histories.history_all, proofs.Placed.{live_told, members_read, read_told, AreSweeps, IsTold, at_place, end_told, located, member_told, members_told}, proofs.Running.{IsAt, IsClientAt, by_client}}
 use Rattle.iso_shared.specs.declared.entry.Entry.TheVariants as entry
 
 module _ (S : SecondStore) (lawful : IsSecond S) (second : SecondGoes S) (A : Start) (E : List Entry) (events : List Event) (tail : List Entry) (sound : IsWorld A.world) (none : A.world.live ≡ []) (legal : IsLegal A E)
@@ -108,7 +108,7 @@ module _ (S : SecondStore) (lawful : IsSecond S) (second : SecondGoes S) (A : St
   reads_by_map tells order before later c e is = by e is
     where
       by : (e : Entry) → events ≡ before ++ Made c e ∷ later
-          → OfReads S (λ n told. IsTrue told.kept → ToldByMap S g told (begin_array (world_at A (entries_in before)) n)) c e (notes_after S g (no_notes S) before)
+          → OfReads S (λ n told. IsTrue told.kept → ToldByMap S g told (array_at_begin (world_at A (entries_in before)) n)) c e (notes_after S g (no_notes S) before)
       by (entry.End n accesses ReadOnly) is = λ kept.
           let e = entry.End n accesses ReadOnly in
           let told = read_told S lawful second g sound.valid H shapes A.tells tells (before_it tells before) (notes_after S g (no_notes S) before) c n accesses later (placed tells before (Made c e ∷ later) is)
@@ -120,7 +120,7 @@ module _ (S : SecondStore) (lawful : IsSecond S) (second : SecondGoes S) (A : St
           let client =
           by_client S lawful second g sound.valid H shapes A.tells tells (before_it tells before) (notes_after S g (no_notes S) before) c e later place (fits_at tells before later c e is) (extends_at tells before later c e is) in
           members_read S lawful second g sound.valid H shapes A.tells tells (before_it tells before) [] ends (found_in client.made) ((notes_after S g (no_notes S) before).found c)
-          (λ n told. IsTrue told.kept → ToldByMap S g told (begin_array (world_at A (entries_in before)) n)) client.runs.0 client.looked (fits_at tells before later c e is).takes place.first (extends_at tells before later c e is)
+          (λ n told. IsTrue told.kept → ToldByMap S g told (array_at_begin (world_at A (entries_in before)) n)) client.runs.0 client.looked (fits_at tells before later c e is).takes place.first (extends_at tells before later c e is)
           (λ first others n accesses m ends_are told kept.
           (told kept).answers (order.group_read_only (entries_in before) (entries_in later ++ tail) first others n accesses (split_at tells before later c e is ∙ ap (λ l. entries_in before ++ entry.EndGroup l ∷ (entries_in later ++ tail)) ends_are) (told kept).by))
       by (entry.End n accesses r) is = tt
@@ -137,7 +137,7 @@ module _ (S : SecondStore) (lawful : IsSecond S) (second : SecondGoes S) (A : St
       let made =
       live_told S lawful second g sound.valid H shapes A.tells tells U (notes_after S g (no_notes S) before) c s t later (placed tells before (Done c s ∷ later) is)
       (ops_at before later c s (subst AreOps is ops)) after live more kept in
-      let B = begin_array U.world t.number in
+      let B = array_at_begin U.world t.number in
       made.answers B (own B t.accesses) (order.live (entries_in before) rest t.number t.accesses split live made.by)
 
   pub calls_answer : CallsAnswer S A E events

@@ -7,7 +7,7 @@ pub use Rattle.script_model.specs.{Operations.{AreLines, IsOnStore, IsOp}, Step.
 unfoldable pub use Rattle.script_model.specs.Step.{file_delete_step, file_move_step, file_new_step, file_read_step, file_write_step, fill_step, get_step, hash_delete_step, hash_get_step, hash_put_step, mark_step, put_step, read_step, step, store_step, tree_delete_step, tree_get_step, tree_put_step, tree_scan_step, write_step}
 pub use Rattle.std.{proofs.Common.{Bool, Err, IsTrue, List, None, Ok, Option, Result, Some, ap, append-nil, append_assoc, arith, bytes_eq, cond, drop, eq-eqb, false, filter, inl, inr, is_some, length, map, nat_le, not, refl, replicate, slice_index, subst, suc, sym, take, true, zero, ℕ, [], ◌&&◌, ◌++◌, ◌+◌, ◌-◌, ◌<◌, ◌==◌, ◌||◌, ◌∙◌, ◌∷◌, ◌≡◌, ◌≤◌, ◌⊎◌}, proofs.lemmas.Bool.{and_from, and_parts, cases_eq, eqb-true, le-leb}, proofs.lemmas.List.append_cancel_left, specs.List.{AllByRecursion, list_all, list_any, range_with_len}, specs.Map.{lookup, remove_entry}}
 pub use Rattle.store_calls.specs.Calls.{filed, is_empty_scan, store_areas, store_blocks, store_ended, stored}
-pub use Rattle.par_calls.{proofs.Listed.{files_answer_at, stores_answer_at}, specs.EntriesInOrder.{AnswersWithAt, AreByCalls, AreCallsInOrderAt, CommitsAreByCalls, begin_array, commit_at, commits_as, ends_bare, world_at}, specs.InOrder.{CallsAnswer, CommitsInOrder, CommitsKeep, EachBare, EachCommit, LinesTellCalls, LiveInOrder, OfCommits, OfReads, ReadsByMap, WhereBare, WhereCommitted}, specs.Notes.{accesses_in, after_entry, after_line, first_or_nothing, if_some, no_notes, notes_after, put_at}, specs.Trace.{Event, IsOfOwn, IsOfPart, IsOneOf, IsTrace, Made, OfOwn, Runs, Step, client_of, entries_in, events_of, found_in, lines_in, told_in}}
+pub use Rattle.par_calls.{proofs.Listed.{files_answer_at, stores_answer_at}, specs.EntriesInOrder.{AnswersWithAt, AreByCalls, AreCallsInOrderAt, CommitsAreByCalls, array_at_begin, commit_at, commits_as, ends_bare, world_at}, specs.InOrder.{CallsAnswer, CommitsInOrder, CommitsKeep, EachBare, EachCommit, LinesTellCalls, LiveInOrder, OfCommits, OfReads, ReadsByMap, WhereBare, WhereCommitted}, specs.Notes.{own_accesses, after_entry, after_line, first_or_nothing, if_some, no_notes, notes_after, put_at}, specs.Trace.{Event, IsOfOwn, IsOfPart, IsOneOf, IsTrace, Made, OfOwn, Runs, Step, client_of, entries_in, events_of, found_in, lines_in, told_in}}
 pub use Rattle.store_laws.specs.{Both.{BothByMap, BothInOrder, IsOfBoth, MixedParts, firsts, seconds}, Calls.{Get, Got, Put, WasPut}, Parts.{answers_in, calls_in, run}, Tree.OnKey}
 pub use Rattle.store_model.specs.{FileCalls.{create_program, read_program, remove_program, rename_program, write_program}, Stores.{Done, Look, LookWhole, Program, Reserve, Store, bytes_in, further_bytes, look_access, outcome, store_access, with_further}, declared.files.FileAreas.FileAreas}
 pub use Rattle.store_scripts.{proofs.Acting.SecondGoes, proofs.Blocks.{files_second, tree_second}, proofs.FileGoes.file_goes, proofs.Growing.{all_are, all_parts, begins_told, in_form, same_told}, proofs.Lines.noted_step, proofs.Members.array_extends, proofs.Noted.IsNoted, proofs.Seconds.IsSecond, proofs.TreeGoes.tree_goes, specs.Answers.Answered, specs.Kept.{IsToldOf, ToldByMap, ToldInOrder}, specs.Stores.{SecondStore, image_hash, second_store, the_files, the_tree}, specs.Told.{Notes, Told, nothing_told, spares_calls, spares_stores, told_by, told_more}}

@@ -15,8 +15,8 @@ abbrev pub commit_at : World → (number : ℕ) → List Access → Commit
 commit_at W n accesses = commit_from (tx_of W n accesses)
 
 -- the array at the begin of the transaction
-abbrev pub begin_array : World → (number : ℕ) → Array
-begin_array W n = array_at W.history (live_of n W.live).begin
+abbrev pub array_at_begin : World → (number : ℕ) → Array
+array_at_begin W n = array_at W.history (live_of n W.live).begin
 
 -- Accesses of a transaction that began with this array: those of calls of the hash store and of another store t beside it, each made on
 -- what the transaction was shown and local for its store, and others that write neither region.
@@ -67,13 +67,13 @@ pub record AreCallsInOrderAt (t : MapStore) (A : Start) (es : List Entry) : Type
       → (of : IsOfBoth (image_hash A.world.geometry) t (world_at A before).history (commit_at (world_at A before) n accesses))
       → IsInPlace t A es k of.parts
   pub read_only : (before later : List Entry) (n : ℕ) (accesses : List Access) → es ≡ before ++ entry.End n accesses ReadOnly ∷ later
-      → let B = begin_array (world_at A before) n in
+      → let B = array_at_begin (world_at A before) n in
       (by : AreByCalls t A.world.geometry B accesses) → BothByMap (image_hash A.world.geometry) t by.parts B
   pub group_read_only : (before later : List Entry) (first others : List MemberEnd) (n : ℕ) (accesses : List Access)
       → es ≡ before ++ entry.EndGroup (first ++ ends_bare n accesses ∷ others) ∷ later
-      → (by : AreByCalls t A.world.geometry (begin_array (world_at A before) n) accesses) → AnswersByOne t A by.parts (begin_array (world_at A before) n)
+      → (by : AreByCalls t A.world.geometry (array_at_begin (world_at A before) n) accesses) → AnswersByOne t A by.parts (array_at_begin (world_at A before) n)
   pub live : (before later : List Entry) (n : ℕ) (accesses : List Access) → es ≡ before ++ later
-      → let W = world_at A before in let B = begin_array W n in is_live n W.live ≡ true
+      → let W = world_at A before in let B = array_at_begin W n in is_live n W.live ≡ true
       → (by : AreByCalls t A.world.geometry B accesses) → BothInOrder (image_hash A.world.geometry) t by.parts B (own B accesses)
   pub well : StoresAreWell t A.world.geometry (world_at A es).history
 

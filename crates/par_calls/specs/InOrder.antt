@@ -6,7 +6,7 @@ use Rattle.script_model.specs.declared.script.Line.{Line}
 use Rattle.iso_shared.specs.{declared.entry.Entry.Entry, declared.entry.MemberEnd.MemberEnd, States.{Start, is_live}}
 use Rattle.iso_shared.specs.declared.entry.Entry.TheVariants as entry
 use Rattle.par_script.specs.{Lines.Own, declared.part.Part.Part}
-use Rattle.par_calls.specs.{EntriesInOrder.{begin_array, world_at}, Notes.{Notes, after_line, no_notes, notes_after}, Trace.{Done, Event, IsTrace, Made, Step, entries_in}}
+use Rattle.par_calls.specs.{EntriesInOrder.{array_at_begin, world_at}, Notes.{Notes, after_line, no_notes, notes_after}, Trace.{Done, Event, IsTrace, Made, Step, entries_in}}
 use Rattle.store_laws.specs.Both.{BothWellFormed}
 use Rattle.store_scripts.specs.{Kept.{ToldByMap, ToldInOrder}, Stores.{SecondStore, image_hash, second_store, the_files, the_tree}, Told.Told}
 
@@ -60,14 +60,14 @@ OfReads S P c e N = Unit {0}
 -- each call that is told of a transaction that ended without a write, and keeps to the stores, answered by the maps at its begin
 abbrev pub ReadsByMap : SecondStore → Start → List Event → Type 0
 ReadsByMap S A events = (before later : List Event) (c : ℕ) (e : Entry) → events ≡ before ++ Made c e ∷ later
-    → OfReads S (λ n told. IsTrue told.kept → ToldByMap S A.world.geometry told (begin_array (world_at A (entries_in before)) n)) c e (notes_after S A.world.geometry (no_notes S) before)
+    → OfReads S (λ n told. IsTrue told.kept → ToldByMap S A.world.geometry told (array_at_begin (world_at A (entries_in before)) n)) c e (notes_after S A.world.geometry (no_notes S) before)
 
 -- Once a line was answered: the calls that are told of its client's transaction, if that is live and keeps to the stores, answered as one
 -- thread's calls on the maps at its begin, which end in those of what it is shown.
 abbrev pub LiveInOrder : SecondStore → Start → List Event → Type 0
 LiveInOrder S A events = (before later : List Event) (c : ℕ) (s : Step) (t : Own) → events ≡ before ++ Done c s ∷ later → s.after ≡ Some t
     → is_live t.number (world_at A (entries_in before)).live ≡ true → let told = (after_line S A.world.geometry c s (notes_after S A.world.geometry (no_notes S) before)).of c in IsTrue told.kept
-    → let B = begin_array (world_at A (entries_in before)) t.number in ToldInOrder S A.world.geometry told B (own B t.accesses)
+    → let B = array_at_begin (world_at A (entries_in before)) t.number in ToldInOrder S A.world.geometry told B (own B t.accesses)
 
 -- the calls that are told of commits, of transactions that wrote nothing, and of those that are live
 pub record AreInOrder (S : SecondStore) (A : Start) (E : List Entry) (events : List Event) : Type 0 where

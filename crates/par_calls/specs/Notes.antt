@@ -39,14 +39,14 @@ abbrev pub first_or_nothing : (S : SecondStore) → List (Told S) → Told S
 first_or_nothing S [] = nothing_told S
 first_or_nothing S (m ∷ found) = m
 
-abbrev pub accesses_in : Option Own → List Access
-accesses_in None = []
-accesses_in (Some t) = t.accesses
+abbrev pub own_accesses : Option Own → List Access
+own_accesses None = []
+own_accesses (Some t) = t.accesses
 
 -- what is told of a client's transaction after its line, by what is told of it before and of those that its looks found
 abbrev pub told_by : (S : SecondStore) → Geometry → Option Own → Step → Told S → List (Told S) → Told S
 told_by S g None s told found = first_or_nothing S found
-told_by S g (Some t) s told found = told_more S g s.line.1.op s.reply t.accesses (accesses_in s.after) told (S.answered s.line.1.op s.reply)
+told_by S g (Some t) s told found = told_more S g s.line.1.op s.reply t.accesses (own_accesses s.after) told (S.answered s.line.1.op s.reply)
 
 abbrev pub after_line : (S : SecondStore) → Geometry → (client : ℕ) → Step → Notes S → Notes S
 after_line S g c s N = record {

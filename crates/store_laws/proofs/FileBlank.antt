@@ -1,5 +1,5 @@
 -- Regions of zeros are well-formed regions of the file store, and hold no file.
-use Rattle.store_laws.proofs.{Words.{◌≡◌, ◌∙◌, sym, ap, subst, ℕ, zero, suc, ◌+◌, ◌<◌, ◌≤◌, true, false, List, Option, Some, None, length, take, replicate, arith, list_all, empty, get, both_ways, length-replicate, take-replicate, Array, is_zero, map_bit, block_at, zeros, tree_map, nat_list_cmp_total, option_map, nat_cmp, slice_cmp, get-empty, same_map, slice_cmp-IsAntisymmetric, nat_cmp-IsAntisymmetric, FileAreas, number_of, AreFileAreas, AreFileRegions, Uses, content, files, number_at, files_get}, TreeBlank.{blank_map, blank_region}, Zeros.{no_bit_in_zeros, zeros_blank}}
+use Rattle.store_laws.proofs.{Words.{IsBlank, ◌≡◌, ◌∙◌, sym, ap, subst, ℕ, zero, suc, ◌+◌, ◌≤◌, true, false, List, Option, Some, None, length, take, replicate, arith, list_all, empty, get, both_ways, length-replicate, take-replicate, Array, is_zero, map_bit, block_at, zeros, tree_map, nat_list_cmp_total, option_map, nat_cmp, slice_cmp, get-empty, same_map, slice_cmp-IsAntisymmetric, nat_cmp-IsAntisymmetric, FileAreas, number_of, AreFileAreas, AreFileRegions, Uses, content, files, number_at, files_get}, TreeBlank.{blank_map, blank_region}, Zeros.{no_bit_in_zeros, zeros_blank}}
 
 no_value : {X : Type 0} (x : X) → ◌≡◌ {A = Option X} None (Some x) → ⊥
 no_value x e = cc
@@ -8,8 +8,7 @@ all_zeros : (n : ℕ) → list_all is_zero (replicate n 0) ≡ true
 all_zeros zero = Rattle.std.proofs.Common.refl
 all_zeros (suc n) = all_zeros n
 
-module _ (a : FileAreas) (A : Array) (areas : AreFileAreas a) (tree : (k : ℕ) → k < a.tree.blocks → block_at A (a.tree.start + k) ≡ replicate a.tree.size 0)
-    (none : (k : ℕ) → k < a.files.blocks → block_at A (a.files.start + k) ≡ replicate a.files.size 0) where
+module _ (a : FileAreas) (A : Array) (areas : AreFileAreas a) (tree : IsBlank a.tree A) (none : IsBlank a.files A) where
   no_name : (name : List ℕ) → get (tree_map a.tree A) name ≡ None
   no_name name = ap (λ m. get m name) (blank_map a.tree A areas.tree tree) ∙ get-empty (slice_cmp nat_cmp) name
 
@@ -42,6 +41,6 @@ module _ (a : FileAreas) (A : Array) (areas : AreFileAreas a) (tree : (k : ℕ) 
 pub made_files : (a : FileAreas) (n : ℕ) → AreFileAreas a → a.files.start + a.files.blocks ≤ n → AreFileRegions a (zeros a.tree.size n) × (files a (zeros a.tree.size n) ≡ empty)
 made_files a n areas fits =
     let tree = zeros_blank a.tree n (let f = areas.follows in omega arith) in
-    let blank : (k : ℕ) → k < a.files.blocks → block_at (zeros a.tree.size n) (a.files.start + k) ≡ replicate a.files.size 0 =
+    let blank : IsBlank a.files (zeros a.tree.size n) =
     (λ k below. subst (λ (s : ℕ). block_at (zeros s n) (a.files.start + k) ≡ replicate a.files.size 0) areas.size (zeros_blank a.files n fits k below)) in
     (blank_regions a (zeros a.tree.size n) areas tree blank, blank_files a (zeros a.tree.size n) areas tree blank)

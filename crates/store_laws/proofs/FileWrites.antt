@@ -1,5 +1,5 @@
 -- The calls of the file store write blocks of its areas alone.
-use Rattle.store_laws.proofs.{Words.{◌≡◌, refl, sym, ap, subst, ℕ, zero, suc, ◌+◌, ◌-◌, ◌<◌, ◌&&◌, ◌||◌, Bool, true, false, cond, nat_le, nat_lt, List, [], ◌∷◌, ◌++◌, length, take, Option, Some, None, Result, Ok, Err, arith, inl, inr, both_ways, nat_tests, get_or, get_or_past, StoreError, Access, Span, Array, IsIn, Program, Done, Look, LookWhole, Reserve, Store, accesses_of, bytes_in, further_bytes, store_access, then_do, own, put, is_key, free_list, get_reads, taken_are, in_area, in_its_area, start_in, StoresIn, whole_run, Tx, added, WriteWithin, all_append, block_at, lowest_free, free_count, cases_lt, or_right, first_below, FileAreas, blocks_for, bytes_of, data_count, entries_of, entry_at, is_file, most_bytes, Call, at_file, create_at, create_new, create_program, goes_on, in_tree, is_many, read_program, remove_file, remove_program, remove_writes, rename_found, rename_free, rename_program, with_new, write_pieces, write_program, write_sized, write_to, AreFileAreas, accesses_then, del_program_stores, put_program_stores, HasRun, place_in, read_reads, entry_handed, file_parts, handed_is, in_range_map, file_store, in_areas}, Programs.{reads_within, writes_within}}
+use Rattle.store_laws.proofs.{Words.{◌≡◌, refl, sym, ap, subst, ℕ, zero, suc, ◌+◌, ◌-◌, ◌<◌, ◌&&◌, ◌||◌, Bool, true, false, cond, nat_le, nat_lt, List, [], ◌∷◌, ◌++◌, length, take, Option, Some, None, Result, Ok, Err, arith, inl, inr, both_ways, nat_tests, get_or, get_or_past, StoreError, Span, Array, IsIn, Program, Done, Look, LookWhole, Reserve, Store, accesses_of, bytes_in, further_bytes, store_access, then_do, put, is_key, free_list, get_reads, taken_are, in_area, in_its_area, start_in, StoresIn, WriteWithin, all_append, block_at, lowest_free, free_count, cases_lt, or_right, first_below, FileAreas, blocks_for, bytes_of, data_count, entries_of, entry_at, is_file, most_bytes, Call, at_file, create_at, create_new, create_program, goes_on, in_tree, is_many, read_program, remove_file, remove_program, remove_writes, rename_found, rename_free, rename_program, with_new, write_pieces, write_program, write_sized, write_to, AreFileAreas, accesses_then, del_program_stores, put_program_stores, place_in, read_reads, entry_handed, file_parts, handed_is, in_range_map, file_store, in_areas}, Programs.{reads_within, writes_within}}
 use Rattle.store_model.specs.TreeCalls.{del_program, get_program, put_program}
 
 -- on each array it writes blocks of the areas alone
@@ -155,8 +155,3 @@ module _ (a : FileAreas) where
   -- READ
   pub read_in : (name : List ℕ) (off len : ℕ) → WritesIn a (read_program a name off len)
   read_in name off len = record { within = λ B. reads_within (file_store a) (accesses_of (read_program a name off len) B) (read_reads a name off len B) }
-
--- what a call that answered Ok wrote
-pub ran_within : {X : Type 0} (a : FileAreas) (p : Call X) (A : Array) (t u : Tx) (r : X) → WritesIn a p → t.base ≡ Some A → HasRun p t u (Ok r) → WriteWithin (file_store a) (added t u)
-ran_within a p A t u r within base run =
-    subst (λ (accesses : List Access). WriteWithin (file_store a) accesses) (whole_run p t u (Ok r) run A base).accesses_are (within.within (own A t.accesses))

@@ -1,5 +1,5 @@
 -- A region of zeros is a well-formed hash region, and its map is empty.
-use Rattle.store_laws.proofs.{Words.{◌≡◌, ◌∙◌, sym, refl, ap, subst, ℕ, zero, suc, ◌+◌, ◌<◌, ◌≤◌, true, false, ◌==◌, List, [], ◌∷◌, ◌++◌, length, get_or, take, replicate, arith, inl, inr, flat_map, list_all, range_with_len, from_be_bytes, w32, empty, from_entries, and_from, both_ways, length-replicate, take-replicate, Area, Array, are_key_parts, cell_count, is_part, is_unused, is_zero, key_mark, keys_end, keys_mark, value_mark, word_at, map_bit, AreLinked, IsHashArea, IsHashRegion, IsIn, IsOverflow, Stands, bucket_pairs, buckets, chain, hash_map, is_linked, last_position, next_of, pairs_from, view_of, block_at, bytes_in, all_pass, piece_zero}, Zeros.no_bit_in_zeros}
+use Rattle.store_laws.proofs.{Words.{IsBlank, ◌≡◌, ◌∙◌, sym, refl, ap, subst, ℕ, zero, suc, ◌+◌, ◌<◌, ◌≤◌, true, false, ◌==◌, List, [], ◌∷◌, ◌++◌, length, get_or, take, replicate, arith, inl, inr, flat_map, list_all, range_with_len, from_be_bytes, w32, empty, from_entries, and_from, both_ways, length-replicate, take-replicate, Area, Array, are_key_parts, cell_count, is_part, is_unused, is_zero, key_mark, keys_end, keys_mark, value_mark, word_at, map_bit, AreLinked, IsHashArea, IsHashRegion, IsIn, IsOverflow, Stands, bucket_pairs, buckets, chain, hash_map, is_linked, last_position, next_of, pairs_from, view_of, block_at, bytes_in, all_pass, piece_zero}, Zeros.no_bit_in_zeros}
 
 no_pairs : (keys : List ℕ) (value : ℕ → List ℕ) (i n : ℕ) → ((j : ℕ) → i ≤ j → j < i + n → is_unused keys j ≡ true) → pairs_from keys value i n ≡ []
 no_pairs keys value i zero unused = refl
@@ -12,7 +12,7 @@ none_over f from zero none = refl
 none_over f from (suc n) none =
     ap (λ first. first ++ flat_map f (range_with_len (from + 1) n)) (none from (omega arith)) ∙ none_over f (from + 1) n (λ k below. none k (omega arith))
 
-module _ (a : Area) (A : Array) (area : IsHashArea a) (blank : (k : ℕ) → k < a.blocks → block_at A (a.start + k) ≡ replicate a.size 0) where
+module _ (a : Area) (A : Array) (area : IsHashArea a) (blank : IsBlank a A) where
   keys_fit : keys_end a.size ≤ a.size
   keys_fit = let least = area.least_size in omega arith
 

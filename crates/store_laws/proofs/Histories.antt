@@ -1,5 +1,5 @@
 -- A history of commits that write a region by calls alone, and transactions without writes.
-use Rattle.store_laws.proofs.{Words.{◌≡◌, ◌⊎◌, ◌∙◌, sym, refl, ap, subst, ℕ, zero, suc, ◌+◌, ◌-◌, ◌<◌, ◌≤◌, Bool, true, false, ◌||◌, cond, IfSome, List, [], ◌∷◌, ◌++◌, length, map, Option, Some, None, slice_get, arith, Access, Commit, Geometry, Array, put, IsSerialAt, has_write, is_write, own, History, array_at, last, HasSeen, IsOfItsBlocks, MapStore, AnswerInOrder, AreMade, Called, IsByCalls, IsOfCalls, Other, Part, accesses_in, answers_in, calls_in}, InOrder.{commit_by, live_in_order, same_shape}}
+use Rattle.store_laws.proofs.{Words.{◌≡◌, ◌⊎◌, ◌∙◌, sym, refl, ap, subst, ℕ, zero, suc, ◌+◌, ◌-◌, ◌<◌, ◌≤◌, Bool, true, false, ◌||◌, cond, IfSome, List, [], ◌∷◌, ◌++◌, length, Option, Some, None, slice_get, arith, Access, Commit, Geometry, Array, put, IsSerialAt, has_write, is_write, own, History, array_at, last, HasSeen, IsOfItsBlocks, MapStore, AnswerByMap, AnswerInOrder, AnswersAt, AnswersShown, AreMade, Called, AnswersFrom, CommitsAfter, IsByCalls, IsCommitted, IsOfCalls, Other, PartsOf, accesses_in, answers_in, calls_in, inr}, InOrder.{commit_by, live_in_order, same_shape}}
 
 -- a commit that has seen what it should, and makes no calls or is serial
 mode_serial : (s : MapStore) (g : Geometry) (H : History) (k : ℕ) (c : Commit) (of : IsOfCalls s H c) → HasSeen g H k c → (calls_in of.parts ≡ []) ⊎ IsSerialAt H k
@@ -49,12 +49,11 @@ pub two_if : {A : Type 0} (P Q R : A → Type 0) (o : Option A) → ((x : A) →
 two_if P Q R None each p q = tt
 two_if P Q R (Some x) each p q = each x p q
 
-pub commits_in_order : (s : MapStore) → IsOfItsBlocks s → (g : Geometry) (H : History) (n : ℕ) → IsByCalls s g H n → (k : ℕ) → n < k → k ≤ last H
-    → IfSome (slice_get H.commits (k - H.first)) (λ c. (of : IsOfCalls s H c) → AnswerInOrder s of.parts (array_at H (k - 1)) (array_at H k))
+pub commits_in_order : (s : MapStore) → IsOfItsBlocks s → (g : Geometry) (H : History) (n : ℕ) → IsByCalls s g H n → CommitsAfter H n (AnswersAt s H)
 commits_in_order s regional g H n by k after to =
     let since = by.since in
     let from : H.first ≤ k = omega arith in
-    if_some (HasSeen g H k) (λ c. (of : IsOfCalls s H c) → AnswerInOrder s of.parts (array_at H (k - 1)) (array_at H k)) (slice_get H.commits (k - H.first))
+    if_some (HasSeen g H k) (AnswersAt s H k) (slice_get H.commits (k - H.first))
     (λ c is seen has. commit_follows s regional g H k c by.first from is seen has (well_formed_at s regional g H n (k - 1) by (omega arith) (omega arith)))
     (by.isolated k from to)
 
@@ -71,8 +70,7 @@ reads_leave (a ∷ xs) ys A none =
     (ap (λ (B : Array). own B xs) here.0 ∙ ih.0, ih.1)
 
 -- Without a write each call answers by the map that was there at the begin.
-pub read_only_answers : (s : MapStore) (A : Array) (parts : List (Part s.Call s.Answer)) → AreMade s A parts → s.IsWellFormed A → has_write (accesses_in parts) ≡ false
-    → answers_in parts ≡ map (λ call. (s.act call (s.map_of A)).0) (calls_in parts)
+pub read_only_answers : (s : MapStore) (A : Array) (parts : PartsOf s) → AreMade s A parts → s.IsWellFormed A → has_write (accesses_in parts) ≡ false → AnswerByMap s parts A
 read_only_answers s A [] made well none = refl
 read_only_answers s A (Called call accesses answer ∷ parts) made well none =
     let leaves = reads_leave accesses (accesses_in parts) A none in
@@ -83,11 +81,19 @@ read_only_answers s A (Other accesses ∷ parts) made well none =
     let leaves = reads_leave accesses (accesses_in parts) A none in
     read_only_answers s A parts (subst (λ (B : Array). AreMade s B parts) leaves.0 made.1) well leaves.1
 
--- what a transaction of the history that began at a commit is answered
-pub live_at : (s : MapStore) → IsOfItsBlocks s → (g : Geometry) (H : History) (n begin : ℕ) (parts : List (Part s.Call s.Answer)) → IsByCalls s g H n → n ≤ begin → begin ≤ last H
-    → AreMade s (array_at H begin) parts → AnswerInOrder s parts (array_at H begin) (own (array_at H begin) (accesses_in parts))
-live_at s regional g H n begin parts by from to made = live_in_order s regional (array_at H begin) parts made (well_formed_at s regional g H n begin by from to)
+-- A commit that is serial answers so,
+pub commit_answers : (s : MapStore) → IsOfItsBlocks s → (H : History) (k : ℕ) (parts : PartsOf s) → IsCommitted s H k parts → AnswerInOrder s parts (array_at H (k - 1)) (array_at H k)
+commit_answers s regional H k parts is = commit_by s regional H k is.commit parts is.first is.since is.is (inr is.serial) is.are is.made is.well_formed
 
-pub read_only_at : (s : MapStore) → IsOfItsBlocks s → (g : Geometry) (H : History) (n begin : ℕ) (parts : List (Part s.Call s.Answer)) → IsByCalls s g H n → n ≤ begin → begin ≤ last H
-    → AreMade s (array_at H begin) parts → has_write (accesses_in parts) ≡ false → answers_in parts ≡ map (λ call. (s.act call (s.map_of (array_at H begin))).0) (calls_in parts)
-read_only_at s regional g H n begin parts by from to made none = read_only_answers s (array_at H begin) parts made (well_formed_at s regional g H n begin by from to) none
+-- a transaction by what it is shown,
+pub shown_answers : (s : MapStore) → IsOfItsBlocks s → (A : Array) → s.IsWellFormed A → AnswersShown s A
+shown_answers s regional A well parts made = live_in_order s regional A parts made well
+
+-- and a history by calls at each number.
+pub calls_answer : (s : MapStore) → IsOfItsBlocks s → (g : Geometry) (H : History) (n : ℕ) → IsByCalls s g H n → AnswersFrom s H n
+calls_answer s regional g H n by = record {
+  commits = commits_in_order s regional g H n by;
+  live = λ m from to. shown_answers s regional (array_at H m) (well_formed_at s regional g H n m by from to);
+  read_only = λ m from to parts made none. read_only_answers s (array_at H m) parts made (well_formed_at s regional g H n m by from to) none;
+  well_formed = λ m from to. well_formed_at s regional g H n m by from to;
+}

@@ -16,7 +16,6 @@ pub mod HashWrites
 pub mod TreeWrites
 pub mod BothCalls
 pub mod FileWrites
-pub mod FileParts
 pub mod Looking
 mod Rows
 mod ScanRows

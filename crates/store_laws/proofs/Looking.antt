@@ -1,5 +1,5 @@
 -- A transaction that calls a store and looks into another one: its calls answer in order, and each look by what it came to.
-use Rattle.store_laws.proofs.{Words.{◌≡◌, sym, subst, ℕ, ◌-◌, ◌<◌, ◌≤◌, IfSome, List, [], ◌∷◌, inr, arith, slice_get, Access, Commit, Geometry, Mode, Serial, Array, own, History, array_at, last, HasSeen, IsIsolatedAt, IsSerialAt, SameShape, First, MixedParts, Neither, Second, firsts, AnswerInOrder, AreMade, IsByCalls, accesses_in, IsOfItsBlocks, MapStore, SameRegion, AreLooking, LooksAnswer}, Growth.reads_spare, Histories.{commit_follows, if_some, well_formed_at}, InOrder.{reads_same, region_stays, same_shape}, SameReads.{SameReads, agree_where, reads_split, same_shape_at, same_shape_own, serial_reads}}
+use Rattle.store_laws.proofs.{Words.{◌≡◌, sym, subst, ℕ, ◌-◌, List, [], ◌∷◌, inr, arith, slice_get, Access, Commit, Geometry, Mode, Serial, Array, own, History, array_at, HasSeen, IsIsolatedAt, IsSerialAt, SameShape, First, MixedParts, Neither, Second, firsts, AreMade, IsByCalls, accesses_in, IsOfItsBlocks, MapStore, SameRegion, AreLooking, CommitsAfter, LooksAnswer, LooksAnswerAt}, Growth.reads_spare, Histories.{commit_follows, if_some, well_formed_at}, InOrder.{reads_same, region_stays, same_shape}, SameReads.{SameReads, agree_where, reads_split, same_shape_at, same_shape_own, serial_reads}}
 
 module _ (s t : MapStore) (regional : IsOfItsBlocks s) (within : (A : Array) → s.IsWellFormed A → t.IsWellFormed A) where
   -- to the store, looks are other accesses
@@ -34,27 +34,15 @@ module _ (s t : MapStore) (regional : IsOfItsBlocks s) (within : (A : Array) →
   serial_seen : (g : Geometry) (H : History) (k : ℕ) (c : Commit) → HasSeen g H k c → c.mode ≡ Serial → IsSerialAt H k
   serial_seen g H k c seen serial = subst (λ (mode : Mode). IsIsolatedAt g H mode k) serial seen.isolated
 
-  pub commit_looks : (g : Geometry) (H : History) (n : ℕ) → IsByCalls s g H n → (k : ℕ) → n < k → k ≤ last H
-      → IfSome (slice_get H.commits (k - H.first)) (λ c. (parts : MixedParts s t) → accesses_in (firsts parts) ≡ c.accesses → c.mode ≡ Serial → AreLooking s t (array_at H c.begin) parts
-      → LooksAnswer s t (array_at H (k - 1)) parts)
+  pub commit_looks : (g : Geometry) (H : History) (n : ℕ) → IsByCalls s g H n → CommitsAfter H n (LooksAnswerAt s t H)
   commit_looks g H n by k after to =
-      if_some (HasSeen g H k) (λ c. (parts : MixedParts s t) → accesses_in (firsts parts) ≡ c.accesses → c.mode ≡ Serial → AreLooking s t (array_at H c.begin) parts → LooksAnswer s t (array_at H (k - 1)) parts)
-      (slice_get H.commits (k - H.first))
-      (λ c is seen parts are serial made.
-      looks_answer parts (array_at H c.begin) (array_at H (k - 1)) (same_shape_at H c.begin (k - 1)) made
-      (subst (λ (accesses : List Access). SameReads accesses (array_at H c.begin) (array_at H (k - 1))) (sym are) (serial_reads H k c is (serial_seen g H k c seen serial)))
-      (well_formed_at s regional g H n (k - 1) by (omega arith) (omega arith)))
-      (by.isolated k (let since = by.since in omega arith) to)
-
-  pub commit_calls : (g : Geometry) (H : History) (n : ℕ) → IsByCalls s g H n → (k : ℕ) → n < k → k ≤ last H
-      → IfSome (slice_get H.commits (k - H.first)) (λ c. (parts : MixedParts s t) → accesses_in (firsts parts) ≡ c.accesses → c.mode ≡ Serial → AreLooking s t (array_at H c.begin) parts
-      → AnswerInOrder s (firsts parts) (array_at H (k - 1)) (array_at H k))
-  commit_calls g H n by k after to =
       let since = by.since in
-      if_some (HasSeen g H k) (λ c. (parts : MixedParts s t) → accesses_in (firsts parts) ≡ c.accesses → c.mode ≡ Serial → AreLooking s t (array_at H c.begin) parts
-      → AnswerInOrder s (firsts parts) (array_at H (k - 1)) (array_at H k))
-      (slice_get H.commits (k - H.first))
-      (λ c is seen parts are serial made.
-      commit_follows s regional g H k c by.first (omega arith) is seen (record { parts = firsts parts; are = are; made = looking_made (array_at H c.begin) parts made; mode = inr serial })
-      (well_formed_at s regional g H n (k - 1) by (omega arith) (omega arith)))
+      let well : s.IsWellFormed (array_at H (k - 1)) = well_formed_at s regional g H n (k - 1) by (omega arith) (omega arith) in
+      if_some (HasSeen g H k) (LooksAnswerAt s t H k) (slice_get H.commits (k - H.first))
+      (λ c is seen of. record {
+        calls = commit_follows s regional g H k c by.first (omega arith) is seen
+            (record { parts = firsts of.parts; are = of.are; made = looking_made (array_at H c.begin) of.parts of.made; mode = inr of.serial }) well;
+        looks = looks_answer of.parts (array_at H c.begin) (array_at H (k - 1)) (same_shape_at H c.begin (k - 1)) of.made
+            (subst (λ (accesses : List Access). SameReads accesses (array_at H c.begin) (array_at H (k - 1))) (sym of.are) (serial_reads H k c is (serial_seen g H k c seen of.serial))) well;
+      })
       (by.isolated k (omega arith) to)

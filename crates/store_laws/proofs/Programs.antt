@@ -1,5 +1,5 @@
 -- A program writes in the blocks of a store.
-use Rattle.store_laws.proofs.Words.{◌≡◌, refl, subst, false, List, [], ◌∷◌, Some, Result, Ok, both_ways, Access, StoreError, Array, put, is_write, own, block_at, AreReads, Done, Look, LookWhole, Program, Reserve, Store, accesses_of, bytes_in, further_bytes, store_access, whole_run, HasEnded, Tx, added, StoresIn, MapStore, SpareRegion, AreApart, WriteWithin}
+use Rattle.store_laws.proofs.Words.{◌≡◌, refl, subst, false, List, [], ◌∷◌, Some, Result, Ok, both_ways, Access, StoreError, Array, put, is_write, own, block_at, AreReads, Done, Look, LookWhole, Program, Reserve, Store, accesses_of, bytes_in, further_bytes, store_access, whole_run, HasEnded, Tx, added, StoresIn, MapStore, SpareRegion, ShareNoBlock, WriteWithin}
 
 pub writes_within : {R : Type 0} (s : MapStore) (p : Program R) (A : Array) → StoresIn s.has_block p → WriteWithin s (accesses_of p A)
 writes_within s (Done r) A stores = tt
@@ -31,6 +31,6 @@ pub read_within : {X : Type 0} (s : MapStore) (p : Program (Result X StoreError)
 read_within s p A t u r reads = ended_as s p A t u r (λ B. reads_within s (accesses_of p B) (reads B))
 
 -- what is written in one region is not written in the other
-pub spare_where_apart : (s t : MapStore) (accesses : List Access) → AreApart s t → WriteWithin s accesses → SpareRegion t accesses
+pub spare_where_apart : (s t : MapStore) (accesses : List Access) → ShareNoBlock s t → WriteWithin s accesses → SpareRegion t accesses
 spare_where_apart s t [] apart within = tt
 spare_where_apart s t (a ∷ accesses) apart within = (λ write. apart a.block (within.0 write), spare_where_apart s t accesses apart within.1)

@@ -1,5 +1,5 @@
 -- Counters in the first bytes of blocks, as stores: what the laws say of additions, and what they refuse.
-use Rattle.store_laws.proofs.{Words.{◌≡◌, ◌∙◌, ◌<◌, ◌≤◌, ◌-◌, inr, sym, refl, ap, ℕ, zero, suc, ◌+◌, ◌==◌, true, false, List, [], ◌∷◌, length, replicate, slice_get, IfSome, arith, eq-eqb, get_or, Access, Commit, Serial, Span, Array, byte_at, put, zeros, HasSeen, IsIsolated, IsSerialAt, own, History, array_at, block_at, IsLocal, depends, look_access, store_access, length-block_put, put_here, if_some_from, small, AnswerInOrder, AreMade, Called, Part, accesses_in, run, IsOfItsBlocks, SpareRegion, MapStore, IsByCalls, IsOfCalls, IsOfBoth, BothByMap, BothInOrder, LooksAnswer, First, MixedParts, Second, firsts}, TwoStores.both_live}
+use Rattle.store_laws.proofs.{Words.{◌≡◌, ◌∙◌, ◌<◌, ◌≤◌, ◌-◌, inr, sym, refl, ap, ℕ, zero, suc, ◌+◌, ◌==◌, true, false, List, [], ◌∷◌, length, replicate, slice_get, IfSome, arith, eq-eqb, get_or, Access, Commit, Serial, Span, Array, byte_at, put, zeros, HasSeen, IsIsolated, IsSerialAt, own, History, array_at, block_at, IsLocal, depends, look_access, store_access, length-block_put, put_here, if_some_from, small, AnswerInOrder, AreMade, ArraysFrom, Called, CommitsAfter, IsCommitted, Part, accesses_in, run, IsOfItsBlocks, SpareRegion, MapStore, IsByCalls, IsOfCalls, IsOfBoth, BothByMap, BothInOrder, LooksAnswer, First, MixedParts, Second, firsts}, Histories.commit_answers, TwoStores.both_live}
 
 -- a counter in the first byte of a block: a call adds a number, and answers what was there
 abbrev counter_in : ℕ → MapStore
@@ -63,9 +63,21 @@ in_turn = history (added_from 0 0 5 ∷ added_from 1 5 2 ∷ [])
 pub each_began_before_itself : IsSerialAt in_turn 2
 each_began_before_itself = λ i p. if_some_from _ (slice_get (adding 5 2) i) (λ a is covered. refl)
 
-pub second_answers_five : AnswerInOrder counter (one_call 5 2) (array_at in_turn 1) (array_at in_turn 2)
+pub second_is_committed : IsCommitted counter in_turn 2 (one_call 5 2)
 unfolding put
-second_answers_five = grind (arith, counter_is_of_its_blocks, each_began_before_itself, adding_is_local) steps 100000
+second_is_committed = record {
+  commit = added_from 1 5 2;
+  first = omega arith;
+  since = omega arith;
+  is = refl;
+  serial = each_began_before_itself;
+  are = refl;
+  made = (adding_is_local 0 (array_at in_turn 1) 5 2 refl, tt);
+  well_formed = refl;
+}
+
+pub second_answers_five : AnswerInOrder counter (one_call 5 2) (array_at in_turn 1) (array_at in_turn 2)
+second_answers_five = commit_answers counter (counter_is_of_its_blocks 0) in_turn 2 (one_call 5 2) second_is_committed
 
 pub counts_seven : run counter 0 (5 ∷ 2 ∷ []) ≡ (0 ∷ 5 ∷ [], 7)
 counts_seven = refl
@@ -95,6 +107,9 @@ lost_update_is_made = (adding_is_local 0 (array_at lost_update 0) 0 2 refl, tt)
 pub lost_update_is_not_serial : IsSerialAt lost_update 2 → ⊥
 unfolding put
 lost_update_is_not_serial is = some_number 4 (is 0 0 refl)
+
+pub lost_update_is_not_committed : IsCommitted counter lost_update 2 (one_call 0 2) → ⊥
+lost_update_is_not_committed is = lost_update_is_not_serial is.serial
 
 head_of : List ℕ → ℕ
 head_of xs = get_or xs 0 0
@@ -176,6 +191,24 @@ commit_of_both = record {
   );
   mode = inr refl;
 }
+
+-- ---- what holds of each commit after a number, and of each array from it on
+
+pub second_begins_at_one : CommitsAfter in_turn 1 (λ k c. c.begin ≡ 1)
+second_begins_at_one zero low high = absurd (omega (arith, low))
+second_begins_at_one (suc zero) low high = absurd (omega (arith, low))
+second_begins_at_one (suc (suc zero)) low high = refl
+second_begins_at_one (suc (suc (suc k))) low high = absurd (omega (arith, high))
+
+pub first_begins_before : CommitsAfter in_turn 0 (λ k c. c.begin ≡ 1) → ⊥
+first_begins_before each = some_number 0 (each 1 (omega arith) (omega arith))
+
+pub array_at_the_number_counts : ArraysFrom in_turn 0 (λ A. counter.map_of A ≡ 5) → ⊥
+array_at_the_number_counts each = some_number 4 (each 0 (omega arith) (omega arith))
+
+pub later_arrays_count : ArraysFrom in_turn 0 (λ A. counter.map_of A ≡ 0) → ⊥
+unfolding put
+later_arrays_count each = some_number 6 (sym (each 2 (omega arith) (omega arith)))
 
 -- ---- what is no answer by one map
 

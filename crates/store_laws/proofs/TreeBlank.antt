@@ -1,7 +1,7 @@
 -- A region of zeros is a well-formed tree region, and its map is empty.
-use Rattle.store_laws.proofs.{Words.{◌≡◌, ◌∙◌, sym, ap, subst, ℕ, ◌+◌, ◌<◌, ◌≤◌, ◌==◌, Bool, true, false, cond, List, [], length, replicate, arith, inl, eq-eqb, list_all, from_be_bytes, w32, empty, from_entries, both_ways, nat_tests, length-replicate, Area, Array, is_zero, word_at, map_bit, IsIn, block_at, bytes_in, head_mark, is_head, IsApart, nodes_in, pairs_in, tree_at, IsTreeArea, IsTreeRegion, cells_in, level_of, root_of, tree_map, tree_nodes, piece_zero}, Zeros.no_bit_in_zeros}
+use Rattle.store_laws.proofs.{Words.{IsBlank, ◌≡◌, ◌∙◌, sym, ap, subst, ℕ, ◌+◌, ◌<◌, ◌≤◌, ◌==◌, Bool, true, false, cond, List, [], length, replicate, arith, inl, eq-eqb, list_all, from_be_bytes, w32, empty, from_entries, both_ways, nat_tests, length-replicate, Area, Array, is_zero, word_at, map_bit, IsIn, block_at, bytes_in, head_mark, is_head, IsApart, nodes_in, pairs_in, tree_at, IsTreeArea, IsTreeRegion, cells_in, level_of, root_of, tree_map, tree_nodes, piece_zero}, Zeros.no_bit_in_zeros}
 
-module _ (a : Area) (A : Array) (area : IsTreeArea a) (blank : (k : ℕ) → k < a.blocks → block_at A (a.start + k) ≡ replicate a.size 0) where
+module _ (a : Area) (A : Array) (area : IsTreeArea a) (blank : IsBlank a A) where
   blank_first : block_at A a.start ≡ replicate a.size 0
   blank_first = let e : a.start + 0 ≡ a.start = omega arith in ap (block_at A) (sym e) ∙ blank 0 (let least = area.least in omega arith)
 

@@ -1,5 +1,5 @@
 -- What a transaction that calls two stores is to each of them.
-use Rattle.store_laws.proofs.{Words.{arith, ◌≡◌, ◌∙◌, refl, ap, subst, ℕ, ◌-◌, ◌<◌, ◌≤◌, IfSome, false, List, [], ◌∷◌, ◌++◌, Some, slice_get, inl, inr, Access, Commit, Geometry, Array, IsSerialAt, has_write, own, History, array_at, last, AreMixed, BothByMap, BothInOrder, BothWellFormed, First, IsByBoth, IsOfBoth, MixedParts, Neither, Second, firsts, seconds, AnswerInOrder, AreMade, IsByCalls, IsOfCalls, accesses_in, IsOfItsBlocks, MapStore}, Histories.{commits_in_order, read_only_at, two_if, well_formed_at}, InOrder.{commit_by, live_in_order}}
+use Rattle.store_laws.proofs.{Words.{AnswersAt, AreCommitted, BothAnswerFrom, BothAnswerAt, BothAnswerShown, CommitsAfter, arith, ◌≡◌, ◌∙◌, refl, ap, subst, ℕ, ◌-◌, ◌<◌, ◌≤◌, false, List, [], ◌∷◌, ◌++◌, Some, slice_get, inl, inr, Access, Commit, Geometry, Array, IsSerialAt, has_write, own, History, array_at, last, AreMixed, BothByMap, BothInOrder, BothWellFormed, First, IsByBoth, IsOfBoth, MixedParts, Neither, Second, firsts, seconds, AnswerInOrder, AreMade, IsByCalls, IsOfCalls, accesses_in, IsOfItsBlocks, MapStore}, Histories.{commits_in_order, read_only_answers, two_if, well_formed_at}, InOrder.{commit_by, live_in_order}}
 
 -- each store sees the same accesses
 pub same_accesses : (s t : MapStore) (parts : MixedParts s t) → accesses_in (seconds parts) ≡ accesses_in (firsts parts)
@@ -71,16 +71,31 @@ pub both_read_only : (s t : MapStore) → IsOfItsBlocks s → IsOfItsBlocks t �
     → AreMixed s t (array_at H begin) parts → has_write (accesses_in (firsts parts)) ≡ false → BothByMap s t parts (array_at H begin)
 both_read_only s t one two g H n begin parts by from to made none =
     let A = array_at H begin in
+    let well = both_well_formed s t one two g H n begin by from to in
     record {
-      first = read_only_at s one g H n begin (firsts parts) (first_by s t g H n by) from to (first_made s t A parts made) none;
-      second = read_only_at t two g H n begin (seconds parts) (second_by s t g H n by) from to (second_made s t A parts made) (ap has_write (same_accesses s t parts) ∙ none);
+      first = read_only_answers s A (firsts parts) (first_made s t A parts made) well.first none;
+      second = read_only_answers t A (seconds parts) (second_made s t A parts made) well.second (ap has_write (same_accesses s t parts) ∙ none);
     }
 
-pub both_commits : (s t : MapStore) → IsOfItsBlocks s → IsOfItsBlocks t → (g : Geometry) (H : History) (n : ℕ) → IsByBoth s t g H n → (k : ℕ) → n < k → k ≤ last H
-    → IfSome (slice_get H.commits (k - H.first)) (λ c. (of : IsOfBoth s t H c) → BothInOrder s t of.parts (array_at H (k - 1)) (array_at H k))
+pub both_commits : (s t : MapStore) → IsOfItsBlocks s → IsOfItsBlocks t → (g : Geometry) (H : History) (n : ℕ) → IsByBoth s t g H n → CommitsAfter H n (BothAnswerAt s t H)
 both_commits s t one two g H n by k after to =
-    two_if (λ c. (is : IsOfCalls s H c) → AnswerInOrder s is.parts (array_at H (k - 1)) (array_at H k)) (λ c. (is : IsOfCalls t H c) → AnswerInOrder t is.parts (array_at H (k - 1)) (array_at H k))
-    (λ c. (of : IsOfBoth s t H c) → BothInOrder s t of.parts (array_at H (k - 1)) (array_at H k)) (slice_get H.commits (k - H.first))
+    two_if (AnswersAt s H k) (AnswersAt t H k) (BothAnswerAt s t H k) (slice_get H.commits (k - H.first))
     (λ c p q is. record { first = p (first_of_calls s t H c is); second = q (second_of_calls s t H c is) })
     (commits_in_order s one g H n (first_by s t g H n by) k after to)
     (commits_in_order t two g H n (second_by s t g H n by) k after to)
+
+-- the same, as the laws say it
+pub both_commit_answers : (s t : MapStore) → IsOfItsBlocks s → IsOfItsBlocks t → (H : History) (k : ℕ) (parts : MixedParts s t) → AreCommitted s t H k parts
+    → BothInOrder s t parts (array_at H (k - 1)) (array_at H k)
+both_commit_answers s t one two H k parts is = both_commit s t one two H k is.commit parts is.first is.since is.is is.serial is.are is.made is.well_formed
+
+pub both_shown_answer : (s t : MapStore) → IsOfItsBlocks s → IsOfItsBlocks t → (A : Array) → BothWellFormed s t A → BothAnswerShown s t A
+both_shown_answer s t one two A well parts made = both_live s t one two A parts made well
+
+pub both_answer : (s t : MapStore) → IsOfItsBlocks s → IsOfItsBlocks t → (g : Geometry) (H : History) (n : ℕ) → IsByBoth s t g H n → BothAnswerFrom s t H n
+both_answer s t one two g H n by = record {
+  commits = both_commits s t one two g H n by;
+  live = λ m from to. both_shown_answer s t one two (array_at H m) (both_well_formed s t one two g H n m by from to);
+  read_only = λ m from to parts made none. both_read_only s t one two g H n m parts by from to made none;
+  well_formed = λ m from to. both_well_formed s t one two g H n m by from to;
+}

@@ -6,6 +6,6 @@ unfoldable pub use Rattle.iso_model.specs.Array.{put}
 pub use Rattle.iso_tree.proofs.{Gets.get_reads, ScanCalls.{entries_are, program_reads}, Taking.taken_are, TreeWrites.{del_program_stores, put_program_stores}}
 pub use Rattle.store_model.{proofs.AreaBlocks.{in_its_area, start_in}, proofs.HashAccesses.{first_below, hash_area_is}, proofs.TreeAccesses.tree_area_is, specs.Areas.{hash_area, tree_area, in_area}, specs.Cells.{are_key_parts, cell_count, cell_with, is_part, is_unused, is_zero, key_mark, keys_end, keys_mark, unused_cell, value_mark, word_at}, specs.FileCalls.{Call, at_file, create_at, create_new, create_op, goes_on, in_tree, is_many, read_op, read_program, remove_file, remove_op, remove_writes, rename_found, rename_free, rename_op, with_new, write_op, write_pieces, write_sized, write_to}, specs.FileNodes.{blocks_for, bytes_of, data_count, entries_of, entry_at, is_file, is_handed, is_number, most_bytes, number_of}, specs.FileRegion.{AreFileAreas, AreFileRegions, Uses, content, files, number_at}, specs.FreeMap.{bit_place, free_count, lowest_free, map_bit}, specs.HashCalls.{AtBroken, AtCell, AtEnd, Walked, at_cell, del_at, got, is_key, is_spent, put_at, put_new, spare_in, spot_in, walk_from}, specs.HashRegion.{AreLinked, IsHashArea, IsHashRegion, IsIn, IsOverflow, Pairs, Stands, bucket_of, bucket_pairs, buckets, chain, chain_from, del_op, get_op, last_position, next_of, pairs_from, put_op, view_of}, specs.Stores.{Agree, AreReads, Done, IsLocal, Look, LookWhole, Program, Reserve, SameShape, Store, accesses_of, answer_of, bytes_in, depends, further_bytes, look_access, store_access, then_do}, specs.TreeCalls.{free_list, scan_program}, specs.TreeNodes.{head_mark, is_head}, specs.TreeRegion.{IsTreeArea, IsTreeRegion, cells_in, is_within, level_of, root_of, scan_op, tree_nodes}, specs.Trees.{IsApart, nodes_in, pairs_in, tree_at}, specs.declared.files.FileAreas.FileAreas, specs.declared.stores.Area.Area, specs.declared.stores.Region.Region, specs.declared.stores.Spot.Spot, specs.declared.stores.StoreError.StoreError}
 unfoldable pub use Rattle.store_model.specs.{FileCalls.{create_program, remove_program, rename_program, write_program}, HashCalls.{del_program, get_program, put_program, walk}, HashRegion.{hash_map, is_linked}, TreeRegion.tree_map}
-pub use Rattle.tx_blocks.{proofs.Frames.piece_zero, proofs.Parts.scanned_ok, proofs.Programs.accesses_then, proofs.Progress.{added_is, own_append, whole_run}, proofs.Storing.{Answers, StoresIn, answers_cond, stores_cell, stores_cond, stores_then}, specs.Runs.{HasEnded, HasRead, IsLocalCall, Ran, WantsMemory, area_of}, specs.Tx.{Tx, added, with_accesses}}
-pub use Rattle.iso_fs.{proofs.FileBlocks.place_in, proofs.FileReads.read_reads, proofs.Files.{entry_handed, file_parts, handed_is}, proofs.Lookups.files_get, proofs.Removes.in_range_map, specs.Ends.HasRun}
-pub use Rattle.store_laws.specs.{Both.{AreMixed, BothByMap, BothInOrder, BothWellFormed, First, IsByBoth, IsOfBoth, Mixed, MixedParts, Neither, Second, firsts, seconds}, BothStores.{IsMadeOfStores, StorePart}, Calls.{AreDisjoint, Del, Found, Get, Got, KeyCall, Put, StoreAnswer, WasPut, WasThere, key_act}, FileBlocks.files_are_of_their_blocks, Files.{FileAnswer, FileCall, FileMade, FileRead, FileThere, MakeFile, ReadFile, RemoveFile, RenameFile, WriteFile, file_act, file_store, in_areas}, Growing.{IsMadeOf, IsMadeOfBoth}, Hash.hash_store, HashBlocks.hash_is_of_its_blocks, Looks.{AreLooking, LooksAnswer}, Parts.{AnswerInOrder, AreMade, Called, IsByCalls, IsOfCalls, Other, Part, accesses_in, answers_in, calls_in, run}, Region.{IsOfItsBlocks, MapStore, SameRegion, SpareRegion}, Tree.{OnKey, Scan, TreeCall, tree_act, tree_store}, TreeBlocks.tree_is_of_its_blocks, Writes.{AreApart, WriteWithin}}
+pub use Rattle.tx_blocks.{proofs.Frames.piece_zero, proofs.Parts.scanned_ok, proofs.Programs.accesses_then, proofs.Progress.{added_is, own_append, whole_run}, proofs.Storing.{Answers, StoresIn, answers_cond, stores_cell, stores_cond, stores_then}, specs.Runs.{HasEnded, HasRead, IsLocalCall, WantsMemory, area_of}, specs.Tx.{Tx, added, with_accesses}}
+pub use Rattle.iso_fs.{proofs.FileBlocks.place_in, proofs.FileReads.read_reads, proofs.Files.{entry_handed, file_parts, handed_is}, proofs.Lookups.files_get, proofs.Removes.in_range_map}
+pub use Rattle.store_laws.specs.{Both.{AreMixed, BothByMap, BothInOrder, BothWellFormed, First, IsByBoth, IsOfBoth, Mixed, MixedParts, Neither, Second, firsts, seconds}, BothStores.{IsMadeOfStores, StorePart}, Committed.{AnswersAt, AnswersShown, AreCommitted, BothAnswerFrom, BothAnswerAt, BothAnswerShown, AnswersFrom, IsCommitted}, Calls.{AreDisjoint, Del, Found, Get, Got, IsBlank, KeyCall, Put, StoreAnswer, WasPut, WasThere, key_act}, FileBlocks.files_are_of_their_blocks, Files.{FileMade, FileRead, FileThere, MakeFile, ReadFile, RemoveFile, RenameFile, WriteFile, file_act, file_store, in_areas}, Growing.{IsMadeOf, IsMadeOfBoth}, Hash.hash_store, HashBlocks.hash_is_of_its_blocks, Looks.{AreLooking, LooksAnswer, LooksAnswerAt}, Parts.{AnswerByMap, AnswerInOrder, AreMade, ArraysFrom, Called, CommitsAfter, IsByCalls, IsOfCalls, Other, Part, PartsOf, accesses_in, answers_in, calls_in, run}, Region.{IsOfItsBlocks, MapStore, SameRegion, SpareRegion}, Tree.{OnKey, Scan, TreeCall, tree_act, tree_store}, TreeBlocks.tree_is_of_its_blocks, Writes.{ShareNoBlock, WriteWithin}}

@@ -1,8 +1,8 @@
 -- Transactions that call two stores.
-use Rattle.std.specs.Prelude.{◌≡◌, ◌⊎◌, ℕ, ◌+◌, ◌-◌, ◌<◌, ◌≤◌, IfSome, List, [], ◌∷◌, map, slice_get}
+use Rattle.std.specs.Prelude.{◌≡◌, ◌⊎◌, ℕ, ◌+◌, ◌<◌, ◌≤◌, List, [], ◌∷◌}
 use Rattle.iso_model.specs.{declared.access.Access.Access, declared.access.Commit.Commit, declared.access.Geometry.Geometry, declared.access.Mode.TheVariants.Serial, Array.Array, Effect.own, History.{History, array_at, last}, Isolation.IsIsolated}
 use Rattle.store_model.specs.Stores.{IsLocal}
-use Rattle.store_laws.specs.{Region.{MapStore, SpareRegion}, Parts.{AnswerInOrder, Called, Other, Part, accesses_in, answers_in, calls_in}}
+use Rattle.store_laws.specs.{Region.{MapStore, SpareRegion}, Parts.{AnswerByMap, AnswerInOrder, Called, CommitsAfter, Other, Part, accesses_in, calls_in}}
 
 -- A part of a transaction: a call of the first store or of the second, with the accesses that it made and its answer, or other accesses.
 pub data Mixed (OneCall OneAnswer TwoCall TwoAnswer : Type 0) : Type 0 where
@@ -50,8 +50,8 @@ pub record BothInOrder (s t : MapStore) (parts : MixedParts s t) (A B : Array) :
 
 -- each call answered by its store's map of this array
 pub record BothByMap (s t : MapStore) (parts : MixedParts s t) (A : Array) : Type 0 where
-  pub first : answers_in (firsts parts) ≡ map (λ call. (s.act call (s.map_of A)).0) (calls_in (firsts parts))
-  pub second : answers_in (seconds parts) ≡ map (λ call. (t.act call (t.map_of A)).0) (calls_in (seconds parts))
+  pub first : AnswerByMap s (firsts parts) A
+  pub second : AnswerByMap t (seconds parts) A
 
 -- A commit that writes the two regions by calls of their stores alone; a snapshot makes none.
 pub record IsOfBoth (s t : MapStore) (H : History) (c : Commit) : Type 0 where
@@ -62,7 +62,7 @@ pub record IsOfBoth (s t : MapStore) (H : History) (c : Commit) : Type 0 where
 
 -- each commit after n does
 abbrev pub AreOfBoth : (s t : MapStore) → History → (n : ℕ) → Type 0
-AreOfBoth s t H n = (k : ℕ) → n < k → k ≤ last H → IfSome (slice_get H.commits (k - H.first)) (IsOfBoth s t H)
+AreOfBoth s t H n = CommitsAfter H n (λ k. IsOfBoth s t H)
 
 -- An isolated history whose commits after n write the two regions by calls alone, and in which both are well formed at n.
 pub record IsByBoth (s t : MapStore) (g : Geometry) (H : History) (n : ℕ) : Type 0 where

@@ -1,5 +1,6 @@
 -- What the stores share: the calls on one key with their operations on the map, what calls answer, and the blocks of an area.
-use Rattle.std.specs.Prelude.{◌⊎◌, ℕ, ◌+◌, ◌≤◌, Bool, List, Option}
+use Rattle.std.specs.Prelude.{◌≡◌, ◌⊎◌, ℕ, ◌+◌, ◌<◌, ◌≤◌, Bool, List, Option, replicate}
+use Rattle.iso_model.specs.{Array.Array, Premises.block_at}
 use Rattle.store_model.specs.{declared.stores.Area.Area, HashRegion.{Pairs, del_op, get_op, put_op}}
 pub use Rattle.store_model.specs.Areas.{in_area}
 
@@ -25,3 +26,7 @@ key_act (Del key) m = (WasThere (del_op key m).0, (del_op key m).1)
 -- areas that have no block in common: one ends before the other begins
 abbrev pub AreDisjoint : Area → Area → Type 0
 AreDisjoint a b = (a.start + a.blocks ≤ b.start) ⊎ (b.start + b.blocks ≤ a.start)
+
+-- the area's blocks are zeros
+abbrev pub IsBlank : Area → Array → Type 0
+IsBlank a A = (k : ℕ) → k < a.blocks → block_at A (a.start + k) ≡ replicate a.size 0

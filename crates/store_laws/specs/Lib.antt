@@ -1,6 +1,7 @@
 pub mod Region
 pub mod Parts
 pub mod Both
+pub mod Committed
 pub mod Looks
 pub mod Growing
 pub mod Writes

@@ -8,5 +8,5 @@ abbrev pub WriteWithin : MapStore → List Access → Type 0
 WriteWithin s accesses = AllByRecursion (λ a. IsTrue (is_write a) → IsTrue (s.has_block a.block)) accesses
 
 -- two stores that have no block in common
-abbrev pub AreApart : (s t : MapStore) → Type 0
-AreApart s t = (b : ℕ) → IsTrue (s.has_block b) → IsFalse (t.has_block b)
+abbrev pub ShareNoBlock : (s t : MapStore) → Type 0
+ShareNoBlock s t = (b : ℕ) → IsTrue (s.has_block b) → IsFalse (t.has_block b)

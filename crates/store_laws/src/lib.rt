@@ -1,8 +1,8 @@
 //! What stores promise over many transactions, as laws, for every store that depends on its own blocks alone (`RegionStore`).
 //!
 //! Where a region begins well formed and Ok calls alone write it, each commit's calls answer as one thread's on the map before it and
-//! end in the map after it (`commit`, `history`); without writes they answer by the map at the begin (`read_only`). Hash store, tree
-//! store and files are such stores (`both_laws`, `file_laws`). Snapshots have no such order (`Skew`).
+//! end in the map after it; without writes they answer by the map at the begin (`commit`, `history` and its `AnswersFrom`). Such stores
+//! are `HashStore`, `TreeStore`, `FileStore`. Snapshots have no such order (`Skew`).
 #![tactic(auto)]
 
 pub mod both_laws;

@@ -1,5 +1,5 @@
 -- Where a call of a store, a mark and an end lead, with what is told of the transactions.
-use Rattle.store_scripts.proofs.{Words.{◌≡◌, ◌≢◌, ◌∙◌, sym, refl, ap, option_map, subst, ℕ, ◌+◌, ◌-◌, ◌≤◌, ◌==◌, ◌&&◌, not, Bool, true, false, cond, IsTrue, List, [], ◌∷◌, ◌++◌, length, drop, Option, Some, None, Result, Ok, arith, nat_lt, list_all, and_parts, eqb-false, ltb-false, ltb-true, length-append, Access, Clash, MarkError, Mode, Serial, Snapshot, Span, LAST, MAX_ACCESSES, Op, End, Mark, Reply, Array, clash, has_write, is_serial, array_at, last, mark_fault, marked, appended, after_commit, after_leaving, need, commit_from, commit_step, end_step, as_step, array_of, in_store, mark_refused, mark_step, marked_step, store_step, Program, outcome, Live, World, attached, used, IsLive, all_filter, both_of, commits, live_at, BothWellFormed, both_well_formed, array_longer, stays_by_both, image_hash, Notes, spares_stores, told_more, SecondStore, second_store, Answered, store_reply}, Growing.{call_told, kept_with, mark_told, of_both}, Seconds.{AreRefusals, IsCall, IsSecond}, Noted.{Goes, Holds, IsKept, IsNoted, adds, changes, choose, notes_by, quiet, stays}, Blocks.hash_blocks, Reading.{call_by_map, front_reads, marked_writes}, Steps.{called, kept_of, leaves}}
+use Rattle.store_scripts.proofs.{Words.{◌≡◌, ◌≢◌, ◌∙◌, sym, refl, ap, option_map, subst, ℕ, ◌+◌, ◌-◌, ◌≤◌, ◌==◌, ◌&&◌, not, Bool, true, false, cond, IsTrue, List, [], ◌∷◌, ◌++◌, length, drop, Option, Some, None, Result, Ok, arith, nat_lt, list_all, and_parts, eqb-false, ltb-false, ltb-true, length-append, Access, Clash, MarkError, Mode, Serial, Snapshot, Span, LAST, MAX_ACCESSES, Op, End, Mark, Reply, clash, has_write, is_serial, array_at, last, mark_fault, marked, appended, after_commit, after_leaving, need, commit_from, commit_step, end_step, as_step, array_of, in_store, mark_refused, mark_step, marked_step, store_step, Program, outcome, Live, World, attached, used, IsLive, all_filter, both_of, commits, live_at, BothWellFormed, both_well_formed, array_longer, stays_by_both, image_hash, Notes, spares_stores, told_more, SecondStore, second_store, Answered, store_reply}, Growing.{call_told, kept_with, mark_told, of_both}, Seconds.{AreRefusals, IsCall, IsSecond}, Noted.{Goes, Holds, IsKept, IsNoted, adds, changes, choose, notes_by, quiet, stays}, Blocks.hash_blocks, Reading.{call_by_map, front_reads, marked_writes}, Steps.{called, kept_of, leaves}}
 use Rattle.iso_model.specs.declared.core_reply.CoreReply.TheVariants as core
 use Rattle.script_model.specs.declared.script.Reply.TheVariants as reply
 

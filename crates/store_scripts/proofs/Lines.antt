@@ -1,5 +1,5 @@
 -- What is told of transactions stays true along the lines of a script.
-use Rattle.store_scripts.proofs.{Words.{KeyCall, StoreAnswer, StoreError, Program, Result, Ok, outcome, in_store, store_step, put_answer, get_answer, del_answer, ◌≢◌, AllByRecursion, ◌≡◌, ◌∙◌, sym, refl, subst, ℕ, ◌-◌, ◌<◌, ◌≤◌, false, IsTrue, length, option_map, List, [], ◌∷◌, Option, Some, None, arith, Line, Op, Begin, End, Abort, Put, Read, Get, Write, Fill, Mark, Release, Takeover, Await, Group, Trim, Stat, Compact, Upgrade, HashPut, HashGet, HashDelete, TreePut, TreeGet, TreeDelete, TreeScan, Reply, Geometry, MAX_ACCESSES, last, after, after_leaving, end_step, mode_named, read_access, shown_to, as_step, array_of, fill_step, found_reply, get_step, hash_delete_step, hash_get_step, hash_put_step, in_transaction, mark_step, numbers, put_step, read_step, release_step, removed_reply, step, store_refusal, tree_delete_step, tree_get_step, tree_put_step, tree_scan_step, write_step, hash_area, Live, World, attached, client, held, AreLines, IsOp, IsWorld, live_at, step_leads, begins_by_both, BeginsWell, image_hash, CommitKeeps, CommitsKeep, Notes, OfHash, no_notes, noted, notes_after, nothing_told, told_by, all_weaker, group_step, grouped, SecondStore, second_store, FileNew, FileWrite, FileRead, FileMove, FileDelete, file_new_step, file_write_step, file_read_step, file_move_step, file_delete_step, Del, GetKey, Got, PutKey, WasPut, WasThere}, Members.{group_next, labels_noted}, Noted.{Goes, IsKept, IsNoted, notes_by, other_is, quiet, stays}, Steps.{access_goes, begin_goes, in_goes, kept_of, leaves, out_goes, release_goes, switch_goes, takeover_goes, trim_goes}, Acting.{SecondGoes, got_told, shape_at, store_refused, there_told}, Calls.{end_goes, mark_goes, refusals_of, told_call}, Locality.{hash_got, hash_was_put, hash_was_there}, Seconds.{IsCallOf, IsSecond}}
+use Rattle.store_scripts.proofs.{Words.{KeyCall, StoreAnswer, StoreError, Program, Result, Ok, outcome, in_store, store_step, put_answer, get_answer, del_answer, ◌≢◌, ◌≡◌, ◌∙◌, refl, ℕ, ◌-◌, ◌<◌, ◌≤◌, false, IsTrue, length, option_map, List, [], ◌∷◌, Option, Some, None, arith, Line, Op, Begin, End, Abort, Put, Read, Get, Write, Fill, Mark, Release, Takeover, Await, Group, Trim, Stat, Compact, Upgrade, HashPut, HashGet, HashDelete, TreePut, TreeGet, TreeDelete, TreeScan, Reply, Geometry, MAX_ACCESSES, last, after, after_leaving, end_step, mode_named, read_access, shown_to, as_step, array_of, fill_step, found_reply, get_step, hash_delete_step, hash_get_step, hash_put_step, in_transaction, mark_step, numbers, put_step, read_step, release_step, removed_reply, step, store_refusal, tree_delete_step, tree_get_step, tree_put_step, tree_scan_step, write_step, hash_area, Live, World, attached, client, held, AreLines, IsOp, IsWorld, live_at, step_leads, begins_by_both, BeginsWell, image_hash, CommitKeeps, CommitsKeep, Notes, OfHash, no_notes, noted, notes_after, nothing_told, told_by, all_weaker, group_step, grouped, SecondStore, second_store, FileNew, FileWrite, FileRead, FileMove, FileDelete, file_new_step, file_write_step, file_read_step, file_move_step, file_delete_step, Del, GetKey, Got, PutKey, WasPut, WasThere}, Members.{group_next, labels_noted}, Noted.{Goes, IsKept, IsNoted, notes_by, other_is, quiet, stays}, Steps.{access_goes, begin_goes, in_goes, kept_of, leaves, out_goes, release_goes, switch_goes, takeover_goes, trim_goes}, Acting.{SecondGoes, got_told, shape_at, store_refused, there_told}, Calls.{end_goes, mark_goes, refusals_of, told_call}, Locality.{hash_got, hash_was_put, hash_was_there}, Seconds.{IsCallOf, IsSecond}}
 use Rattle.script_model.specs.declared.script.Reply.TheVariants as reply
 use Rattle.store_model.specs.HashCalls as hash
 

@@ -1,5 +1,5 @@
 -- A program of a store's call that answered Ok is local for its store, and spares the other.
-use Rattle.store_scripts.proofs.{Words.{StoreError, ◌≡◌, ◌≢◌, refl, ap, subst, ℕ, zero, suc, ◌+◌, ◌<◌, ◌&&◌, Bool, true, false, cond, IsTrue, List, length, Option, Some, Result, Ok, Err, arith, and_parts, Access, Geometry, Area, BadKey, BadValue, Array, is_valid, is_key, is_value, IsHashRegion, Pairs, del_op, get_op, hash_map, put_op, HasShape, block_at, hash_area, tree_area, Done, IsLocal, Program, accesses_of, answer_of, outcome, IsTreeRegion, scan_op, tree_map, limits, hash_area_is, tree_area_is, outcome_whole, Del, Found, Got, WasPut, WasThere, OnKey, Scan, AreApart, SpareRegion, reads_spare, spare_where_apart, writes_within, IfAny, image_hash, pairs_if_any, SecondStore, second_store, the_tree, MapStore, sym, ◌∙◌}, Blocks.tree_second, Seconds.{IsCallOf, IsSecond}}
+use Rattle.store_scripts.proofs.{Words.{StoreError, ◌≡◌, ◌≢◌, refl, ℕ, zero, suc, ◌+◌, ◌<◌, ◌&&◌, Bool, true, false, cond, IsTrue, List, length, Option, Some, Result, Ok, Err, arith, and_parts, Access, Geometry, Area, BadKey, BadValue, Array, is_valid, is_key, is_value, IsHashRegion, Pairs, del_op, get_op, hash_map, put_op, HasShape, block_at, hash_area, tree_area, Done, IsLocal, Program, accesses_of, answer_of, outcome, IsTreeRegion, scan_op, tree_map, limits, hash_area_is, tree_area_is, outcome_whole, Del, Found, Got, WasPut, WasThere, OnKey, Scan, ShareNoBlock, SpareRegion, reads_spare, spare_where_apart, writes_within, IfAny, image_hash, pairs_if_any, SecondStore, second_store, the_tree, MapStore, sym, ◌∙◌}, Blocks.tree_second, Seconds.{IsCallOf, IsSecond}}
 use Rattle.store_model.specs.HashCalls as hash
 use Rattle.store_model.specs.TreeCalls as tree
 use Rattle.iso_hash.proofs.Changes as hash_changes
@@ -52,7 +52,7 @@ unfolding tree.scan_program
 tree_scan_keys a from to most B r is = and_parts (is_key from) (is_key to) (passed (is_key from && is_key to) _ BadKey B r is).0
 
 -- apart in either order
-pub turned : (s t : MapStore) → AreApart s t → AreApart t s
+pub turned : (s t : MapStore) → ShareNoBlock s t → ShareNoBlock t s
 turned s t apart = λ b has. not_both (s.has_block b) (t.has_block b) (apart b) has
   where
     not_both : (x y : Bool) → (x ≡ true → y ≡ false) → y ≡ true → x ≡ false
@@ -96,7 +96,7 @@ module _ (S : SecondStore) (lawful : IsSecond S) (g : Geometry) (valid : IsTrue 
 
 -- THE TREE STORE
 module _ (g : Geometry) (valid : IsTrue (is_valid g)) (B : Array) (shape : HasShape g B) (room : ℕ) where
-  apart_too : AreApart (second_store the_tree g) (image_hash g)
+  apart_too : ShareNoBlock (second_store the_tree g) (image_hash g)
   apart_too = turned (image_hash g) (second_store the_tree g) (tree_second.apart g valid)
 
   tree_blocks : (k : ℕ) → k < g.tree → length (block_at B (g.hash + k)) ≡ g.block

@@ -1,5 +1,5 @@
 -- Where a group leads, with what is told of the transactions: its members end one after the other, each as by an end of its own.
-use Rattle.store_scripts.proofs.{Words.{◌≡◌, ◌∙◌, ◌⊎◌, sym, refl, ap, subst, ℕ, ◌+◌, ◌-◌, ◌<◌, ◌≤◌, ◌==◌, not, IsTrue, List, [], ◌∷◌, length, take, Option, Some, None, arith, inl, inr, take-append-le, length-append, AllByRecursion, all_filter, all_find, all_weaker, live_on, same_Some, Geometry, Commit, GroupReply, CoreReply, Stat, Reply, Array, History, all_own, array_at, last, after_member, after_look, ahead, decided, found_ones, group, group_is, group_leads, group_step, label_replies, leave_all, looks, made_by, member_leaves, member_reply, found_are_live, first_found, held_live, look_leads, looks_geometry, looks_history, looks_keep, after_commit, after_leaving, commit_from, end_step, as_reply, Live, World, held, is_under_label, unattached, Extends, IsLive, IsWorld, IsByBoth, ToldInOrder, image_hash, EndsAs, Notes, Told, SecondStore, second_store}, Calls.end_goes, Noted.{Holds, IsKept, IsNoted}, Order.{committed_told, end_only}, Steps.places, Seconds.IsSecond}
+use Rattle.store_scripts.proofs.{Words.{◌≡◌, ◌∙◌, ◌⊎◌, sym, refl, ap, subst, ℕ, ◌+◌, ◌-◌, ◌<◌, ◌≤◌, ◌==◌, not, IsTrue, List, [], ◌∷◌, length, take, Option, Some, None, arith, inl, inr, take-append-le, length-append, AllByRecursion, all_filter, all_find, all_weaker, live_on, same_Some, Geometry, Commit, GroupReply, CoreReply, Stat, Reply, Array, History, all_own, array_at, last, after_member, after_look, ahead, decided, found_ones, group, group_is, group_leads, group_step, label_replies, leave_all, looks, made_by, member_leaves, member_reply, found_are_live, first_found, held_live, look_leads, looks_geometry, looks_history, looks_keep, after_commit, after_leaving, commit_from, end_step, as_reply, Live, World, held, is_under_label, unattached, Extends, IsLive, IsWorld, IsByBoth, ToldInOrder, image_hash, EndsAs, Notes, Told, SecondStore, second_store}, Calls.end_goes, Noted.{IsKept, IsNoted}, Order.{committed_told, end_only}, Steps.places, Seconds.IsSecond}
 use Rattle.iso_model.specs.declared.access.GroupReply.TheVariants as member
 use Rattle.iso_model.specs.declared.core_reply.CoreReply.TheVariants as core
 use Rattle.script_model.specs.declared.script.Reply.TheVariants as reply

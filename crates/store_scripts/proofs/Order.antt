@@ -1,5 +1,5 @@
 -- The calls that are told of a transaction answer in order, by what its parts are.
-use Rattle.store_scripts.proofs.{Words.{◌≡◌, ◌∙◌, sym, ap, subst, ℕ, ◌+◌, ◌-◌, ◌<◌, ◌≤◌, ◌==◌, Bool, true, false, cond, IsTrue, IfSome, List, [], ◌∷◌, slice_get, Option, Some, None, arith, nat_lt, length-append, Access, Clash, Commit, Geometry, LAST, End, Reply, Array, clash, has_write, own, array_at, last, appended, after_commit, after_leaving, need, commit_from, commit_step, end_step, as_step, array_of, in_transaction, step, Live, World, attached, is_at_client, used, IsLive, IsWorld, all_find, live_at, step_leads, AreMixed, BothInOrder, IsOfBoth, firsts, seconds, KeyCall, answers_in, calls_in, run, array_longer, last_of, stays_by_both, both_commits, both_live, both_well_formed, IsToldOf, ToldByMap, ToldInOrder, image_hash, Notes, Told, SecondStore, second_store}, Blocks.hash_blocks, Growing.{AreAll, StorePart, all_are, all_parts, of_both}, Noted.{IsKept, IsNoted}, Seconds.IsSecond}
+use Rattle.store_scripts.proofs.{Words.{◌≡◌, ◌∙◌, sym, ap, subst, ℕ, ◌+◌, ◌-◌, ◌<◌, ◌≤◌, ◌==◌, Bool, true, false, cond, IsTrue, IfSome, List, [], ◌∷◌, slice_get, Option, Some, None, arith, nat_lt, length-append, Access, Clash, Commit, Geometry, LAST, End, Reply, Array, clash, has_write, own, array_at, last, appended, after_commit, after_leaving, need, commit_from, commit_step, end_step, as_step, array_of, in_transaction, step, Live, World, attached, is_at_client, used, IsLive, IsWorld, all_find, live_at, step_leads, AreMixed, BothInOrder, IsOfBoth, firsts, seconds, answers_in, calls_in, array_longer, last_of, stays_by_both, both_commits, both_live, both_well_formed, IsToldOf, ToldByMap, ToldInOrder, image_hash, Notes, Told, SecondStore, second_store}, Blocks.hash_blocks, Growing.{AreAll, StorePart, all_are, all_parts, of_both}, Noted.{IsKept, IsNoted}, Seconds.IsSecond}
 use Rattle.iso_model.specs.declared.core_reply.CoreReply.TheVariants as core
 use Rattle.script_model.specs.declared.script.Reply.TheVariants as reply
 

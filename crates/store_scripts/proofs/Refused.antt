@@ -1,5 +1,5 @@
 -- A call of a store that is refused has made reads alone: a program writes only once nothing can refuse it.
-use Rattle.store_scripts.proofs.Words.{◌≡◌, refl, subst, ℕ, zero, suc, ◌+◌, ◌-◌, ◌≤◌, ◌==◌, ◌&&◌, Bool, true, false, cond, nat_le, List, [], ◌∷◌, length, map, take, Option, Some, None, Result, Ok, Err, arith, nat_lt, both_ways, leb-true, Access, Area, Spot, StoreError, Array, put, cell_count, cell_with, value_part, free_count, lowest_free, AtBroken, AtCell, AtEnd, Walked, at_cell, is_key, is_spent, is_value, spare_in, walk, walk_from, bucket_of, buckets, is_linked, last_position, next_of, block_at, AreReads, Done, Look, LookWhole, Program, Reserve, Store, accesses_of, bytes_in, further_bytes, outcome, store_access, then_do, Climb, Descent, climb, descend, first_write, free_list, full_row, look_again, need_of, put_new, put_writes, store_nodes, with_head, with_map, Cell, cell_of, child_of, count_of, is_child, is_head, is_node}
+use Rattle.store_scripts.proofs.Words.{◌≡◌, refl, subst, ℕ, zero, suc, ◌+◌, ◌≤◌, ◌==◌, ◌&&◌, Bool, true, false, cond, nat_le, List, [], ◌∷◌, length, Option, Some, None, Result, Ok, Err, arith, nat_lt, both_ways, leb-true, Access, Area, Spot, StoreError, Array, put, cell_count, cell_with, lowest_free, AtBroken, AtCell, AtEnd, Walked, at_cell, is_key, is_spent, spare_in, walk, walk_from, buckets, is_linked, last_position, next_of, block_at, AreReads, Done, Look, LookWhole, Program, Reserve, Store, accesses_of, bytes_in, further_bytes, outcome, store_access, then_do, Descent, descend, first_write, look_again, need_of, put_new, store_nodes, with_head, with_map, Cell, cell_of, child_of, count_of, is_child, is_head, is_node}
 use Rattle.store_model.specs.HashCalls as hash
 use Rattle.store_model.specs.TreeCalls as tree
 

@@ -1,12 +1,12 @@
 -- What is asked of a store beside the hash store, so that the lines of a script tell its calls.
-use Rattle.store_scripts.proofs.Words.{IsPlain, ◌≡◌, ℕ, IsTrue, None, option_map, List, Access, Geometry, Op, HashPut, HashGet, HashDelete, Reply, Array, is_valid, IsLocal, Del, MapStore, SpareRegion, IsOfItsBlocks, AreApart, CallsStore, Answered, OfHash, OfSecond, answered, SecondStore, del_answer, get_answer, image_hash, put_answer, second_store, GetKey, PutKey}
+use Rattle.store_scripts.proofs.Words.{IsPlain, ◌≡◌, ℕ, IsTrue, None, option_map, List, Access, Geometry, Op, HashPut, HashGet, HashDelete, Reply, Array, is_valid, IsLocal, Del, MapStore, SpareRegion, IsOfItsBlocks, ShareNoBlock, CallsStore, Answered, OfHash, OfSecond, answered, SecondStore, del_answer, get_answer, image_hash, put_answer, second_store, GetKey, PutKey}
 use Rattle.script_model.specs.declared.script.Reply.TheVariants as reply
 
 -- It depends on its blocks alone, which are none of the hash store; its calls and those of the hash store are all that is told of
 -- operations.
 pub record IsSecond (S : SecondStore) : Type 0 where
   pub blocks : (g : Geometry) → IsTrue (is_valid g) → IsOfItsBlocks (second_store S g)
-  pub apart : (g : Geometry) → IsTrue (is_valid g) → AreApart (image_hash g) (second_store S g)
+  pub apart : (g : Geometry) → IsTrue (is_valid g) → ShareNoBlock (image_hash g) (second_store S g)
   pub quiet : (op : Op) → IsPlain op → (r : Reply) → S.answered op r ≡ None
   pub refused : (op : Op) → CallsStore op → (r : Reply) → answered op r ≡ None → S.answered op r ≡ None
   pub outside : (op : Op) → S.answered op reply.NotInTx ≡ None

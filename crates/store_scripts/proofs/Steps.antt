@@ -1,5 +1,5 @@
 -- Where each operation of a client leads, with what is told of the transactions.
-use Rattle.store_scripts.proofs.{Words.{◌≡◌, sym, refl, subst, ℕ, ◌-◌, ◌==◌, ◌&&◌, not, Bool, true, false, cond, List, [], ◌∷◌, ◌++◌, length, nat_le, Option, Some, None, Result, Ok, Err, arith, nat_lt, AllByRecursion, Access, Mode, CoreReply, LAST, MAX_ACCESSES, MAX_LIVE, Op, Reply, same_mode, array_at, last, access_step, array_of, in_transaction, out_of_transaction, release_step, store_reply, takeover_step, after_begin, after_leaving, after_switch, after_trim, begin_step, placed, switch_step, with_accesses, as_reply, as_step, as_either, Program, outcome, Live, Place, World, attached, client, held, is_at_client, is_under_label, label, with, IsWorld, all_filter, all_find, all_push, all_weaker, Answered, Notes, told_more, with_call, SecondStore, Told}, Growing.{begins_told, in_form}, Noted.{Goes, Holds, IsKept, IsNoted, adds, changes, choose, notes_by, quiet, stays}}
+use Rattle.store_scripts.proofs.{Words.{◌≡◌, sym, refl, subst, ℕ, ◌-◌, ◌==◌, ◌&&◌, not, Bool, true, false, cond, List, [], ◌∷◌, ◌++◌, length, nat_le, Option, Some, None, Result, Ok, Err, arith, nat_lt, AllByRecursion, Access, Mode, CoreReply, LAST, MAX_ACCESSES, MAX_LIVE, Op, Reply, same_mode, array_at, last, access_step, array_of, in_transaction, out_of_transaction, release_step, store_reply, takeover_step, after_begin, after_leaving, after_switch, after_trim, begin_step, placed, switch_step, with_accesses, as_reply, as_step, as_either, Program, outcome, Live, Place, World, attached, client, held, is_at_client, is_under_label, label, with, IsWorld, all_filter, all_find, all_push, all_weaker, Answered, Notes, told_more, with_call, SecondStore}, Growing.{begins_told, in_form}, Noted.{Goes, Holds, IsKept, IsNoted, adds, changes, choose, notes_by, quiet, stays}}
 use Rattle.iso_model.specs.declared.core_reply.CoreReply.TheVariants as core
 use Rattle.script_model.specs.declared.script.Reply.TheVariants as reply
 

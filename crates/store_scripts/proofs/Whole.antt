@@ -1,5 +1,5 @@
 -- The store theorem of the lines of a script, as one word.
-use Rattle.store_scripts.proofs.{Words.{arith, both_well_formed, BothWellFormed, ◌≤◌, Live, BeginsWell, IsByBoth, IsTrue, Some, ToldByMap, array_of, attached, has_write, image_hash, second_store, told_after, ◌≡◌, sym, subst, ℕ, ◌-◌, List, [], ◌∷◌, ◌++◌, Line, array_at, last, after, step, World, AreLines, ToldInOrder, CommitsKeep, Notes, no_notes, noted, notes_after, AnswersWith, SecondStore, FilesAnswer, the_tree, the_files, StoresAnswer}, Commits.{commits_told, groups_told}, Lines.{noted_after, noted_begins}, Order.{live_told, read_only_told}, Acting.SecondGoes, Blocks.{files_second, hash_blocks, tree_second}, FileGoes.file_goes, Noted.IsNoted, Seconds.IsSecond, TreeGoes.tree_goes}
+use Rattle.store_scripts.proofs.{Words.{arith, both_well_formed, BothWellFormed, Live, BeginsWell, IsByBoth, IsTrue, Some, ToldByMap, array_of, attached, has_write, image_hash, second_store, told_after, ◌≡◌, sym, subst, ℕ, ◌-◌, List, [], ◌∷◌, ◌++◌, Line, array_at, last, after, step, World, AreLines, ToldInOrder, CommitsKeep, Notes, no_notes, noted, notes_after, AnswersWith, SecondStore, FilesAnswer, the_tree, the_files, StoresAnswer}, Commits.{commits_told, groups_told}, Lines.{noted_after, noted_begins}, Order.{live_told, read_only_told}, Acting.SecondGoes, Blocks.{files_second, hash_blocks, tree_second}, FileGoes.file_goes, Noted.IsNoted, Seconds.IsSecond, TreeGoes.tree_goes}
 use Rattle.std.specs.Prelude.{IsFalse}
 
 module _ (S : SecondStore) (lawful : IsSecond S) (second : SecondGoes S) where

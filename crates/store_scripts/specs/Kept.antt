@@ -1,8 +1,9 @@
 -- Transactions of a script that keep to the stores of its image.
-use Rattle.std.specs.Prelude.{◌≡◌, ◌⊎◌, List, [], ◌++◌, length, map}
-use Rattle.iso_model.specs.{declared.access.Access.Access, declared.access.Geometry.Geometry, declared.access.Mode.Mode, declared.access.Mode.TheVariants.Serial, Array.Array, History.{array_at, last}, World.World, Worlds.IsWorld}
+use Rattle.std.specs.Prelude.{◌≡◌, ◌⊎◌, ℕ, IsTrue, List, [], ◌++◌, Some, length, map}
+use Rattle.iso_model.specs.{declared.access.Access.Access, declared.access.Geometry.Geometry, declared.access.Mode.Mode, declared.access.Mode.TheVariants.Serial, Array.Array, History.{array_at, last}, World.{Live, World, attached}, Worlds.IsWorld}
+use Rattle.script_model.specs.{declared.script.Line.Line, declared.script.Op.Op, Script.after}
 use Rattle.store_laws.specs.{Both.{AreMixed, BothWellFormed, MixedParts, firsts, seconds}, Parts.{accesses_in, answers_in, calls_in, run}, Region.SpareRegion}
-use Rattle.store_scripts.specs.{Stores.{SecondStore, image_hash, second_store}, Told.Told}
+use Rattle.store_scripts.specs.{Stores.{SecondStore, image_hash, second_store}, Told.{Notes, Told, noted, told_after}}
 
 -- The accesses of a transaction that began with this array are those of parts, whose calls are those that are told, and of the rest
 -- since the last of them, which writes neither region.
@@ -19,6 +20,17 @@ pub record IsToldOf (S : SecondStore) (g : Geometry) (A : Array) (accesses : Lis
   pub second_calls : calls_in (seconds parts) ≡ told.second.calls
   pub second_answers : answers_in (seconds parts) ≡ told.second.answers
   pub serial : ((told.hash.calls ≡ []) × (told.second.calls ≡ [])) ⊎ (mode ≡ Serial)
+
+-- After these lines it is so of each live transaction that keeps to the stores.
+abbrev pub TellParts : (S : SecondStore) → World → List (ℕ × Line) → Type 0
+TellParts S W lines =
+    let V = after W lines in
+    (client : ℕ) (t : Live) → attached V client ≡ Some t → IsTrue (told_after S W lines t.number).kept
+    → IsToldOf S V.geometry (array_at V.history t.begin) t.accesses t.mode (told_after S W lines t.number)
+
+-- whatever is noted, after this line each transaction keeps to the stores as before
+abbrev pub StaysKept : (S : SecondStore) → World → (client : ℕ) → Op → Type 0
+StaysKept S W client op = (notes : Notes S) (number : ℕ) → (noted S W notes client op number).kept ≡ (notes number).kept
 
 -- The calls of each store answered as one thread's calls on its map in A, which end in its map in B.
 pub record ToldInOrder (S : SecondStore) (g : Geometry) (told : Told S) (A B : Array) : Type 0 where

@@ -1,5 +1,5 @@
 -- The stores of an image, as stores over the blocks of their regions. One that has no blocks is always well formed and empty.
-use Rattle.std.specs.{Prelude.{ℕ, zero, suc, Bool, false, cond, ◌==◌, Option}, FinMap.empty}
+use Rattle.std.specs.{Prelude.{◌≡◌, ◌↔◌, ℕ, zero, suc, Bool, false, cond, ◌==◌, Option}, FinMap.empty}
 use Rattle.iso_model.specs.{declared.access.Geometry.Geometry, Array.Array}
 use Rattle.script_model.specs.{declared.script.Op.Op, declared.script.Reply.Reply, FilesArea.{file_blocks, files_area}}
 use Rattle.store_model.specs.{HashRegion.{IsHashRegion, Pairs, hash_map}, Areas.{hash_area, tree_area}, TreeRegion.{IsTreeRegion, tree_map}, FileRegion.{AreFileRegions, files}}
@@ -16,8 +16,8 @@ pairs_if_any zero m = empty
 pairs_if_any (suc n) m = m
 
 -- A store of pairs in `blocks` blocks, by what it is where there are any.
-abbrev pub pairs_store : (Call Answer : Type 0) (blocks : ℕ) (has_block : ℕ → Bool) (IsWellFormed : Array → Type 0) (map_of : Array → Pairs) (act : Call → Pairs → Answer × Pairs) → MapStore
-pairs_store Call Answer blocks has_block IsWellFormed map_of act = record {
+abbrev pub store_if_any : (Call Answer : Type 0) (blocks : ℕ) (has_block : ℕ → Bool) (IsWellFormed : Array → Type 0) (map_of : Array → Pairs) (act : Call → Pairs → Answer × Pairs) → MapStore
+store_if_any Call Answer blocks has_block IsWellFormed map_of act = record {
   Map = Pairs;
   Call = Call;
   Answer = Answer;
@@ -28,15 +28,19 @@ pairs_store Call Answer blocks has_block IsWellFormed map_of act = record {
 }
 
 abbrev pub image_hash : Geometry → MapStore
-image_hash g = pairs_store KeyCall StoreAnswer g.hash (in_area (hash_area g)) (IsHashRegion (hash_area g)) (hash_map (hash_area g)) key_act
+image_hash g = store_if_any KeyCall StoreAnswer g.hash (in_area (hash_area g)) (IsHashRegion (hash_area g)) (hash_map (hash_area g)) key_act
 
 abbrev pub image_tree : Geometry → MapStore
-image_tree g = pairs_store TreeCall StoreAnswer g.tree (in_area (tree_area g)) (IsTreeRegion (tree_area g)) (tree_map (tree_area g)) tree_act
+image_tree g = store_if_any TreeCall StoreAnswer g.tree (in_area (tree_area g)) (IsTreeRegion (tree_area g)) (tree_map (tree_area g)) tree_act
 
 -- The files of an image, whose names are in its tree store: the blocks of both regions are theirs, where there are files.
 abbrev pub image_files : Geometry → MapStore
 image_files g =
-    pairs_store FileCall FileAnswer (file_blocks g) (λ b. cond (file_blocks g == 0) false (in_areas (files_area g) b)) (AreFileRegions (files_area g)) (files (files_area g)) file_act
+    store_if_any FileCall FileAnswer (file_blocks g) (λ b. cond (file_blocks g == 0) false (in_areas (files_area g) b)) (AreFileRegions (files_area g)) (files (files_area g)) file_act
+
+-- the store is that of regions which are well formed so, and hold this map
+abbrev pub IsStoreOf : (s : MapStore) → (IsWellFormed : Array → Type 0) → (map_of : Array → s.Map) → Type 0
+IsStoreOf s IsWellFormed map_of = (A : Array) → (s.IsWellFormed A ↔ IsWellFormed A) × (s.map_of A ≡ map_of A)
 
 -- A store of an image that is looked at beside the hash store, by the image's geometry, and which operations call it or the hash
 -- store. The tree store and the files are two such, and no transaction writes both: the names of files are in the tree store.

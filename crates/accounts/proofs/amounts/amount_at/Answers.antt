@@ -8,5 +8,5 @@ returns-in-Some-clause-got g c =
       c.in-Ok-Some.value,
       subst (λ (v : List ℕ). amount v ≡ c.in-Some.n) c.as_slice.ensures c.in-Some.ensures.is,
       subst (λ (r : Option (List ℕ)). Adds a t u (Get c.args.name.now ∷ []) (Got r ∷ [])) c.in-Ok-Some.field-0-is
-          (got_adds a c.args.name.now t u c.in-Ok-Some.field-0 c.requires.area c.in-Ok-Some.ensures.ended c.in-Ok-Some.ensures.local),
+          (got_adds a c.args.name.now t u c.in-Ok-Some.field-0 c.requires.store.0 c.in-Ok-Some.ensures.ended c.in-Ok-Some.ensures.local),
     )

@@ -6,4 +6,4 @@ returns-in-Ok-None-clause-got g c =
     let u = g.T.TxBlocks.state c.get.new.tx in
     let a = area_of t c.args.place.region in
     subst (λ (r : Option (List ℕ)). Adds a t u (Get c.args.name.now ∷ []) (Got r ∷ [])) c.in-Ok-None.field-0-is
-    (got_adds a c.args.name.now t u c.in-Ok-None.field-0 c.requires.area c.in-Ok-None.ensures.ended c.in-Ok-None.ensures.local)
+    (got_adds a c.args.name.now t u c.in-Ok-None.field-0 c.requires.store.0 c.in-Ok-None.ensures.ended c.in-Ok-None.ensures.local)

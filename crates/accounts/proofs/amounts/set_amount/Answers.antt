@@ -6,4 +6,4 @@ returns-in-Ok-clause-put g c =
     let u = g.T.TxBlocks.state c.put.new.tx in
     let a = area_of t c.args.place.region in
     subst (λ (v : List ℕ). Adds a t u (Put c.args.name.now v ∷ []) (WasPut ∷ [])) c.to_be_bytes.ensures
-    (put_adds a c.args.name.now c.to_be_bytes.result t u c.in-Ok.field-0 c.requires.area c.in-Ok.ensures.ended c.in-Ok.ensures.local)
+    (put_adds a c.args.name.now c.to_be_bytes.result t u c.in-Ok.field-0 c.requires.store.0 c.in-Ok.ensures.ended c.in-Ok.ensures.local)

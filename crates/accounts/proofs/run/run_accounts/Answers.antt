@@ -12,4 +12,4 @@ pub returns-in-Ok-clause-run : Rattle.accounts.proofs.run.run_accounts.Goals.ret
 returns-in-Ok-clause-run g c =
     let view = port_view c.run_on-port.result.1 in
     has_run g.D.Disk.state g.O.Origin.start g.O.Origin.disk (planned c.args.plan.now) c.close-core.result view.seen view.mine (ready_of g.D.Disk.state g.O.Origin.start c.args.core c.requires.start.0 c.requires.start.1)
-    c.close-core.ensures.legal c.close-core.ensures.core c.close-core.ensures.came c.close-core.ensures.all c.run_on-port.ensures.kept
+    c.close-core.ensures.legal c.close-core.ensures.core c.close-core.ensures.came c.close-core.ensures.all c.run_on-port.ensures.port.1

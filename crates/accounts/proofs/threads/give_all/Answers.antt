@@ -1,15 +1,15 @@
 use Rattle.accounts.proofs.{Words.{◌≡◌, ◌∙◌, ◌+◌, ◌≤◌, ◌++◌, ◌∷◌, [], ap, arith, length, List, Option, subst, sym, ℕ, length-append, found_in, units_of, AreGiven, IsWhole, opening_of, DeviceId}, Giving.{given_more, units_few, units_more}}
 use Rattle.iso_shared.specs.declared.tx.Tx.{Tx}
 
-pub give-member-requires-clause-units : Rattle.accounts.proofs.threads.give_all.Goals.give-member-requires-clause-units
-give-member-requires-clause-units g c =
+pub give-member-requires : Rattle.accounts.proofs.threads.give_all.Goals.give-member-requires
+give-member-requires g c =
     let few = units_few (opening_of c.args.accounts.now) g.O.Origin.start c.args.session.now.device c.loop-transfer.members.items c.loop-transfer.invariant.given in
     let sum = c.loop-transfer.invariant.sum in
     let count = c.loop-transfer.invariant.count in
     let most = c.requires.few in
     let some = c.requires.units in
     let at = c.loop-transfer-test.true in
-    omega (arith, few, sum, count, most, some, at)
+    record { session = (c.loop-transfer.invariant.kept, omega (arith, few, sum, count, most, some, at), c.requires.store) }
 
 pub loop-transfer-preserved : Rattle.accounts.proofs.threads.give_all.Goals.loop-transfer-preserved
 loop-transfer-preserved g c =

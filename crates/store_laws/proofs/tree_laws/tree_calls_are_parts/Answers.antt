@@ -2,8 +2,8 @@ use Rattle.store_laws.proofs.{Words.{IsTreeRegion, tree_map, Del, Found, Get, Go
 
 pub returns : Rattle.store_laws.proofs.tree_laws.tree_calls_are_parts.Goals.returns
 returns _ = record {
-  got = λ a key A t u parts r is ended local. called (tree_store a) A t u parts (OnKey (Get key)) (Got r) ended.done is ended.is (got_local (IsTreeRegion a) (tree_map a) key t u r local);
-  was_put = λ a key value A t u parts r is ended local. called (tree_store a) A t u parts (OnKey (Put key value)) WasPut ended.done is ended.is (put_local (IsTreeRegion a) (tree_map a) key value t u r local);
-  was_there = λ a key A t u parts r is ended local. called (tree_store a) A t u parts (OnKey (Del key)) (WasThere r) ended.done is ended.is (del_local (IsTreeRegion a) (tree_map a) key t u r local);
-  found = λ a from to most A t u parts r is ended local. called (tree_store a) A t u parts (Scan from to most) (Found r) ended.done is ended.is (scan_local (IsTreeRegion a) (tree_map a) from to most t u r local);
+  got = λ a key t u r ended local A parts is. called (tree_store a) A t u parts (OnKey (Get key)) (Got r) ended.done is ended.is (got_local (IsTreeRegion a) (tree_map a) key t u r local);
+  was_put = λ a key value t u r ended local A parts is. called (tree_store a) A t u parts (OnKey (Put key value)) WasPut ended.done is ended.is (put_local (IsTreeRegion a) (tree_map a) key value t u r local);
+  was_there = λ a key t u r ended local A parts is. called (tree_store a) A t u parts (OnKey (Del key)) (WasThere r) ended.done is ended.is (del_local (IsTreeRegion a) (tree_map a) key t u r local);
+  found = λ a from to most t u r ended local A parts is. called (tree_store a) A t u parts (Scan from to most) (Found r) ended.done is ended.is (scan_local (IsTreeRegion a) (tree_map a) from to most t u r local);
 }
