@@ -158,18 +158,6 @@ pub mark_of : (d : DiskState) (o : Option Mark) (m : Mark) → o ≡ Some m → 
 mark_of d (Some k) m is read = subst (λ (n : Mark). (x : List ℕ) → d.now x → HasEpoch n.slot n.epoch x) (same_Some k m is) read.1
 mark_of d None m is read = absurd (cc is)
 
--- Two sides with different epochs are not alike.
-pub not_alike : {a b new_a new_b : DiskState} (one two : Mark) → IsLawful a → IsLawful b → ((x : List ℕ) → a.now x → HasEpoch one.slot one.epoch x) → ((y : List ℕ) → b.now y → HasEpoch two.slot two.epoch y) → one.epoch < two.epoch → LeavesAlike a b new_a new_b
-not_alike one two law_a law_b marks_a marks_b less x y told told' same alike =
-    let p = (marks_a x (law_a.reads_as_image x told)).epoch_is in
-    let q = (marks_b y (law_b.reads_as_image y told')).epoch_is in
-    absurd (omega (arith, p, q, same, less))
-
--- those that told the same epoch have the same marks
-pub same_marks : {a b : DiskState} (one two : Mark) → IsLawful a → IsLawful b → ((x : List ℕ) → a.now x → HasEpoch one.slot one.epoch x) → ((y : List ℕ) → b.now y → HasEpoch two.slot two.epoch y) → (x y : List ℕ) → a.contents ≡ Some x → b.contents ≡ Some y → epoch x ≡ epoch y → two.epoch ≡ one.epoch
-same_marks one two law_a law_b marks_a marks_b x y told told' same =
-    sym (marks_b y (law_b.reads_as_image y told')).epoch_is ∙ sym same ∙ (marks_a x (law_a.reads_as_image x told)).epoch_is
-
 -- sides that were only read before
 pub alike_behind : {a b mid_a mid_b new_a new_b : DiskState} → IsLawful mid_a → IsLawful mid_b → WritesNothing a mid_a → WritesNothing b mid_b → b.faults ≤ mid_b.faults → LeavesAlike mid_a mid_b new_a new_b → LeavesAlike a b new_a new_b
 alike_behind law_a law_b still_a still_b later leaves x y told told' same alike = elim (leaves x y (still_a.same_contents ∙ told) (still_b.same_contents ∙ told') same alike) [

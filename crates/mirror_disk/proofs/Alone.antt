@@ -1,5 +1,5 @@
 -- How a call ends on a mirror with one side in use.
-use Rattle.mirror_disk.proofs.{Words.{◌≡◌, ◌≢◌, ◌⊎◌, inr, ⊎_elim, ℕ, ◌+◌, ◌≤◌, List, [], Some, refl, sym, ◌∙◌, ap, subst, arith, DiskState, IsLawful, IsSettled, TornFrom, LeavesOnly, Elapses, torn_from_old, at_end, called, started, weakened, Slot, Used, Plain, OnlyFirst, OnlySecond, Broken, Unbound, HasEnded, IsHeader, chosen, rising_first, chosen_told, mirrored, ArePair, FirstLeads, SecondLeads, IsPair}, Asked.told_same, Calls.elapses_pair, Ended.tells_on, Epochs.{chosen_first, chosen_second}, Stands.{header_torn, GoesOnTelling, epoch_of_torn, from_a, from_b, meets_first, meets_second, now_from_a, now_from_b, pair_on, some_told}}
+use Rattle.mirror_disk.proofs.{Words.{◌≡◌, ◌≢◌, ◌⊎◌, inr, ⊎_elim, ℕ, ◌+◌, ◌≤◌, List, [], Some, refl, sym, ◌∙◌, ap, subst, arith, DiskState, IsLawful, IsSettled, TornFrom, LeavesOnly, torn_from_old, at_end, started, weakened, Slot, Used, Plain, OnlyFirst, OnlySecond, Broken, Unbound, HasEnded, IsHeader, chosen, rising_first, chosen_told, mirrored, ArePair, FirstLeads, SecondLeads, IsPair}, Calls.elapses_pair, Epochs.{chosen_first, chosen_second}, Stands.{header_torn, GoesOnTelling, epoch_of_torn, from_a, from_b, meets_first, meets_second, now_from_a, now_from_b, pair_on, some_told}}
 
 module _ {a b new_a : DiskState} (past : List (ℕ × ℕ)) (e : ℕ) (one two : Slot) (at n : ℕ) (law_a : IsLawful a) (law_b : IsLawful b) (law_a' : IsLawful new_a) (pair : ArePair a b past) (leads : FirstLeads a b past e)
     (run : LeavesOnly a new_a (TornFrom (64 + at) n a.now)) (on : GoesOnTelling a new_a) where
@@ -43,17 +43,6 @@ module _ {a b new_b : DiskState} (past : List (ℕ × ℕ)) (e : ℕ) (one two :
     };
     elapses = λ f g m. elapses_pair past f g m law_a law_b law_a law_b' pair.rising idle_a run (meets_second law_a law_b pair at n e leads);
   }
-
--- a call in no bytes, as a read or a sync
-pub synced_first : {a b new_a : DiskState} (past : List (ℕ × ℕ)) (e : ℕ) (one two : Slot) → IsLawful a → IsLawful b → IsLawful new_a → ArePair a b past → FirstLeads a b past e → Elapses a new_a a.now → new_a.contents ≡ a.contents
-    → HasEnded a b new_a b OnlyFirst past e one two 0 0
-synced_first {a = a} {new_a = new_a} past e one two law_a law_b law_a' pair leads run same =
-    ended_first_alone past e one two 0 0 law_a law_b law_a' pair leads (called law_a run (λ x now. torn_from_old 64 0 x now) (λ x now. torn_from_old 64 0 x now)) (tells_on (told_same a new_a 64 same))
-
-pub synced_second : {a b new_b : DiskState} (past : List (ℕ × ℕ)) (e : ℕ) (one two : Slot) → IsLawful a → IsLawful b → IsLawful new_b → ArePair a b past → SecondLeads a b past e → Elapses b new_b b.now → new_b.contents ≡ b.contents
-    → HasEnded a b a new_b OnlySecond past e one two 0 0
-synced_second {b = b} {new_b = new_b} past e one two law_a law_b law_b' pair leads run same =
-    ended_second_alone past e one two 0 0 law_a law_b law_b' pair leads (called law_b run (λ y now. torn_from_old 64 0 y now) (λ y now. torn_from_old 64 0 y now)) (tells_on (told_same b new_b 64 same))
 
 pub none_torn : {images : List ℕ → Type 0} (c : List ℕ) → TornFrom 0 0 images c → images c
 none_torn {images = images} c t = subst images (sym t.torn.after) t.was

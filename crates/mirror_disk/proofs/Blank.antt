@@ -55,6 +55,6 @@ module _ (used : Used) (is : IsPair used) (a b : DiskState) (past : List (ℕ ×
   bound_blank (Some w) blank = state_pair used is a b past f m (λ (d : DiskState). (c : List ℕ) → d.now c → c ≡ replicate w 0) blank
   bound_blank None blank = tt
 
-  pub bound_settled : (want : Option ℕ) → IfNone want (IsSettled (mirrored a b [] 0 0)) → IfNone want (IsSettled (state_in used a b past f m))
+  pub bound_settled : (want : Option ℕ) → IsSettled (mirrored a b [] 0 0) → IfNone want (IsSettled (state_in used a b past f m))
   bound_settled (Some w) settled = tt
   bound_settled None settled = state_pair used is a b past f m (λ (d : DiskState). IsSettled d) settled

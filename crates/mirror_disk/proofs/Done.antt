@@ -1,14 +1,10 @@
 -- What a mirror tells after a call on its sides in use, and why the call failed.
-use Rattle.mirror_disk.proofs.{Words.{◌≡◌, ◌≢◌, ◌⊎◌, inl, inr, ⊎_elim, ℕ, ◌+◌, ◌-◌, ◌≤◌, Bool, true, false, List, ◌∷◌, length, take, drop, Option, Some, Result, Ok, Err, OnOk, OnErr, is_ok, refl, sym, ◌∙◌, ap, arith, slice_range, option_map, drop-drop, DiskState, IsLawful, IsSettled, Torn, Splices, spliced, length-contents, HasCause, Rose, Slot, Becomes, MirrorBecomes, Used, Plain, Both, OnlyFirst, OnlySecond, Broken, Unbound, BothAsked, HasEnded, AllFailed, CannotLeave, HasFailed, HasLeft, LeavesFailed, body, chosen, both_tell, chosen_told, mirrored, KeepsBody, ArePair, AreBoth, FirstLeads, SecondLeads}, Alone.{settled_both, settled_first, settled_second}, Epochs.{chosen_first, chosen_second}, Stands.{now_from_a, now_from_b}, Telling.{becomes_raised, becomes_spliced, becomes_torn, told_alike, told_first, told_second, splices_of}}
+use Rattle.mirror_disk.proofs.{Words.{◌≡◌, ◌≢◌, ◌⊎◌, inl, inr, ⊎_elim, ℕ, ◌+◌, ◌-◌, ◌≤◌, Bool, true, false, List, ◌∷◌, length, take, drop, Option, Some, Result, Ok, Err, OnOk, is_ok, refl, sym, ◌∙◌, ap, arith, slice_range, drop-drop, DiskState, IsLawful, IsSettled, Torn, TellsTorn, Splices, spliced, length-contents, HasCause, Rose, Slot, Becomes, MirrorBecomes, Used, Plain, Both, OnlyFirst, OnlySecond, Broken, Unbound, SideCalled, BothAsked, HasEnded, AllFailed, CannotLeave, HasFailed, HasLeft, LeavesFailed, body, chosen, both_tell, chosen_told, mirrored, KeepsBody, ArePair, AreBoth, FirstLeads, SecondLeads}, Alone.{settled_both, settled_first, settled_second}, Epochs.{chosen_first, chosen_second}, Stands.{now_from_a, now_from_b}, Telling.{becomes_raised, becomes_spliced, becomes_torn, told_alike, told_first, told_second}}
 
 -- a call that was done, or was not
 pub by_done : {T E P : Type 0} (r : Result T E) → is_ok r ≡ true → OnOk r P → P
 by_done (Ok x) is p = p
 by_done (Err e) is p = absurd (cc is)
-
-pub by_failed : {T E P : Type 0} (r : Result T E) → is_ok r ≡ false → OnErr r P → P
-by_failed (Ok x) is p = absurd (cc is)
-by_failed (Err e) is p = p
 
 pub rose_of : {T E : Type 0} {m n : ℕ} (r : Result T E) → is_ok r ≡ false → HasCause m n r → Rose m n
 rose_of (Ok x) is cause = absurd (cc is)
@@ -22,31 +18,38 @@ pub rose_behind : (l m n : ℕ) → l ≤ m → Rose m n → Rose l n
 rose_behind l m n le rose = omega (arith, rose, le)
 
 -- a side that failed in the call, or in the raise after it
-pub rose_in_all : {T E : Type 0} (old mid new : DiskState) (r : Result T E) {p : Bool} → p ≡ is_ok r → HasCause old.faults mid.faults r → mid.faults ≤ new.faults → HasFailed p mid new → Rose old.faults new.faults
-rose_in_all old mid new r is cause later failed = ⊎_elim (λ not. rose_before _ _ _ (rose_of r (sym is ∙ not) cause) later) (λ rose. rose_behind _ _ _ cause.later rose) failed
+pub rose_in_all : {old mid : DiskState} {at n : ℕ} {turn : List ℕ → List ℕ} {p : Bool} (new : DiskState) → SideCalled at n turn old mid p → mid.faults ≤ new.faults → HasFailed p mid new → Rose old.faults new.faults
+rose_in_all new side later failed = ⊎_elim (λ not. rose_before _ _ _ (side.failed not) later) (λ rose. rose_behind _ _ _ side.later rose) failed
 
-pub breaks : {T E : Type 0} (a b mid_a mid_b new_a new_b : DiskState) {used : Used} {e : ℕ} (r s : Result T E) {p q : Bool} → p ≡ is_ok r → q ≡ is_ok s → HasCause a.faults mid_a.faults r → HasCause b.faults mid_b.faults s
-    → HasLeft mid_a mid_b new_a new_b used e p q → used ≡ Broken → AllFailed Both a.faults new_a.faults b.faults new_b.faults ⊎ CannotLeave Both e a.faults new_a.faults b.faults new_b.faults
-breaks a b mid_a mid_b new_a new_b r s is_r is_s cause_a cause_b left is = grind (arith, rose_before, rose_of, rose_in_all)
+module _ {a b mid_a mid_b new_a new_b : DiskState} {at n : ℕ} {turn : List ℕ → List ℕ} {used : Used} {e : ℕ} {p q : Bool} (first : SideCalled at n turn a mid_a p) (second : SideCalled at n turn b mid_b q) (left : HasLeft mid_a mid_b new_a new_b used e p q) where
+  pub breaks : used ≡ Broken → AllFailed Both a.faults new_a.faults b.faults new_b.faults ⊎ CannotLeave Both e a.faults new_a.faults b.faults new_b.faults
+  breaks is =
+      let why = left.broken is in
+      ⊎_elim
+      (λ last. inr (refl, last, ⊎_elim (λ not. inl (rose_before _ _ _ (first.failed not) left.later_a)) (λ not. inr (rose_before _ _ _ (second.failed not) left.later_b)) why.0))
+      (λ all. inl (rose_in_all new_a first left.later_a all.0, rose_in_all new_b second left.later_b all.1))
+      why.1
 
--- a side that was left out has failed
-pub leaves : {T E : Type 0} (a b mid_a mid_b new_a new_b : DiskState) {used : Used} {e : ℕ} (r s : Result T E) {p q : Bool} → p ≡ is_ok r → q ≡ is_ok s → HasCause a.faults mid_a.faults r → HasCause b.faults mid_b.faults s
-    → HasLeft mid_a mid_b new_a new_b used e p q → LeavesFailed Both used a.faults new_a.faults b.faults new_b.faults
-leaves a b mid_a mid_b new_a new_b r s is_r is_s cause_a cause_b left = record {
-  first = λ _ is. rose_before _ _ _ (rose_of r (sym is_r ∙ left.first_failed is) cause_a) left.later_a;
-  second = λ _ is. rose_before _ _ _ (rose_of s (sym is_s ∙ left.second_failed is) cause_b) left.later_b;
-  stays = λ other. absurd (other refl);
-}
+  -- a side that was left out has failed
+  pub leaves : LeavesFailed Both used a.faults new_a.faults b.faults new_b.faults
+  leaves = record {
+    first = λ _ is. rose_before _ _ _ (first.failed (left.first_failed is)) left.later_a;
+    second = λ _ is. rose_before _ _ _ (second.failed (left.second_failed is)) left.later_b;
+    stays = λ other. absurd (other refl);
+  }
 
 becomes_kept : {old new : DiskState} → KeepsBody old new → Becomes (λ c d. d ≡ c) old.contents new.contents
 becomes_kept keeps = record { told = keeps.told; untold = keeps.untold }
 
-becomes_same : (o : Option (List ℕ)) → Becomes (λ c d. d ≡ c) o o
-becomes_same o = record { told = λ x is. (x, is, refl); untold = λ is. is }
+pub becomes_same : {o p : Option (List ℕ)} → p ≡ o → Becomes (λ c d. d ≡ c) o p
+becomes_same same = record { told = λ x is. (x, same ∙ is, refl); untold = λ is. same ∙ is }
 
 -- a write of no bytes
 pub contents_of : (o p : Option (List ℕ)) → MirrorBecomes (Torn 0 0) o p → p ≡ o
 contents_of o p becomes = grind arith
+
+pub torn_nowhere : {old new : DiskState} → TellsTorn 0 0 old new → new.contents ≡ old.contents
+torn_nowhere {old = old} {new = new} tells = contents_of old.contents new.contents (record { told = tells.told; untold = tells.untold })
 
 -- who is chosen of what the sides tell, by which of them leads
 module _ {a b : DiskState} {past : List (ℕ × ℕ)} (law_a : IsLawful a) (law_b : IsLawful b) (pair : ArePair a b past) where
@@ -69,12 +72,12 @@ module _ {a b : DiskState} {past : List (ℕ × ℕ)} (law_a : IsLawful a) (law_
 pub alone_first : {a b new : DiskState} {R : List ℕ → List ℕ → Type 0} {past : List (ℕ × ℕ)} {e : ℕ} {one two : Slot} {at n : ℕ} → IsLawful a → IsLawful b → IsLawful new → ArePair a b past → FirstLeads a b past e
     → HasEnded a b new b OnlyFirst past e one two at n → Becomes R a.contents new.contents → MirrorBecomes R (chosen_told a.contents b.contents) (chosen_told new.contents b.contents)
 alone_first {b = b} {e = e} law_a law_b law_new pair leads ended becomes =
-    told_first becomes (becomes_same b.contents) (first_chosen law_a law_b pair e leads) (first_chosen law_new law_b (ended.stands.pair ended.is_pair) e (ended.stands.first refl))
+    told_first becomes (becomes_same refl) (first_chosen law_a law_b pair e leads) (first_chosen law_new law_b (ended.stands.pair ended.is_pair) e (ended.stands.first refl))
 
 pub alone_second : {a b new : DiskState} {R : List ℕ → List ℕ → Type 0} {past : List (ℕ × ℕ)} {e : ℕ} {one two : Slot} {at n : ℕ} → IsLawful a → IsLawful b → IsLawful new → ArePair a b past → SecondLeads a b past e
     → HasEnded a b a new OnlySecond past e one two at n → Becomes R b.contents new.contents → MirrorBecomes R (chosen_told a.contents b.contents) (chosen_told a.contents new.contents)
 alone_second {a = a} {e = e} law_a law_b law_new pair leads ended becomes =
-    told_second (becomes_same a.contents) becomes (second_chosen law_a law_b pair e leads) (second_chosen law_a law_new (ended.stands.pair ended.is_pair) e (ended.stands.second refl))
+    told_second (becomes_same refl) becomes (second_chosen law_a law_b pair e leads) (second_chosen law_a law_new (ended.stands.pair ended.is_pair) e (ended.stands.second refl))
 
 module _ {a b mid_a mid_b new_a new_b : DiskState} (past : List (ℕ × ℕ)) (e : ℕ) (one two : Slot) (at n : ℕ) {p q : Bool} (asked : BothAsked a b mid_a mid_b past e one two at n p q) {used : Used} (left : HasLeft mid_a mid_b new_a new_b used e p q) where
   torn_a : Becomes (Torn at n) a.contents new_a.contents
@@ -87,23 +90,22 @@ module _ {a b mid_a mid_b new_a new_b : DiskState} (past : List (ℕ × ℕ)) (e
   pub both_torn : MirrorBecomes (Torn at n) (chosen_told a.contents b.contents) (chosen_told new_a.contents new_b.contents)
   both_torn = told_alike torn_a torn_b asked.both.agree
 
-module _ {a b mid_a mid_b new_a new_b : DiskState} (past : List (ℕ × ℕ)) (e : ℕ) (one two : Slot) (at : ℕ) (bytes : List ℕ) (law_a : IsLawful a) (law_b : IsLawful b) (law_a' : IsLawful new_a) (law_b' : IsLawful new_b) {p q : Bool}
-    (asked : BothAsked a b mid_a mid_b past e one two at (length bytes) p q)
-    (written_a : p ≡ true → Becomes (λ c d. d ≡ spliced c at bytes) a.contents mid_a.contents) (written_b : q ≡ true → Becomes (λ c d. d ≡ spliced c at bytes) b.contents mid_b.contents) where
-  -- one side at least did the write, and the other one was left out if it did not
-  pub both_written : (used : Used) → HasLeft mid_a mid_b new_a new_b used e p q → HasEnded a b new_a new_b used past e one two at (length bytes) → used ≢ Broken → chosen_told new_a.contents new_b.contents ≡ option_map (λ c. spliced c at bytes) (chosen_told a.contents b.contents)
-  both_written Both left ended not =
+module _ {a b mid_a mid_b new_a new_b : DiskState} (past : List (ℕ × ℕ)) (e : ℕ) (one two : Slot) (at n : ℕ) {turn : List ℕ → List ℕ} (law_a : IsLawful a) (law_b : IsLawful b) (law_a' : IsLawful new_a) (law_b' : IsLawful new_b) {p q : Bool}
+    (asked : BothAsked a b mid_a mid_b past e one two at n p q) (did_a : p ≡ true → Becomes (λ c d. d ≡ turn c) a.contents mid_a.contents) (did_b : q ≡ true → Becomes (λ c d. d ≡ turn c) b.contents mid_b.contents) where
+  -- one side at least did it, and the other one was left out if it did not
+  pub both_did : (used : Used) → HasLeft mid_a mid_b new_a new_b used e p q → HasEnded a b new_a new_b used past e one two at n → used ≢ Broken → MirrorBecomes (λ c d. d ≡ turn c) (chosen_told a.contents b.contents) (chosen_told new_a.contents new_b.contents)
+  both_did Both left ended not =
       let done = left.both refl in
-      splices_of at bytes (chosen_told a.contents b.contents) (chosen_told new_a.contents new_b.contents) (told_alike (becomes_raised (written_a done.0) (becomes_kept left.body_a)) (becomes_raised (written_b done.1) (becomes_kept left.body_b)) asked.both.agree)
-  both_written OnlyFirst left ended not =
-      splices_of at bytes (chosen_told a.contents b.contents) (chosen_told new_a.contents new_b.contents) (told_first (becomes_raised (written_a (left.first refl)) (becomes_kept left.body_a)) (torn_b past e one two at (length bytes) asked left)
-      (both_chosen law_a law_b asked.pair e one two asked.both) (first_chosen law_a' law_b' (ended.stands.pair ended.is_pair) e (ended.stands.first refl)))
-  both_written OnlySecond left ended not =
-      splices_of at bytes (chosen_told a.contents b.contents) (chosen_told new_a.contents new_b.contents) (told_second (torn_a past e one two at (length bytes) asked left) (becomes_raised (written_b (left.second refl)) (becomes_kept left.body_b))
-      (λ x y is is'. both_chosen law_a law_b asked.pair e one two asked.both x y is is' ∙ asked.both.agree x y is is') (second_chosen law_a' law_b' (ended.stands.pair ended.is_pair) e (ended.stands.second refl)))
-  both_written Broken left ended not = absurd (not refl)
-  both_written Plain left ended not = absurd (ended.is_pair.0 refl)
-  both_written Unbound left ended not = absurd (ended.is_pair.1 refl)
+      told_alike (becomes_raised (did_a done.0) (becomes_kept left.body_a)) (becomes_raised (did_b done.1) (becomes_kept left.body_b)) asked.both.agree
+  both_did OnlyFirst left ended not =
+      told_first (becomes_raised (did_a (left.first refl)) (becomes_kept left.body_a)) (torn_b past e one two at n asked left)
+      (both_chosen law_a law_b asked.pair e one two asked.both) (first_chosen law_a' law_b' (ended.stands.pair ended.is_pair) e (ended.stands.first refl))
+  both_did OnlySecond left ended not =
+      told_second (torn_a past e one two at n asked left) (becomes_raised (did_b (left.second refl)) (becomes_kept left.body_b))
+      (λ x y is is'. both_chosen law_a law_b asked.pair e one two asked.both x y is is' ∙ asked.both.agree x y is is') (second_chosen law_a' law_b' (ended.stands.pair ended.is_pair) e (ended.stands.second refl))
+  both_did Broken left ended not = absurd (not refl)
+  both_did Plain left ended not = absurd (ended.is_pair.0 refl)
+  both_did Unbound left ended not = absurd (ended.is_pair.1 refl)
 
 -- a side that was written
 pub written_of : {T E : Type 0} (old new : DiskState) (at : ℕ) (bytes : List ℕ) → IsLawful old → 64 + at + length bytes ≤ old.size → (r : Result T E) → OnOk r (Splices (64 + at) bytes old new) → is_ok r ≡ true → Becomes (λ c d. d ≡ spliced c at bytes) old.contents new.contents

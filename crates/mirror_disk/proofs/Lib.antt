@@ -1,8 +1,10 @@
 pub mod Words
 pub mod Adopted
 pub mod Alone
+pub mod Answered
 pub mod Asked
 pub mod Blank
+pub mod Called
 pub mod Calls
 pub mod Choosing
 pub mod Copying
@@ -18,6 +20,7 @@ pub mod Naming
 pub mod Mirrored
 pub mod Raises
 pub mod Rows
+pub mod Settled
 pub mod Stands
 pub mod Taking
 pub mod Telling

@@ -1,5 +1,5 @@
 -- What a call on both sides comes to in the state of the mirror.
-use Rattle.mirror_disk.proofs.{Words.{arith, ◌≡◌, ◌≢◌, ◌⊎◌, inl, inr, ⊎_elim, ℕ, List, ◌∷◌, Result, Ok, Err, OnErr, refl, sym, ◌∙◌, ap, subst, option_map, DiskState, Torn, TornFrom, TellsTorn, Splices, Elapses, spliced, Slot, Used, Plain, Both, OnlyFirst, OnlySecond, Broken, Unbound, MirrorBecomes, HasEnded, chosen_told, mirrored, IsPair, Stands, state_in}, Alone.none_torn}
+use Rattle.mirror_disk.proofs.{Words.{arith, ◌≡◌, ◌≢◌, ◌⊎◌, inl, inr, ⊎_elim, ℕ, List, ◌∷◌, Result, Ok, Err, OnErr, refl, sym, ◌∙◌, ap, subst, option_map, DiskState, Torn, TornFrom, TellsTorn, Elapses, Slot, Used, Plain, Both, OnlyFirst, OnlySecond, Broken, Unbound, MirrorBecomes, HasEnded, chosen_told, mirrored, IsPair, Stands, state_in}}
 
 -- these are the states of a pair
 pub of_pair : {used : Used} → (used ≡ Both) ⊎ ((used ≡ OnlyFirst) ⊎ ((used ≡ OnlySecond) ⊎ (used ≡ Broken))) → IsPair used
@@ -49,19 +49,11 @@ module _ {used used' : Used} {a b new_a new_b : DiskState} {past past' : List (�
     new_told : (state_in used' new_a new_b past' g m).contents ≡ chosen_told new_a.contents new_b.contents
     new_told = told_pair used' ended.is_pair new_a new_b past' g m
 
-    pub parts_splice : (k : ℕ) (bytes : List ℕ) → chosen_told new_a.contents new_b.contents ≡ option_map (λ c. spliced c k bytes) (chosen_told a.contents b.contents) → Splices k bytes (state_in used a b past f m) (state_in used' new_a new_b past' g m)
-    parts_splice k bytes written = new_told ∙ written ∙ ap (option_map (λ (c : List ℕ). spliced c k bytes)) (sym old_told)
+    pub parts_turn : (turn : List ℕ → List ℕ) → chosen_told new_a.contents new_b.contents ≡ option_map turn (chosen_told a.contents b.contents) → (state_in used' new_a new_b past' g m).contents ≡ option_map turn (state_in used a b past f m).contents
+    parts_turn turn turned = new_told ∙ turned ∙ ap (option_map turn) (sym old_told)
 
     pub parts_tear : (k l : ℕ) → MirrorBecomes (Torn k l) (chosen_told a.contents b.contents) (chosen_told new_a.contents new_b.contents) → TellsTorn k l (state_in used a b past f m) (state_in used' new_a new_b past' g m)
     parts_tear k l becomes = grind (arith, old_told, new_told)
-
-    pub parts_same : chosen_told new_a.contents new_b.contents ≡ chosen_told a.contents b.contents → (state_in used' new_a new_b past' g m).contents ≡ (state_in used a b past f m).contents
-    parts_same same = new_told ∙ same ∙ sym old_told
-
--- a call that writes no bytes
-pub parts_pass : {used used' : Used} {a b new_a new_b : DiskState} {past past' : List (ℕ × ℕ)} {e : ℕ} {one two : Slot} → IsPair used → past' ≡ (a.clock, b.clock) ∷ past → HasEnded a b new_a new_b used' past e one two 0 0
-    → (f g m : ℕ) → Elapses (state_in used a b past f m) (state_in used' new_a new_b past' g m) (state_in used a b past f m).now
-parts_pass is is' ended f g m = elapses_more (parts_elapse is is' ended f g m) none_torn
 
 pub on_err : {T E P Q : Type 0} (r : Result T E) → (P → Q) → OnErr r P → OnErr r Q
 on_err (Ok x) then p = tt

@@ -1,10 +1,10 @@
 -- What the definitions of a mirror are, by computation on sides of one byte.
-use Rattle.std.specs.Prelude.{◌≡◌, ℕ, ◌+◌, ◌-◌, ◌^◌, ◌==◌, true, false, List, [], ◌∷◌, ◌++◌, length, replicate, take, cond, Option, Some, None, refl}
+use Rattle.std.specs.Prelude.{◌≡◌, ℕ, ◌+◌, ◌-◌, ◌^◌, ◌==◌, true, false, List, [], ◌∷◌, ◌++◌, length, replicate, take, cond, slice_index, Option, Some, None, refl}
 use Rattle.iso_disk.specs.Disk.{DiskState}
-use Rattle.mirror_disk.specs.{Header.{blank_header, body, chosen, epoch, last_epoch, number_at, slot_epoch, word}, Pairs.{first_name, names_mirror, pair_at, second_name, shorter}, Slots.{other, place}, Standing.{sides_in, state_in}, declared.slot.Slot.TheVariants.{First, Second}, declared.used.Used.Used, declared.used.Used.TheVariants.{Both, Broken, OnlyFirst, OnlySecond, Plain, Unbound}}
+use Rattle.mirror_disk.specs.{Header.{blank_header, body, chosen, epoch, last_epoch, number_at, slot_body, slot_epoch, word}, Pairs.{chosen_told, first_name, names_mirror, pair_at, second_name, shorter}, Slots.{other, place}, Standing.{sides_in, state_in}, declared.slot.Slot.TheVariants.{First, Second}, declared.used.Used.Used, declared.used.Used.TheVariants.{Both, Broken, OnlyFirst, OnlySecond, Plain, Unbound}}
 
 -- a slot with this epoch after an open gate, or a closed one for 0
-abbrev slot : ℕ → List ℕ
+abbrev pub slot : ℕ → List ℕ
 slot e = cond (e == 0) (replicate 16 0) (1 ∷ replicate 14 0 ++ e ∷ [])
 
 -- a side with these epochs in its slots, and one byte after its header
@@ -18,7 +18,8 @@ plain = 97 ∷ []
 abbrev pub double : List ℕ
 double = 97 ∷ 43 ∷ []
 
--- a disk that is one image, that was made of a side at each moment, and that tells for each name whose it is
+-- A disk that is one image, that was made of a side at each moment, and that tells for each name whose it is, in an epoch, and
+-- with which byte the name ends.
 abbrev pub disk_of : List ℕ → ℕ → DiskState
 disk_of bytes whose = record {
   size = length bytes;
@@ -27,9 +28,9 @@ disk_of bytes whose = record {
   clock = 9;
   left = λ t c. c ≡ side 1 0 (t + whose);
   faults = 3;
-  bound = Some (5, 97 ∷ 43 ∷ 48 ∷ []);
+  bound = Some (5, (97 + whose) ∷ 43 ∷ 48 ∷ []);
   binds = 4;
-  named = λ name. Some (side 1 0 (whose + length name));
+  named = λ name. Some (side 1 whose (slice_index name (length name - 1)));
 }
 
 -- the epoch is the larger one of an open slot, and the body all after the header
@@ -48,6 +49,13 @@ most = refl
 blank : blank_header ≡ take 64 (side 1 0 0)
 blank = refl
 
+blank_bytes : blank_header ≡ 73 ∷ 83 ∷ 79 ∷ 77 ∷ 73 ∷ 82 ∷ 82 ∷ 49 ∷ replicate 8 0 ++ 1 ∷ replicate 14 0 ++ 1 ∷ replicate 32 0
+blank_bytes = refl
+
+-- what is after the gate of a slot
+spelled : slot_body 258 ≡ replicate 13 0 ++ 1 ∷ 2 ∷ []
+spelled = refl
+
 -- the larger epoch counts, and the first side where both have one
 choices : (chosen (side 1 0 7) (side 1 2 9) ≡ 9 ∷ []) × (chosen (side 3 2 7) (side 1 2 9) ≡ 7 ∷ []) × (chosen (side 1 0 7) (side 0 1 9) ≡ 7 ∷ [])
 choices = (refl, refl, refl)
@@ -60,6 +68,10 @@ names = refl
 
 names_of_sides : (first_name double ≡ 97 ∷ 43 ∷ 48 ∷ []) × (second_name double ≡ 97 ∷ 43 ∷ 49 ∷ []) × (shorter (first_name double) ≡ double)
 names_of_sides = (refl, refl, refl)
+
+-- a mirror tells nothing where one of its sides does not
+told_by_one : (chosen_told (Some (side 1 0 7)) None ≡ None) × (chosen_told None (Some (side 1 0 7)) ≡ None) × (chosen_told None None ≡ None)
+told_by_one = (refl, refl, refl)
 
 -- the moments of both sides before the first call, the second, and now
 moments : pair_at ((3, 4) ∷ (1, 2) ∷ []) (5, 6) 0 ∷ pair_at ((3, 4) ∷ (1, 2) ∷ []) (5, 6) 1 ∷ pair_at ((3, 4) ∷ (1, 2) ∷ []) (5, 6) 2 ∷ pair_at [] (5, 6) 0 ∷ [] ≡ (1, 2) ∷ (3, 4) ∷ (5, 6) ∷ (5, 6) ∷ []
@@ -93,7 +105,11 @@ abbrev named : Used → ℕ × ℕ × Option (List ℕ) × Option (List ℕ)
 named used = ((mirror used).faults, (mirror used).binds, (mirror used).named plain, (mirror used).named double)
 
 abbrev all_named : ℕ × ℕ × Option (List ℕ) × Option (List ℕ)
-all_named = (11, 12, Some (side 1 0 1), Some (3 ∷ []))
+all_named = (11, 12, Some (side 1 0 97), Some (49 ∷ []))
 
 named_by_each : (named Plain ≡ all_named) × (named Both ≡ all_named) × (named OnlyFirst ≡ all_named) × (named OnlySecond ≡ all_named) × (named Broken ≡ all_named) × (named Unbound ≡ all_named)
 named_by_each = (refl, refl, refl, refl, refl, refl)
+
+-- each side is asked for its own name
+named_turned : (state_in Both (disk_of (side 1 0 7) 50) (disk_of (side 1 2 8) 0) [] 0 0).named double ≡ Some (48 ∷ [])
+named_turned = refl

@@ -1,5 +1,5 @@
 -- What a mirror tells after a call.
-use Rattle.mirror_disk.proofs.{Words.{arith, ◌≡◌, inl, inr, ℕ, ◌+◌, ◌≤◌, List, length, take, Option, Some, None, refl, sym, ◌∙◌, ap, subst, option_map, cases_lt, drop-drop, DiskState, Torn, TellsTorn, Splices, spliced, spliced_torn, take-drop-spliced, torn_whole, Becomes, MirrorBecomes, body, chosen, epoch, both_tell, chosen_told}, Epochs.{chosen_first, chosen_second}, Meets.torn_body}
+use Rattle.mirror_disk.proofs.{Words.{arith, ◌≡◌, inl, inr, ℕ, ◌+◌, ◌≤◌, List, length, take, Option, Some, None, refl, sym, ◌∙◌, ap, subst, option_map, same_Some, cases_lt, drop-drop, DiskState, Torn, TellsTorn, Splices, spliced, spliced_torn, take-drop-spliced, torn_whole, Becomes, MirrorBecomes, body, chosen, epoch, both_tell, chosen_told}, Epochs.{chosen_first, chosen_second}, Meets.torn_body}
 
 -- bytes laid after the header are laid in the mirrored bytes
 pub body-spliced : (c : List ℕ) (at : ℕ) (bytes : List ℕ) → 64 + at + length bytes ≤ length c → body (spliced c (64 + at) bytes) ≡ spliced (body c) at bytes
@@ -57,9 +57,15 @@ told_alike {R = R} one two agree = told_by {Q = R} {R = R} {S = R} one two (λ x
       | inr not ↦ subst (R c) (sym (chosen_first x y not)) one
     ]
 
--- a write that was done
-pub splices_of : (at : ℕ) (bytes : List ℕ) (o p : Option (List ℕ)) → MirrorBecomes (λ c d. d ≡ spliced c at bytes) o p → p ≡ option_map (λ (c : List ℕ). spliced c at bytes) o
-splices_of at bytes o p becomes = grind arith
+-- a call that was done turns what is told
+pub turned_of : (turn : List ℕ → List ℕ) (o p : Option (List ℕ)) → MirrorBecomes (λ c d. d ≡ turn c) o p → p ≡ option_map turn o
+turned_of turn (Some c) p becomes = let t = becomes.told c refl in t.1 ∙ ap Some t.2
+turned_of turn None p becomes = becomes.untold refl
+
+-- what was told before it
+pub came_from : {R : List ℕ → List ℕ → Type 0} (o p : Option (List ℕ)) → Becomes R o p → (y : List ℕ) → p ≡ Some y → (x : List ℕ) × (o ≡ Some x) × R (body x) (body y)
+came_from {R = R} (Some x) p becomes y is = let t = becomes.told x refl in (x, refl, subst (λ (l : List ℕ). R (body x) (body l)) (same_Some t.0 y (sym t.1 ∙ is)) t.2)
+came_from None p becomes y is = absurd (cc (is, becomes.untold refl))
 
 -- a side that did a write after its header
 pub becomes_spliced : (old new : DiskState) (at : ℕ) (bytes : List ℕ) → ((c : List ℕ) → old.contents ≡ Some c → 64 + at + length bytes ≤ length c) → Splices (64 + at) bytes old new → Becomes (λ c d. d ≡ spliced c at bytes) old.contents new.contents

@@ -1,8 +1,8 @@
 -- What an adopt makes of the side that it chose, and of the other one.
-use Rattle.std.specs.{Prelude.{◌≡◌, ◌≢◌, ◌⊎◌, ℕ, ◌<◌, ◌≤◌, List, Some, None}, Option.ForSome}
+use Rattle.std.specs.{Prelude.{◌≡◌, ◌≢◌, ◌⊎◌, ℕ, ◌<◌, ◌≤◌, List, [], Some, None}, Option.ForSome}
 use Rattle.counts.specs.Count.{Rose}
 use Rattle.iso_disk.specs.Disk.{DiskState, IsSettled, WritesNothing}
-use Rattle.mirror_disk.specs.{declared.slot.Slot.Slot, Header.{IsHeader, body, chosen, epoch, last_epoch}, Pairs.ChosenOf, Raised.HasEpoch}
+use Rattle.mirror_disk.specs.{declared.marks.Marks.Marks, declared.slot.Slot.Slot, declared.used.Used.TheVariants.{Broken, OnlyFirst, OnlySecond}, Header.{IsHeader, body, chosen, epoch, last_epoch}, Pairs.{ChosenOf, chosen_told, mirrored}, Raised.HasEpoch, Standing.{IsPair, StandsBy}}
 
 -- an image of the side that was chosen: its epoch or a larger one, and the mirrored bytes that it told at the start
 pub record OfChosen (e : ℕ) (start : DiskState) (image : List ℕ) : Type 0 where
@@ -63,6 +63,33 @@ pub record WasBound (old new : DiskState) (name : List ℕ) : Type 0 where
   pub bound : (t : ℕ) × (new.bound ≡ Some (t, name))
   pub reads : ForSome (old.named name) (λ c. new.contents ≡ Some c)
 
+-- what a disk tells has a header, or has none
+abbrev pub TellsHeader : DiskState → Type 0
+TellsHeader d = ForSome d.contents (λ c. IsHeader c)
+
+abbrev pub TellsNoHeader : DiskState → Type 0
+TellsNoHeader d = ForSome d.contents (λ c. IsHeader c → ⊥)
+
+-- where two disks tell the same mirrored bytes
+abbrev pub WhereSame : DiskState → DiskState → Type 0 → Type 0
+WhereSame a b P = (x y : List ℕ) → a.contents ≡ Some x → b.contents ≡ Some y → body x ≡ body y → P
+
+-- What becomes of two stable sides, whichever was chosen and whether the other one could be made as it.
+pub record Settles (a b new_a new_b : DiskState) : Type 0 where
+  pub kept : (x y : List ℕ) → new_a.left a.clock x → new_b.left b.clock y → ChosenOf a.now b.now (chosen x y)
+  pub contents : chosen_told new_a.contents new_b.contents ≡ chosen_told a.contents b.contents
+  pub bound : new_a.bound ≡ a.bound
+  pub still : LeavesAlike a b new_a new_b
+
+-- what is known of two sides once they are a mirror
+pub record AreAdopted (a b new_a new_b : DiskState) (marks : Marks) : Type 0 where
+  pub in_use : IsPair marks.used
+  pub goes_on : marks.used ≢ Broken
+  pub left_first : marks.used ≡ OnlySecond → Rose a.faults new_a.faults
+  pub left_second : marks.used ≡ OnlyFirst → Rose b.faults new_b.faults
+  pub stands : StandsBy new_a new_b marks []
+  pub settled : IsSettled (mirrored new_a new_b [] 0 0)
+
 -- two sides that are not taken for a mirror: they differ in size, or one has no header
 abbrev pub AdoptRefuses : DiskState → DiskState → Type 0
-AdoptRefuses a b = (a.size ≢ b.size) ⊎ (ForSome a.contents (λ c. IsHeader c → ⊥) ⊎ ForSome b.contents (λ c. IsHeader c → ⊥))
+AdoptRefuses a b = (a.size ≢ b.size) ⊎ (TellsNoHeader a ⊎ TellsNoHeader b)

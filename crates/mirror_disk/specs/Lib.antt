@@ -1,6 +1,7 @@
 pub mod Adopting
 pub mod Becoming
 pub mod Binding
+pub mod Called
 pub mod Ended
 pub mod Failing
 pub mod Header

@@ -1,13 +1,21 @@
 -- What a crash may leave of a side while its epoch is raised.
-use Rattle.std.specs.Prelude.{◌≡◌, ◌⊎◌, ℕ, ◌+◌, List, take, drop, replicate, Some, None}
+use Rattle.std.specs.Prelude.{◌≡◌, ◌⊎◌, ℕ, ◌+◌, ◌≤◌, List, take, drop, replicate, Some, None}
 use Rattle.iso_disk.specs.Disk.{DiskState}
-use Rattle.mirror_disk.specs.{declared.slot.Slot.Slot, Header.{IsHeader, slot_epoch, epoch, body, number_at}, Slots.place}
+use Rattle.mirror_disk.specs.{declared.slot.{Mark.Mark, Slot.Slot}, Header.{IsHeader, slot_epoch, epoch, body, last_epoch, number_at}, Slots.place}
 
 -- the image has a header with this epoch, and this slot holds it
 pub record HasEpoch (slot : Slot) (e : ℕ) (image : List ℕ) : Type 0 where
   pub epoch_is : epoch image ≡ e
   pub slot_is : slot_epoch (place slot) image ≡ e
   pub header : IsHeader image
+
+-- each image that a crash now may leave is so
+abbrev pub EachNow : DiskState → (List ℕ → Type 0) → Type 0
+EachNow d P = (x : List ℕ) → d.now x → P x
+
+-- this was read in the header of a disk that is stable
+abbrev pub HasMark : DiskState → Mark → Type 0
+HasMark d m = (m.epoch ≤ last_epoch) × EachNow d (HasEpoch m.slot m.epoch)
 
 -- what is after this gate: seven zeros, and the epoch
 pub record HoldsEpoch (gate e : ℕ) (image : List ℕ) : Type 0 where

@@ -1,10 +1,21 @@
 -- The state of a mirror by its fields.
 use Rattle.std.{specs.Prelude.{ℕ, ◌<◌, ◌^◌, List, Option, None}, proofs.Common.{arith, lit<}}
 use Rattle.iso_disk.specs.{Disk.{DiskState, IsLawful}, declared.disk.Disk.Ghosts, Untold.{untold, untold_is_lawful}}
-use Rattle.mirror_disk.specs.{declared.slot.Slot.Slot, declared.used.Used.Used, declared.used.Used.TheVariants.{Plain, Both, OnlyFirst, OnlySecond, Broken, Unbound}, Laws.lawful, declared.mirror.Mirror.Mirror, Pairs.named_by, Standing.{Stands, state_in}}
+use Rattle.mirror_disk.specs.{declared.slot.Slot.Slot, declared.used.Used.Used, declared.used.Used.TheVariants.{Plain, Both, OnlyFirst, OnlySecond, Broken, Unbound}, Failing.{AllFailed, CannotLeave, LeavesFailed}, Laws.lawful, declared.mirror.Mirror.Mirror, Pairs.named_by, Standing.{Stands, state_in}}
 
 abbrev pub state_of : {A B : Type 0} {g : Ghosts A} {h : Ghosts B} → Mirror A B g h → DiskState
 state_of {g = g} {h = h} m = state_in m.marks.used (g.state m.first) (h.state m.second) m.past m.faults m.binds
+
+-- Of a call that takes a mirror from `old` to `new`: each side in use has failed in it, or one has that cannot be left out, and which one
+-- is left out.
+abbrev pub HasAllFailed : {A B : Type 0} {g : Ghosts A} {h : Ghosts B} → Mirror A B g h → Mirror A B g h → Type 0
+HasAllFailed {g = g} {h = h} old new = AllFailed old.marks.used (g.state old.first).faults (g.state new.first).faults (h.state old.second).faults (h.state new.second).faults
+
+abbrev pub CannotBeLeft : {A B : Type 0} {g : Ghosts A} {h : Ghosts B} → Mirror A B g h → Mirror A B g h → Type 0
+CannotBeLeft {g = g} {h = h} old new = CannotLeave old.marks.used old.marks.epoch (g.state old.first).faults (g.state new.first).faults (h.state old.second).faults (h.state new.second).faults
+
+abbrev pub LeavesFailedOut : {A B : Type 0} {g : Ghosts A} {h : Ghosts B} → Mirror A B g h → Mirror A B g h → Type 0
+LeavesFailedOut {g = g} {h = h} old new = LeavesFailed old.marks.used new.marks.used (g.state old.first).faults (g.state new.first).faults (h.state old.second).faults (h.state new.second).faults
 
 size_in : (used : Used) (a b : DiskState) (past : List (ℕ × ℕ)) (faults binds : ℕ) → a.size < 2 ^ 64 → (state_in used a b past faults binds).size < 2 ^ 64
 size_in Plain a b past faults binds fits = fits

@@ -1,8 +1,8 @@
 // Taking two sides that hold a mirror.
-ghost use Rattle.std.specs.{Prelude.{◌≡◌, ◌≢◌, ◌↔◌, ◌⊎◌, ◌+◌, ◌<◌, ◌≤◌, [], ℕ, List, None, Err, Some, IfErr, IfOk, IfSome, OnOk, OnErr}, Option.ForSome};
+ghost use Rattle.std.specs.Prelude.{◌≡◌, ◌≢◌, ◌↔◌, ◌⊎◌, ◌+◌, ◌<◌, ◌≤◌, ℕ, List, None, Err, Some, IfErr, IfOk, IfSome, OnOk, OnErr};
 ghost use Rattle.iso_disk.specs.Disk.{IsSettled, WritesNothing};
 ghost use Rattle.counts.specs.Count.{Rose};
-ghost use Rattle.mirror_disk.specs.{Adopting.{AdoptFails, AdoptRefuses, AdoptsFrom, LeavesAlike}, declared.adopt.MirrorError.TheVariants.{Disk, NotMirror, SizesDiffer}, Header.{IsHeader, body, chosen, last_epoch}, Pairs.{ChosenOf, chosen_told, mirrored}, declared.used.Used.TheVariants.{Both, Broken, OnlyFirst, OnlySecond}, Raised.HasEpoch, Standing.{IsPair, StandsBy}};
+ghost use Rattle.mirror_disk.specs.{Adopting.{AreAdopted, AdoptFails, AdoptRefuses, AdoptsFrom, LeavesAlike, Settles, TellsHeader, TellsNoHeader}, Binding.EitherFailed, declared.adopt.MirrorError.TheVariants.{Disk, NotMirror, SizesDiffer}, Header.{body, last_epoch}, Pairs.chosen_told, declared.used.Used.TheVariants.{Both, Broken, OnlyFirst, OnlySecond}, Raised.HasMark, Standing.IsPair};
 
 use crate::header::read_header;
 use crate::marks::Marks;
@@ -51,15 +51,15 @@ impl<A: Image, B: Image> Mirror<A, B> {
         ensures left_first { IfOk result (λ m. m.marks.used ≡ OnlySecond → Rose (A.state first).faults (A.state m.first).faults) }
         ensures left_second { IfOk result (λ m. m.marks.used ≡ OnlyFirst → Rose (B.state second).faults (B.state m.second).faults) }
         ensures alike { IfOk result (λ m. m.marks.used ≡ Both → (x y : List ℕ) → (A.state m.first).contents ≡ Some x → (B.state m.second).contents ≡ Some y → body x ≡ body y) }
-        ensures headers { OnOk result (ForSome (A.state first).contents (λ c. IsHeader c) × ForSome (B.state second).contents (λ c. IsHeader c)) }
+        ensures headers { OnOk result (TellsHeader (A.state first) × TellsHeader (B.state second)) }
         ensures still { IfOk result (λ m. LeavesAlike (A.state first) (B.state second) (A.state m.first) (B.state m.second)) }
         ensures still_refused { IfErr result (λ e. LeavesAlike (A.state first) (B.state second) (A.state e.1) (B.state e.2)) }
         ensures sizes { IfErr result (λ e. ((A.state first).size ≢ (B.state second).size) ↔ (e.0 ≡ SizesDiffer (A.state first).size (B.state second).size)) }
         ensures same_size { OnOk result ((A.state first).size ≡ (B.state second).size) }
-        ensures not_first { IfErr result (λ e. e.0 ≡ NotMirror 0 → ForSome (A.state first).contents (λ c. IsHeader c → ⊥)) }
-        ensures not_second { IfErr result (λ e. e.0 ≡ NotMirror 1 → ForSome (B.state second).contents (λ c. IsHeader c → ⊥) × ForSome (A.state first).contents (λ c. IsHeader c)) }
+        ensures not_first { IfErr result (λ e. e.0 ≡ NotMirror 0 → TellsNoHeader (A.state first)) }
+        ensures not_second { IfErr result (λ e. e.0 ≡ NotMirror 1 → TellsNoHeader (B.state second) × TellsHeader (A.state first)) }
         ensures choice { IfErr result (λ e. e.0 ≡ Disk → (x : A) × (y : B) × AdoptFails (A.state first) (B.state second) (A.state x) (B.state y) (A.state e.1) (B.state e.2)) }
-        ensures disk { IfErr result (λ e. e.0 ≡ Disk → Rose (A.state first).faults (A.state e.1).faults ⊎ Rose (B.state second).faults (B.state e.2).faults) }
+        ensures disk { IfErr result (λ e. e.0 ≡ Disk → EitherFailed A.state B.state (first, second) (e.1, e.2)) }
     {
         let mut first = first;
         let mut second = second;
@@ -82,24 +82,19 @@ pub(crate) fn adopt_sides<A: Disk, B: Disk>(
     first: &mut A,
     second: &mut B,
 ) -> Result<Marks, MirrorError>
-    ensures pair { IfOk result (λ m. IsPair m.used) }
-    ensures goes_on { IfOk result (λ m. m.used ≢ Broken) }
-    ensures left_first { IfOk result (λ m. m.used ≡ OnlySecond → Rose (A.state first.old).faults (A.state first.new).faults) }
-    ensures left_second { IfOk result (λ m. m.used ≡ OnlyFirst → Rose (B.state second.old).faults (B.state second.new).faults) }
-    ensures stands { IfOk result (λ m. StandsBy (A.state first.new) (B.state second.new) m []) }
-    ensures settled { OnOk result (IsSettled (mirrored (A.state first.new) (B.state second.new) [] 0 0)) }
+    ensures adopted { IfOk result (AreAdopted (A.state first.old) (B.state second.old) (A.state first.new) (B.state second.new)) }
     ensures contents { chosen_told (A.state first.new).contents (B.state second.new).contents ≡ chosen_told (A.state first.old).contents (B.state second.old).contents }
     ensures kept { (x : A) × (y : B) × AdoptsFrom (A.state first.old) (B.state second.old) (A.state x) (B.state y) (A.state first.new) (B.state second.new) }
     ensures bound { (A.state first.new).bound ≡ (A.state first.old).bound }
     ensures sizes { ((A.state first.old).size ≢ (B.state second.old).size) ↔ (result ≡ Err (SizesDiffer (A.state first.old).size (B.state second.old).size)) }
     ensures differ { (m n : ℕ) → result ≡ Err (SizesDiffer m n) → (m ≡ (A.state first.old).size) × (n ≡ (B.state second.old).size) }
-    ensures not_first { result ≡ Err (NotMirror 0) → ForSome (A.state first.old).contents (λ c. IsHeader c → ⊥) }
-    ensures not_second { result ≡ Err (NotMirror 1) → ForSome (B.state second.old).contents (λ c. IsHeader c → ⊥) × ForSome (A.state first.old).contents (λ c. IsHeader c) }
-    ensures headers { OnOk result (ForSome (A.state first.old).contents (λ c. IsHeader c) × ForSome (B.state second.old).contents (λ c. IsHeader c)) }
+    ensures not_first { result ≡ Err (NotMirror 0) → TellsNoHeader (A.state first.old) }
+    ensures not_second { result ≡ Err (NotMirror 1) → TellsNoHeader (B.state second.old) × TellsHeader (A.state first.old) }
+    ensures headers { OnOk result (TellsHeader (A.state first.old) × TellsHeader (B.state second.old)) }
     ensures still { LeavesAlike (A.state first.old) (B.state second.old) (A.state first.new) (B.state second.new) }
-    ensures cause { OnErr result ((Rose (A.state first.old).faults (A.state first.new).faults ⊎ Rose (B.state second.old).faults (B.state second.new).faults) ⊎ AdoptRefuses (A.state first.old) (B.state second.old)) }
+    ensures cause { OnErr result (EitherFailed A.state B.state (first.old, second.old) (first.new, second.new) ⊎ AdoptRefuses (A.state first.old) (B.state second.old)) }
     ensures choice { result ≡ Err Disk → (x : A) × (y : B) × AdoptFails (A.state first.old) (B.state second.old) (A.state x) (B.state y) (A.state first.new) (B.state second.new) }
-    ensures disk { result ≡ Err Disk → Rose (A.state first.old).faults (A.state first.new).faults ⊎ Rose (B.state second.old).faults (B.state second.new).faults }
+    ensures disk { result ≡ Err Disk → EitherFailed A.state B.state (first.old, second.old) (first.new, second.new) }
     ensures later { ((A.state first.old).faults ≤ (A.state first.new).faults) × ((B.state second.old).faults ≤ (B.state second.new).faults) }
 {
     let size = first.size();
@@ -133,12 +128,12 @@ fn read_headers<A: Disk, B: Disk>(
     ensures first_unwritten { WritesNothing (A.state first.old) (A.state first.new) }
     ensures second_unwritten { WritesNothing (B.state second.old) (B.state second.new) }
     ensures settled { OnOk result (IsSettled (A.state first.new) × IsSettled (B.state second.new)) }
-    ensures first_mark { IfOk result (λ m. IfSome m.0 (λ k. (k.epoch ≤ last_epoch) × ((x : List ℕ) → (A.state first.new).now x → HasEpoch k.slot k.epoch x))) }
+    ensures first_mark { IfOk result (λ m. IfSome m.0 (HasMark (A.state first.new))) }
     ensures first_size { IfOk result (λ m. IfSome m.0 (λ k. 64 ≤ (A.state first.old).size)) }
-    ensures second_mark { IfOk result (λ m. IfSome m.1 (λ k. (k.epoch ≤ last_epoch) × ((y : List ℕ) → (B.state second.new).now y → HasEpoch k.slot k.epoch y))) }
-    ensures not_first { IfOk result (λ m. m.0 ≡ None → ForSome (A.state first.old).contents (λ c. IsHeader c → ⊥)) }
-    ensures not_second { IfOk result (λ m. m.1 ≡ None → ForSome (B.state second.old).contents (λ c. IsHeader c → ⊥)) }
-    ensures cause { OnErr result (Rose (A.state first.old).faults (A.state first.new).faults ⊎ Rose (B.state second.old).faults (B.state second.new).faults) }
+    ensures second_mark { IfOk result (λ m. IfSome m.1 (HasMark (B.state second.new))) }
+    ensures not_first { IfOk result (λ m. m.0 ≡ None → TellsNoHeader (A.state first.old)) }
+    ensures not_second { IfOk result (λ m. m.1 ≡ None → TellsNoHeader (B.state second.old)) }
+    ensures cause { OnErr result (EitherFailed A.state B.state (first.old, second.old) (first.new, second.new)) }
     ensures later { ((A.state first.old).faults ≤ (A.state first.new).faults) × ((B.state second.old).faults ≤ (B.state second.new).faults) }
 {
     first.sync()?;
@@ -159,20 +154,11 @@ fn settle_on<A: Disk, B: Disk>(
     requires first_size { (A.state first.old).size ≡ 64 + count }
     requires second_size { (B.state second.old).size ≡ 64 + count }
     requires settled { IsSettled (A.state first.old) × IsSettled (B.state second.old) }
-    requires first { (one.epoch ≤ last_epoch) × ((x : List ℕ) → (A.state first.old).now x → HasEpoch one.slot one.epoch x) }
-    requires second { (two.epoch ≤ last_epoch) × ((y : List ℕ) → (B.state second.old).now y → HasEpoch two.slot two.epoch y) }
-    ensures pair { IfOk result (λ m. IsPair m.used) }
-    ensures goes_on { IfOk result (λ m. m.used ≢ Broken) }
-    ensures left_first { IfOk result (λ m. m.used ≡ OnlySecond → Rose (A.state first.old).faults (A.state first.new).faults) }
-    ensures left_second { IfOk result (λ m. m.used ≡ OnlyFirst → Rose (B.state second.old).faults (B.state second.new).faults) }
-    ensures stands { IfOk result (λ m. StandsBy (A.state first.new) (B.state second.new) m []) }
-    ensures settled { OnOk result (IsSettled (mirrored (A.state first.new) (B.state second.new) [] 0 0)) }
-    ensures kept { (x y : List ℕ) → (A.state first.new).left (A.state first.old).clock x → (B.state second.new).left (B.state second.old).clock y → ChosenOf (A.state first.old).now (B.state second.old).now (chosen x y) }
-    ensures contents { chosen_told (A.state first.new).contents (B.state second.new).contents ≡ chosen_told (A.state first.old).contents (B.state second.old).contents }
-    ensures sizes { ((A.state first.new).size ≡ 64 + count) × ((B.state second.new).size ≡ 64 + count) }
-    ensures bound { (A.state first.new).bound ≡ (A.state first.old).bound }
+    requires first { HasMark (A.state first.old) one }
+    requires second { HasMark (B.state second.old) two }
+    ensures adopted { IfOk result (AreAdopted (A.state first.old) (B.state second.old) (A.state first.new) (B.state second.new)) }
+    ensures settles { Settles (A.state first.old) (B.state second.old) (A.state first.new) (B.state second.new) }
     ensures later { ((A.state first.old).faults ≤ (A.state first.new).faults) × ((B.state second.old).faults ≤ (B.state second.new).faults) }
-    ensures still { LeavesAlike (A.state first.old) (B.state second.old) (A.state first.new) (B.state second.new) }
     ensures first_cause { OnErr result (two.epoch ≤ one.epoch → Rose (A.state first.old).faults (A.state first.new).faults ⊎ ((last_epoch ≤ one.epoch) × Rose (B.state second.old).faults (B.state second.new).faults)) }
     ensures second_cause { OnErr result (one.epoch < two.epoch → Rose (B.state second.old).faults (B.state second.new).faults ⊎ ((last_epoch ≤ two.epoch) × Rose (A.state first.old).faults (A.state first.new).faults)) }
 {

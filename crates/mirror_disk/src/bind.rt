@@ -2,14 +2,14 @@
 ghost use Rattle.std.specs.{Prelude.{◌≡◌, ◌≢◌, ◌⊎◌, ◌+◌, ◌^◌, ◌<◌, ◌≤◌, [], ℕ, List, Some, None, true, false, length, replicate, IfOk, OnOk, OnErr, IfNone, IfSome, IsSome}, Option.ForSome};
 ghost use Rattle.iso_disk.specs.Disk.{IsSettled};
 ghost use Rattle.counts.specs.Count.{HasCause, Rose, faults_after, one_more};
-ghost use Rattle.mirror_disk.specs.{Adopting.{AdoptRefuses, WasBound}, Binding.{IsTaken, IsTooLarge, MakesOnFreeNames}, declared.used.Used.TheVariants.{Both, Broken, OnlyFirst, OnlySecond, Plain, Unbound}, Pairs.{chosen_told, first_name, mirrored, names_mirror, second_name}, Standing.{IsPair, StandsBy, state_by}};
+ghost use Rattle.mirror_disk.specs.{Adopting.AreAdopted, Binding.{BindFails, EitherFailed, MakesOnFreeNames, RefusesBound}, declared.used.Used.TheVariants.{Both, Broken, OnlyFirst, OnlySecond, Plain, Unbound}, Pairs.{chosen_told, first_name, mirrored, names_mirror, second_name}, Standing.{IsPair, StandsBy, state_by}};
 
 use crate::adopt::adopt_sides;
+use crate::disk::count;
 use crate::header::lay_header;
 use crate::marks::Marks;
 use crate::mirror::Mirror;
 use crate::name::{LONGEST, bind_side, is_mirror, is_side_free};
-use crate::parts::count;
 use crate::past::Past;
 use crate::sides::HEADER;
 use crate::used::Used;
@@ -63,7 +63,7 @@ impl<A: Lookup, B: Lookup> Image for Mirror<A, B> {
         ensures made { OnOk result (names_mirror name.now ≡ true → IfSome want (λ w. self.new.marks.used ≡ Both)) }
         ensures made_free { names_mirror name.now ≡ true → MakesOnFreeNames A.seen B.seen want self.old.first self.new.first self.old.second self.new.second name.now }
         ensures first_fails { OnErr result (names_mirror name.now ≡ false → Rose (A.state self.old.first).faults (A.state self.new.first).faults) }
-        ensures fails { OnErr result (names_mirror name.now ≡ true → ((Rose (A.state self.old.first).faults (A.state self.new.first).faults ⊎ Rose (B.state self.old.second).faults (B.state self.new.second).faults) ⊎ ((IsTooLarge name.now want ⊎ IsTaken A.seen B.seen want self.old.first self.old.second name.now) ⊎ ((want ≡ None) × ((x : A) × (y : B) × WasBound (A.state self.old.first) (A.state x) (first_name name.now) × WasBound (B.state self.old.second) (B.state y) (second_name name.now) × AdoptRefuses (A.state x) (B.state y)))))) }
+        ensures fails { OnErr result (names_mirror name.now ≡ true → BindFails A.state B.state A.seen B.seen want (self.old.first, self.old.second) (self.new.first, self.new.second) name.now) }
     {
         raise(&mut self.binds);
         bind_parts(
@@ -87,15 +87,14 @@ fn make_sides<A: Image, B: Image>(
 ) -> Result<Marks, DiskFault>
     requires short { length name.now ≤ 4095 }
     requires room { size + 64 < 2 ^ 64 }
-    ensures pair { IfOk result (λ m. IsPair m.used) }
+    ensures adopted { IfOk result (AreAdopted (A.state first.old) (B.state second.old) (A.state first.new) (B.state second.new)) }
     ensures both { IfOk result (λ m. m.used ≡ Both) }
-    ensures stands { IfOk result (λ m. StandsBy (A.state first.new) (B.state second.new) m []) }
     ensures size { OnOk result ((A.state first.new).size ≡ size + 64) }
     ensures blank { OnOk result (ForSome (chosen_told (A.state first.new).contents (B.state second.new).contents) (λ c. c ≡ replicate size 0)) }
     ensures blank_after_crash { OnOk result ((c : List ℕ) → (mirrored (A.state first.new) (B.state second.new) [] 0 0).now c → c ≡ replicate size 0) }
     ensures told { OnOk result (IsSome (chosen_told ((A.state first.old).named (first_name name.now)) ((B.state second.old).named (second_name name.now))) → IsSome (chosen_told (A.state first.new).contents (B.state second.new).contents)) }
     ensures bound { OnOk result ((t : ℕ) × ((A.state first.new).bound ≡ Some (t, first_name name.now))) }
-    ensures cause { OnErr result (Rose (A.state first.old).faults (A.state first.new).faults ⊎ Rose (B.state second.old).faults (B.state second.new).faults) }
+    ensures cause { OnErr result (EitherFailed A.state B.state (first.old, second.old) (first.new, second.new)) }
     ensures later { ((A.state first.old).faults ≤ (A.state first.new).faults) × ((B.state second.old).faults ≤ (B.state second.new).faults) }
 {
     bind_side(first, name, FIRST, Some(size + HEADER))?;
@@ -112,15 +111,10 @@ fn take_sides<A: Image, B: Image>(
     name: &str,
 ) -> Result<Marks, DiskFault>
     requires { length name.now ≤ 4095 }
-    ensures pair { IfOk result (λ m. IsPair m.used) }
-    ensures goes_on { IfOk result (λ m. m.used ≢ Broken) }
-    ensures left_first { IfOk result (λ m. m.used ≡ OnlySecond → Rose (A.state first.old).faults (A.state first.new).faults) }
-    ensures left_second { IfOk result (λ m. m.used ≡ OnlyFirst → Rose (B.state second.old).faults (B.state second.new).faults) }
-    ensures stands { IfOk result (λ m. StandsBy (A.state first.new) (B.state second.new) m []) }
+    ensures adopted { IfOk result (AreAdopted (A.state first.old) (B.state second.old) (A.state first.new) (B.state second.new)) }
     ensures existing { OnOk result (ForSome (chosen_told ((A.state first.old).named (first_name name.now)) ((B.state second.old).named (second_name name.now))) (λ c. (chosen_told (A.state first.new).contents (B.state second.new).contents) ≡ Some c)) }
-    ensures settled { OnOk result (IsSettled (mirrored (A.state first.new) (B.state second.new) [] 0 0)) }
     ensures bound { OnOk result ((t : ℕ) × ((A.state first.new).bound ≡ Some (t, first_name name.now))) }
-    ensures cause { OnErr result ((Rose (A.state first.old).faults (A.state first.new).faults ⊎ Rose (B.state second.old).faults (B.state second.new).faults) ⊎ ((x : A) × (y : B) × WasBound (A.state first.old) (A.state x) (first_name name.now) × WasBound (B.state second.old) (B.state y) (second_name name.now) × AdoptRefuses (A.state x) (B.state y))) }
+    ensures cause { OnErr result (EitherFailed A.state B.state (first.old, second.old) (first.new, second.new) ⊎ RefusesBound A.state B.state (first.old, second.old) name.now) }
     ensures later { ((A.state first.old).faults ≤ (A.state first.new).faults) × ((B.state second.old).faults ≤ (B.state second.new).faults) }
 {
     bind_side(first, name, FIRST, None)?;
@@ -147,21 +141,16 @@ fn bind_sides<A: Lookup, B: Lookup>(
     name: &str,
     want: Option<u64>,
 ) -> Result<Marks, DiskFault>
-    ensures pair { IfOk result (λ m. IsPair m.used) }
-    ensures goes_on { IfOk result (λ m. m.used ≢ Broken) }
-    ensures left_first { IfOk result (λ m. m.used ≡ OnlySecond → Rose (A.state first.old).faults (A.state first.new).faults) }
-    ensures left_second { IfOk result (λ m. m.used ≡ OnlyFirst → Rose (B.state second.old).faults (B.state second.new).faults) }
+    ensures adopted { IfOk result (AreAdopted (A.state first.old) (B.state second.old) (A.state first.new) (B.state second.new)) }
     ensures made { IfOk result (λ m. IfSome want (λ w. m.used ≡ Both)) }
     ensures made_free { MakesOnFreeNames A.seen B.seen want first.old first.new second.old second.new name.now }
-    ensures stands { IfOk result (λ m. StandsBy (A.state first.new) (B.state second.new) m []) }
     ensures size { OnOk result (IfSome want (λ w. (A.state first.new).size ≡ w + 64)) }
     ensures blank { OnOk result (IfSome want (λ w. ForSome (chosen_told (A.state first.new).contents (B.state second.new).contents) (λ c. c ≡ replicate w 0))) }
     ensures blank_after_crash { OnOk result (IfSome want (λ w. (c : List ℕ) → (mirrored (A.state first.new) (B.state second.new) [] 0 0).now c → c ≡ replicate w 0)) }
     ensures existing { OnOk result (IfNone want (ForSome (chosen_told ((A.state first.old).named (first_name name.now)) ((B.state second.old).named (second_name name.now))) (λ c. (chosen_told (A.state first.new).contents (B.state second.new).contents) ≡ Some c))) }
-    ensures settled { OnOk result (IfNone want (IsSettled (mirrored (A.state first.new) (B.state second.new) [] 0 0))) }
     ensures told { OnOk result (IsSome (chosen_told ((A.state first.old).named (first_name name.now)) ((B.state second.old).named (second_name name.now))) → IsSome (chosen_told (A.state first.new).contents (B.state second.new).contents)) }
     ensures bound { OnOk result ((t : ℕ) × ((A.state first.new).bound ≡ Some (t, first_name name.now))) }
-    ensures cause { OnErr result ((Rose (A.state first.old).faults (A.state first.new).faults ⊎ Rose (B.state second.old).faults (B.state second.new).faults) ⊎ ((IsTooLarge name.now want ⊎ IsTaken A.seen B.seen want first.old second.old name.now) ⊎ ((want ≡ None) × ((x : A) × (y : B) × WasBound (A.state first.old) (A.state x) (first_name name.now) × WasBound (B.state second.old) (B.state y) (second_name name.now) × AdoptRefuses (A.state x) (B.state y))))) }
+    ensures cause { OnErr result (BindFails A.state B.state A.seen B.seen want (first.old, second.old) (first.new, second.new) name.now) }
     ensures later { ((A.state first.old).faults ≤ (A.state first.new).faults) × ((B.state second.old).faults ≤ (B.state second.new).faults) }
 {
     if name.len() > LONGEST {
@@ -211,7 +200,7 @@ fn bind_parts<A: Lookup, B: Lookup>(
     ensures made { OnOk result (names_mirror name.now ≡ true → IfSome want (λ w. marks.new.used ≡ Both)) }
     ensures made_free { names_mirror name.now ≡ true → MakesOnFreeNames A.seen B.seen want first.old first.new second.old second.new name.now }
     ensures first_fails { OnErr result (names_mirror name.now ≡ false → Rose (A.state first.old).faults (A.state first.new).faults) }
-    ensures fails { OnErr result (names_mirror name.now ≡ true → ((Rose (A.state first.old).faults (A.state first.new).faults ⊎ Rose (B.state second.old).faults (B.state second.new).faults) ⊎ ((IsTooLarge name.now want ⊎ IsTaken A.seen B.seen want first.old second.old name.now) ⊎ ((want ≡ None) × ((x : A) × (y : B) × WasBound (A.state first.old) (A.state x) (first_name name.now) × WasBound (B.state second.old) (B.state y) (second_name name.now) × AdoptRefuses (A.state x) (B.state y)))))) }
+    ensures fails { OnErr result (names_mirror name.now ≡ true → BindFails A.state B.state A.seen B.seen want (first.old, second.old) (first.new, second.new) name.now) }
 {
     if !is_mirror(name.as_bytes()) {
         marks.used = Used::Plain;

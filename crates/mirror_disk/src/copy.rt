@@ -2,7 +2,7 @@
 ghost use Rattle.std.specs.Prelude.{◌≡◌, ◌≢◌, ◌+◌, ◌≤◌, ℕ, List, Some, length, take, drop, true, false, IfOk};
 ghost use Rattle.iso_disk.specs.Disk.{IsSettled, LeavesOnly, TellsTorn, TornFrom, WritesNothing};
 ghost use Rattle.counts.specs.Count.{HasCause, Rose};
-ghost use Rattle.mirror_disk.specs.Header.{body};
+ghost use Rattle.mirror_disk.specs.{Adopting.WhereSame, Header.body};
 
 use crate::sides::HEADER;
 use iso_disk::{Disk, DiskFault};
@@ -24,7 +24,7 @@ pub(crate) fn copy_body<C: Disk, O: Disk>(
     ensures torn { TellsTorn 64 count (O.state to.old) (O.state to.new) }
     ensures settled { IfOk result (λ done. done ≡ true → IsSettled (O.state to.new)) }
     ensures alike { IfOk result (λ done. done ≡ true → (x y : List ℕ) → (C.state from.old).contents ≡ Some x → (O.state to.new).contents ≡ Some y → body y ≡ body x) }
-    ensures still { (x y : List ℕ) → (C.state from.old).contents ≡ Some x → (O.state to.old).contents ≡ Some y → body x ≡ body y → WritesNothing (O.state to.old) (O.state to.new) }
+    ensures still { WhereSame (C.state from.old) (O.state to.old) (WritesNothing (O.state to.old) (O.state to.new)) }
     ensures cause { HasCause (C.state from.old).faults (C.state from.new).faults result }
     ensures later { (O.state to.old).faults ≤ (O.state to.new).faults }
     ensures failed { IfOk result (λ done. done ≡ false → Rose (O.state to.old).faults (O.state to.new).faults) }
@@ -64,7 +64,7 @@ fn copy_piece<C: Disk, O: Disk>(
     ensures torn { TellsTorn (64 + at) (length piece.old) (O.state to.old) (O.state to.new) }
     ensures copied { IfOk result (λ done. done ≡ true → (x y : List ℕ) → (C.state from.old).contents ≡ Some x → (O.state to.new).contents ≡ Some y
         → (z : List ℕ) × ((O.state to.old).contents ≡ Some z) × (take at (body y) ≡ take at (body z)) × (take (length piece.old) (drop at (body y)) ≡ take (length piece.old) (drop at (body x)))) }
-    ensures still { (x y : List ℕ) → (C.state from.old).contents ≡ Some x → (O.state to.old).contents ≡ Some y → body x ≡ body y → WritesNothing (O.state to.old) (O.state to.new) }
+    ensures still { WhereSame (C.state from.old) (O.state to.old) (WritesNothing (O.state to.old) (O.state to.new)) }
     ensures cause { HasCause (C.state from.old).faults (C.state from.new).faults result }
     ensures later { (O.state to.old).faults ≤ (O.state to.new).faults }
     ensures failed { IfOk result (λ done. done ≡ false → Rose (O.state to.old).faults (O.state to.new).faults) }

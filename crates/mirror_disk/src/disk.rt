@@ -1,17 +1,17 @@
 // A mirror as a disk.
-ghost use Rattle.std.specs.{Prelude.{◌≡◌, ◌≢◌, ◌⊎◌, ◌+◌, ◌≤◌, false, length, OnOk, OnErr}, List.slice_range, Option.ForSome};
+ghost use Rattle.std.specs.{Prelude.{◌≡◌, ◌≢◌, ◌⊎◌, ◌+◌, ◌≤◌, true, false, length, OnOk, OnErr}, List.slice_range, Option.ForSome};
 ghost use Rattle.iso_disk.specs.Disk.{Elapses, IsSettled, Splices, TellsTorn, TornFrom};
 ghost use Rattle.counts.specs.Count.{HasCause, Rose, faults_after};
-ghost use Rattle.mirror_disk.specs.{declared.used.Used.TheVariants.{Both, Broken, Unbound}, Failing.{AllFailed, CannotLeave, LeavesFailed}, Standing.sides_in};
+ghost use Rattle.mirror_disk.specs.{declared.used.Used.TheVariants.{Both, Broken, Unbound}, Standing.sides_in};
 
 use crate::mirror::Mirror;
-use crate::parts::{read_parts, sync_parts, write_parts};
-use crate::sides::HEADER;
+use crate::sides::{HEADER, read_sides, sync_sides, write_sides};
 use crate::used::Used;
+use counts::raise;
 use iso_disk::{Disk, DiskFault, Image};
 
 impl<A: Image, B: Image> Disk for Mirror<A, B> {
-    ghost use Rattle.mirror_disk.specs.State.{mirror_lawful, mirror_size, state_of};
+    ghost use Rattle.mirror_disk.specs.State.{CannotBeLeft, HasAllFailed, LeavesFailedOut, mirror_lawful, mirror_size, state_of};
 
     ghost state = { state_of };
 
@@ -47,17 +47,17 @@ impl<A: Image, B: Image> Disk for Mirror<A, B> {
         ensures first_idle { (sides_in self.old.marks.used).0 ≡ false → self.new.first ≡ self.old.first }
         ensures second_idle { (sides_in self.old.marks.used).1 ≡ false → self.new.second ≡ self.old.second }
         ensures second_last { self.old.marks.used ≡ Both → Rose (A.state self.old.first).faults (A.state self.new.first).faults ⊎ (self.new.second ≡ self.old.second) }
-        ensures counted { OnErr result (AllFailed self.old.marks.used (A.state self.old.first).faults (A.state self.new.first).faults (B.state self.old.second).faults (B.state self.new.second).faults) }
+        ensures counted { OnErr result (HasAllFailed self.old self.new) }
     {
-        read_parts(
+        let done = read_sides(
             &mut self.first,
             &mut self.second,
             self.marks,
             &mut self.past,
-            &mut self.faults,
             at,
             into,
-        )
+        );
+        count(&mut self.faults, done)
     }
 
     /// Writes to each side in use, and leaves out one that fails: it raises the epoch of the other one first.
@@ -77,20 +77,21 @@ impl<A: Image, B: Image> Disk for Mirror<A, B> {
         ensures goes_on { OnOk result (self.new.marks.used ≢ Broken) }
         ensures breaks { OnErr result (self.old.marks.used ≡ Both → self.new.marks.used ≡ Broken) }
         ensures same { self.new.marks ≡ record self.old.marks { used = self.new.marks.used } }
-        ensures left { LeavesFailed self.old.marks.used self.new.marks.used (A.state self.old.first).faults (A.state self.new.first).faults (B.state self.old.second).faults (B.state self.new.second).faults }
+        ensures left { LeavesFailedOut self.old self.new }
         ensures first_idle { (sides_in self.old.marks.used).0 ≡ false → self.new.first ≡ self.old.first }
         ensures second_idle { (sides_in self.old.marks.used).1 ≡ false → self.new.second ≡ self.old.second }
-        ensures counted { OnErr result (AllFailed self.old.marks.used (A.state self.old.first).faults (A.state self.new.first).faults (B.state self.old.second).faults (B.state self.new.second).faults ⊎ CannotLeave self.old.marks.used self.old.marks.epoch (A.state self.old.first).faults (A.state self.new.first).faults (B.state self.old.second).faults (B.state self.new.second).faults) }
+        ensures counted { OnErr result (HasAllFailed self.old self.new ⊎ CannotBeLeft self.old self.new) }
     {
-        write_parts(
+        let (used, done) = write_sides(
             &mut self.first,
             &mut self.second,
-            &mut self.marks,
+            self.marks,
             &mut self.past,
-            &mut self.faults,
             at,
             bytes,
-        )
+        );
+        self.marks.used = used;
+        count(&mut self.faults, done)
     }
 
     /// Makes each side in use stable, and leaves out one that fails, as a write does.
@@ -108,17 +109,32 @@ impl<A: Image, B: Image> Disk for Mirror<A, B> {
         ensures goes_on { OnOk result (self.new.marks.used ≢ Broken) }
         ensures breaks { OnErr result (self.old.marks.used ≡ Both → self.new.marks.used ≡ Broken) }
         ensures same { self.new.marks ≡ record self.old.marks { used = self.new.marks.used } }
-        ensures left { LeavesFailed self.old.marks.used self.new.marks.used (A.state self.old.first).faults (A.state self.new.first).faults (B.state self.old.second).faults (B.state self.new.second).faults }
+        ensures left { LeavesFailedOut self.old self.new }
         ensures first_idle { (sides_in self.old.marks.used).0 ≡ false → self.new.first ≡ self.old.first }
         ensures second_idle { (sides_in self.old.marks.used).1 ≡ false → self.new.second ≡ self.old.second }
-        ensures counted { OnErr result (AllFailed self.old.marks.used (A.state self.old.first).faults (A.state self.new.first).faults (B.state self.old.second).faults (B.state self.new.second).faults ⊎ CannotLeave self.old.marks.used self.old.marks.epoch (A.state self.old.first).faults (A.state self.new.first).faults (B.state self.old.second).faults (B.state self.new.second).faults) }
+        ensures counted { OnErr result (HasAllFailed self.old self.new ⊎ CannotBeLeft self.old self.new) }
     {
-        sync_parts(
+        let (used, done) = sync_sides(
             &mut self.first,
             &mut self.second,
-            &mut self.marks,
+            self.marks,
             &mut self.past,
-            &mut self.faults,
-        )
+        );
+        self.marks.used = used;
+        count(&mut self.faults, done)
     }
+}
+
+/// Counts a fault where a call was not done.
+pub(crate) fn count(faults: &mut u64, done: bool) -> Result<(), DiskFault>
+    ensures cause { HasCause faults.old faults.new result }
+    ensures exact { faults.new ≡ faults_after faults.old result }
+    ensures done { OnOk result (done ≡ true) }
+    ensures failed { OnErr result (done ≡ false) }
+{
+    if done {
+        return Ok(());
+    }
+    raise(faults);
+    Err(DiskFault)
 }

@@ -1,8 +1,8 @@
 // The first 64 bytes of a side.
-ghost use Rattle.std.specs.{Prelude.{◌≡◌, ◌≢◌, ◌+◌, ◌≤◌, ℕ, List, length, take, drop, replicate, true, false, IfOk, IfSome, IfNone, OnOk, None}, Option.ForSome};
+ghost use Rattle.std.specs.Prelude.{◌≡◌, ◌≢◌, ◌+◌, ◌≤◌, length, take, drop, replicate, true, false, IfOk, IfSome, IfNone, OnOk, None};
 ghost use Rattle.iso_disk.specs.Disk.{IsSettled, Splices, WritesNothing};
 ghost use Rattle.counts.specs.Count.{HasCause};
-ghost use Rattle.mirror_disk.specs.{Header.{IsHeader, IsSlot, blank_header, last_epoch, slot_epoch, word}, Raised.HasEpoch};
+ghost use Rattle.mirror_disk.specs.{Adopting.TellsNoHeader, Header.{IsHeader, IsSlot, blank_header, last_epoch, slot_epoch, word}, Raised.{HasEpoch, HasMark}};
 
 use crate::raise::ZEROS;
 use crate::sides::{HEADER, LAST};
@@ -48,8 +48,8 @@ pub(crate) fn read_header<D: Disk>(disk: &mut D) -> Result<Option<Mark>, DiskFau
     requires { IsSettled (D.state disk.old) }
     ensures unwritten { WritesNothing (D.state disk.old) (D.state disk.new) }
     ensures size { IfOk result (λ mark. IfSome mark (λ m. 64 ≤ (D.state disk.old).size)) }
-    ensures mark { IfOk result (λ mark. IfSome mark (λ m. (m.epoch ≤ last_epoch) × ((x : List ℕ) → (D.state disk.old).now x → HasEpoch m.slot m.epoch x))) }
-    ensures none { IfOk result (λ mark. mark ≡ None → ForSome (D.state disk.old).contents (λ c. IsHeader c → ⊥)) }
+    ensures mark { IfOk result (λ mark. IfSome mark (HasMark (D.state disk.old))) }
+    ensures none { IfOk result (λ mark. mark ≡ None → TellsNoHeader (D.state disk.old)) }
     ensures cause { HasCause (D.state disk.old).faults (D.state disk.new).faults result }
 {
     if disk.size() < HEADER {

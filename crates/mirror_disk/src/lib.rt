@@ -1,9 +1,8 @@
-//! A disk that keeps its bytes on two sides, each with an epoch, over any two disks.
+//! A disk that keeps its bytes on two sides, each with an epoch, over two disks.
 //!
-//! Bound to a name that ends in `+`, its images are those of the larger epoch (`sides`). `counted` and `fails` say when its count may
-//! rise. A side is left out only where it failed in that call (`left`), and has the lower epoch then (`first_leads`, `second_leads`).
-//! A call that is Ok leaves a side in use (`goes_on`). `adopt` makes both alike (`alike`, `kept`). A new mirror is made only where both
-//! names were seen to be free, and else neither side is called (`made_free`). Nothing is claimed of a side that returns wrong bytes.
+//! Bound to a name with `+`, its images are those of the larger epoch (`sides`). A side is left out only where it failed in that
+//! call, with the lower epoch (`left`, `first_leads`, `second_leads`). An Ok call leaves a side in use (`goes_on`). `adopt` makes them alike
+//! (`alike`). `new` wants both names free (`made_free`). A side that returns wrong bytes is not found out.
 #![tactic(auto)]
 
 mod adopt;
@@ -14,7 +13,6 @@ mod header;
 mod marks;
 mod mirror;
 mod name;
-mod parts;
 mod past;
 mod raise;
 mod sides;

@@ -1,9 +1,9 @@
 // Raising the epoch of a side.
-ghost use Rattle.std.specs.Prelude.{◌≡◌, ◌<◌, ◌≤◌, ℕ, List, OnOk};
+ghost use Rattle.std.specs.Prelude.{◌≡◌, ◌<◌, ◌≤◌, ℕ, OnOk};
 ghost use Rattle.iso_disk.specs.Disk.{IsSettled, LeavesOnly};
 ghost use Rattle.commit_gate.specs.Gate.{IsClosed};
 ghost use Rattle.counts.specs.Count.{HasCause};
-ghost use Rattle.mirror_disk.specs.{Slots.{other, place}, Header.{last_epoch, slot_body}, Raised.{HasEpoch, HoldsEpoch, IsMarked, KeepsBody, Raising, Still}};
+ghost use Rattle.mirror_disk.specs.{Slots.{other, place}, Header.{last_epoch, slot_body}, Raised.{EachNow, HasEpoch, HoldsEpoch, IsMarked, KeepsBody, Raising, Still}};
 
 use crate::slot::Slot;
 use commit_gate::{open_gate, put_body, shut_gate, stands_closed};
@@ -21,7 +21,7 @@ pub(crate) fn raise_epoch<D: Disk>(disk: &mut D, slot: Slot, next: u64) -> Resul
     requires last { next ≤ last_epoch }
     requires marked { (e : ℕ) × IsMarked slot e (D.state disk.old) × (e ≤ next) }
     ensures moments { (e : ℕ) → IsMarked slot e (D.state disk.old) → e ≤ next → LeavesOnly (D.state disk.old) (D.state disk.new) (Raising e next (D.state disk.old)) }
-    ensures raised { OnOk result ((x : List ℕ) → (D.state disk.new).now x → HasEpoch (other slot) next x) }
+    ensures raised { OnOk result (EachNow (D.state disk.new) (HasEpoch (other slot) next)) }
     ensures settled { OnOk result (IsSettled (D.state disk.new)) }
     ensures body { KeepsBody (D.state disk.old) (D.state disk.new) }
     ensures cause { HasCause (D.state disk.old).faults (D.state disk.new).faults result }
@@ -37,7 +37,7 @@ fn shut_slot<D: Disk>(disk: &mut D, slot: Slot, gate: u64) -> Result<(), DiskFau
     requires size { 64 ≤ (D.state disk.old).size }
     requires gate { gate ≡ place (other slot) }
     ensures moments { (e : ℕ) → IsMarked slot e (D.state disk.old) → LeavesOnly (D.state disk.old) (D.state disk.new) (Still slot e (D.state disk.old)) }
-    ensures shut { (e : ℕ) → IsMarked slot e (D.state disk.old) → OnOk result ((x : List ℕ) → (D.state disk.new).now x → IsClosed gate x) }
+    ensures shut { (e : ℕ) → IsMarked slot e (D.state disk.old) → OnOk result (EachNow (D.state disk.new) (IsClosed gate)) }
     ensures body { KeepsBody (D.state disk.old) (D.state disk.new) }
     ensures cause { HasCause (D.state disk.old).faults (D.state disk.new).faults result }
 {
@@ -51,10 +51,10 @@ fn shut_slot<D: Disk>(disk: &mut D, slot: Slot, gate: u64) -> Result<(), DiskFau
 fn put_epoch<D: Disk>(disk: &mut D, slot: Slot, gate: u64, next: u64) -> Result<(), DiskFault>
     requires size { 64 ≤ (D.state disk.old).size }
     requires gate { gate ≡ place (other slot) }
-    requires closed { (x : List ℕ) → (D.state disk.old).now x → IsClosed gate x }
-    ensures moments { (e : ℕ) → ((x : List ℕ) → (D.state disk.old).now x → HasEpoch slot e x) → LeavesOnly (D.state disk.old) (D.state disk.new) (Still slot e (D.state disk.old)) }
-    ensures closed { OnOk result ((x : List ℕ) → (D.state disk.new).now x → IsClosed gate x) }
-    ensures holds { OnOk result ((x : List ℕ) → (D.state disk.new).now x → HoldsEpoch gate next x) }
+    requires closed { EachNow (D.state disk.old) (IsClosed gate) }
+    ensures moments { (e : ℕ) → EachNow (D.state disk.old) (HasEpoch slot e) → LeavesOnly (D.state disk.old) (D.state disk.new) (Still slot e (D.state disk.old)) }
+    ensures closed { OnOk result (EachNow (D.state disk.new) (IsClosed gate)) }
+    ensures holds { OnOk result (EachNow (D.state disk.new) (HoldsEpoch gate next)) }
     ensures settled { OnOk result (IsSettled (D.state disk.new)) }
     ensures body { KeepsBody (D.state disk.old) (D.state disk.new) }
     ensures cause { HasCause (D.state disk.old).faults (D.state disk.new).faults result }
@@ -75,13 +75,13 @@ fn spell(epoch: u64) -> [u8; 15]
 fn open_slot<D: Disk>(disk: &mut D, slot: Slot, gate: u64, next: u64) -> Result<(), DiskFault>
     requires size { 64 ≤ (D.state disk.old).size }
     requires gate { gate ≡ place (other slot) }
-    requires closed { (x : List ℕ) → (D.state disk.old).now x → IsClosed gate x }
+    requires closed { EachNow (D.state disk.old) (IsClosed gate) }
     requires last { next ≤ last_epoch }
-    requires holds { (x : List ℕ) → (D.state disk.old).now x → HoldsEpoch gate next x }
+    requires holds { EachNow (D.state disk.old) (HoldsEpoch gate next) }
     requires settled { IsSettled (D.state disk.old) }
-    requires marked { (e : ℕ) × ((x : List ℕ) → (D.state disk.old).now x → HasEpoch slot e x) × (e ≤ next) }
-    ensures moments { (e : ℕ) → ((x : List ℕ) → (D.state disk.old).now x → HasEpoch slot e x) → e ≤ next → LeavesOnly (D.state disk.old) (D.state disk.new) (Raising e next (D.state disk.old)) }
-    ensures raised { OnOk result ((x : List ℕ) → (D.state disk.new).now x → HasEpoch (other slot) next x) }
+    requires marked { (e : ℕ) × EachNow (D.state disk.old) (HasEpoch slot e) × (e ≤ next) }
+    ensures moments { (e : ℕ) → EachNow (D.state disk.old) (HasEpoch slot e) → e ≤ next → LeavesOnly (D.state disk.old) (D.state disk.new) (Raising e next (D.state disk.old)) }
+    ensures raised { OnOk result (EachNow (D.state disk.new) (HasEpoch (other slot) next)) }
     ensures settled { OnOk result (IsSettled (D.state disk.new)) }
     ensures body { KeepsBody (D.state disk.old) (D.state disk.new) }
     ensures cause { HasCause (D.state disk.old).faults (D.state disk.new).faults result }

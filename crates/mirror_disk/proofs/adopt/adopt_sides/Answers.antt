@@ -1,4 +1,4 @@
-use Rattle.mirror_disk.proofs.{Words.{arith, inl, inr, starts_unwritten}, Adopted.{alike_behind, choice_fails, ended_early, mark_of, told_header}}
+use Rattle.mirror_disk.proofs.{Words.{arith, inl, inr, ◌∙◌, starts_unwritten, chosen_told}, Adopted.{alike_behind, choice_fails, ended_early, mark_of, told_header}, Settled.adopted_behind}
 use Rattle.mirror_disk.proofs.adopt.adopt_sides.Goals as goal
 
 pub returns-then-size-other-clause-kept : goal.returns-then-size-other-clause-kept
@@ -70,12 +70,12 @@ returns-in_default-two-clause-still g c x y told told' same alike = inr (c.read_
 pub returns-in-Ok-settle_on-clause-still : goal.returns-in-Ok-settle_on-clause-still
 returns-in-Ok-settle_on-clause-still g c =
     let call = c.read_headers in
-    alike_behind (g.met.A.Disk.lawful call.new.first) (g.met.B.Disk.lawful call.new.second) call.ensures.first_unwritten call.ensures.second_unwritten call.ensures.later.1 c.settle_on.ensures.still
+    alike_behind (g.met.A.Disk.lawful call.new.first) (g.met.B.Disk.lawful call.new.second) call.ensures.first_unwritten call.ensures.second_unwritten call.ensures.later.1 c.settle_on.ensures.settles.still
 
 pub returns-in-Err-clause-still : goal.returns-in-Err-clause-still
 returns-in-Err-clause-still g c =
     let call = c.read_headers in
-    alike_behind (g.met.A.Disk.lawful call.new.first) (g.met.B.Disk.lawful call.new.second) call.ensures.first_unwritten call.ensures.second_unwritten call.ensures.later.1 c.settle_on.ensures.still
+    alike_behind (g.met.A.Disk.lawful call.new.first) (g.met.B.Disk.lawful call.new.second) call.ensures.first_unwritten call.ensures.second_unwritten call.ensures.later.1 c.settle_on.ensures.settles.still
 
 pub returns-in-Ok-settle_on-clause-headers : goal.returns-in-Ok-settle_on-clause-headers
 returns-in-Ok-settle_on-clause-headers g c =
@@ -83,3 +83,32 @@ returns-in-Ok-settle_on-clause-headers g c =
       told_header (g.met.A.Disk.lawful call.new.first) call.ensures.first_unwritten c.in-Ok.one c.in-Some.one c.in-Some.is c.in-Ok.ensures.first_mark,
       told_header (g.met.B.Disk.lawful call.new.second) call.ensures.second_unwritten c.in-Ok.two c.in-Some-two.two c.in-Some-two.is c.in-Ok.ensures.second_mark,
     )
+
+pub returns-in-Ok-settle_on-clause-kept : goal.returns-in-Ok-settle_on-clause-kept
+returns-in-Ok-settle_on-clause-kept g c =
+    let call = c.read_headers in
+    (call.new.first, call.new.second, record { first_before = call.ensures.first_unwritten; second_before = call.ensures.second_unwritten; kept = c.settle_on.ensures.settles.kept })
+
+pub returns-in-Ok-settle_on-clause-contents : goal.returns-in-Ok-settle_on-clause-contents
+returns-in-Ok-settle_on-clause-contents g c =
+    let call = c.read_headers.ensures in
+    c.settle_on.ensures.settles.contents ∙ (λ i. chosen_told (call.first_unwritten.same_contents i) (call.second_unwritten.same_contents i))
+
+pub returns-in-Ok-settle_on-clause-bound : goal.returns-in-Ok-settle_on-clause-bound
+returns-in-Ok-settle_on-clause-bound g c = c.settle_on.ensures.settles.bound ∙ c.read_headers.ensures.first_unwritten.moments.same_bound
+
+pub returns-in-Err-clause-kept : goal.returns-in-Err-clause-kept
+returns-in-Err-clause-kept g c =
+    let call = c.read_headers in
+    (call.new.first, call.new.second, record { first_before = call.ensures.first_unwritten; second_before = call.ensures.second_unwritten; kept = c.settle_on.ensures.settles.kept })
+
+pub returns-in-Err-clause-contents : goal.returns-in-Err-clause-contents
+returns-in-Err-clause-contents g c =
+    let call = c.read_headers.ensures in
+    c.settle_on.ensures.settles.contents ∙ (λ i. chosen_told (call.first_unwritten.same_contents i) (call.second_unwritten.same_contents i))
+
+pub returns-in-Err-clause-bound : goal.returns-in-Err-clause-bound
+returns-in-Err-clause-bound g c = c.settle_on.ensures.settles.bound ∙ c.read_headers.ensures.first_unwritten.moments.same_bound
+
+pub returns-in-Ok-settle_on-clause-adopted : goal.returns-in-Ok-settle_on-clause-adopted
+returns-in-Ok-settle_on-clause-adopted g c = adopted_behind c.read_headers.ensures.later.0 c.read_headers.ensures.later.1 c.in-Ok-settle_on.ensures.adopted

@@ -1,31 +1,27 @@
-use Rattle.mirror_disk.proofs.{Words.{sym, ◌∙◌, refl}, Alone.{ended_idle, settled_first, settled_second, synced_first, synced_second}, Done.by_done}
+use Rattle.mirror_disk.proofs.{Words.inl, Answered.{syncs_both, syncs_first, syncs_none, syncs_plain, syncs_second}, Asked.both_asked, Mirrored.of_pair}
 use Rattle.mirror_disk.proofs.sides.sync_sides.Goals as goal
 
-pub returns-in-OnlyFirst-clause-ended : goal.returns-in-OnlyFirst-clause-ended
-returns-in-OnlyFirst-clause-ended g c past stands =
-    synced_first past c.args.epoch c.args.one c.args.two (g.met.A.Disk.lawful c.args.first.now) (g.met.B.Disk.lawful c.args.second.now) (g.met.A.Disk.lawful c.sync.new.self) (stands.pair c.requires.pair) (stands.first c.in-OnlyFirst.is)
-    c.sync.ensures.crash c.sync.ensures.contents
+pub returns-in-OnlyFirst : goal.returns-in-OnlyFirst
+returns-in-OnlyFirst g c = syncs_first g.A.Disk.state g.B.Disk.state c.args.marks (g.met.A.Disk.lawful c.args.first.now) (g.met.B.Disk.lawful c.args.second.now) c.later-next.ensures c.requires (g.met.A.Disk.lawful c.sync_side-done.new.side) c.in-OnlyFirst.is c.sync_side-done.ensures.called c.sync_side-done.ensures.settled
 
-pub returns-in-OnlySecond-clause-ended : goal.returns-in-OnlySecond-clause-ended
-returns-in-OnlySecond-clause-ended g c past stands =
-    let sync = c.sync-in-OnlySecond in
-    synced_second past c.args.epoch c.args.one c.args.two (g.met.A.Disk.lawful c.args.first.now) (g.met.B.Disk.lawful c.args.second.now) (g.met.B.Disk.lawful sync.new.self) (stands.pair c.requires.pair) (stands.second c.in-OnlySecond.is)
-    sync.ensures.crash sync.ensures.contents
+pub returns-in-OnlySecond : goal.returns-in-OnlySecond
+returns-in-OnlySecond g c = syncs_second g.A.Disk.state g.B.Disk.state c.args.marks (g.met.A.Disk.lawful c.args.first.now) (g.met.B.Disk.lawful c.args.second.now) c.later-next.ensures c.requires (g.met.B.Disk.lawful c.sync_side-done-in-OnlySecond.new.side) c.in-OnlySecond.is c.sync_side-done-in-OnlySecond.ensures.called c.sync_side-done-in-OnlySecond.ensures.settled
 
-pub returns-in-Plain-clause-ended : goal.returns-in-Plain-clause-ended
-returns-in-Plain-clause-ended g c past stands =
-    ended_idle c.args.used past c.args.epoch c.args.one c.args.two 0 0 (g.met.A.Disk.lawful c.args.first.now) (g.met.B.Disk.lawful c.args.second.now) c.requires.pair c.in-Plain.is (stands.pair c.requires.pair)
+pub leave_out-left-requires : goal.leave_out-left-requires
+leave_out-left-requires g c =
+    let stands = c.requires in
+    record { asked = (c.args.first.now, c.args.second.now, c.args.past.now, 0, 0, both_asked (stands.pair (of_pair (inl c.in-Both.is))) (stands.both c.in-Both.is) c.sync_side-first_done.ensures.called c.sync_side-second_done.ensures.called) }
 
-pub returns-in-OnlyFirst-clause-settled : goal.returns-in-OnlyFirst-clause-settled
-returns-in-OnlyFirst-clause-settled g c done past stands =
-    let ended = returns-in-OnlyFirst-clause-ended g c past stands in
-    settled_first _ _ _ 0 0 c.args.epoch (g.met.A.Disk.lawful c.sync.new.self) (g.met.B.Disk.lawful c.args.second.now) (ended.stands.pair ended.is_pair) (ended.stands.first refl) (by_done c.sync.result (sym c.is_ok-done.ensures.value ∙ done) c.sync.ensures.settled)
+pub returns-in-Both : goal.returns-in-Both
+returns-in-Both g c =
+    let stands = c.requires in
+    let left = c.leave_out-left in
+    let asked = both_asked (stands.pair (of_pair (inl c.in-Both.is))) (stands.both c.in-Both.is) c.sync_side-first_done.ensures.called c.sync_side-second_done.ensures.called in
+    syncs_both g.A.Disk.state g.B.Disk.state c.args.marks (g.met.A.Disk.lawful c.args.first.now) (g.met.B.Disk.lawful c.args.second.now) c.later-next.ensures c.requires (g.met.A.Disk.lawful left.new.first) (g.met.B.Disk.lawful left.new.second) c.in-Both.is c.sync_side-first_done.ensures.called c.sync_side-second_done.ensures.called c.sync_side-first_done.ensures.settled c.sync_side-second_done.ensures.settled
+    (left.ensures.ended c.args.first.now c.args.second.now c.args.past.now 0 0 asked) left.ensures.left c.goes_on.ensures.works c.goes_on.ensures.broken
 
-pub returns-in-OnlySecond-clause-settled : goal.returns-in-OnlySecond-clause-settled
-returns-in-OnlySecond-clause-settled g c done past stands =
-    let sync = c.sync-in-OnlySecond in
-    let ended = returns-in-OnlySecond-clause-ended g c past stands in
-    settled_second _ _ _ 0 0 c.args.epoch (g.met.A.Disk.lawful c.args.first.now) (g.met.B.Disk.lawful sync.new.self) (ended.stands.pair ended.is_pair) (ended.stands.second refl) (by_done sync.result (sym c.is_ok-done-in-OnlySecond.ensures.value ∙ done) sync.ensures.settled)
+pub returns-in-Plain : goal.returns-in-Plain
+returns-in-Plain g c = syncs_plain g.A.Disk.state g.B.Disk.state c.args.marks (g.met.A.Disk.lawful c.args.first.now) (g.met.B.Disk.lawful c.args.second.now) c.later-next.ensures c.requires c.sync.result c.in-Plain.is c.is_ok-done.ensures.value c.sync.ensures.crash c.sync.ensures.contents c.sync.ensures.cause c.sync.ensures.settled
 
-pub returns-in-Both-clause-settled : goal.returns-in-Both-clause-settled
-returns-in-Both-clause-settled g c done past stands = c.sync_both-left.ensures.settled (c.goes_on.ensures.works done) past (stands.pair c.requires.pair) (stands.both c.in-Both.is)
+pub returns-in-Broken : goal.returns-in-Broken
+returns-in-Broken g c = syncs_none g.A.Disk.state g.B.Disk.state c.args.marks (g.met.A.Disk.lawful c.args.first.now) (g.met.B.Disk.lawful c.args.second.now) c.later-next.ensures c.requires c.in-Broken.is

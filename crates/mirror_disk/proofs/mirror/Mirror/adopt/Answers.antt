@@ -1,11 +1,11 @@
-use Rattle.mirror_disk.proofs.{Words.{Err, ap, DiskState, IsSettled}, Mirrored.state_pair}
+use Rattle.mirror_disk.proofs.{Words.{Err, ◌∙◌, ap, DiskState, IsSettled}, Mirrored.{state_pair, told_pair}}
 
 pub returns-in-Ok-clause-settled : Rattle.mirror_disk.proofs.mirror.Mirror.adopt.Goals.returns-in-Ok-clause-settled
 returns-in-Ok-clause-settled g c =
-    state_pair c.in-Ok.marks.used c.in-Ok.ensures.pair (g.A.Disk.state c.adopt_sides.new.first) (g.B.Disk.state c.adopt_sides.new.second) c.start.result 0 0 (λ (d : DiskState). IsSettled d) c.in-Ok.ensures.settled
+    state_pair c.in-Ok.marks.used c.in-Ok.ensures.adopted.in_use (g.A.Disk.state c.adopt_sides.new.first) (g.B.Disk.state c.adopt_sides.new.second) c.start.result 0 0 (λ (d : DiskState). IsSettled d) c.in-Ok.ensures.adopted.settled
 
 pub returns-in-Ok-clause-alike : Rattle.mirror_disk.proofs.mirror.Mirror.adopt.Goals.returns-in-Ok-clause-alike
-returns-in-Ok-clause-alike g c is = (c.in-Ok.ensures.stands.both is).agree
+returns-in-Ok-clause-alike g c is = (c.in-Ok.ensures.adopted.stands.both is).agree
 
 pub returns-in-Err-clause-not_second : Rattle.mirror_disk.proofs.mirror.Mirror.adopt.Goals.returns-in-Err-clause-not_second
 returns-in-Err-clause-not_second g c is = c.in-Err.ensures.not_second (ap Err is)
@@ -18,3 +18,19 @@ returns-in-Ok-clause-still g c = c.adopt_sides.ensures.still
 
 pub returns-in-Err-clause-still_refused : Rattle.mirror_disk.proofs.mirror.Mirror.adopt.Goals.returns-in-Err-clause-still_refused
 returns-in-Err-clause-still_refused g c = c.adopt_sides.ensures.still
+
+pub returns-in-Ok-clause-in_use : Rattle.mirror_disk.proofs.mirror.Mirror.adopt.Goals.returns-in-Ok-clause-in_use
+returns-in-Ok-clause-in_use g c = c.in-Ok.ensures.adopted.in_use
+
+pub returns-in-Ok-clause-goes_on : Rattle.mirror_disk.proofs.mirror.Mirror.adopt.Goals.returns-in-Ok-clause-goes_on
+returns-in-Ok-clause-goes_on g c = c.in-Ok.ensures.adopted.goes_on
+
+pub returns-in-Ok-clause-left_first : Rattle.mirror_disk.proofs.mirror.Mirror.adopt.Goals.returns-in-Ok-clause-left_first
+returns-in-Ok-clause-left_first g c = c.in-Ok.ensures.adopted.left_first
+
+pub returns-in-Ok-clause-left_second : Rattle.mirror_disk.proofs.mirror.Mirror.adopt.Goals.returns-in-Ok-clause-left_second
+returns-in-Ok-clause-left_second g c = c.in-Ok.ensures.adopted.left_second
+
+pub returns-in-Ok-clause-contents : Rattle.mirror_disk.proofs.mirror.Mirror.adopt.Goals.returns-in-Ok-clause-contents
+returns-in-Ok-clause-contents g c =
+    told_pair c.in-Ok.marks.used c.in-Ok.ensures.adopted.in_use (g.A.Disk.state c.adopt_sides.new.first) (g.B.Disk.state c.adopt_sides.new.second) c.start.result 0 0 ∙ c.adopt_sides.ensures.contents
