@@ -1,7 +1,7 @@
 -- What a call of the file store does after a call of the tree store, and after the read of a file block.
 use Rattle.iso_fs.proofs.Words.{arith, ◌≡◌, ◌∙◌, ap, ℕ, true, List, ◌++◌, Option, Some, None, Result, get, Access, Area, StoreError, Array, own, is_key, AreReads, Program, accesses_of, answer_of, then_do, get_program, IsTreeRegion, tree_map, AreWhole, accesses_then, answer_then, own_reads, reads_append, whole_reads, own_append, whole_append, get_answers, get_reads, cond_reads, FileAreas, is_file, is_number, number_of, Call, at_file, goes_on, in_tree, with_file, AreFileRegions, file_at}
 
--- what a program leaves, and then what follows it
+-- the array after p and then f: p's accesses first, and those of f on that array
 pub own_then : {R S : Type 0} (p : Program R) (f : R → Program S) (A : Array)
     → own A (accesses_of (then_do p f) A) ≡ own (own A (accesses_of p A)) (accesses_of (f (answer_of p A)) (own A (accesses_of p A)))
 own_then p f A = ap (own A) (accesses_then p f A) ∙ own_append A (accesses_of p A) (accesses_of (f (answer_of p A)) (own A (accesses_of p A)))

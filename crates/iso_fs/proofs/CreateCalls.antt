@@ -1,9 +1,6 @@
 -- A create is local.
-use Rattle.iso_fs.proofs.{Words.{length-block_with, ◌≡◌, ◌∙◌, sym, refl, ap, subst, ℕ, ◌+◌, ◌-◌, ◌<◌, ◌≤◌, Bool, true, cond, List, [], ◌∷◌, length, Option, Some, None, Result, Ok, Err, arith, get, w32, to_be_bytes, StoreError, NoBlocks, Array, put, own, bit_place, lowest_free, map_mark, set_bit, is_key, block_at, IsLocal, accesses_of, answer_of, bytes_in, get_program, put_program, tree_map, AreWhole, IsCorrect, accesses_then, answer_then, local_from, HasBlocks, whole_append, nothing_is, put_whole, FsError, FileAreas, Call, create_at, create_new, create_op, create_program, empty_writes, goes_on, in_tree, refuse, AreFileAreas, AreFileRegions, files}, AfterTree.{answer_got, own_got, own_then, whole_behind_get}, Creates.{HasCreated, created}, MapByte.{IsFree, is_free}, NewFile.length-empty_file}
+use Rattle.iso_fs.proofs.{Words.{length-block_with, ◌≡◌, ◌∙◌, sym, refl, ap, subst, ℕ, ◌+◌, ◌-◌, ◌<◌, ◌≤◌, Bool, true, cond, List, [], ◌∷◌, length, Option, Some, None, Result, Ok, Err, arith, get, insert, w32, to_be_bytes, StoreError, NoBlocks, Array, put, own, bit_place, lowest_free, map_mark, set_bit, is_key, block_at, IsLocal, accesses_of, answer_of, bytes_in, get_program, put_program, tree_map, AreWhole, IsCorrect, accesses_then, answer_then, local_from, HasBlocks, whole_append, nothing_is, put_whole, FileAreas, Call, create_at, create_new, create_op, create_program, empty_writes, goes_on, in_tree, refuse, AreFileAreas, AreFileRegions, files}, AfterTree.{answer_got, own_got, own_then, whole_behind_get}, Changes.{HasFiles, no_ok}, Creates.created, MapByte.{IsFree, is_free}, NewFile.length-empty_file}
 use Rattle.store_model.specs.declared.files.FsError.TheVariants as fs
-
-no_ok : (e : FsError) (r : Unit {0}) → ◌≡◌ {A = Result (Unit {0}) FsError} (Err e) (Ok r) → ⊥
-no_ok e r is = cc
 
 -- the writes after the put of the name
 abbrev writes : FileAreas → (first : List ℕ) → (k : ℕ) → Unit {0} → Call (Unit {0})
@@ -16,24 +13,24 @@ module _ (a : FileAreas) (areas : AreFileAreas a) (A : Array) (regions : AreFile
   put_does : (fresh : get (tree_map a.tree A) name ≡ None) (k : ℕ) (free : IsFree a.files (block_at A a.files.start) k) (result : Result (Unit {0}) StoreError)
       → answer_of (put_program a.tree name (to_be_bytes w32 k)) A ≡ result → (r : Unit {0})
       → answer_of (goes_on (writes a first k) result) (own A (accesses_of (put_program a.tree name (to_be_bytes w32 k)) A)) ≡ Ok r
-      → HasCreated a name A (own (own A (accesses_of (put_program a.tree name (to_be_bytes w32 k)) A)) (accesses_of (goes_on (writes a first k) result) (own A (accesses_of (put_program a.tree name (to_be_bytes w32 k)) A))))
+      → HasFiles a (insert (files a A) name []) (own (own A (accesses_of (put_program a.tree name (to_be_bytes w32 k)) A)) (accesses_of (goes_on (writes a first k) result) (own A (accesses_of (put_program a.tree name (to_be_bytes w32 k)) A))))
   put_does fresh k free (Ok u) is r e = created a areas A regions name key fresh k free u is
   put_does fresh k free (Err x) is r e = absurd (no_ok (fs.Store x) r e)
 
   at_does : (fresh : get (tree_map a.tree A) name ≡ None) (o : Option ℕ) → lowest_free first 1 (a.files.blocks - 1) ≡ o → (r : Unit {0}) → answer_of (create_at a name first o) A ≡ Ok r
-      → HasCreated a name A (own A (accesses_of (create_at a name first o) A))
+      → HasFiles a (insert (files a A) name []) (own A (accesses_of (create_at a name first o) A))
   at_does fresh None is r e = absurd (no_ok (fs.Store (NoBlocks 1 0)) r e)
   at_does fresh (Some k) is r e =
       let p = put_program a.tree name (to_be_bytes w32 k) in
-      subst (HasCreated a name A) (sym (own_then p (goes_on (writes a first k)) A))
+      subst (HasFiles a (insert (files a A) name [])) (sym (own_then p (goes_on (writes a first k)) A))
       (put_does fresh k (is_free a.files (block_at A a.files.start) k areas.least is) (answer_of p A) refl r (sym (answer_then p (goes_on (writes a first k)) A) ∙ e))
 
-  new_does : (o : Option (List ℕ)) → get (tree_map a.tree A) name ≡ o → (r : Unit {0}) → answer_of (create_new a name o) A ≡ Ok r → HasCreated a name A (own A (accesses_of (create_new a name o) A))
+  new_does : (o : Option (List ℕ)) → get (tree_map a.tree A) name ≡ o → (r : Unit {0}) → answer_of (create_new a name o) A ≡ Ok r → HasFiles a (insert (files a A) name []) (own A (accesses_of (create_new a name o) A))
   new_does None fresh r e = at_does fresh (lowest_free first 1 (a.files.blocks - 1)) refl r e
   new_does (Some value) there r e = absurd (no_ok fs.Exists r e)
 
 call_does : (a : FileAreas) (name : List ℕ) (A : Array) → AreFileAreas a → is_key name ≡ true → AreFileRegions a A → (r : Unit {0}) → answer_of (create_program a name) A ≡ Ok r
-    → HasCreated a name A (own A (accesses_of (create_program a name) A))
+    → HasFiles a (insert (files a A) name []) (own A (accesses_of (create_program a name) A))
 unfolding create_program
 call_does a name A areas key regions r e =
     let call : Bool → Call (Unit {0}) = λ k. cond k (in_tree (get_program a.tree name) (create_new a name)) (refuse fs.BadName) in
@@ -41,7 +38,7 @@ call_does a name A areas key regions r e =
     (λ i. answer_of (call (key i)) A) ∙ answer_got a.tree A regions.tree name key (create_new a name) in
     let same : own A (accesses_of (call (is_key name)) A) ≡ own A (accesses_of (create_new a name (get (tree_map a.tree A) name)) A) =
     (λ i. own A (accesses_of (call (key i)) A)) ∙ own_got a.tree A regions.tree name key (create_new a name) in
-    subst (HasCreated a name A) (sym same) (new_does a areas A regions name key (get (tree_map a.tree A) name) refl r (sym answer ∙ e))
+    subst (HasFiles a (insert (files a A) name [])) (sym same) (new_does a areas A regions name key (get (tree_map a.tree A) name) refl r (sym answer ∙ e))
 
 -- A create is that of the files.
 pub create_correct : (a : FileAreas) (name : List ℕ) → AreFileAreas a → is_key name ≡ true → IsCorrect (AreFileRegions a) (files a) (create_op name) Ok (create_program a name)

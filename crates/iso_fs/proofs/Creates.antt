@@ -1,10 +1,5 @@
 -- A new file is that of the files.
-use Rattle.iso_fs.proofs.{Words.{byte_far, byte_here, head_far, map_byte, ◌≡◌, ◌≢◌, ◌⊎◌, ◌∙◌, sym, refl, ap, subst, ℕ, ◌+◌, ◌*◌, ◌<◌, ◌≤◌, Bool, true, false, ◌||◌, ◌==◌, cond, List, [], ◌∷◌, length, get_or, take, map, Option, Some, None, option_map, Ok, arith, inl, inr, eq-eqb, ne_eqb, list_all, get, insert, same_map, slice_cmp-IsAntisymmetric, nat_cmp-IsAntisymmetric, nat_list_cmp_total, w32, to_be_bytes, both_ways, cases_Bool, cases_eq, or_left, or_right, nat_tests, from_be_bytes-to_be_bytes_4, Access, Array, merged, put, own, block_with, is_zero, bit_mark, bit_place, map_bit, map_bytes, map_mark, set_bit, is_key, block_at, accesses_of, answer_of, bytes_in, store_access, put_program, IsTreeRegion, tree_map, length-block_own, length-block_put, other_block, written_block, bits_with, laid_whole, sizes_of, put_correct, FileAreas, bytes_of, data_count, is_file, is_number, number_of, AreFileAreas, AreFileRegions, IsUsed, Uses, block_in, content, file_at, files, number_at, in_area, kept_outside, map_new, region_new, put_program_stores}, Files.uses_handed, Kept.{kept_content, kept_uses, still_uses}, Lookups.{files_get, insert_get, name_is, name_self, same_name, no_some, same_some}, MapByte.IsFree, NewFile.{empty_file, empty_is_file, length-empty_file, no_data_of}}
-
--- the regions after the call, and the files in them
-pub record HasCreated (a : FileAreas) (name : List ℕ) (A C : Array) : Type 0 where
-  pub regions : AreFileRegions a C
-  pub files_are : files a C ≡ insert (files a A) name []
+use Rattle.iso_fs.proofs.{Words.{byte_far, byte_here, head_far, map_byte, ◌≡◌, ◌≢◌, ◌⊎◌, ◌∙◌, sym, refl, ap, subst, ℕ, ◌+◌, ◌*◌, ◌<◌, ◌≤◌, Bool, true, false, ◌||◌, ◌==◌, cond, List, [], ◌∷◌, length, get_or, take, map, Option, Some, None, option_map, Ok, arith, inl, inr, eq-eqb, ne_eqb, list_all, get, insert, same_map, slice_cmp-IsAntisymmetric, nat_cmp-IsAntisymmetric, nat_list_cmp_total, w32, to_be_bytes, both_ways, cases_Bool, cases_eq, or_left, or_right, nat_tests, from_be_bytes-to_be_bytes_4, Access, Array, merged, put, own, block_with, is_zero, bit_mark, bit_place, map_bit, map_bytes, map_mark, set_bit, is_key, block_at, accesses_of, answer_of, bytes_in, store_access, put_program, IsTreeRegion, tree_map, length-block_own, length-block_put, other_block, written_block, bits_with, laid_whole, sizes_of, put_correct, FileAreas, bytes_of, data_count, is_file, is_number, number_of, AreFileAreas, AreFileRegions, IsUsed, Uses, block_in, content, file_at, files, number_at, in_area, kept_outside, map_new, region_new, put_program_stores}, Changes.HasFiles, Files.uses_handed, Kept.{kept_content, kept_uses, still_uses}, Lookups.{files_get, insert_get, name_is, name_self, same_name, no_some, same_some}, MapByte.IsFree, NewFile.{empty_file, empty_is_file, length-empty_file, no_data_of}}
 
 same_value : (v w : List ℕ) → ◌≡◌ {A = Option (List ℕ)} (Some v) (Some w) → v ≡ w
 same_value v w e = cc
@@ -251,7 +246,7 @@ module _ (a : FileAreas) (areas : AreFileAreas a) (A : Array) (regions : AreFile
         ∙ sym (insert_get (files a A) name [] q ∙ ap (λ (t : Bool). cond t (Some []) (get (files a A) q)) other ∙ files_get a A q)
   ]
 
-  pub created : HasCreated a name A C
+  pub created : HasFiles a (insert (files a A) name []) C
   created = record {
     regions = regions_C;
     files_are = same_map nat_list_cmp_total (slice_cmp-IsAntisymmetric nat_cmp-IsAntisymmetric) (files a C) (insert (files a A) name []) each;

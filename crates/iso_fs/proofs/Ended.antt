@@ -1,5 +1,5 @@
 -- A call of the file store that is made of parts.
-use Rattle.iso_fs.proofs.Words.{◌≡◌, ◌≢◌, ◌∙◌, sym, refl, ap, subst, ℕ, ◌+◌, ◌≤◌, Bool, true, length, Some, Result, Ok, Err, inr, arith, length-append, IfErr, false≢true, StoreError, TxError, own, Program, accesses_of, answer_of, then_do, Tx, Device, IsLater, Ran, IsCause, IsStoreCause, HasEnded, HasRead, Passed, accesses_then, HasAccess, IsAt, at_start, at_then, ran_at, stopped_at, cause_earlier, cause_since, cut_then, later_than, later_same, store_cause, cut_from, ends_from, read_join, stopped_from, FsError, Call, goes_on, in_tree, FsBehaves, HasRun, IsFsCause, IsUnwritten, may_follow, Access, Array, List, IfOk, IsLocal, IsLocalCall, whole_run}
+use Rattle.iso_fs.proofs.Words.{◌≡◌, ◌≢◌, ◌∙◌, sym, refl, ap, subst, ℕ, ◌≤◌, Bool, true, length, Some, Result, Ok, Err, inr, arith, length-append, IfErr, false≢true, StoreError, TxError, own, Program, accesses_of, answer_of, then_do, Tx, Device, IsLater, Ran, IsCause, IsStoreCause, HasEnded, HasRead, Passed, accesses_then, HasAccess, IsAt, at_start, at_then, ran_at, stopped_at, cause_earlier, cause_since, cut_then, later_than, later_same, store_cause, cut_from, ends_from, read_join, stopped_from, FsError, Call, goes_on, in_tree, FsBehaves, HasRun, IsFsCause, IsUnwritten, may_follow, Access, Array, List, IfOk, IsLocal, IsLocalCall, whole_run}
 use Rattle.store_model.specs.declared.stores.StoreError.TheVariants as store
 use Rattle.tx_blocks.specs.Runs as runs
 use Rattle.store_model.specs.declared.files.FsError.TheVariants as fs

@@ -76,6 +76,3 @@ count_covers size bytes some = grind arith steps 100000
 
 pub count_mono : (size m n : ℕ) → 0 < size → m ≤ n → (m + (size - 1)) / size ≤ (n + (size - 1)) / size
 count_mono size m n some le = grind (arith, more_blocks) steps 100000
-
-pub data_fits : (a : Area) (file : List ℕ) → is_file a file ≡ true → 256 ≤ a.size → 64 + 4 * data_count a.size file ≤ a.size
-data_fits a file good least = count_fits a.size (bytes_of file) least (file_parts a file good).few

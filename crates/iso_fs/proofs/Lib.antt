@@ -1,5 +1,6 @@
 pub mod Words
 pub mod AfterTree
+pub mod Changes
 pub mod CreateCalls
 pub mod CreateSteps
 pub mod Creates

@@ -1,14 +1,6 @@
 -- A removal is local.
-use Rattle.iso_fs.proofs.{Words.{length-block_with, ◌≡◌, ◌∙◌, sym, refl, ap, subst, ℕ, ◌+◌, ◌<◌, ◌==◌, Bool, true, false, cond, List, ◌∷◌, length, drop, Option, Some, None, option_map, Result, Ok, Err, arith, inl, inr, is_some, get, remove, and_parts, cases_Bool, length-take, StoreError, Array, own, map_bytes, map_mark, IsIn, is_key, block_at, IsLocal, LookWhole, accesses_of, answer_of, bytes_in, del_program, get_program, tree_map, AreWhole, IsCorrect, accesses_then, answer_then, local_from, del_whole, whole_append, nothing_is, area_block, same_ok, FsError, FileAreas, data_count, entries_of, entry_at, is_file, is_handed, is_number, number_of, Call, at_file, bits_mark, broken, goes_on, in_tree, refuse, without_bits, remove_file, remove_op, remove_program, remove_writes, AreFileAreas, AreFileRegions, content, file_at, files, same_map, slice_cmp-IsAntisymmetric, nat_cmp-IsAntisymmetric, nat_list_cmp_total}, AfterTree.{answer_at_file, answer_got, own_at_file, own_got, own_then, whole_behind_get}, CreateCalls.HaveBlocks, Files.{IsHanded, entry_handed, file_parts, handed_is}, MapLaid.{high_below, high_is, low_is}, Lookups.{files_get, name_is, same_name}, Removes.{in_range_map, removed}, Renames.remove_get}
+use Rattle.iso_fs.proofs.{Words.{length-block_with, ◌≡◌, ◌∙◌, sym, refl, ap, subst, ℕ, ◌+◌, ◌<◌, ◌==◌, Bool, true, false, cond, List, ◌∷◌, length, drop, Option, Some, None, option_map, Result, Ok, Err, arith, inl, inr, is_some, get, remove, and_parts, cases_Bool, length-take, StoreError, Array, own, map_bytes, map_mark, IsIn, is_key, block_at, IsLocal, LookWhole, accesses_of, answer_of, bytes_in, del_program, get_program, tree_map, AreWhole, IsCorrect, accesses_then, answer_then, local_from, del_whole, whole_append, nothing_is, area_block, same_ok, FsError, FileAreas, data_count, entries_of, entry_at, is_file, is_handed, is_number, number_of, Call, at_file, bits_mark, broken, goes_on, in_tree, refuse, without_bits, remove_file, remove_op, remove_program, remove_writes, AreFileAreas, AreFileRegions, content, file_at, files, same_map, slice_cmp-IsAntisymmetric, nat_cmp-IsAntisymmetric, nat_list_cmp_total}, AfterTree.{answer_at_file, answer_got, own_at_file, own_got, own_then, whole_behind_get}, Changes.{HasDone, correct_by, no_ok}, CreateCalls.HaveBlocks, Files.{IsHanded, entry_handed, file_parts, handed_is}, MapLaid.{high_below, high_is, low_is}, Lookups.{files_get, name_is, same_name}, Removes.{in_range_map, removed}, Renames.remove_get}
 use Rattle.store_model.specs.declared.files.FsError.TheVariants as fs
-
-no_ok : (e : FsError) (r : Bool) → ◌≡◌ {A = Result Bool FsError} (Err e) (Ok r) → ⊥
-no_ok e r is = cc
-
-record HasDone (a : FileAreas) (name : List ℕ) (A C : Array) (r : Bool) : Type 0 where
-  regions : AreFileRegions a C
-  answers : is_some (get (files a A) name) ≡ r
-  files_are : files a C ≡ remove (files a A) name
 
 module _ (a : FileAreas) (areas : AreFileAreas a) (A : Array) (regions : AreFileRegions a A) (name : List ℕ) (key : is_key name ≡ true) where
   abbrev first : List ℕ
@@ -19,7 +11,7 @@ module _ (a : FileAreas) (areas : AreFileAreas a) (A : Array) (regions : AreFile
 
   del_does : (value : List ℕ) (there : get (tree_map a.tree A) name ≡ Some value) (result : Result Bool StoreError) → answer_of (del_program a.tree name) A ≡ result → (r : Bool)
       → answer_of (goes_on (remove_writes a.files (number_of value) (file_at a A (number_of value)) first) result) (own A (accesses_of (del_program a.tree name) A)) ≡ Ok r
-      → HasDone a name A (own (own A (accesses_of (del_program a.tree name) A)) (accesses_of (goes_on (remove_writes a.files (number_of value) (file_at a A (number_of value)) first) result) (own A (accesses_of (del_program a.tree name) A)))) r
+      → HasDone a (remove_op name (files a A)) (own (own A (accesses_of (del_program a.tree name) A)) (accesses_of (goes_on (remove_writes a.files (number_of value) (file_at a A (number_of value)) first) result) (own A (accesses_of (del_program a.tree name) A)))) r
   del_does value there (Err x) is r e = absurd (no_ok (fs.Store x) r e)
   del_does value there (Ok d) is r e =
       let done = removed a areas A regions name key value there d is in
@@ -34,16 +26,16 @@ module _ (a : FileAreas) (areas : AreFileAreas a) (A : Array) (regions : AreFile
         | inr other ↦ sym (remove_get (files a A) name q ∙ ap (λ (t : Bool). cond t None (get (files a A) q)) other)
       ])
 
-  found_does : (o : Option (List ℕ)) → get (tree_map a.tree A) name ≡ o → (r : Bool) → answer_of (at_file a false (remove_file a name) o) A ≡ Ok r → HasDone a name A (own A (accesses_of (at_file a false (remove_file a name) o) A)) r
+  found_does : (o : Option (List ℕ)) → get (tree_map a.tree A) name ≡ o → (r : Bool) → answer_of (at_file a false (remove_file a name) o) A ≡ Ok r → HasDone a (remove_op name (files a A)) (own A (accesses_of (at_file a false (remove_file a name) o) A)) r
   found_does None missing r e = record { regions = regions; answers = has None missing ∙ same_ok false r FsError e; files_are = missing_files missing }
   found_does (Some value) there r e =
       let p = del_program a.tree name in
       let f = remove_writes a.files (number_of value) (file_at a A (number_of value)) first in
-      subst (λ (D : Array). HasDone a name A D r) (sym (own_at_file a A regions name value there (remove_file a name) ∙ own_then p (goes_on f) A))
+      subst (λ (D : Array). HasDone a (remove_op name (files a A)) D r) (sym (own_at_file a A regions name value there (remove_file a name) ∙ own_then p (goes_on f) A))
       (del_does value there (answer_of p A) refl r (sym (answer_then p (goes_on f) A) ∙ (sym (answer_at_file a A regions name value there (remove_file a name)) ∙ e)))
 
 call_does : (a : FileAreas) (name : List ℕ) (A : Array) → AreFileAreas a → is_key name ≡ true → AreFileRegions a A → (r : Bool) → answer_of (remove_program a name) A ≡ Ok r
-    → HasDone a name A (own A (accesses_of (remove_program a name) A)) r
+    → HasDone a (remove_op name (files a A)) (own A (accesses_of (remove_program a name) A)) r
 unfolding remove_program
 call_does a name A areas key regions r e =
     let call : Bool → Call Bool = λ k. cond k (in_tree (get_program a.tree name) (at_file a false (remove_file a name))) (refuse fs.BadName) in
@@ -51,15 +43,11 @@ call_does a name A areas key regions r e =
     (λ i. answer_of (call (key i)) A) ∙ answer_got a.tree A regions.tree name key (at_file a false (remove_file a name)) in
     let same : own A (accesses_of (call (is_key name)) A) ≡ own A (accesses_of (at_file a false (remove_file a name) (get (tree_map a.tree A) name)) A) =
     (λ i. own A (accesses_of (call (key i)) A)) ∙ own_got a.tree A regions.tree name key (at_file a false (remove_file a name)) in
-    subst (λ (D : Array). HasDone a name A D r) (sym same) (found_does a areas A regions name key (get (tree_map a.tree A) name) refl r (sym answer ∙ e))
+    subst (λ (D : Array). HasDone a (remove_op name (files a A)) D r) (sym same) (found_does a areas A regions name key (get (tree_map a.tree A) name) refl r (sym answer ∙ e))
 
 -- A removal is that of the files.
 pub remove_correct : (a : FileAreas) (name : List ℕ) → AreFileAreas a → is_key name ≡ true → IsCorrect (AreFileRegions a) (files a) (remove_op name) Ok (remove_program a name)
-remove_correct a name areas key = record {
-  answer = λ B r regions e. (call_does a name B areas key regions r e).answers;
-  well_formed = λ B r regions e. (call_does a name B areas key regions r e).regions;
-  maps = λ B r regions e. (call_does a name B areas key regions r e).files_are;
-}
+remove_correct a name areas key = correct_by a (remove_op name) (remove_program a name) (λ B r regions e. call_does a name B areas key regions r e)
 
 -- WHOLE BLOCKS
 module _ (a : FileAreas) (areas : AreFileAreas a) (A : Array) (shape : HaveBlocks a A) (name : List ℕ) where

@@ -1,11 +1,6 @@
 -- A file that is removed.
-use Rattle.iso_fs.proofs.{Words.{◌≡◌, ◌∙◌, sym, refl, ap, subst, ℕ, zero, suc, ◌+◌, ◌*◌, ◌%◌, ◌<◌, ◌≤◌, ◌==◌, Bool, true, false, cond, List, [], ◌∷◌, length, get_or, take, map, Option, Some, None, option_map, Ok, arith, inl, inr, list_all, range_with_len, get, remove, same_map, slice_cmp-IsAntisymmetric, nat_cmp-IsAntisymmetric, nat_list_cmp_total, both_ways, cases_Bool, nat_tests, get_or-take, length-take-le, Access, Span, Array, in_span, merged, put, own, block_with, is_zero, bit_place, map_bit, map_bytes, map_mark, is_key, IsIn, block_at, accesses_of, answer_of, bytes_in, store_access, del_program, IsTreeRegion, tree_map, length-block_own, length-block_put, other_block, written_block, del_correct, kept_1, FileAreas, data_count, entries_of, entry_at, is_file, number_of, bits_mark, AreFileAreas, AreFileRegions, IsUsed, Uses, content, file_at, files, number_at, in_area, kept_outside, map_new, region_new, del_program_stores}, Files.uses_handed, Kept.{kept_content, kept_uses, still_uses}, Lookups.{files_get, name_is, name_self, names_by, same_name, no_some, same_some}, MapLaid.{bits_left, high_below, high_is, laid_as, length-without, low_is, low_least, without_other}, Renames.remove_get}
+use Rattle.iso_fs.proofs.{Words.{◌≡◌, ◌∙◌, sym, refl, ap, subst, ℕ, zero, suc, ◌+◌, ◌*◌, ◌%◌, ◌<◌, ◌≤◌, ◌==◌, Bool, true, false, cond, List, [], ◌∷◌, length, get_or, take, map, Option, Some, None, option_map, Ok, arith, inl, inr, list_all, range_with_len, get, remove, same_map, slice_cmp-IsAntisymmetric, nat_cmp-IsAntisymmetric, nat_list_cmp_total, both_ways, cases_Bool, nat_tests, get_or-take, length-take-le, Access, Span, Array, in_span, merged, put, own, block_with, is_zero, bit_place, map_bit, map_bytes, map_mark, is_key, IsIn, block_at, accesses_of, answer_of, bytes_in, store_access, del_program, IsTreeRegion, tree_map, length-block_own, length-block_put, other_block, written_block, del_correct, kept_1, FileAreas, data_count, entries_of, entry_at, is_file, number_of, bits_mark, AreFileAreas, AreFileRegions, IsUsed, Uses, content, file_at, files, number_at, in_area, kept_outside, map_new, region_new, del_program_stores}, Changes.HasFiles, Files.uses_handed, Kept.{kept_content, kept_uses, still_uses}, Lookups.{files_get, name_is, name_self, names_by, same_name, no_some, same_some}, MapLaid.{bits_left, high_below, high_is, laid_as, length-without, low_is, low_least, without_other}, Renames.remove_get}
 use Rattle.store_model.specs.FileCalls as calls
-
--- the regions after the call, and the files in them
-pub record HasRemoved (a : FileAreas) (name : List ℕ) (A C : Array) : Type 0 where
-  pub regions : AreFileRegions a C
-  pub files_are : files a C ≡ remove (files a A) name
 
 -- a number of a list that is made of a range
 pub in_range_map : (f : ℕ → ℕ) (from n x : ℕ) → IsIn x (map f (range_with_len from n)) → (i : ℕ) × (from ≤ i) × (i < from + n) × (f i ≡ x)
@@ -252,7 +247,7 @@ module _ (a : FileAreas) (areas : AreFileAreas a) (A : Array) (regions : AreFile
         ∙ sym (remove_get (files a A) name q ∙ ap (λ (t : Bool). cond t None (get (files a A) q)) other ∙ files_get a A q)
   ]
 
-  pub removed : HasRemoved a name A C
+  pub removed : HasFiles a (remove (files a A) name) C
   removed = record {
     regions = regions_C;
     files_are = same_map nat_list_cmp_total (slice_cmp-IsAntisymmetric nat_cmp-IsAntisymmetric) (files a C) (remove (files a A) name) each;

@@ -1,15 +1,6 @@
 -- A rename is local.
-use Rattle.iso_fs.proofs.{Words.{arith, ◌≡◌, ◌∙◌, sym, refl, ap, subst, ℕ, Bool, true, false, ◌&&◌, cond, List, [], ◌∷◌, Option, Some, None, option_map, Result, Ok, Err, get, and_from, Access, StoreError, Array, own, is_key, is_value, Done, IsLocal, accesses_of, answer_of, del_program, get_program, put_program, tree_map, AreWhole, IsCorrect, accesses_then, answer_then, local_from, length-block_own, HasBlocks, del_whole, whole_append, area_block, put_whole, same_ok, FsError, FileAreas, number_of, Call, goes_on, in_tree, refuse, rename_found, rename_free, rename_in, rename_op, rename_program, AreFileAreas, AreFileRegions, content, files}, AfterTree.{answer_got, own_got, own_then, whole_behind_get}, Lookups.files_get, Renames.renamed}
+use Rattle.iso_fs.proofs.{Words.{arith, ◌≡◌, ◌∙◌, sym, refl, ap, subst, ℕ, Bool, true, false, ◌&&◌, cond, List, [], ◌∷◌, Option, Some, None, option_map, Result, Ok, Err, get, and_from, Access, StoreError, Array, own, is_key, is_value, Done, IsLocal, accesses_of, answer_of, del_program, get_program, put_program, tree_map, AreWhole, IsCorrect, accesses_then, answer_then, local_from, length-block_own, HasBlocks, del_whole, whole_append, area_block, put_whole, same_ok, FsError, FileAreas, number_of, Call, goes_on, in_tree, refuse, rename_found, rename_free, rename_in, rename_op, rename_program, AreFileAreas, AreFileRegions, content, files}, AfterTree.{answer_got, own_got, own_then, whole_behind_get}, Changes.{HasDone, correct_by, no_ok}, Lookups.files_get, Renames.renamed}
 use Rattle.store_model.specs.declared.files.FsError.TheVariants as fs
-
-no_ok : (e : FsError) (r : Bool) → ◌≡◌ {A = Result Bool FsError} (Err e) (Ok r) → ⊥
-no_ok e r is = cc
-
--- what a rename answers and leaves, by what the old name has
-record HasDone (a : FileAreas) (old new : List ℕ) (A C : Array) (r : Bool) : Type 0 where
-  regions : AreFileRegions a C
-  answers : (rename_op old new (files a A)).0 ≡ r
-  files_are : files a C ≡ (rename_op old new (files a A)).1
 
 abbrev last : Bool → Call Bool
 last there = Done (Ok true)
@@ -24,7 +15,7 @@ module _ (a : FileAreas) (areas : AreFileAreas a) (A : Array) (regions : AreFile
   del_does : (value : List ℕ) (there : get (tree_map a.tree A) old ≡ Some value) (free : get (tree_map a.tree A) new ≡ None) (u : Unit {0}) (put_ok : answer_of (put_program a.tree new value) A ≡ Ok u)
       (result : Result Bool StoreError) → answer_of (del_program a.tree old) (own A (accesses_of (put_program a.tree new value) A)) ≡ result → (r : Bool)
       → answer_of (goes_on last result) (own (own A (accesses_of (put_program a.tree new value) A)) (accesses_of (del_program a.tree old) (own A (accesses_of (put_program a.tree new value) A)))) ≡ Ok r
-      → HasDone a old new A (own (own (own A (accesses_of (put_program a.tree new value) A)) (accesses_of (del_program a.tree old) (own A (accesses_of (put_program a.tree new value) A))))
+      → HasDone a (rename_op old new (files a A)) (own (own (own A (accesses_of (put_program a.tree new value) A)) (accesses_of (del_program a.tree old) (own A (accesses_of (put_program a.tree new value) A))))
       (accesses_of (goes_on last result) (own (own A (accesses_of (put_program a.tree new value) A)) (accesses_of (del_program a.tree old) (own A (accesses_of (put_program a.tree new value) A)))))) r
   del_does value there free u put_ok (Err x) is r e = absurd (no_ok (fs.Store x) r e)
   del_does value there free u put_ok (Ok d) is r e =
@@ -34,32 +25,32 @@ module _ (a : FileAreas) (areas : AreFileAreas a) (A : Array) (regions : AreFile
 
   put_does : (value : List ℕ) (there : get (tree_map a.tree A) old ≡ Some value) (free : get (tree_map a.tree A) new ≡ None) (result : Result (Unit {0}) StoreError) → answer_of (put_program a.tree new value) A ≡ result → (r : Bool)
       → answer_of (goes_on (moved a old) result) (own A (accesses_of (put_program a.tree new value) A)) ≡ Ok r
-      → HasDone a old new A (own (own A (accesses_of (put_program a.tree new value) A)) (accesses_of (goes_on (moved a old) result) (own A (accesses_of (put_program a.tree new value) A)))) r
+      → HasDone a (rename_op old new (files a A)) (own (own A (accesses_of (put_program a.tree new value) A)) (accesses_of (goes_on (moved a old) result) (own A (accesses_of (put_program a.tree new value) A)))) r
   put_does value there free (Err x) is r e = absurd (no_ok (fs.Store x) r e)
   put_does value there free (Ok u) is r e =
       let B = own A (accesses_of (put_program a.tree new value) A) in
       let p = del_program a.tree old in
-      subst (λ (D : Array). HasDone a old new A D r) (sym (own_then p (goes_on last) B))
+      subst (λ (D : Array). HasDone a (rename_op old new (files a A)) D r) (sym (own_then p (goes_on last) B))
       (del_does value there free u is (answer_of p B) refl r (sym (answer_then p (goes_on last) B) ∙ e))
 
   free_does : (value : List ℕ) (there : get (tree_map a.tree A) old ≡ Some value) (o : Option (List ℕ)) → get (tree_map a.tree A) new ≡ o → (r : Bool) → answer_of (rename_free a old new value o) A ≡ Ok r
-      → HasDone a old new A (own A (accesses_of (rename_free a old new value o) A)) r
+      → HasDone a (rename_op old new (files a A)) (own A (accesses_of (rename_free a old new value o) A)) r
   free_does value there (Some other) is r e = absurd (no_ok fs.Exists r e)
   free_does value there None free r e =
       let p = put_program a.tree new value in
-      subst (λ (D : Array). HasDone a old new A D r) (sym (own_then p (goes_on (moved a old)) A))
+      subst (λ (D : Array). HasDone a (rename_op old new (files a A)) D r) (sym (own_then p (goes_on (moved a old)) A))
       (put_does value there free (answer_of p A) refl r (sym (answer_then p (goes_on (moved a old)) A) ∙ e))
 
-  found_does : (o : Option (List ℕ)) → get (tree_map a.tree A) old ≡ o → (r : Bool) → answer_of (rename_found a old new o) A ≡ Ok r → HasDone a old new A (own A (accesses_of (rename_found a old new o) A)) r
+  found_does : (o : Option (List ℕ)) → get (tree_map a.tree A) old ≡ o → (r : Bool) → answer_of (rename_found a old new o) A ≡ Ok r → HasDone a (rename_op old new (files a A)) (own A (accesses_of (rename_found a old new o) A)) r
   found_does None missing r e =
       let op = ap (rename_in old new (files a A)) (files_get a A old ∙ ap (option_map (λ v. content a A (number_of v))) missing) in
       record { regions = regions; answers = ap (λ x. x.0) op ∙ same_ok false r FsError e; files_are = sym (ap (λ x. x.1) op) }
   found_does (Some value) there r e =
-      subst (λ (D : Array). HasDone a old new A D r) (sym (own_got a.tree A regions.tree new new_key (rename_free a old new value)))
+      subst (λ (D : Array). HasDone a (rename_op old new (files a A)) D r) (sym (own_got a.tree A regions.tree new new_key (rename_free a old new value)))
       (free_does value there (get (tree_map a.tree A) new) refl r (sym (answer_got a.tree A regions.tree new new_key (rename_free a old new value)) ∙ e))
 
 call_does : (a : FileAreas) (old new : List ℕ) (A : Array) → AreFileAreas a → is_key old ≡ true → is_key new ≡ true → AreFileRegions a A → (r : Bool) → answer_of (rename_program a old new) A ≡ Ok r
-    → HasDone a old new A (own A (accesses_of (rename_program a old new) A)) r
+    → HasDone a (rename_op old new (files a A)) (own A (accesses_of (rename_program a old new) A)) r
 unfolding rename_program
 call_does a old new A areas old_key new_key regions r e =
     let call : Bool → Call Bool = λ k. cond k (in_tree (get_program a.tree old) (rename_found a old new)) (refuse fs.BadName) in
@@ -68,15 +59,11 @@ call_does a old new A areas old_key new_key regions r e =
     (λ i. answer_of (call (key i)) A) ∙ answer_got a.tree A regions.tree old old_key (rename_found a old new) in
     let same : own A (accesses_of (call (is_key old && is_key new)) A) ≡ own A (accesses_of (rename_found a old new (get (tree_map a.tree A) old)) A) =
     (λ i. own A (accesses_of (call (key i)) A)) ∙ own_got a.tree A regions.tree old old_key (rename_found a old new) in
-    subst (λ (D : Array). HasDone a old new A D r) (sym same) (found_does a areas A regions old new old_key new_key (get (tree_map a.tree A) old) refl r (sym answer ∙ e))
+    subst (λ (D : Array). HasDone a (rename_op old new (files a A)) D r) (sym same) (found_does a areas A regions old new old_key new_key (get (tree_map a.tree A) old) refl r (sym answer ∙ e))
 
 -- A rename is that of the files.
 pub rename_correct : (a : FileAreas) (old new : List ℕ) → AreFileAreas a → is_key old ≡ true → is_key new ≡ true → IsCorrect (AreFileRegions a) (files a) (rename_op old new) Ok (rename_program a old new)
-rename_correct a old new areas old_key new_key = record {
-  answer = λ B r regions e. (call_does a old new B areas old_key new_key regions r e).answers;
-  well_formed = λ B r regions e. (call_does a old new B areas old_key new_key regions r e).regions;
-  maps = λ B r regions e. (call_does a old new B areas old_key new_key regions r e).files_are;
-}
+rename_correct a old new areas old_key new_key = correct_by a (rename_op old new) (rename_program a old new) (λ B r regions e. call_does a old new B areas old_key new_key regions r e)
 
 -- WHOLE BLOCKS
 pub whole_back : (A : Array) (xs ys : List Access) → AreWhole (own A xs) ys → AreWhole A ys

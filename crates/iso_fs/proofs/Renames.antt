@@ -1,16 +1,11 @@
 -- A file under another name.
-use Rattle.iso_fs.proofs.{Words.{◌≡◌, ◌≢◌, ◌∙◌, sym, refl, ap, subst, ℕ, ◌+◌, ◌≤◌, ◌==◌, Bool, true, false, cond, List, length, take, Option, Some, None, option_map, Ok, arith, inl, inr, list_all, get, get-remove, insert, remove, same_map, slice_cmp-IsAntisymmetric, nat_cmp-IsAntisymmetric, nat_list_cmp_total, and_parts, cases_Bool, nat_tests, Array, own, is_zero, map_bit, is_key, is_value, Pairs, block_at, accesses_of, answer_of, del_program, put_program, IsTreeRegion, tree_map, del_correct, put_correct, FileAreas, is_file, is_number, number_of, AreFileAreas, AreFileRegions, Uses, block_in, content, file_at, files, number_at, in_area, kept_outside, del_program_stores, put_program_stores}, Kept.same_bytes_by, Lookups.{files_get, insert_get, name_is, name_other, name_self, names_by, same_name, no_some}}
+use Rattle.iso_fs.proofs.{Words.{◌≡◌, ◌≢◌, ◌∙◌, sym, refl, ap, subst, ℕ, ◌+◌, ◌≤◌, ◌==◌, Bool, true, false, cond, List, length, take, Option, Some, None, option_map, Ok, arith, inl, inr, list_all, get, get-remove, insert, remove, same_map, slice_cmp-IsAntisymmetric, nat_cmp-IsAntisymmetric, nat_list_cmp_total, and_parts, cases_Bool, nat_tests, Array, own, is_zero, map_bit, is_key, is_value, Pairs, block_at, accesses_of, answer_of, del_program, put_program, IsTreeRegion, tree_map, del_correct, put_correct, FileAreas, is_file, is_number, number_of, AreFileAreas, AreFileRegions, Uses, block_in, content, file_at, files, number_at, in_area, kept_outside, del_program_stores, put_program_stores}, Changes.HasFiles, Kept.same_bytes_by, Lookups.{files_get, insert_get, name_is, name_other, name_self, names_by, same_name, no_some}}
 
 pub remove_get : (m : Pairs) (name q : List ℕ) → get (remove m name) q ≡ cond (same_name q name) None (get m q)
 remove_get m name q = get-remove nat_list_cmp_total m name q
 
 pub short_value : (a : FileAreas) (value : List ℕ) → is_number a.files value ≡ true → is_value value ≡ true
 short_value a value is = let four = (and_parts (length value == 4) (Rattle.store_model.specs.FileNodes.is_handed a.files.blocks (number_of value)) is).0 in grind (arith, nat_tests)
-
--- the regions after the call, and the files in them
-pub record HasRenamed (a : FileAreas) (old new : List ℕ) (bytes : List ℕ) (A C : Array) : Type 0 where
-  pub regions : AreFileRegions a C
-  pub files_are : files a C ≡ remove (insert (files a A) new bytes) old
 
 same_value : (v w : List ℕ) → ◌≡◌ {A = Option (List ℕ)} (Some v) (Some w) → v ≡ w
 same_value v w e = cc
@@ -174,7 +169,7 @@ module _ (a : FileAreas) (areas : AreFileAreas a) (A : Array) (regions : AreFile
       ∙ ap (λ (o : Option (List ℕ)). cond (same_name q old) None (cond (same_name q new) (Some (f value)) o)) (sym (files_get a A q))
       ∙ sym (remove_get (insert (files a A) new (f value)) old q ∙ ap (cond (same_name q old) None) (insert_get (files a A) new (f value) q))
 
-  pub renamed : HasRenamed a old new (content a A (number_of value)) A C
+  pub renamed : HasFiles a (remove (insert (files a A) new (content a A (number_of value))) old) C
   renamed = record {
     regions = regions_C;
     files_are = same_map nat_list_cmp_total (slice_cmp-IsAntisymmetric nat_cmp-IsAntisymmetric) (files a C) (remove (insert (files a A) new (f value)) old) each;

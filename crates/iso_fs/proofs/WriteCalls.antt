@@ -1,5 +1,5 @@
 -- A write is that of the files.
-use Rattle.iso_fs.proofs.{Words.{map_byte, ◌≡◌, ◌∙◌, sym, refl, ap, subst, ℕ, zero, suc, ◌+◌, ◌-◌, ◌*◌, ◌/◌, ◌%◌, ◌^◌, ◌<◌, ◌≤◌, ◌==◌, ◌&&◌, Bool, true, false, cond, List, [], ◌∷◌, ◌++◌, length, get_or, take, nat_le, Option, Some, None, option_map, Result, Ok, Err, arith, inl, inr, nat_lt, list_all, get, and_parts, cases_Bool, leb-true, nat_tests, append-nil, Access, NoBlocks, Array, put, own, is_zero, free_count, map_bit, map_bytes, map_mark, is_key, block_at, Done, Store, accesses_of, answer_of, bytes_in, store_access, changed_map, changed_mark, first_write, free_list, get_program, tree_map, length-block_put, other_block, written_block, IsCorrect, kept_1, laid_whole, bits_after, sizes_of, same_ok, AreTaken, taken_are, up_apart, FsError, FileAreas, blocks_for, bytes_of, data_count, entries_of, entry_at, file_block, is_file, is_handed, most_bytes, number_of, Call, at_file, in_tree, is_many, refuse, with_new, write_in, write_op, write_pieces, write_program, write_sized, write_to, written, AreFileAreas, AreFileRegions, Uses, content, file_at, files}, AfterTree.{answer_at_file, answer_got, own_at_file, own_got}, FileBlocks.{block_bytes, block_count, block_entry, block_is_file, length-file_block}, Files.{IsHanded, count_fits, count_mono, uses_handed}, Lookups.files_get, Writes.{E_handed, E_long, HasBlock, HasTaken, HasWritten, has_written, old_entry}}
+use Rattle.iso_fs.proofs.{Words.{map_byte, ◌≡◌, ◌∙◌, sym, refl, ap, subst, ℕ, zero, suc, ◌+◌, ◌-◌, ◌*◌, ◌/◌, ◌%◌, ◌^◌, ◌<◌, ◌≤◌, ◌==◌, ◌&&◌, Bool, true, false, cond, List, [], ◌∷◌, ◌++◌, length, get_or, take, nat_le, Option, Some, None, option_map, Ok, arith, inl, inr, nat_lt, list_all, get, insert, and_parts, cases_Bool, leb-true, nat_tests, append-nil, Access, NoBlocks, Array, put, own, is_zero, free_count, map_bit, map_bytes, map_mark, is_key, block_at, Done, Store, accesses_of, answer_of, bytes_in, store_access, changed_map, changed_mark, first_write, free_list, get_program, tree_map, length-block_put, other_block, written_block, IsCorrect, kept_1, laid_whole, bits_after, sizes_of, same_ok, AreTaken, taken_are, up_apart, FsError, FileAreas, blocks_for, bytes_of, data_count, entries_of, entry_at, file_block, is_file, is_handed, most_bytes, number_of, Call, at_file, in_tree, is_many, refuse, with_new, write_in, write_op, write_pieces, write_program, write_sized, write_to, written, AreFileAreas, AreFileRegions, Uses, content, file_at, files}, AfterTree.{answer_at_file, answer_got, own_at_file, own_got}, Changes.{HasDone, HasFiles, correct_by, no_ok}, FileBlocks.{block_bytes, block_count, block_entry, block_is_file, length-file_block}, Files.{IsHanded, count_fits, count_mono, uses_handed}, Lookups.files_get, Writes.{E_handed, E_long, HasBlock, HasTaken, has_written, old_entry}}
 use Rattle.store_model.specs.declared.files.FsError.TheVariants as fs
 
 pub most_is : (size : ℕ) → size ≤ 4096 → most_bytes size ≤ 1008 * 4096
@@ -8,9 +8,6 @@ most_is size m = grind arith steps 100000
 no_news : (xs : List ℕ) → length xs ≡ 0 → xs ≡ []
 no_news [] none = refl
 no_news (x ∷ xs) none = absurd (omega arith)
-
-no_ok : (e : FsError) (r : Bool) → ◌≡◌ {A = Result Bool FsError} (Err e) (Ok r) → ⊥
-no_ok e r is = cc
 
 -- NEW BLOCKS
 -- `need` blocks were taken, and then the rest of the call was done
@@ -141,7 +138,7 @@ module _ (a : FileAreas) (areas : AreFileAreas a) (A : Array) (regions : AreFile
     file_X = taken.others (start + number) (λ e. absurd (let s = number_handed.some in omega arith))
 
     sized_does : (r : Bool) → answer_of (write_sized a.files off bytes number file news) X ≡ Ok r
-        → HasWritten a name (written off bytes (content a A number)) A (own X (accesses_of (write_sized a.files off bytes number file news) X))
+        → HasFiles a (insert (files a A) name (written off bytes (content a A number))) (own X (accesses_of (write_sized a.files off bytes number file news) X))
     sized_does r e = elim (cases_Bool (nat_lt (bytes_of file) end)) [
       | inl grows ↦
           (let less : bytes_of file < end = grind (arith, nat_tests) in
@@ -163,7 +160,7 @@ module _ (a : FileAreas) (areas : AreFileAreas a) (A : Array) (regions : AreFile
             count = ap (data_count size) stored ∙ block_count size end E fits small covers;
             entries = λ i below. ap (λ (f : List ℕ). entry_at f i) stored ∙ block_entry size end E fits small i below (each i below).0;
           } in
-          subst (HasWritten a name (written off bytes (content a A number)) A)
+          subst (HasFiles a (insert (files a A) name (written off bytes (content a A number))))
           (sym (ap (λ (t : Bool). own X (accesses_of (cond t (Store (start + number) [] (file_block size end E) (write_pieces a.files E (data_count size file) (length bytes) off end bytes))
           (write_pieces a.files (entries_of size file) (data_count size file) (length bytes) off end bytes)) X)) grows))
           (has_written a areas A regions name value there news X taken off bytes low end (put X w) made (omega arith) (omega arith) (inl refl)))
@@ -180,7 +177,7 @@ module _ (a : FileAreas) (areas : AreFileAreas a) (A : Array) (regions : AreFile
             entries = λ i below. ap (λ (f : List ℕ). entry_at f i) file_X ∙ sym (old_entry a areas A regions name value there news X taken i (let t = total in omega arith));
           } in
           let same : E ≡ entries_of size file = ap (λ (xs : List ℕ). entries_of size file ++ xs) (no_news news none) ∙ append-nil (entries_of size file) in
-          subst (HasWritten a name (written off bytes (content a A number)) A)
+          subst (HasFiles a (insert (files a A) name (written off bytes (content a A number))))
           (sym (ap (λ (t : Bool). own X (accesses_of (cond t (Store (start + number) [] (file_block size end E) (write_pieces a.files E (data_count size file) (length bytes) off end bytes))
           (write_pieces a.files (entries_of size file) (data_count size file) (length bytes) off end bytes)) X)) keeps
           ∙ ap (λ (xs : List ℕ). own X (accesses_of (write_pieces a.files xs (data_count size file) (length bytes) off end bytes) X)) (sym same)))
@@ -188,11 +185,6 @@ module _ (a : FileAreas) (areas : AreFileAreas a) (A : Array) (regions : AreFile
     ]
 
 -- THE CALL
-record HasDone (a : FileAreas) (name : List ℕ) (off : ℕ) (bytes : List ℕ) (A C : Array) (r : Bool) : Type 0 where
-  regions : AreFileRegions a C
-  answers : (write_op name off bytes (files a A)).0 ≡ r
-  files_are : files a C ≡ (write_op name off bytes (files a A)).1
-
 module _ (a : FileAreas) (areas : AreFileAreas a) (A : Array) (regions : AreFileRegions a A) (name : List ℕ) (key : is_key name ≡ true) (off : ℕ) (bytes : List ℕ) where
   pieces_true : (E : List ℕ) (old most from to : ℕ) (xs : List ℕ) (X : Array) → answer_of (write_pieces a.files E old most from to xs) X ≡ Ok true
   pieces_true E old zero from to xs X = refl
@@ -208,7 +200,7 @@ module _ (a : FileAreas) (areas : AreFileAreas a) (A : Array) (regions : AreFile
   sized_true number file news X = grind (arith, pieces_true) steps 100000
 
   file_does : (value : List ℕ) → get (tree_map a.tree A) name ≡ Some value → (r : Bool) → answer_of (write_to a.files off bytes (number_of value) (file_at a A (number_of value))) A ≡ Ok r
-      → HasDone a name off bytes A (own A (accesses_of (write_to a.files off bytes (number_of value) (file_at a A (number_of value))) A)) r
+      → HasDone a (write_op name off bytes (files a A)) (own A (accesses_of (write_to a.files off bytes (number_of value) (file_at a A (number_of value))) A)) r
   file_does value there r e =
       let number = number_of value in
       let file = file_at a A number in
@@ -225,21 +217,21 @@ module _ (a : FileAreas) (areas : AreFileAreas a) (A : Array) (regions : AreFile
             let same : own A (accesses_of (cond tests (with_new a.files need next) (refuse fs.BadRange)) A) ≡ own on.X (accesses_of (next on.news) on.X) =
             ap (λ (t : Bool). own A (accesses_of (cond t (with_new a.files need next) (refuse fs.BadRange)) A)) good ∙ on.same in
             let op = ap (write_in name off bytes (files a A)) (files_get a A name ∙ ap (option_map (λ v. content a A (number_of v))) there) in
-            subst (λ (D : Array). HasDone a name off bytes A D r) (sym same)
+            subst (λ (D : Array). HasDone a (write_op name off bytes (files a A)) D r) (sym same)
             (record { regions = done.regions; answers = ap (λ x. x.0) op ∙ same_ok true r FsError (sym (sized_true number file on.news on.X) ∙ on.answer); files_are = done.files_are ∙ sym (ap (λ x. x.1) op) }))
       ]
 
   found_does : (o : Option (List ℕ)) → get (tree_map a.tree A) name ≡ o → (r : Bool) → answer_of (at_file a false (write_to a.files off bytes) o) A ≡ Ok r
-      → HasDone a name off bytes A (own A (accesses_of (at_file a false (write_to a.files off bytes) o) A)) r
+      → HasDone a (write_op name off bytes (files a A)) (own A (accesses_of (at_file a false (write_to a.files off bytes) o) A)) r
   found_does None missing r e =
       let op = ap (write_in name off bytes (files a A)) (files_get a A name ∙ ap (option_map (λ v. content a A (number_of v))) missing) in
       record { regions = regions; answers = ap (λ x. x.0) op ∙ same_ok false r FsError e; files_are = sym (ap (λ x. x.1) op) }
   found_does (Some value) there r e =
-      subst (λ (D : Array). HasDone a name off bytes A D r) (sym (own_at_file a A regions name value there (write_to a.files off bytes)))
+      subst (λ (D : Array). HasDone a (write_op name off bytes (files a A)) D r) (sym (own_at_file a A regions name value there (write_to a.files off bytes)))
       (file_does value there r (sym (answer_at_file a A regions name value there (write_to a.files off bytes)) ∙ e))
 
 call_does : (a : FileAreas) (name : List ℕ) (off : ℕ) (bytes : List ℕ) (A : Array) → AreFileAreas a → is_key name ≡ true → is_many (length bytes) ≡ true → AreFileRegions a A → (r : Bool) → answer_of (write_program a name off bytes) A ≡ Ok r
-    → HasDone a name off bytes A (own A (accesses_of (write_program a name off bytes) A)) r
+    → HasDone a (write_op name off bytes (files a A)) (own A (accesses_of (write_program a name off bytes) A)) r
 unfolding write_program
 call_does a name off bytes A areas key many regions r e =
     let call : (k m : Bool) → Call Bool = λ k m. cond k (cond m (in_tree (get_program a.tree name) (at_file a false (write_to a.files off bytes))) (refuse fs.BadRange)) (refuse fs.BadName) in
@@ -248,13 +240,9 @@ call_does a name off bytes A areas key many regions r e =
     (λ i. answer_of (call (key i) (many i)) A) ∙ answer_got a.tree A regions.tree name key (at_file a false (write_to a.files off bytes)) in
     let same : own A (accesses_of (call (is_key name) (is_many (length bytes))) A) ≡ own A (accesses_of found A) =
     (λ i. own A (accesses_of (call (key i) (many i)) A)) ∙ own_got a.tree A regions.tree name key (at_file a false (write_to a.files off bytes)) in
-    subst (λ (D : Array). HasDone a name off bytes A D r) (sym same) (found_does a areas A regions name key off bytes (get (tree_map a.tree A) name) refl r (sym answer ∙ e))
+    subst (λ (D : Array). HasDone a (write_op name off bytes (files a A)) D r) (sym same) (found_does a areas A regions name key off bytes (get (tree_map a.tree A) name) refl r (sym answer ∙ e))
 
 -- A write is that of the files.
 pub write_correct : (a : FileAreas) (name : List ℕ) (off : ℕ) (bytes : List ℕ) → AreFileAreas a → is_key name ≡ true → is_many (length bytes) ≡ true
     → IsCorrect (AreFileRegions a) (files a) (write_op name off bytes) Ok (write_program a name off bytes)
-write_correct a name off bytes areas key many = record {
-  answer = λ B r regions e. (call_does a name off bytes B areas key many regions r e).answers;
-  well_formed = λ B r regions e. (call_does a name off bytes B areas key many regions r e).regions;
-  maps = λ B r regions e. (call_does a name off bytes B areas key many regions r e).files_are;
-}
+write_correct a name off bytes areas key many = correct_by a (write_op name off bytes) (write_program a name off bytes) (λ B r regions e. call_does a name off bytes B areas key many regions r e)

@@ -1,5 +1,5 @@
 -- A write writes whole blocks, on whatever array, and is local.
-use Rattle.iso_fs.proofs.{Words.{AreTaken, changed_map, length-changed, length-block_with, ◌≡◌, ◌∙◌, sym, refl, ap, subst, ℕ, zero, suc, ◌+◌, ◌-◌, ◌*◌, ◌/◌, ◌%◌, ◌^◌, ◌<◌, ◌≤◌, ◌==◌, ◌&&◌, Bool, true, false, cond, List, [], ◌∷◌, ◌++◌, length, get_or, take, drop, nat_le, Option, Some, None, Ok, arith, inl, inr, length-append, nat_lt, and_parts, cases_Bool, cases_lt, leb-true, nat_tests, get_or-append_right, get_or_append_left, length-drop, length-take-le, get_or-map-range_with_len, length-map-range_with_len, div-lt_iff_lt-mul, NoBlocks, Array, put, free_count, map_mark, is_key, IsIn, block_at, Done, IsLocal, LookWhole, accesses_of, answer_of, bytes_in, first_write, free_list, get_program, AreWhole, local_from, nothing_is, sizes_of, taken_are, FileAreas, blocks_for, bytes_of, data_count, entries_of, entry_at, file_block, is_file, is_handed, is_number, most_bytes, number_of, piece_len, Call, at_file, broken, in_tree, is_many, refuse, with_new, write_op, write_pieces, write_program, write_sized, write_to, AreFileAreas, AreFileRegions, file_at, files}, AfterTree.whole_behind_get, CreateCalls.HaveBlocks, FileBlocks.{length-file_block, place_in}, Files.{FileParts, count_covers, count_fits, count_mono, entry_handed, file_parts, handed_is}, Pieces.piece_is, WriteCalls.{most_is, write_correct}, WritePieces.both}
+use Rattle.iso_fs.proofs.{Words.{AreTaken, changed_map, length-changed, length-block_with, ◌≡◌, ◌∙◌, sym, refl, ap, subst, ℕ, zero, suc, ◌+◌, ◌-◌, ◌*◌, ◌/◌, ◌%◌, ◌^◌, ◌<◌, ◌≤◌, ◌==◌, ◌&&◌, Bool, true, false, cond, List, [], ◌∷◌, ◌++◌, length, get_or, take, drop, nat_le, Option, Some, None, Ok, arith, inl, inr, length-append, nat_lt, and_parts, cases_Bool, cases_lt, leb-true, nat_tests, get_or-append_right, get_or_append_left, length-drop, length-take-le, get_or-map-range_with_len, length-map-range_with_len, div-lt_iff_lt-mul, NoBlocks, Array, put, free_count, map_mark, is_key, IsIn, block_at, Done, IsLocal, LookWhole, accesses_of, answer_of, bytes_in, first_write, free_list, get_program, AreWhole, local_from, nothing_is, sizes_of, taken_are, FileAreas, blocks_for, bytes_of, data_count, entries_of, entry_at, file_block, is_file, is_handed, is_number, most_bytes, number_of, piece_len, at_file, broken, in_tree, is_many, refuse, with_new, write_op, write_pieces, write_program, write_sized, write_to, AreFileAreas, AreFileRegions, file_at, files}, AfterTree.whole_behind_get, CreateCalls.HaveBlocks, FileBlocks.{length-file_block, place_in}, Files.{FileParts, count_covers, count_fits, count_mono, entry_handed, file_parts, handed_is}, Pieces.piece_is, WriteCalls.{most_is, write_correct}, WritePieces.both}
 use Rattle.store_model.specs.declared.files.FsError.TheVariants as fs
 
 module _ (a : FileAreas) (areas : AreFileAreas a) (A : Array) (shape : HaveBlocks a A) where

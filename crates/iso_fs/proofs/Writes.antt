@@ -1,10 +1,5 @@
 -- A file that is written.
-use Rattle.iso_fs.proofs.{Words.{◌≡◌, ◌≢◌, ◌⊎◌, ◌↔◌, ◌∙◌, sym, refl, ap, subst, ℕ, zero, suc, ◌+◌, ◌-◌, ◌*◌, ◌/◌, ◌%◌, ◌<◌, ◌≤◌, Bool, true, false, cond, IsTrue, List, ◌++◌, length, get_or, take, drop, map, nat_le, Option, Some, None, option_map, arith, inl, inr, length-append, list_all, range_with_len, get, insert, same_map, slice_cmp-IsAntisymmetric, nat_cmp-IsAntisymmetric, nat_list_cmp_total, both_ways, cases_Bool, cases_lt, nat_tests, ext_get_or, get_or-append_right, get_or-drop, get_or-take, get_or_append_left, length-drop, length-take-le, get_or-map-range_with_len, length-map-range_with_len, Array, byte_at, own, is_zero, map_bit, map_bytes, IsIn, block_at, accesses_of, IsTreeRegion, tree_map, IsApart, length-block_own, FileAreas, bytes_of, data_count, entries_of, entry_at, is_file, number_of, write_pieces, written, AreFileAreas, AreFileRegions, IsUsed, Uses, content, file_at, file_byte, files, number_at, in_area, map_new, region_new}, FileBlocks.{apart_places, at_place, place_in}, Files.{IsHanded, count_covers, place_below, uses_handed}, Kept.{kept_content, kept_uses, still_uses}, Lookups.{files_get, insert_get, name_is, name_self, same_name, same_some}, WritePieces.{bytes_behind, bytes_written, others_stay}}
-
--- the regions after the call, and the files in them
-pub record HasWritten (a : FileAreas) (name : List ℕ) (bytes : List ℕ) (A C : Array) : Type 0 where
-  pub regions : AreFileRegions a C
-  pub files_are : files a C ≡ insert (files a A) name bytes
+use Rattle.iso_fs.proofs.{Words.{◌≡◌, ◌≢◌, ◌⊎◌, ◌↔◌, ◌∙◌, sym, refl, ap, subst, ℕ, zero, suc, ◌+◌, ◌-◌, ◌*◌, ◌/◌, ◌%◌, ◌<◌, ◌≤◌, Bool, true, false, cond, IsTrue, List, ◌++◌, length, get_or, take, drop, map, nat_le, Option, Some, None, option_map, arith, inl, inr, length-append, list_all, range_with_len, get, insert, same_map, slice_cmp-IsAntisymmetric, nat_cmp-IsAntisymmetric, nat_list_cmp_total, both_ways, cases_Bool, cases_lt, nat_tests, ext_get_or, get_or-append_right, get_or-drop, get_or-take, get_or_append_left, length-drop, length-take-le, get_or-map-range_with_len, length-map-range_with_len, Array, byte_at, own, is_zero, map_bit, map_bytes, IsIn, block_at, accesses_of, IsTreeRegion, tree_map, IsApart, length-block_own, FileAreas, bytes_of, data_count, entries_of, entry_at, is_file, number_of, write_pieces, written, AreFileAreas, AreFileRegions, IsUsed, Uses, content, file_at, file_byte, files, number_at, in_area, map_new, region_new}, Changes.HasFiles, FileBlocks.{apart_places, at_place, place_in}, Files.{IsHanded, count_covers, place_below, uses_handed}, Kept.{kept_content, kept_uses, still_uses}, Lookups.{files_get, insert_get, name_is, name_self, same_name, same_some}, WritePieces.{bytes_behind, bytes_written, others_stay}}
 
 -- These blocks were taken: they were free, and the map has their bits; all else is as before.
 pub record HasTaken (a : FileAreas) (A : Array) (news : List ℕ) (X : Array) : Type 0 where
@@ -390,7 +385,7 @@ module _ (a : FileAreas) (areas : AreFileAreas a) (A : Array) (regions : AreFile
           ∙ sym (insert_get (files a A) name (written off bytes old) q ∙ ap (λ (t : Bool). cond t (Some (written off bytes old)) (get (files a A) q)) other ∙ files_get a A q)
     ]
 
-    pub has_written : HasWritten a name (written off bytes (content a A (number_of value))) A C
+    pub has_written : HasFiles a (insert (files a A) name (written off bytes (content a A (number_of value)))) C
     has_written = record {
       regions = regions_C;
       files_are = same_map nat_list_cmp_total (slice_cmp-IsAntisymmetric nat_cmp-IsAntisymmetric) (files a C) (insert (files a A) name (written off bytes old)) each;

@@ -1,7 +1,7 @@
 -- How a call of the file store ends, and what it leaves.
-use Rattle.std.specs.Prelude.{◌≡◌, ◌≢◌, ◌↔◌, ℕ, List, length, ◌+◌, ◌≤◌, Bool, true, false, IsFalse, IsTrue, Some, Result, Ok, Err, IfErr, OnOk}
+use Rattle.std.specs.Prelude.{◌≡◌, ◌≢◌, ◌↔◌, ℕ, ◌+◌, ◌≤◌, Bool, true, false, IsFalse, IsTrue, Some, Result, Ok, Err, IfErr, OnOk}
 use Rattle.iso_model.specs.{Array.Array, Effect.own}
-use Rattle.store_model.specs.{declared.stores.StoreError.StoreError, declared.files.FsError.FsError, declared.files.FsRegion.FsRegion, declared.stores.Area.Area, declared.files.FileAreas.FileAreas, FileCalls.Call, FileNodes.is_file, HashCalls.is_key, FileRegion.{AreFileAreas, AreFileRegions, files}, HashRegion.Pairs}
+use Rattle.store_model.specs.{declared.stores.StoreError.StoreError, declared.files.FsError.FsError, declared.files.FsRegion.FsRegion, declared.stores.Area.Area, declared.files.FileAreas.FileAreas, FileCalls.Call, FileRegion.{AreFileRegions, files}, HashRegion.Pairs}
 use Rattle.store_model.specs.declared.stores.StoreError.TheVariants as store
 use Rattle.store_model.specs.declared.files.FsError.TheVariants as fs
 use Rattle.tx_blocks.specs.{Tx.{Tx, Device, IsLater}, Runs.{area_of, Ran, Stopped, IsCut, IsStoreCause, HasRead, Passed}}
@@ -91,18 +91,6 @@ pub record HasArea (t : Tx) (a : Area) : Type 0 where
   pub most : a.size ≤ 4096
   pub size : t.size ≡ a.size
   pub fits : a.start + a.blocks ≤ t.blocks
-
--- the transaction has the blocks of the area, and these are the bytes of a file block, well formed
-pub record HasFile (t : Tx) (a : Area) (file : List ℕ) : Type 0 where
-  pub holds : HasArea t a
-  pub good : is_file a file ≡ true
-  pub long : length file ≡ a.size
-
--- A call may go on at this name: the areas are those of files, the transaction has their blocks, and the name is one.
-pub record IsNamed (t : Tx) (a : FileAreas) (name : List ℕ) : Type 0 where
-  pub areas : AreFileAreas a
-  pub holds : HasArea t a.files
-  pub key : is_key name ≡ true
 
 -- a part of a call that follows this program: how it ends, and what it leaves
 pub record IsPart {X : Type 0} (tree_call : Bool) (writes : ℕ) (p : Call X) (t u : Tx) (before now : Device) (result : Result X FsError) : Type 0 where

@@ -1,6 +1,7 @@
 -- The file block of a name: what a look-up is, and what it leaves in the buffer.
-use Rattle.std.specs.Prelude.{ℕ, ◌+◌, ◌-◌, ◌<◌, ◌≤◌, cond, nat_lt, Bool, true, List, Option, Some, None, Result, Ok, Err, IfOk, IfSome, IsTrue, option_map, take}
-use Rattle.store_model.specs.{declared.stores.Area.Area, declared.stores.StoreError.TheVariants.NoBlocks, declared.files.FsError.FsError, FreeMap.{free_count, map_bytes}, declared.files.FileAreas.FileAreas, Stores.Done, TreeCalls.{del_program, first_write, free_list, get_program}, FileCalls.{Call, at_file, in_tree, refuse, remove_writes}, FileNodes.is_file}
+use Rattle.std.specs.Prelude.{ℕ, ◌+◌, ◌-◌, ◌<◌, ◌≤◌, cond, nat_lt, Bool, true, List, [], ◌∷◌, Option, Some, None, Result, Ok, Err, IfOk, IfSome, IsTrue, option_map, take}
+use Rattle.iso_model.specs.declared.access.Access.{Access}
+use Rattle.store_model.specs.{declared.stores.Area.Area, declared.stores.StoreError.TheVariants.NoBlocks, declared.files.FsError.FsError, Cells.block_with, FreeMap.{free_count, map_bytes}, declared.files.FileAreas.FileAreas, Stores.{Done, bytes_in, store_access}, TreeCalls.{del_program, first_write, free_list, get_program}, FileCalls.{Call, at_file, bits_mark, in_tree, low_place, refuse, remove_writes, without_bits}, FileNodes.is_file}
 use Rattle.store_model.specs.declared.files.FsError.TheVariants as fs
 
 -- the number of a file block, and its bytes; none where the name has no file
@@ -41,6 +42,10 @@ drop_name a old = in_tree (del_program a.tree old) (λ there. Done (Ok true))
 -- what a removal does once the map is read
 abbrev pub with_dropped : FileAreas → (name : List ℕ) → (number : ℕ) → (file first : List ℕ) → Call Bool
 with_dropped a name number file first = in_tree (del_program a.tree name) (remove_writes a.files number file first)
+
+-- the write of the map without a file's block and its data blocks, where `first` are the bytes of the map
+abbrev pub given_back : Area → (number : ℕ) → (entries first : List ℕ) → Access
+given_back a number entries first = store_access a.start (bits_mark number entries ∷ []) (block_with a.size (low_place number entries) (bytes_in (bits_mark number entries) (without_bits first (number ∷ entries))))
 
 -- what a write does that needs `need` new blocks, once the map is read
 abbrev pub with_taken : {Y : Type 0} → Area → (need : ℕ) → (List ℕ → Call Y) → (first : List ℕ) → Call Y

@@ -1,9 +1,25 @@
-// The bytes of a file block.
+// The block of a file: its bytes, and the test of them.
 ghost use Rattle.std.specs.Prelude.{◌≡◌, ◌+◌, ◌*◌, ◌<◌, ◌≤◌, ◌==◌, IfNone, IfSome, false, length, true, nat_le, slice_index};
-ghost use Rattle.store_model.specs.FileNodes.{are_entries, bytes_of, data_count, entry_at, has_zeros, is_file, is_handed, is_number, most_bytes, number_of};
+ghost use Rattle.store_model.specs.{FileNodes.{are_entries, bytes_of, data_count, entry_at, has_zeros, is_file, is_handed, is_number, most_bytes, number_of}, TreeRegion.IsTreeArea};
 
 use iso_alloc::{are_zero, piece, word_at};
 use store_model::Area;
+
+/// The block of a file that was read, and is well formed: the area of the files, its number there, its bytes, and how many data
+/// blocks they name.
+#[derive(Drop)]
+pub struct FileBlock<'a> {
+    pub area: Area,
+    pub number: u32,
+    pub bytes: &'a [u8],
+    pub count: usize,
+    ghost kind: { IsTreeArea area },
+    ghost inside: { number < area.blocks },
+    ghost good: { is_file area bytes.now ≡ true },
+    ghost long: { length bytes.now ≡ area.size },
+    ghost counted: { count ≡ data_count area.size bytes.now },
+    ghost fits: { 64 + 4 * count ≤ area.size },
+}
 
 /// How many bytes the file has.
 pub fn bytes_of(file: &[u8]) -> u32

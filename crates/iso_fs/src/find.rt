@@ -1,11 +1,11 @@
 // The file block of a name.
 ghost use Rattle.std.specs.Prelude.{false, ◌≡◌, ◌+◌, ◌<◌, length, true, None};
-ghost use Rattle.store_model.specs.{HashCalls.is_key, FileCalls.{at_file, numbered, with_file}, FileRegion.AreFileAreas};
+ghost use Rattle.store_model.specs.FileCalls.{at_file, numbered, with_file};
 ghost use Rattle.tx_blocks.specs.Runs.{HasRead};
-ghost use Rattle.iso_fs.specs.{Ends.{HasArea, IsNamed, IsPart}, Finds.{find_program, found_as, found_file, IsFound}};
+ghost use Rattle.iso_fs.specs.{Ends.{HasArea, IsPart}, Finds.{find_program, found_as, found_file, IsFound}};
 
 use crate::file::{is_file, number_of};
-use crate::names::value_of;
+use crate::names::{FileName, value_of};
 use iso_model::Bytes;
 use std::alloc::Global;
 use store_model::{Area, FileAreas, FsError, StoreError};
@@ -86,18 +86,17 @@ fn look_found<T: TxBlocks>(
 pub fn find<T: TxBlocks>(
     alloc: Global,
     tx: &mut T,
-    a: FileAreas,
-    name: &[u8],
+    name: &FileName,
     file: &mut [u8],
 ) -> Result<Option<u32>, FsError>
-    requires named { IsNamed (T.state tx.old) a name.now }
-    requires file { length file.old ≡ a.files.size }
-    ensures part { IsPart false 1 (find_program a name.now) (T.state tx.old) (T.state tx.new) (T.device tx.old) (T.device tx.new) (found_as file.new result) }
-    ensures found { IsFound a.files file.new result }
+    requires holds { HasArea (T.state tx.old) name.now.areas.files }
+    requires file { length file.old ≡ name.now.areas.files.size }
+    ensures part { IsPart false 1 (find_program name.now.areas name.now.bytes.now) (T.state tx.old) (T.state tx.new) (T.device tx.old) (T.device tx.new) (found_as file.new result) }
+    ensures found { IsFound name.now.areas.files file.new result }
     ensures reads { HasRead (T.state tx.old) (T.state tx.new) }
 {
-    match value_of(alloc, tx, a.tree, name) {
-        Ok(found) => look_found(tx, a, found, file),
+    match value_of(alloc, tx, name.areas.tree, name.bytes) {
+        Ok(found) => look_found(tx, name.areas, found, file),
         Err(e) => Err(FsError::Store(e)),
     }
 }

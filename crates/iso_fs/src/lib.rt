@@ -12,6 +12,7 @@ mod find;
 mod left;
 mod making;
 mod names;
+mod patch;
 mod reading;
 mod removing;
 mod renaming;

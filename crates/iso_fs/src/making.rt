@@ -1,57 +1,54 @@
 // A new file.
-ghost use Rattle.std.specs.{Prelude.{false, ◌≡◌, ◌↔◌, ◌+◌, ◌-◌, ◌<◌, ◌≤◌, Err, IsFalse, IsTrue, is_some, true, IfOk, IfErr, OnOk, OnErr, length, slice_index, [], ◌∷◌, Ok, None}, FinMap.get};
+ghost use Rattle.std.specs.{Prelude.{false, ◌≡◌, ◌↔◌, ◌+◌, ◌-◌, ◌<◌, ◌≤◌, Err, IsFalse, IsTrue, is_some, true, IfOk, IfErr, OnOk, length, slice_index, [], Ok, None}, FinMap.get};
 ghost use Rattle.store_model.specs.{FreeMap.bit_place, HashCalls.is_key, Stores.store_access, FileCalls.{create_op, create_program, name_file}, FileNodes.file_block, FileRegion.{files, AreFileAreas, AreFileRegions}};
-ghost use Rattle.tx_blocks.specs.{Tx.{with_accesses, IsLater}, Runs.{IsCause, IsLocalCall}};
-ghost use Rattle.iso_fs.specs.Ends.{areas_of, ExistsWhere, HasArea, HasRun, IsFsCause, IsNamed, IsPart, IsUnwritten};
+ghost use Rattle.tx_blocks.specs.{Tx.IsLater, Runs.{HasStored, IsLocalCall}};
+ghost use Rattle.iso_fs.specs.Ends.{areas_of, ExistsWhere, HasArea, HasRun, IsFsCause, IsPart, IsUnwritten};
 
 use crate::buffers::{lay_empty, named_areas, spelled};
-use crate::names::{put_value, value_of};
+use crate::names::{FileName, put_value, value_of};
 use iso_alloc::{buffer, region_of, take_lowest};
 use iso_tree::map_mark;
 use std::alloc::Global;
-use store_model::{FileAreas, FsError, FsRegion, StoreError, TxError};
+use store_model::{Area, FsError, FsRegion, StoreError, TxError};
 use tx_blocks::{TxBlocks, look, store, store_bit};
 
 // Writes an empty file into a block.
 fn store_empty<T: TxBlocks>(
     tx: &mut T,
-    a: FileAreas,
+    area: Area,
     block: u32,
     buffer: &mut [u8],
 ) -> Result<(), TxError>
-    requires holds { HasArea (T.state tx.old) a.files }
-    requires buffer { length buffer.old ≡ a.files.size }
-    requires block { block < a.files.blocks }
-    ensures stored { OnOk result (T.state tx.new ≡ with_accesses (T.state tx.old) (store_access (a.files.start + block) [] (file_block a.files.size 0 []) ∷ [])) }
-    ensures kept { OnErr result (T.state tx.new ≡ T.state tx.old) }
-    ensures cause { IfErr result (IsCause (T.state tx.new) 1 (T.device tx.old) (T.device tx.new)) }
-    ensures device { T.device tx.new ≡ T.device tx.old }
+    requires holds { HasArea (T.state tx.old) area }
+    requires buffer { length buffer.old ≡ area.size }
+    requires block { block < area.blocks }
+    ensures { HasStored (store_access (area.start + block) [] (file_block area.size 0 [])) (T.state tx.old) (T.state tx.new) (T.device tx.old) (T.device tx.new) result }
 {
     lay_empty(buffer);
-    store(tx, a.files.start + block, &[], buffer)
+    store(tx, area.start + block, &[], buffer)
 }
 
 // Names a block in the tree, and makes it an empty file.
 fn name_file<T: TxBlocks>(
     alloc: Global,
     tx: &mut T,
-    a: FileAreas,
-    name: &[u8],
+    name: &FileName,
     block: u32,
     buffer: &mut [u8],
 ) -> Result<(), FsError>
-    requires named { IsNamed (T.state tx.old) a name.now }
-    requires block { block < a.files.blocks }
-    requires buffer { length buffer.old ≡ a.files.size }
-    ensures { IsPart false 66 (name_file a name.now block (slice_index buffer.old (bit_place block))) (T.state tx.old) (T.state tx.new) (T.device tx.old) (T.device tx.new) result }
+    requires holds { HasArea (T.state tx.old) name.now.areas.files }
+    requires block { block < name.now.areas.files.blocks }
+    requires buffer { length buffer.old ≡ name.now.areas.files.size }
+    ensures { IsPart false 66 (name_file name.now.areas name.now.bytes.now block (slice_index buffer.old (bit_place block))) (T.state tx.old) (T.state tx.new) (T.device tx.old) (T.device tx.new) result }
 {
-    if let Err(e) = put_value(alloc, tx, a.tree, name, &spelled(block)) {
+    let area = name.areas.files;
+    if let Err(e) = put_value(alloc, tx, name.areas.tree, name.bytes, &spelled(block)) {
         return Err(FsError::Store(e));
     }
-    if let Err(e) = store_bit(tx, a.files, block, buffer) {
+    if let Err(e) = store_bit(tx, area, block, buffer) {
         return Err(FsError::Store(StoreError::Tx(e)));
     }
-    match store_empty(tx, a, block, buffer) {
+    match store_empty(tx, area, block, buffer) {
         Ok(()) => Ok(()),
         Err(e) => Err(FsError::Store(StoreError::Tx(e))),
     }
@@ -61,24 +58,24 @@ fn name_file<T: TxBlocks>(
 fn create_with<T: TxBlocks>(
     alloc: Global,
     tx: &mut T,
-    a: FileAreas,
-    name: &[u8],
+    name: &FileName,
     buffer: &mut [u8],
 ) -> Result<(), FsError>
-    requires named { IsNamed (T.state tx.old) a name.now }
-    requires buffer { length buffer.old ≡ a.files.size }
-    ensures { IsPart false 66 (create_program a name.now) (T.state tx.old) (T.state tx.new) (T.device tx.old) (T.device tx.new) result }
+    requires holds { HasArea (T.state tx.old) name.now.areas.files }
+    requires buffer { length buffer.old ≡ name.now.areas.files.size }
+    ensures { IsPart false 66 (create_program name.now.areas name.now.bytes.now) (T.state tx.old) (T.state tx.new) (T.device tx.old) (T.device tx.new) result }
 {
-    match value_of(alloc, tx, a.tree, name) {
+    let area = name.areas.files;
+    match value_of(alloc, tx, name.areas.tree, name.bytes) {
         Ok(Some(_)) => return Err(FsError::Exists),
         Ok(None) => {}
         Err(e) => return Err(FsError::Store(e)),
     }
-    if let Err(e) = look(tx, a.files.start, map_mark(a.files), buffer) {
+    if let Err(e) = look(tx, area.start, map_mark(area), buffer) {
         return Err(FsError::Store(StoreError::Tx(e)));
     }
-    match take_lowest(buffer, region_of(a.files), 1) {
-        Some(block) => name_file(alloc, tx, a, name, block, buffer),
+    match take_lowest(buffer, region_of(area), 1) {
+        Some(block) => name_file(alloc, tx, name, block, buffer),
         None => Err(FsError::Store(StoreError::NoBlocks { need: 1, free: 0 })),
     }
 }
@@ -116,5 +113,9 @@ pub fn create<T: TxBlocks>(
         Ok(block) => block,
         Err(e) => return Err(FsError::Store(e)),
     };
-    create_with(alloc, tx, a, name, &mut block)
+    let name = FileName {
+        areas: a,
+        bytes: name,
+    };
+    create_with(alloc, tx, &name, &mut block)
 }

@@ -1,6 +1,6 @@
-// The calls of the tree store, by its area.
-ghost use Rattle.std.specs.Prelude.{◌≡◌, ◌≢◌, IsTrue, IfErr, OnErr, OnOk};
-ghost use Rattle.store_model.specs.{HashCalls.{is_key, is_value}, TreeCalls.{del_program, get_program, put_program}, TreeRegion.IsTreeArea};
+// The name of a file, and the calls of the tree store, by its area.
+ghost use Rattle.std.specs.Prelude.{◌≡◌, ◌≢◌, IsTrue, IfErr, OnErr, OnOk, true};
+ghost use Rattle.store_model.specs.{FileRegion.AreFileAreas, HashCalls.{is_key, is_value}, TreeCalls.{del_program, get_program, put_program}, TreeRegion.IsTreeArea};
 ghost use Rattle.tx_blocks.specs.{Tx.IsLater, Runs.{HasEnded, HasRead, IsStoreCause, IsUnwritten}};
 ghost use Rattle.iso_tree.specs.Walks.{TakesNoBlocks};
 ghost use Rattle.iso_fs.specs.Ends.{HasArea};
@@ -9,8 +9,17 @@ use iso_alloc::region_of;
 use iso_model::Bytes;
 use iso_tree::{del, get, put};
 use std::alloc::Global;
-use store_model::{Area, StoreError};
+use store_model::{Area, FileAreas, StoreError};
 use tx_blocks::TxBlocks;
+
+/// The name of a file, with the areas of the files and of their names.
+#[derive(Drop)]
+pub struct FileName<'a> {
+    pub areas: FileAreas,
+    pub bytes: &'a [u8],
+    ghost kind: { AreFileAreas areas },
+    ghost good: { is_key bytes.now ≡ true },
+}
 
 /// The value of a name.
 ///

@@ -1,17 +1,26 @@
 // The read of a file.
-ghost use Rattle.std.specs.Prelude.{false, ◌≡◌, ◌↔◌, ◌+◌, ◌-◌, ◌/◌, ◌<◌, ◌≤◌, ℕ, suc, Err, IsFalse, IsTrue, None, Ok, true, IfOk, IfErr, IfSome, OnOk, cond, length, nat_lt, option_map, take, []};
-ghost use Rattle.store_model.specs.{HashCalls.is_key, FileCalls.{is_many, read_from, read_op, read_pieces, read_program}, FileNodes.{bytes_of, entry_at, is_file, piece_mark}, FileRegion.{files, AreFileAreas, AreFileRegions}};
-ghost use Rattle.tx_blocks.{specs.Tx.IsLater, specs.Runs.{HasRead, IsLocalCall}, proofs.Progress.IsAt};
-ghost use Rattle.iso_fs.specs.{Ends.{areas_of, FsBehaves, HasFile, HasRun, IsNamed, IsFsCause, IsPart}, Finds.got_as};
+ghost use Rattle.std.specs.Prelude.{false, ◌≡◌, ◌↔◌, ◌+◌, ◌-◌, ◌/◌, ◌<◌, ◌≤◌, Err, IsFalse, IsTrue, None, Ok, true, IfOk, IfErr, IfSome, OnOk, cond, length, nat_lt, option_map, take, []};
+ghost use Rattle.store_model.specs.{HashCalls.is_key, FileCalls.{is_many, read_from, read_op, read_pieces, read_program}, FileNodes.{bytes_of, entry_at, piece_mark}, FileRegion.{files, AreFileAreas, AreFileRegions}};
+ghost use Rattle.tx_blocks.specs.{Tx.IsLater, Runs.{HasRead, IsLocalCall}};
+ghost use Rattle.iso_fs.specs.{Ends.{areas_of, HasArea, HasRun, IsFsCause, IsPart}, Finds.got_as};
 
 use crate::buffers::{areas_of, buffers, is_many};
-use crate::file::{bytes_of, entry_at};
+use crate::file::{FileBlock, bytes_of, data_count, entry_at};
 use crate::find::find;
+use crate::names::FileName;
 use iso_alloc::{is_key, lay, piece};
 use iso_model::{Bytes, Items, Span};
 use std::alloc::Global;
-use store_model::{Area, FileAreas, FsError, FsRegion, StoreError};
+use store_model::{FsError, FsRegion, StoreError};
 use tx_blocks::{TxBlocks, look};
+
+/// At most `len` bytes of a file from a byte on, as many as a call may read.
+#[derive(Drop)]
+struct FileRange {
+    off: u32,
+    len: u32,
+    ghost many: { is_many len ≡ true },
+}
 
 /// The mark over the bytes of a data block that a range of the file has.
 pub fn piece_mark(size: u32, from: u32, to: u32) -> Span
@@ -37,42 +46,36 @@ pub fn piece_mark(size: u32, from: u32, to: u32) -> Span
 }
 
 // The number of the data block that has a byte of the file.
-fn block_of(area: Area, file: &[u8], at: u32) -> u32
-    requires least { 256 ≤ area.size }
-    requires file { is_file area file.now ≡ true }
-    requires long { length file.now ≡ area.size }
-    requires inside { at < bytes_of file.now }
-    ensures number { result ≡ entry_at file.now (at / area.size) }
-    ensures below { result < area.blocks }
+fn block_of(file: &FileBlock, at: u32) -> u32
+    requires { at < bytes_of file.now.bytes.now }
+    ensures number { result ≡ entry_at file.now.bytes.now (at / file.now.area.size) }
+    ensures below { result < file.now.area.blocks }
 {
-    entry_at(file, (at / area.size) as usize)
+    entry_at(file.bytes, (at / file.area.size) as usize)
 }
 
-// Reads the pieces of a range; `most` is no less than its length. Answers how many bytes there are.
+// Reads the pieces of a range, for which there is room. Answers how many bytes there are.
 fn read_pieces<T: TxBlocks>(
     tx: &mut T,
-    area: Area,
-    file: &[u8],
-    most: u32,
+    file: &FileBlock,
     from: u32,
     to: u32,
     block: &mut [u8],
     room: &mut [u8],
 ) -> Result<Option<u32>, FsError>
-    requires file { HasFile (T.state tx.old) area file.now }
-    requires most { to - from ≤ most }
+    requires holds { HasArea (T.state tx.old) file.now.area }
     requires up { from ≤ to }
-    requires inside { to ≤ bytes_of file.now }
-    requires block { length block.old ≡ area.size }
-    requires room { most ≤ length room.old }
-    ensures part { IsPart false 1 (read_pieces area file.now most from to []) (T.state tx.old) (T.state tx.new) (T.device tx.old) (T.device tx.new) (got_as room.new result) }
+    requires inside { to ≤ bytes_of file.now.bytes.now }
+    requires block { length block.old ≡ file.now.area.size }
+    requires room { to - from ≤ length room.old }
+    ensures part { IsPart false 1 (read_pieces file.now.area file.now.bytes.now (length room.old) from to []) (T.state tx.old) (T.state tx.new) (T.device tx.old) (T.device tx.new) (got_as room.new result) }
     ensures reads { HasRead (T.state tx.old) (T.state tx.new) }
 {
     let mut at = from;
     while at < to {
-        let span = piece_mark(area.size, at, to);
-        let number = block_of(area, file, at);
-        if let Err(e) = look(tx, area.start + number, span, block) {
+        let span = piece_mark(file.area.size, at, to);
+        let number = block_of(file, at);
+        if let Err(e) = look(tx, file.area.start + number, span, block) {
             return Err(FsError::Store(StoreError::Tx(e)));
         }
         lay(
@@ -102,49 +105,54 @@ fn end_of(off: u32, len: u32, bytes: u32) -> u32
 // Reads a range of a file.
 fn read_from<T: TxBlocks>(
     tx: &mut T,
-    area: Area,
-    off: u32,
-    len: u32,
-    file: &[u8],
+    file: &FileBlock,
+    range: &FileRange,
     block: &mut [u8],
     room: &mut [u8],
 ) -> Result<Option<u32>, FsError>
-    requires file { HasFile (T.state tx.old) area file.now }
-    requires block { length block.old ≡ area.size }
-    requires room { len ≤ length room.old }
-    ensures part { (number : ℕ) → IsPart false 1 (read_from area off len number file.now) (T.state tx.old) (T.state tx.new) (T.device tx.old) (T.device tx.new) (got_as room.new result) }
+    requires holds { HasArea (T.state tx.old) file.now.area }
+    requires block { length block.old ≡ file.now.area.size }
+    requires room { length room.old ≡ range.now.len }
+    ensures part { IsPart false 1 (read_from file.now.area range.now.off range.now.len file.now.number file.now.bytes.now) (T.state tx.old) (T.state tx.new) (T.device tx.old) (T.device tx.new) (got_as room.new result) }
     ensures reads { HasRead (T.state tx.old) (T.state tx.new) }
 {
-    let bytes = bytes_of(file);
+    let off = range.off;
+    let bytes = bytes_of(file.bytes);
     if bytes < off {
         return Err(FsError::BadRange);
     }
-    let to = end_of(off, len, bytes);
-    read_pieces(tx, area, file, len, off, to, block, room)
+    let to = end_of(off, range.len, bytes);
+    read_pieces(tx, file, off, to, block, room)
 }
 
 // Reads a range of the file of a name, with buffers for two blocks and for the bytes. Answers how many bytes there are.
 fn read_with<T: TxBlocks>(
     alloc: Global,
     tx: &mut T,
-    a: FileAreas,
-    name: &[u8],
-    off: u32,
-    len: u32,
+    name: &FileName,
+    range: &FileRange,
     file: &mut [u8],
     block: &mut [u8],
     room: &mut [u8],
 ) -> Result<Option<u32>, FsError>
-    requires named { IsNamed (T.state tx.old) a name.now }
-    requires len { is_many len ≡ true }
-    requires file { length file.old ≡ a.files.size }
-    requires block { length block.old ≡ a.files.size }
-    requires room { len ≤ length room.old }
-    ensures part { IsPart false 1 (read_program a name.now off len) (T.state tx.old) (T.state tx.new) (T.device tx.old) (T.device tx.new) (got_as room.new result) }
+    requires holds { HasArea (T.state tx.old) name.now.areas.files }
+    requires file { length file.old ≡ name.now.areas.files.size }
+    requires block { length block.old ≡ name.now.areas.files.size }
+    requires room { length room.old ≡ range.now.len }
+    ensures part { IsPart false 1 (read_program name.now.areas name.now.bytes.now range.now.off range.now.len) (T.state tx.old) (T.state tx.new) (T.device tx.old) (T.device tx.new) (got_as room.new result) }
     ensures reads { HasRead (T.state tx.old) (T.state tx.new) }
 {
-    match find(alloc, tx, a, name, file) {
-        Ok(Some(_)) => read_from(tx, a.files, off, len, file, block, room),
+    match find(alloc, tx, name, file) {
+        Ok(Some(number)) => {
+            let area = name.areas.files;
+            let file = FileBlock {
+                area,
+                number,
+                bytes: file,
+                count: data_count(area, file),
+            };
+            read_from(tx, &file, range, block, room)
+        }
         Ok(None) => Ok(None),
         Err(e) => Err(e),
     }
@@ -201,9 +209,12 @@ pub fn read<T: TxBlocks>(
         Ok(all) => all,
         Err(e) => return Err(FsError::Store(e)),
     };
-    match read_with(
-        alloc, tx, a, name, off, len, &mut file, &mut block, &mut room,
-    ) {
+    let name = FileName {
+        areas: a,
+        bytes: name,
+    };
+    let range = FileRange { off, len };
+    match read_with(alloc, tx, &name, &range, &mut file, &mut block, &mut room) {
         Ok(found) => Ok(bytes_read(found, room)),
         Err(e) => Err(e),
     }

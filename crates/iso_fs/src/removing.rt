@@ -1,44 +1,42 @@
 // The removal of a file.
-ghost use Rattle.std.specs.Prelude.{◌≡◌, ◌↔◌, ◌+◌, ◌<◌, ◌≤◌, Err, IsFalse, IsTrue, true, false, IfOk, IfErr, IfSome, OnOk, Ok, length};
-ghost use Rattle.store_model.specs.{HashCalls.is_key, FreeMap.map_mark, Stores.bytes_in, FileCalls.{remove_file, remove_op, remove_program, remove_writes}, FileNodes.is_file, FileRegion.{files, AreFileAreas, AreFileRegions}};
+ghost use Rattle.std.specs.Prelude.{◌≡◌, ◌↔◌, ◌+◌, ◌≤◌, Err, IsFalse, false, IfOk, IfErr, OnOk, length};
+ghost use Rattle.store_model.specs.{HashCalls.is_key, FileCalls.{remove_file, remove_op, remove_program}, FileRegion.{files, AreFileAreas, AreFileRegions}};
 ghost use Rattle.tx_blocks.specs.{Tx.IsLater, Runs.IsLocalCall};
-ghost use Rattle.iso_fs.specs.Ends.{areas_of, HasRun, IsFsCause, IsNamed, IsPart, IsUnwritten};
+ghost use Rattle.iso_fs.specs.Ends.{areas_of, HasArea, HasRun, IsFsCause, IsPart, IsUnwritten};
 
 use crate::buffers::{buffers, named_areas};
+use crate::file::{FileBlock, data_count};
 use crate::find::find;
 use crate::left::store_left;
-use crate::names::remove_name;
+use crate::names::{FileName, remove_name};
 use iso_tree::map_mark;
 use std::alloc::Global;
-use store_model::{FileAreas, FsError, FsRegion, StoreError};
+use store_model::{FsError, FsRegion, StoreError};
 use tx_blocks::{TxBlocks, look};
 
 // Reads the map, removes the name, and then gives the blocks of its file back.
 fn remove_file<T: TxBlocks>(
     alloc: Global,
     tx: &mut T,
-    a: FileAreas,
-    name: &[u8],
-    number: u32,
-    file: &[u8],
+    name: &FileName,
+    file: &FileBlock,
     map: &mut [u8],
     into: &mut [u8],
 ) -> Result<bool, FsError>
-    requires named { IsNamed (T.state tx.old) a name.now }
-    requires number { number < a.files.blocks }
-    requires file { is_file a.files file.now ≡ true }
-    requires long { length file.now ≡ a.files.size }
-    requires map { length map.old ≡ a.files.size }
-    requires into { length into.old ≡ a.files.size }
-    ensures { IsPart false 1 (remove_file a name.now number file.now) (T.state tx.old) (T.state tx.new) (T.device tx.old) (T.device tx.new) result }
+    requires holds { HasArea (T.state tx.old) name.now.areas.files }
+    requires area { file.now.area ≡ name.now.areas.files }
+    requires map { length map.old ≡ name.now.areas.files.size }
+    requires into { length into.old ≡ name.now.areas.files.size }
+    ensures { IsPart false 1 (remove_file name.now.areas name.now.bytes.now file.now.number file.now.bytes.now) (T.state tx.old) (T.state tx.new) (T.device tx.old) (T.device tx.new) result }
 {
-    if let Err(e) = look(tx, a.files.start, map_mark(a.files), map) {
+    let area = name.areas.files;
+    if let Err(e) = look(tx, area.start, map_mark(area), map) {
         return Err(FsError::Store(StoreError::Tx(e)));
     }
-    if let Err(e) = remove_name(alloc, tx, a.tree, name) {
+    if let Err(e) = remove_name(alloc, tx, name.areas.tree, name.bytes) {
         return Err(FsError::Store(e));
     }
-    match store_left(tx, a.files, number, file, map, into) {
+    match store_left(tx, file, map, into) {
         Ok(()) => Ok(true),
         Err(e) => Err(FsError::Store(StoreError::Tx(e))),
     }
@@ -48,20 +46,28 @@ fn remove_file<T: TxBlocks>(
 fn remove_with<T: TxBlocks>(
     alloc: Global,
     tx: &mut T,
-    a: FileAreas,
-    name: &[u8],
+    name: &FileName,
     file: &mut [u8],
     map: &mut [u8],
     into: &mut [u8],
 ) -> Result<bool, FsError>
-    requires named { IsNamed (T.state tx.old) a name.now }
-    requires file { length file.old ≡ a.files.size }
-    requires map { length map.old ≡ a.files.size }
-    requires into { length into.old ≡ a.files.size }
-    ensures { IsPart false 1 (remove_program a name.now) (T.state tx.old) (T.state tx.new) (T.device tx.old) (T.device tx.new) result }
+    requires holds { HasArea (T.state tx.old) name.now.areas.files }
+    requires file { length file.old ≡ name.now.areas.files.size }
+    requires map { length map.old ≡ name.now.areas.files.size }
+    requires into { length into.old ≡ name.now.areas.files.size }
+    ensures { IsPart false 1 (remove_program name.now.areas name.now.bytes.now) (T.state tx.old) (T.state tx.new) (T.device tx.old) (T.device tx.new) result }
 {
-    match find(alloc, tx, a, name, file) {
-        Ok(Some(number)) => remove_file(alloc, tx, a, name, number, file, map, into),
+    match find(alloc, tx, name, file) {
+        Ok(Some(number)) => {
+            let area = name.areas.files;
+            let file = FileBlock {
+                area,
+                number,
+                bytes: file,
+                count: data_count(area, file),
+            };
+            remove_file(alloc, tx, name, &file, map, into)
+        }
         Ok(None) => Ok(false),
         Err(e) => Err(e),
     }
@@ -98,5 +104,9 @@ pub fn remove<T: TxBlocks>(
         Ok(all) => all,
         Err(e) => return Err(FsError::Store(e)),
     };
-    remove_with(alloc, tx, a, name, &mut file, &mut map, &mut into)
+    let name = FileName {
+        areas: a,
+        bytes: name,
+    };
+    remove_with(alloc, tx, &name, &mut file, &mut map, &mut into)
 }

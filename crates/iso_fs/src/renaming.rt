@@ -2,56 +2,55 @@
 ghost use Rattle.std.specs.{Prelude.{◌≡◌, ◌↔◌, ◌+◌, ◌≤◌, ◌&&◌, Err, IsFalse, IsTrue, is_some, true, IfOk, IfErr, OnOk, None}, FinMap.get};
 ghost use Rattle.store_model.specs.{HashCalls.is_key, FileCalls.{rename_free, rename_op, rename_program, in_tree}, TreeCalls.get_program, FileRegion.{files, AreFileAreas, AreFileRegions}};
 ghost use Rattle.tx_blocks.specs.{Tx.IsLater, Runs.IsLocalCall};
-ghost use Rattle.iso_fs.specs.Ends.{areas_of, ExistsWhere, HasRun, IsFsCause, IsNamed, IsPart, IsUnwritten};
+ghost use Rattle.iso_fs.specs.Ends.{areas_of, ExistsWhere, HasArea, HasRun, IsFsCause, IsPart, IsUnwritten};
 
 use crate::buffers::areas_of;
-use crate::names::{put_value, remove_name, value_of};
+use crate::names::{FileName, put_value, remove_name, value_of};
 use iso_alloc::is_key;
 use std::alloc::Global;
-use store_model::{FileAreas, FsError, FsRegion};
+use store_model::{FsError, FsRegion};
 use tx_blocks::TxBlocks;
 
 // Puts the value at the new name, where that has none, and removes the old one.
 fn move_value<T: TxBlocks>(
     alloc: Global,
     tx: &mut T,
-    a: FileAreas,
-    old: &[u8],
+    old: &FileName,
     new: &[u8],
     value: &[u8],
 ) -> Result<bool, FsError>
-    requires named { IsNamed (T.state tx.old) a old.now }
+    requires holds { HasArea (T.state tx.old) old.now.areas.files }
     requires new { is_key new.now ≡ true }
-    ensures { IsPart true 66 (in_tree (get_program a.tree new.now) (rename_free a old.now new.now value.now)) (T.state tx.old) (T.state tx.new) (T.device tx.old) (T.device tx.new) result }
+    ensures { IsPart true 66 (in_tree (get_program old.now.areas.tree new.now) (rename_free old.now.areas old.now.bytes.now new.now value.now)) (T.state tx.old) (T.state tx.new) (T.device tx.old) (T.device tx.new) result }
 {
-    match value_of(alloc, tx, a.tree, new) {
+    let tree = old.areas.tree;
+    match value_of(alloc, tx, tree, new) {
         Ok(Some(_)) => return Err(FsError::Exists),
         Ok(None) => {}
         Err(e) => return Err(FsError::Store(e)),
     }
-    if let Err(e) = put_value(alloc, tx, a.tree, new, value) {
+    if let Err(e) = put_value(alloc, tx, tree, new, value) {
         return Err(FsError::Store(e));
     }
-    match remove_name(alloc, tx, a.tree, old) {
+    match remove_name(alloc, tx, tree, old.bytes) {
         Ok(_) => Ok(true),
         Err(e) => Err(FsError::Store(e)),
     }
 }
 
-// Renames a file, in these areas.
+// Renames a file.
 fn rename_in<T: TxBlocks>(
     alloc: Global,
     tx: &mut T,
-    a: FileAreas,
-    old: &[u8],
+    old: &FileName,
     new: &[u8],
 ) -> Result<bool, FsError>
-    requires named { IsNamed (T.state tx.old) a old.now }
+    requires holds { HasArea (T.state tx.old) old.now.areas.files }
     requires new { is_key new.now ≡ true }
-    ensures { IsPart true 66 (rename_program a old.now new.now) (T.state tx.old) (T.state tx.new) (T.device tx.old) (T.device tx.new) result }
+    ensures { IsPart true 66 (rename_program old.now.areas old.now.bytes.now new.now) (T.state tx.old) (T.state tx.new) (T.device tx.old) (T.device tx.new) result }
 {
-    match value_of(alloc, tx, a.tree, old) {
-        Ok(Some(value)) => move_value(alloc, tx, a, old, new, value.as_slice()),
+    match value_of(alloc, tx, old.areas.tree, old.bytes) {
+        Ok(Some(value)) => move_value(alloc, tx, old, new, value.as_slice()),
         Ok(None) => Ok(false),
         Err(e) => Err(FsError::Store(e)),
     }
@@ -91,5 +90,9 @@ pub fn rename<T: TxBlocks>(
         return Err(FsError::BadName);
     }
     let a = areas_of(tx, at);
-    rename_in(alloc, tx, a, old, new)
+    let old = FileName {
+        areas: a,
+        bytes: old,
+    };
+    rename_in(alloc, tx, &old, new)
 }

@@ -1,11 +1,10 @@
 // The file block of a file that has grown.
 ghost use Rattle.std.specs.{Prelude.{◌≡◌, ◌+◌, ◌*◌, ◌≤◌, ◌++◌, ℕ, List, length, map, [], ◌∷◌}, List.range_with_len};
-ghost use Rattle.store_model.specs.FileNodes.{data_count, entries_of, entry_at, file_block};
+ghost use Rattle.store_model.specs.FileNodes.{entries_of, entry_at, file_block};
 
 use crate::buffers::{lay_empty, spelled};
-use crate::file::entry_at;
+use crate::file::{FileBlock, entry_at};
 use iso_alloc::lay;
-use store_model::Area;
 
 // The file block of a file with `bytes` bytes, with no data blocks yet.
 fn start_file(into: &mut [u8], bytes: u32)
@@ -46,14 +45,12 @@ fn add_news(into: &mut [u8], count: usize, news: &[u32])
 }
 
 /// The file block of a file with `bytes` bytes, which has the data blocks of another one and new ones.
-pub fn lay_sized(area: Area, file: &[u8], count: usize, news: &[u32], bytes: u32, into: &mut [u8])
-    requires count { count ≡ data_count area.size file.now }
-    requires file { 64 + 4 * count ≤ length file.now }
-    requires room { 64 + 4 * (count + length news.now) ≤ area.size }
-    requires into { length into.old ≡ area.size }
-    ensures { into.new ≡ file_block area.size bytes (entries_of area.size file.now ++ news.now) }
+pub fn lay_sized(file: &FileBlock, news: &[u32], bytes: u32, into: &mut [u8])
+    requires room { 64 + 4 * (file.now.count + length news.now) ≤ file.now.area.size }
+    requires into { length into.old ≡ file.now.area.size }
+    ensures { into.new ≡ file_block file.now.area.size bytes (entries_of file.now.area.size file.now.bytes.now ++ news.now) }
 {
     start_file(into, bytes);
-    add_old(into, file, count);
-    add_news(into, count, news);
+    add_old(into, file.bytes, file.count);
+    add_news(into, file.count, news);
 }

@@ -1,32 +1,29 @@
 // The writes of the data blocks of a file.
-ghost use Rattle.std.specs.Prelude.{◌≡◌, ◌+◌, ◌-◌, ◌*◌, ◌<◌, ◌≤◌, ◌++◌, ℕ, suc, Err, IfErr, IfOk, OnErr, OnOk, cond, drop, length, slice_index, [], ◌∷◌, true, false};
-ghost use Rattle.store_model.specs.{Stores.store_access, FileCalls.write_pieces, FileNodes.{data_count, entries_of, is_file, most_bytes}};
+ghost use Rattle.std.specs.Prelude.{◌≡◌, ◌+◌, ◌*◌, ◌<◌, ◌≤◌, ◌++◌, IfErr, cond, length, slice_index, [], ◌∷◌, false};
+ghost use Rattle.store_model.specs.{Stores.store_access, FileCalls.write_pieces, FileNodes.entries_of};
 ghost use Rattle.iso_model.specs.Premises.{IsSpan};
-ghost use Rattle.tx_blocks.{specs.Tx.with_accesses, specs.Runs.IsCause, proofs.Progress.IsAt};
+ghost use Rattle.tx_blocks.specs.Runs.{HasStored};
 ghost use Rattle.iso_tree.specs.Rows.{AreBlocks};
-ghost use Rattle.iso_fs.specs.Ends.{FsBehaves, HasArea, HasRun, IsOfTx, IsPart};
+ghost use Rattle.iso_fs.specs.{Ends.{HasArea, IsOfTx, IsPart}, Grows.write_end};
 
-use crate::file::entry_at;
+use crate::file::{FileBlock, entry_at};
+use crate::patch::Writing;
 use crate::reading::piece_mark;
-use crate::writing::Writing;
 use iso_alloc::{lay_alone, piece};
 use iso_model::Span;
-use store_model::{Area, FsError, StoreError, TxError};
+use store_model::{FsError, StoreError, TxError};
 use tx_blocks::{TxBlocks, store};
 
-// The number of the data block at a place, where the first `old` ones are in the file block and the others are new.
-fn number_at(area: Area, file: &[u8], old: usize, news: &[u32], place: usize) -> u32
-    requires least { 256 ≤ area.size }
-    requires file { is_file area file.now ≡ true }
-    requires long { length file.now ≡ area.size }
-    requires old { old ≡ data_count area.size file.now }
-    requires news { AreBlocks area news.now }
-    requires place { place < old + length news.now }
-    ensures number { result ≡ slice_index (entries_of area.size file.now ++ news.now) place }
-    ensures below { result < area.blocks }
+// The number of the data block at a place, where the first ones are in the file block and the others are new.
+fn number_at(file: &FileBlock, news: &[u32], place: usize) -> u32
+    requires news { AreBlocks file.now.area news.now }
+    requires place { place < file.now.count + length news.now }
+    ensures number { result ≡ slice_index (entries_of file.now.area.size file.now.bytes.now ++ news.now) place }
+    ensures below { result < file.now.area.blocks }
 {
+    let old = file.count;
     if place < old {
-        return entry_at(file, place);
+        return entry_at(file.bytes, place);
     }
     news[place - old]
 }
@@ -42,10 +39,7 @@ fn store_piece<T: TxBlocks>(
     requires bytes { length bytes.now ≡ (T.state tx.old).size }
     requires block { block < (T.state tx.old).blocks }
     requires span { IsSpan (T.state tx.old).size span }
-    ensures stored { OnOk result (T.state tx.new ≡ with_accesses (T.state tx.old) (store_access block (cond is_old (span ∷ []) []) bytes.now ∷ [])) }
-    ensures kept { OnErr result (T.state tx.new ≡ T.state tx.old) }
-    ensures cause { IfErr result (IsCause (T.state tx.new) 1 (T.device tx.old) (T.device tx.new)) }
-    ensures device { T.device tx.new ≡ T.device tx.old }
+    ensures { HasStored (store_access block (cond is_old (span ∷ []) []) bytes.now) (T.state tx.old) (T.state tx.new) (T.device tx.old) (T.device tx.new) result }
 {
     if is_old {
         return store(tx, block, &[span], bytes);
@@ -53,24 +47,22 @@ fn store_piece<T: TxBlocks>(
     store(tx, block, &[], bytes)
 }
 
-/// Writes the data blocks of the range, once the file block has `old` of their numbers, or those and new ones.
+/// Writes the data blocks of the range, whose numbers are those of the file block and new ones.
 pub(crate) fn write_pieces<T: TxBlocks>(
     tx: &mut T,
     writing: &Writing,
-    old: usize,
     news: &[u32],
     into: &mut [u8],
 ) -> Result<bool, FsError>
-    requires holds { HasArea (T.state tx.old) writing.now.area }
-    requires old { old ≡ data_count writing.now.area.size writing.now.file.now }
-    requires news { AreBlocks writing.now.area news.now }
-    requires end { writing.now.off + length writing.now.bytes.now ≤ most_bytes writing.now.area.size }
-    requires covered { writing.now.off + length writing.now.bytes.now ≤ (old + length news.now) * writing.now.area.size }
-    requires into { length into.old ≡ writing.now.area.size }
-    ensures part { IsPart false 1 (write_pieces writing.now.area (entries_of writing.now.area.size writing.now.file.now ++ news.now) old (length writing.now.bytes.now) writing.now.off (writing.now.off + length writing.now.bytes.now) writing.now.bytes.now) (T.state tx.old) (T.state tx.new) (T.device tx.old) (T.device tx.new) result }
+    requires holds { HasArea (T.state tx.old) writing.now.file.area }
+    requires news { AreBlocks writing.now.file.area news.now }
+    requires covered { write_end writing.now ≤ (writing.now.file.count + length news.now) * writing.now.file.area.size }
+    requires into { length into.old ≡ writing.now.file.area.size }
+    ensures part { IsPart false 1 (write_pieces writing.now.file.area (entries_of writing.now.file.area.size writing.now.file.bytes.now ++ news.now) writing.now.file.count (length writing.now.bytes.now) writing.now.off (write_end writing.now) writing.now.bytes.now) (T.state tx.old) (T.state tx.new) (T.device tx.old) (T.device tx.new) result }
     ensures of_tx { IfErr result IsOfTx }
 {
-    let area = writing.area;
+    let area = writing.file.area;
+    let old = writing.file.count;
     let end = writing.off + writing.bytes.len() as u32;
     let mut at = writing.off;
     while at < end {
@@ -81,7 +73,7 @@ pub(crate) fn write_pieces<T: TxBlocks>(
         );
         let span = piece_mark(area.size, at, end);
         let place = (at / area.size) as usize;
-        let number = number_at(area, writing.file, old, news, place);
+        let number = number_at(&writing.file, news, place);
         lay_alone(into, span.off as usize, &rest[..span.len as usize]);
         if let Err(e) = store_piece(tx, area.start + number, span, place < old, into) {
             return Err(FsError::Store(StoreError::Tx(e)));

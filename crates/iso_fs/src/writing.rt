@@ -1,34 +1,22 @@
 // The write of a file.
-ghost use Rattle.std.specs.Prelude.{◌≡◌, ◌↔◌, ◌+◌, ◌<◌, ◌≤◌, List, ℕ, Err, IsFalse, IsTrue, None, true, false, IfOk, IfErr, IfSome, OnOk, Ok, [], length, nat_le, take};
-ghost use Rattle.store_model.specs.{HashCalls.is_key, FreeMap.{map_bytes, map_mark}, Stores.bytes_in, TreeCalls.{first_write, with_used}, TreeRegion.IsTreeArea, FileCalls.{is_many, with_new, write_op, write_program, write_sized, write_to}, FileNodes.{blocks_for, bytes_of, data_count, is_file, most_bytes}, FileRegion.{files, AreFileAreas, AreFileRegions}};
+ghost use Rattle.std.specs.Prelude.{◌≡◌, ◌↔◌, ◌+◌, ◌<◌, ◌≤◌, List, ℕ, Err, IsFalse, IsTrue, None, false, IfOk, IfErr, IfSome, OnOk, Ok, [], length, nat_le, take};
+ghost use Rattle.store_model.specs.{HashCalls.is_key, FreeMap.{map_bytes, map_mark}, Stores.bytes_in, TreeCalls.{first_write, with_used}, FileCalls.{is_many, with_new, write_op, write_program, write_to}, FileNodes.{blocks_for, bytes_of, most_bytes}, FileRegion.{files, AreFileAreas, AreFileRegions}};
 ghost use Rattle.tx_blocks.specs.{Tx.IsLater, Runs.IsLocalCall};
 ghost use Rattle.iso_tree.specs.{FirstBlock.Up, Rows.AreBlocks};
-ghost use Rattle.iso_fs.specs.{Ends.{areas_of, HasArea, HasRun, IsFsCause, IsNamed, IsOfTx, IsPart, IsUnwritten}, Finds.with_taken};
+ghost use Rattle.iso_fs.specs.{Ends.{areas_of, HasArea, HasRun, IsFsCause, IsOfTx, IsPart, IsUnwritten}, Finds.with_taken, Grows.{write_end, sized_by, IsGrowth}};
 
 use crate::buffers::{areas_of, buffers, is_many};
-use crate::file::{bytes_of, data_count};
+use crate::file::{FileBlock, bytes_of, data_count};
 use crate::find::find;
+use crate::names::FileName;
+use crate::patch::{Patch, Writing};
 use crate::sized::lay_sized;
 use crate::storing::write_pieces;
 use iso_alloc::{free_blocks, is_key, region_of};
 use iso_tree::{map_mark, store_first, take_blocks};
 use std::alloc::Global;
-use store_model::{Area, FileAreas, FsError, FsRegion, StoreError};
+use store_model::{FsError, FsRegion, StoreError};
 use tx_blocks::{TxBlocks, look, store};
-
-/// Bytes that are written into a file from a byte on: the area of the files, the number of the file block, and its bytes, which are
-/// well formed.
-#[derive(Drop)]
-pub(crate) struct Writing<'a> {
-    pub(crate) area: Area,
-    pub(crate) number: u32,
-    pub(crate) off: u32,
-    pub(crate) bytes: &'a [u8],
-    pub(crate) file: &'a [u8],
-    ghost inside: { number < area.blocks },
-    ghost good: { is_file area file.now ≡ true },
-    ghost long: { length file.now ≡ area.size },
-}
 
 // Writes the file block of a file that grows, and its data.
 fn write_grown<T: TxBlocks>(
@@ -37,23 +25,20 @@ fn write_grown<T: TxBlocks>(
     news: &[u32],
     into: &mut [u8],
 ) -> Result<bool, FsError>
-    requires holds { HasArea (T.state tx.old) writing.now.area }
-    requires news { AreBlocks writing.now.area news.now }
-    requires end { writing.now.off + length writing.now.bytes.now ≤ most_bytes writing.now.area.size }
-    requires count { data_count writing.now.area.size writing.now.file.now + length news.now ≡ blocks_for writing.now.area.size (writing.now.off + length writing.now.bytes.now) }
-    requires grows { bytes_of writing.now.file.now < writing.now.off + length writing.now.bytes.now }
-    requires into { length into.old ≡ writing.now.area.size }
-    ensures part { IsPart false 1 (write_sized writing.now.area writing.now.off writing.now.bytes.now writing.now.number writing.now.file.now news.now) (T.state tx.old) (T.state tx.new) (T.device tx.old) (T.device tx.new) result }
+    requires holds { HasArea (T.state tx.old) writing.now.file.area }
+    requires news { AreBlocks writing.now.file.area news.now }
+    requires grows { IsGrowth writing.now (length news.now) }
+    requires into { length into.old ≡ writing.now.file.area.size }
+    ensures part { IsPart false 1 (sized_by writing.now news.now) (T.state tx.old) (T.state tx.new) (T.device tx.old) (T.device tx.new) result }
     ensures of_tx { IfErr result IsOfTx }
 {
-    let area = writing.area;
+    let file = &writing.file;
     let end = writing.off + writing.bytes.len() as u32;
-    let old = data_count(area, writing.file);
-    lay_sized(area, writing.file, old, news, end, into);
-    if let Err(e) = store(tx, area.start + writing.number, &[], into) {
+    lay_sized(file, news, end, into);
+    if let Err(e) = store(tx, file.area.start + file.number, &[], into) {
         return Err(FsError::Store(StoreError::Tx(e)));
     }
-    write_pieces(tx, writing, old, news, into)
+    write_pieces(tx, writing, news, into)
 }
 
 // Writes the file block where the size changes, and then the data.
@@ -63,21 +48,19 @@ fn write_sized<T: TxBlocks>(
     news: &[u32],
     into: &mut [u8],
 ) -> Result<bool, FsError>
-    requires holds { HasArea (T.state tx.old) writing.now.area }
-    requires news { AreBlocks writing.now.area news.now }
-    requires end { writing.now.off + length writing.now.bytes.now ≤ most_bytes writing.now.area.size }
-    requires count { bytes_of writing.now.file.now < writing.now.off + length writing.now.bytes.now → data_count writing.now.area.size writing.now.file.now + length news.now ≡ blocks_for writing.now.area.size (writing.now.off + length writing.now.bytes.now) }
-    requires none { writing.now.off + length writing.now.bytes.now ≤ bytes_of writing.now.file.now → news.now ≡ [] }
-    requires into { length into.old ≡ writing.now.area.size }
-    ensures part { IsPart false 1 (write_sized writing.now.area writing.now.off writing.now.bytes.now writing.now.number writing.now.file.now news.now) (T.state tx.old) (T.state tx.new) (T.device tx.old) (T.device tx.new) result }
+    requires holds { HasArea (T.state tx.old) writing.now.file.area }
+    requires news { AreBlocks writing.now.file.area news.now }
+    requires grows { bytes_of writing.now.file.bytes.now < write_end writing.now → IsGrowth writing.now (length news.now) }
+    requires none { write_end writing.now ≤ bytes_of writing.now.file.bytes.now → news.now ≡ [] }
+    requires into { length into.old ≡ writing.now.file.area.size }
+    ensures part { IsPart false 1 (sized_by writing.now news.now) (T.state tx.old) (T.state tx.new) (T.device tx.old) (T.device tx.new) result }
     ensures of_tx { IfErr result IsOfTx }
 {
     let end = writing.off + writing.bytes.len() as u32;
-    if bytes_of(writing.file) < end {
+    if bytes_of(writing.file.bytes) < end {
         return write_grown(tx, writing, news, into);
     }
-    let old = data_count(writing.area, writing.file);
-    write_pieces(tx, writing, old, news, into)
+    write_pieces(tx, writing, news, into)
 }
 
 // Writes the map, in which new blocks are taken, and then the file.
@@ -88,20 +71,17 @@ fn write_news<T: TxBlocks>(
     news: &[u32],
     into: &mut [u8],
 ) -> Result<bool, FsError>
-    requires area { IsTreeArea writing.now.area }
-    requires holds { HasArea (T.state tx.old) writing.now.area }
-    requires map { length map.now ≡ writing.now.area.size }
+    requires holds { HasArea (T.state tx.old) writing.now.file.area }
+    requires map { length map.now ≡ writing.now.file.area.size }
     requires some { 0 < length news.now }
     requires rising { Up 1 news.now }
-    requires news { AreBlocks writing.now.area news.now }
-    requires end { writing.now.off + length writing.now.bytes.now ≤ most_bytes writing.now.area.size }
-    requires grows { bytes_of writing.now.file.now < writing.now.off + length writing.now.bytes.now }
-    requires count { data_count writing.now.area.size writing.now.file.now + length news.now ≡ blocks_for writing.now.area.size (writing.now.off + length writing.now.bytes.now) }
-    requires into { length into.old ≡ writing.now.area.size }
-    ensures part { (first : List ℕ) → take (64 + map_bytes writing.now.area.blocks) map.now ≡ with_used first news.now → IsPart false 1 (first_write writing.now.area first news.now None (write_sized writing.now.area writing.now.off writing.now.bytes.now writing.now.number writing.now.file.now news.now)) (T.state tx.old) (T.state tx.new) (T.device tx.old) (T.device tx.new) result }
+    requires news { AreBlocks writing.now.file.area news.now }
+    requires grows { IsGrowth writing.now (length news.now) }
+    requires into { length into.old ≡ writing.now.file.area.size }
+    ensures part { (first : List ℕ) → take (64 + map_bytes writing.now.file.area.blocks) map.now ≡ with_used first news.now → IsPart false 1 (first_write writing.now.file.area first news.now None (sized_by writing.now news.now)) (T.state tx.old) (T.state tx.new) (T.device tx.old) (T.device tx.new) result }
     ensures of_tx { IfErr result IsOfTx }
 {
-    if let Err(e) = store_first(tx, writing.area, map, news, None, into) {
+    if let Err(e) = store_first(tx, writing.file.area, map, news, None, into) {
         return Err(FsError::Store(StoreError::Tx(e)));
     }
     write_sized(tx, writing, news, into)
@@ -115,18 +95,15 @@ fn write_taken<T: TxBlocks>(
     map: &mut [u8],
     into: &mut [u8],
 ) -> Result<bool, FsError>
-    requires area { IsTreeArea writing.now.area }
-    requires holds { HasArea (T.state tx.old) writing.now.area }
-    requires map { length map.old ≡ writing.now.area.size }
+    requires holds { HasArea (T.state tx.old) writing.now.file.area }
+    requires map { length map.old ≡ writing.now.file.area.size }
     requires some { 1 ≤ need }
     requires few { need ≤ 16 }
-    requires end { writing.now.off + length writing.now.bytes.now ≤ most_bytes writing.now.area.size }
-    requires grows { bytes_of writing.now.file.now < writing.now.off + length writing.now.bytes.now }
-    requires count { data_count writing.now.area.size writing.now.file.now + need ≡ blocks_for writing.now.area.size (writing.now.off + length writing.now.bytes.now) }
-    requires into { length into.old ≡ writing.now.area.size }
-    ensures { IsPart false 1 (with_taken writing.now.area need (write_sized writing.now.area writing.now.off writing.now.bytes.now writing.now.number writing.now.file.now) (bytes_in (map_mark writing.now.area.blocks) map.old)) (T.state tx.old) (T.state tx.new) (T.device tx.old) (T.device tx.new) result }
+    requires grows { IsGrowth writing.now need }
+    requires into { length into.old ≡ writing.now.file.area.size }
+    ensures { IsPart false 1 (with_taken writing.now.file.area need (sized_by writing.now) (bytes_in (map_mark writing.now.file.area.blocks) map.old)) (T.state tx.old) (T.state tx.new) (T.device tx.old) (T.device tx.new) result }
 {
-    let region = region_of(writing.area);
+    let region = region_of(writing.file.area);
     let free = free_blocks(map, region, 1);
     if free < need {
         return Err(FsError::Store(StoreError::NoBlocks { need, free }));
@@ -144,18 +121,16 @@ fn write_new<T: TxBlocks>(
     map: &mut [u8],
     into: &mut [u8],
 ) -> Result<bool, FsError>
-    requires area { IsTreeArea writing.now.area }
-    requires holds { HasArea (T.state tx.old) writing.now.area }
-    requires map { length map.old ≡ writing.now.area.size }
+    requires holds { HasArea (T.state tx.old) writing.now.file.area }
+    requires map { length map.old ≡ writing.now.file.area.size }
     requires some { 1 ≤ need }
     requires few { need ≤ 16 }
-    requires end { writing.now.off + length writing.now.bytes.now ≤ most_bytes writing.now.area.size }
-    requires grows { bytes_of writing.now.file.now < writing.now.off + length writing.now.bytes.now }
-    requires count { data_count writing.now.area.size writing.now.file.now + need ≡ blocks_for writing.now.area.size (writing.now.off + length writing.now.bytes.now) }
-    requires into { length into.old ≡ writing.now.area.size }
-    ensures { IsPart false 1 (with_new writing.now.area need (write_sized writing.now.area writing.now.off writing.now.bytes.now writing.now.number writing.now.file.now)) (T.state tx.old) (T.state tx.new) (T.device tx.old) (T.device tx.new) result }
+    requires grows { IsGrowth writing.now need }
+    requires into { length into.old ≡ writing.now.file.area.size }
+    ensures { IsPart false 1 (with_new writing.now.file.area need (sized_by writing.now)) (T.state tx.old) (T.state tx.new) (T.device tx.old) (T.device tx.new) result }
 {
-    if let Err(e) = look(tx, writing.area.start, map_mark(writing.area), map) {
+    let area = writing.file.area;
+    if let Err(e) = look(tx, area.start, map_mark(area), map) {
         return Err(FsError::Store(StoreError::Tx(e)));
     }
     write_taken(tx, writing, need, map, into)
@@ -183,63 +158,63 @@ fn is_fit(size: u32, bytes: u32) -> bool
 // Writes bytes into a file whose file block is read.
 fn write_to<T: TxBlocks>(
     tx: &mut T,
-    writing: &Writing,
+    file: FileBlock,
+    patch: &Patch,
     map: &mut [u8],
     into: &mut [u8],
 ) -> Result<bool, FsError>
-    requires area { IsTreeArea writing.now.area }
-    requires holds { HasArea (T.state tx.old) writing.now.area }
-    requires some { 1 ≤ length writing.now.bytes.now }
-    requires few { length writing.now.bytes.now ≤ 4096 }
-    requires map { length map.old ≡ writing.now.area.size }
-    requires into { length into.old ≡ writing.now.area.size }
-    ensures { IsPart false 1 (write_to writing.now.area writing.now.off writing.now.bytes.now writing.now.number writing.now.file.now) (T.state tx.old) (T.state tx.new) (T.device tx.old) (T.device tx.new) result }
+    requires holds { HasArea (T.state tx.old) file.area }
+    requires map { length map.old ≡ file.area.size }
+    requires into { length into.old ≡ file.area.size }
+    ensures { IsPart false 1 (write_to file.entry.area patch.now.off patch.now.bytes.now file.entry.number file.entry.bytes.now) (T.state tx.old) (T.state tx.new) (T.device tx.old) (T.device tx.new) result }
 {
-    if bytes_of(writing.file) < writing.off {
+    let off = patch.off;
+    if bytes_of(file.bytes) < off {
         return Err(FsError::BadRange);
     }
-    let end = writing.off + writing.bytes.len() as u32;
-    if !is_fit(writing.area.size, end) {
+    let end = off + patch.bytes.len() as u32;
+    if !is_fit(file.area.size, end) {
         return Err(FsError::BadRange);
     }
-    let old = data_count(writing.area, writing.file) as u32;
-    let now = blocks_for(writing.area.size, end);
+    let old = file.count as u32;
+    let now = blocks_for(file.area.size, end);
+    let writing = Writing {
+        file,
+        off,
+        bytes: patch.bytes,
+    };
     if now <= old {
-        return write_sized(tx, writing, &[], into);
+        return write_sized(tx, &writing, &[], into);
     }
-    write_new(tx, writing, now - old, map, into)
+    write_new(tx, &writing, now - old, map, into)
 }
 
 // Writes bytes into the file of a name, with buffers for three blocks.
 fn write_with<T: TxBlocks>(
     alloc: Global,
     tx: &mut T,
-    a: FileAreas,
-    name: &[u8],
-    off: u32,
-    bytes: &[u8],
+    name: &FileName,
+    patch: &Patch,
     file: &mut [u8],
     map: &mut [u8],
     into: &mut [u8],
 ) -> Result<bool, FsError>
-    requires named { IsNamed (T.state tx.old) a name.now }
-    requires some { 1 ≤ length bytes.now }
-    requires few { length bytes.now ≤ 4096 }
-    requires file { length file.old ≡ a.files.size }
-    requires map { length map.old ≡ a.files.size }
-    requires into { length into.old ≡ a.files.size }
-    ensures { IsPart false 1 (write_program a name.now off bytes.now) (T.state tx.old) (T.state tx.new) (T.device tx.old) (T.device tx.new) result }
+    requires holds { HasArea (T.state tx.old) name.now.areas.files }
+    requires file { length file.old ≡ name.now.areas.files.size }
+    requires map { length map.old ≡ name.now.areas.files.size }
+    requires into { length into.old ≡ name.now.areas.files.size }
+    ensures { IsPart false 1 (write_program name.now.areas name.now.bytes.now patch.now.off patch.now.bytes.now) (T.state tx.old) (T.state tx.new) (T.device tx.old) (T.device tx.new) result }
 {
-    match find(alloc, tx, a, name, file) {
+    match find(alloc, tx, name, file) {
         Ok(Some(number)) => {
-            let writing = Writing {
-                area: a.files,
+            let area = name.areas.files;
+            let file = FileBlock {
+                area,
                 number,
-                off,
-                bytes,
-                file,
+                bytes: file,
+                count: data_count(area, file),
             };
-            write_to(tx, &writing, map, into)
+            write_to(tx, file, patch, map, into)
         }
         Ok(None) => Ok(false),
         Err(e) => Err(e),
@@ -289,7 +264,10 @@ pub fn write<T: TxBlocks>(
         Ok(all) => all,
         Err(e) => return Err(FsError::Store(e)),
     };
-    write_with(
-        alloc, tx, a, name, off, bytes, &mut file, &mut map, &mut into,
-    )
+    let name = FileName {
+        areas: a,
+        bytes: name,
+    };
+    let patch = Patch { off, bytes };
+    write_with(alloc, tx, &name, &patch, &mut file, &mut map, &mut into)
 }

@@ -1,5 +1,5 @@
 -- The way up, write by write.
-use Rattle.iso_tree.proofs.{Words.{◌≡◌, ◌∙◌, sym, refl, ap, subst, ℕ, zero, suc, ◌+◌, ◌-◌, ◌*◌, ◌/◌, ◌<◌, ◌≤◌, List, [], ◌∷◌, ◌++◌, length, take, drop, None, Result, Ok, arith, take_at, drop_at, Access, Area, StoreError, TxError, cell_count, keys_end, value_mark, Program, Done, Store, bytes_in, store_access, Tx, Device, with_accesses, HasRun, IsCut, IsCause, at_start, at_store, cut_at_store, run_from, Cell, child_part, count_of, node_bytes, used_cells, key_in_row, row_from, nodes_from, IsUsable, AreUsable, AreInside, AreBlocks, Put, first_key, emptied, half, halves, fit, Answer, Climb, climb, climb_on, need_of, placed, root_cells, store_nodes, room_after, Err, OnOk, IsFollowed, HasWritten, ran_done, length-placed}, Enough.fits_one, Filling.{row_split, length-row}, Fits.length-cells}
+use Rattle.iso_tree.proofs.{Words.{◌≡◌, ◌∙◌, sym, refl, ap, subst, ℕ, zero, suc, ◌+◌, ◌-◌, ◌*◌, ◌<◌, ◌≤◌, List, [], ◌∷◌, ◌++◌, length, take, drop, None, Result, Ok, arith, take_at, drop_at, length-drop, length-take-le, w32, to_be_bytes, Access, Area, StoreError, TxError, cell_count, keys_end, value_mark, value_part, Program, Done, Store, bytes_in, store_access, Tx, Device, with_accesses, HasRun, IsCut, IsCause, at_start, at_store, cut_at_store, run_from, Cell, child_part, count_of, node_bytes, used_cells, key_in_row, row_from, nodes_from, IsUsable, AreUsable, AreInside, Put, first_key, emptied, half, halves, fit, Answer, Climb, climb, climb_on, climbed, need_of, placed, root_cells, store_nodes, room_after, Err, OnOk, IsFollowed, HasWritten, ran_done, length-placed, spelled, Entry, Way}, Enough.fits_one, Filling.{row_split, length-row}, Fits.length-cells, Rereading.path_room}
 
 -- one way on, with the node's writes
 abbrev on_from : (n : ℕ) → (key : List ℕ) → (level block : ℕ) → List (ℕ × List Cell) → Put → Climb
@@ -70,94 +70,100 @@ written_two t u v (Ok done) one two = record { size = two.size ∙ one.size; blo
 written_two t u v (Err e) one two = tt
 
 -- the new root, past the old one
-pub root_run : (a : Area) (n : ℕ) (key : List ℕ) (level : ℕ) (new : Cell) (below i r : ℕ) (path : List (ℕ × ℕ)) (nodes news more bytes : List ℕ) (t u : Tx) (result : Result (Unit {0}) StoreError)
+pub root_run : (a : Area) (n : ℕ) (key : List ℕ) (level : ℕ) (new : Cell) (below r : ℕ) (path : List (ℕ × ℕ)) (nodes news more bytes : List ℕ) (t u : Tx) (result : Result (Unit {0}) StoreError)
     → path ≡ [] → news ≡ r ∷ more → bytes ≡ node_bytes a.size level (root_cells level below new) → HasRun {X = Unit {0}} (Store (a.start + r) [] bytes (Done (Ok tt))) t u result
-    → HasRun {X = Unit {0}} (store_nodes a (climb n key level new below (nodes_from a.size nodes i path) news).writes (Done (Ok tt))) t u result
-root_run a n key level new below i r path nodes news more bytes t u result none some are run = grind arith steps 100000
+    → HasRun {X = Unit {0}} (store_nodes a (climb n key level new below (nodes_from a.size nodes path) news).writes (Done (Ok tt))) t u result
+root_run a n key level new below r path nodes news more bytes t u result none some are run = grind arith steps 100000
 
--- A PATH'S FIRST NODE
-module _ (a : Area) (key : List ℕ) (level : ℕ) (new : Cell) (below block count i : ℕ) (rest path : List (ℕ × ℕ)) (nodes news : List ℕ) (is : path ≡ (block, count) ∷ rest) (usable : AreUsable a.size nodes i path) where
+half_less : (n : ℕ) → 1 ≤ n → half n ≤ n
+half_less n some = omega arith
+
+-- THE NEW BLOCKS THAT ARE NEEDED
+enough_on : (n block count : ℕ) (rest path : List (ℕ × ℕ)) (news : List ℕ) (r : ℕ) (more : List ℕ) → path ≡ (block, count) ∷ rest → count ≡ n → news ≡ r ∷ more → need_of n path ≤ length news → need_of n rest ≤ length more
+enough_on n block count rest path news r more is full are enough = grind arith steps 100000
+
+some_new : (n block count : ℕ) (rest path : List (ℕ × ℕ)) (news : List ℕ) → path ≡ (block, count) ∷ rest → count ≡ n → need_of n path ≤ length news → news ≡ [] → ⊥
+some_new n block count rest path news is full enough none = grind arith steps 100000
+
+-- A WAY'S FIRST NODE
+-- its block and count, the nodes after it, and the bytes of both
+pub record IsFirst (w : Way) (block count : ℕ) (rest : List (ℕ × ℕ)) (node others : List ℕ) : Type 0 where
+  pub is : w.path.now ≡ (block, count) ∷ rest
+  pub node_is : node ≡ take w.area.size w.nodes.now
+  pub others_are : others ≡ drop w.area.size w.nodes.now
+
+module _ (w : Way) (block count : ℕ) (rest : List (ℕ × ℕ)) (node others : List ℕ) (first : IsFirst w block count rest node others) where
   abbrev n : ℕ
-  n = cell_count a.size
+  n = cell_count w.area.size
 
-  abbrev node : List ℕ
-  node = bytes_in (record { off = i * a.size; len = a.size }) nodes
+  abbrev K : List ℕ
+  K = take (keys_end w.area.size) node
 
-  pub first_usable : IsUsable a.size node count
-  first_usable = (subst (AreUsable a.size nodes i) is usable).0
+  usable : IsUsable w.area.size node count × AreUsable w.area.size others rest
+  usable = subst (λ (x : List ℕ × List ℕ). IsUsable w.area.size x.0 count × AreUsable w.area.size x.1 rest) (λ i. (sym first.node_is i, sym first.others_are i)) (subst (AreUsable w.area.size w.nodes.now) first.is w.usable)
 
-  pub rest_usable : AreUsable a.size nodes (i + 1) rest
-  rest_usable = (subst (AreUsable a.size nodes i) is usable).1
+  pub node_usable : IsUsable w.area.size node count
+  node_usable = usable.0
 
-  pub rest_inside : AreInside a path → AreInside a rest
-  rest_inside all = (subst (AreInside a) is all).1
+  pub others_usable : AreUsable w.area.size others rest
+  others_usable = usable.1
 
-  used : length (used_cells a.size node) ≡ count
-  used = length-cells (take (keys_end a.size) node) (λ j. bytes_in (value_mark a.size j) node) 0 (count_of (take (keys_end a.size) node)) ∙ first_usable.count_is
+  pub node_inside : block < w.area.blocks
+  node_inside = (subst (AreInside w.area) first.is w.inside).0
 
-  -- where it is not full
-  pub last_writes : count < n → (climb n key level new below (nodes_from a.size nodes i path) news).writes ≡ (block, level, placed level key new (used_cells a.size node)) ∷ []
-  last_writes room =
-      ap (λ (p : List (ℕ × ℕ)). (climb n key level new below (nodes_from a.size nodes i p) news).writes) is
-      ∙ ap (λ (w : Climb). w.writes) (one_way n key level new below (block, used_cells a.size node) (nodes_from a.size nodes (i + 1) rest) news (omega (arith, used, length-placed level key new (used_cells a.size node))))
+  pub others_inside : AreInside w.area rest
+  others_inside = (subst (AreInside w.area) first.is w.inside).1
 
-  -- where it is full
-  module _ (full : n ≤ count) (r : ℕ) (more : List ℕ) (news_are : news ≡ r ∷ more) (place : ℕ) (row : row_from a.size node place new 0 (count_of (take (keys_end a.size) node) + 1) ≡ placed level key new (used_cells a.size node)) (least : 256 ≤ a.size) where
-    pub count_n : count ≡ n
-    count_n = let few = first_usable.few in omega arith
+  room : (w.area.size ≤ length w.nodes.now) × (length rest * w.area.size ≤ length w.nodes.now - w.area.size)
+  room = path_room w.area.size (length w.nodes.now) block count rest w.path.now first.is w.room
 
-    abbrev pub L : List Cell
-    L = row_from a.size node place new 0 (half n)
+  pub node_long : length node ≡ w.area.size
+  node_long = ap length first.node_is ∙ length-take-le w.area.size w.nodes.now room.0
 
-    abbrev pub R : List Cell
-    R = row_from a.size node place new (half n) (n + 1 - half n)
+  pub others_room : length rest * w.area.size ≤ length others
+  others_room = subst (λ (k : ℕ). length rest * w.area.size ≤ k) (sym (length-drop w.area.size w.nodes.now) ∙ ap length (sym first.others_are)) room.1
 
-    abbrev pub sep : List ℕ
-    sep = key_in_row (take (keys_end a.size) node) place new.0 (half n)
+  used : length (used_cells w.area.size node) ≡ count
+  used = length-cells K (λ j. bytes_in (value_mark w.area.size j) node) 0 (count_of K) ∙ node_usable.count_is
 
-    abbrev pub way_on : List (ℕ × ℕ × List Cell)
-    way_on = (climb n key (suc level) (sep, child_part r) block (nodes_from a.size nodes (i + 1) rest) more).writes
+  count_n : n ≤ count → count ≡ n
+  count_n full = let few = node_usable.few in omega arith
 
-    pub full_writes : (climb n key level new below (nodes_from a.size nodes i path) news).writes ≡ (block, level, L) ∷ (r, level, emptied level R) ∷ way_on
-    full_writes =
-        (λ j. (climb n key level new below (nodes_from a.size nodes i (is j)) (news_are j)).writes)
-        ∙ row_way a.size n key level new below block node place (nodes_from a.size nodes (i + 1) rest) r more
-        (ap (λ (k : ℕ). row_from a.size node place new 0 (k + 1)) (sym (first_usable.count_is ∙ count_n)) ∙ row) (omega arith)
+  -- a full node takes a new block, and the others have enough
+  pub rest_enough : n ≤ count → (r : ℕ) (more : List ℕ) → w.news.now ≡ r ∷ more → need_of n rest ≤ length more
+  rest_enough full r more news_are = enough_on n block count rest w.path.now w.news.now r more first.is (count_n full) news_are w.enough
 
-    pub rest_enough : need_of n path ≤ length news → need_of n rest ≤ length more
-    rest_enough enough = grind (arith, count_n) steps 100000
+  pub full_some : n ≤ count → w.news.now ≡ [] → ⊥
+  full_some full none = some_new n block count rest w.path.now w.news.now first.is (count_n full) w.enough none
 
-    pub more_inside : AreBlocks a news → AreBlocks a more
-    more_inside all = (subst (AreBlocks a) news_are all).1
+  module _ (level : ℕ) (new : Entry) (below : ℕ) where
+    whole : climbed w level new below ≡ climb n w.key.now level (spelled new) below ((block, used_cells w.area.size node) ∷ nodes_from w.area.size others rest) w.news.now
+    whole =
+        ap (λ (p : List (ℕ × ℕ)). climb n w.key.now level (spelled new) below (nodes_from w.area.size w.nodes.now p) w.news.now) first.is
+        ∙ (λ i. climb n w.key.now level (spelled new) below ((block, used_cells w.area.size (sym first.node_is i)) ∷ nodes_from w.area.size (sym first.others_are i) rest) w.news.now)
 
-  -- a full node needs a new block
-  pub full_some : n ≤ count → need_of n path ≤ length news → news ≡ [] → ⊥
-  full_some full enough none = grind arith steps 100000
+    -- its place is where the new cell comes
+    module _ (place : ℕ) (at : row_from w.area.size node place (spelled new) 0 (count_of K + 1) ≡ placed level w.key.now (spelled new) (used_cells w.area.size node)) where
+      placed_is : row_from w.area.size node place (spelled new) 0 (count + 1) ≡ placed level w.key.now (spelled new) (used_cells w.area.size node)
+      placed_is = ap (λ (k : ℕ). row_from w.area.size node place (spelled new) 0 (k + 1)) (sym node_usable.count_is) ∙ at
 
--- the writes of a split, as the code has them
-module _ (a : Area) (key : List ℕ) (level : ℕ) (new : Cell) (below block count i : ℕ) (rest path : List (ℕ × ℕ)) (nodes news : List ℕ) (is : path ≡ (block, count) ∷ rest) (usable : AreUsable a.size nodes i path)
-    (full : cell_count a.size ≤ count) (r : ℕ) (more : List ℕ) (news_are : news ≡ r ∷ more) (place : ℕ) (b : List ℕ) (b_is : b ≡ bytes_in (record { off = i * a.size; len = a.size }) nodes)
-    (row : row_from a.size b place new 0 (count_of (take (keys_end a.size) b) + 1) ≡ placed level key new (used_cells a.size b)) (least : 256 ≤ a.size)
-    (k p : List ℕ) (k_is : k ≡ key_in_row (take (keys_end a.size) b) place new.0 ((count + 1) / 2)) (p_is : p ≡ child_part r) where
-  abbrev pub left_row : List Cell
-  left_row = row_from a.size b place new 0 ((count + 1) / 2)
+      -- where it is not full
+      pub grown_writes : count < n → (climbed w level new below).writes ≡ (block, level, row_from w.area.size node place (spelled new) 0 (count + 1)) ∷ []
+      grown_writes few =
+          ap (λ (c : Climb). c.writes) (whole ∙ one_way n w.key.now level (spelled new) below (block, used_cells w.area.size node) (nodes_from w.area.size others rest) w.news.now (omega (arith, used, length-placed level w.key.now (spelled new) (used_cells w.area.size node))))
+          ∙ ap (λ (cs : List Cell). (block, level, cs) ∷ []) (sym placed_is)
 
-  abbrev pub right_row : List Cell
-  right_row = row_from a.size b place new ((count + 1) / 2) (count + 1 - (count + 1) / 2)
-
-  abbrev pub on_writes : List (ℕ × ℕ × List Cell)
-  on_writes = (climb (cell_count a.size) key (level + 1) (k, p) block (nodes_from a.size nodes (i + 1) rest) more).writes
-
-  count_is_n : count ≡ cell_count a.size
-  count_is_n = count_n a key level new below block count i rest path nodes news is usable full r more news_are place (subst (λ (x : List ℕ). row_from a.size x place new 0 (count_of (take (keys_end a.size) x) + 1) ≡ placed level key new (used_cells a.size x)) b_is row) least
-
-  pub code_writes : (climb (cell_count a.size) key level new below (nodes_from a.size nodes i path) news).writes ≡ (block, level, left_row) ∷ (r, level, emptied level right_row) ∷ on_writes
-  code_writes =
-      let row2 = subst (λ (x : List ℕ). row_from a.size x place new 0 (count_of (take (keys_end a.size) x) + 1) ≡ placed level key new (used_cells a.size x)) b_is row in
-      let next : suc level ≡ level + 1 = omega arith in
-      let k_back : key_in_row (take (keys_end a.size) (bytes_in (record { off = i * a.size; len = a.size }) nodes)) place new.0 (half (cell_count a.size)) ≡ k =
-      (λ j. key_in_row (take (keys_end a.size) (sym b_is j)) place new.0 ((sym count_is_n j + 1) / 2)) ∙ sym k_is in
-      full_writes a key level new below block count i rest path nodes news is usable full r more news_are place row2 least
-      ∙ (λ j. (block, level, row_from a.size (sym b_is j) place new 0 ((sym count_is_n j + 1) / 2))
-      ∷ (r, level, emptied level (row_from a.size (sym b_is j) place new ((sym count_is_n j + 1) / 2) (sym count_is_n j + 1 - (sym count_is_n j + 1) / 2)))
-      ∷ (climb (cell_count a.size) key (next j) (k_back j, sym p_is j) block (nodes_from a.size nodes (i + 1) rest) more).writes)
+      -- where it is full: its two halves, and the way on
+      module _ (full : n ≤ count) (r : ℕ) (more : List ℕ) (news_are : w.news.now ≡ r ∷ more) where
+        pub halves_writes : (k v : List ℕ) → k ≡ key_in_row K place new.key.now (half n) → v ≡ to_be_bytes w32 r
+            → (climbed w level new below).writes
+            ≡ (block, level, row_from w.area.size node place (spelled new) 0 (half n)) ∷ (r, level, emptied level (row_from w.area.size node place (spelled new) (half n) (n + 1 - half n)))
+            ∷ (climb n w.key.now (level + 1) (k, value_part v) block (nodes_from w.area.size others rest) more).writes
+        halves_writes k v k_is v_is =
+            let next : suc level ≡ level + 1 = omega arith in
+            let left = row_from w.area.size node place (spelled new) 0 (half n) in
+            let right = emptied level (row_from w.area.size node place (spelled new) (half n) (n + 1 - half n)) in
+            ap (λ (c : Climb). c.writes) (whole ∙ ap (climb n w.key.now level (spelled new) below ((block, used_cells w.area.size node) ∷ nodes_from w.area.size others rest)) news_are)
+            ∙ row_way w.area.size n w.key.now level (spelled new) below block node place (nodes_from w.area.size others rest) r more
+            (ap (λ (k : ℕ). row_from w.area.size node place (spelled new) 0 (k + 1)) (sym (count_n full)) ∙ placed_is) (half_less n (let l = w.kind.least_size in omega arith))
+            ∙ (λ j. (block, level, left) ∷ (r, level, right) ∷ (climb n w.key.now (next j) (sym k_is j, value_part (sym v_is j)) block (nodes_from w.area.size others rest) more).writes)

@@ -1,38 +1,36 @@
 -- A put that takes new blocks: what the code counts, and its writes in turn.
-use Rattle.iso_tree.proofs.{Words.{◌≡◌, ◌≢◌, ◌∙◌, sym, refl, ap, subst, ℕ, zero, suc, ◌+◌, ◌-◌, ◌*◌, ◌<◌, ◌≤◌, ◌==◌, Bool, true, false, not, cond, List, [], ◌∷◌, length, map, take, get_or, Option, Some, None, Result, Ok, arith, inl, inr, eq-eqb, ne_eqb, AllByRecursion, filter, range_with_len, cases_eq, length-take-le, Area, StoreError, TxError, cell_count, keys_end, value_mark, bit_place, free_count, map_bit, map_bytes, map_mark, IsIn, Program, Done, Store, bytes_in, Tx, Device, with_accesses, room_of, HasRun, IsCut, IsCause, IsAt, at_start, at_store, at_reserve, full_at_reserve, cut_at_store, run_from, first_spans, first_bytes, first_access, Cell, count_of, used_cells, IsBlock, nodes_from, AreBlocks, AreUsable, IsUsable, Answer, Climb, climb, first_write, free_list, full_row, need_of, put_writes, store_nodes, with_used, IsTreeArea, Err, nat_lt, nat_tests, NoBlocks, Array, own, block_at, value_part, look_access, ForSome, Ran, HasRead, at_join, at_look, ran_at, cut_at_look, read_base, ArePathUsable, AreShownUsable, look_again, put_new, with_map, at_as, Up}, Enough.{row_most, counts}, Fits.length-cells, Getting.shown_same, Growing.{climb_shape, count_same, list_same, take_used}, Taking.{AreTaken, taken_are}}
+use Rattle.iso_tree.proofs.{Words.{◌≡◌, ◌≢◌, ◌∙◌, sym, refl, ap, subst, ℕ, zero, suc, ◌+◌, ◌-◌, ◌*◌, ◌<◌, ◌≤◌, ◌==◌, Bool, true, false, not, cond, List, [], ◌∷◌, length, map, take, drop, get_or, Option, Some, None, Result, Ok, arith, inl, inr, eq-eqb, ne_eqb, AllByRecursion, filter, range_with_len, cases_eq, length-take-le, Area, StoreError, TxError, cell_count, keys_end, value_mark, bit_place, free_count, map_bit, map_bytes, map_mark, IsIn, Program, Done, Store, bytes_in, Tx, Device, with_accesses, room_of, HasRun, IsCut, IsCause, IsAt, at_start, at_store, at_reserve, full_at_reserve, cut_at_store, run_from, first_spans, first_bytes, first_access, Cell, count_of, used_cells, nodes_from, AreBlocks, AreUsable, IsUsable, Answer, Climb, climb, climbed, first_write, free_list, full_row, need_of, put_writes, store_nodes, with_used, IsTreeArea, Err, nat_lt, nat_tests, NoBlocks, Array, own, block_at, value_part, look_access, ForSome, Ran, HasRead, at_join, at_look, ran_at, cut_at_look, read_base, ArePathUsable, AreShownUsable, look_again, put_new, with_map, at_as, spelled, Entry, Up, Way}, Enough.{row_most, counts}, Fits.length-cells, Getting.shown_same, Growing.{climb_shape, count_same, list_same, take_used}, Taking.{AreTaken, taken_are}}
 use Rattle.store_model.specs.declared.stores.TxError.TheVariants as error
 
 -- THE NODES THAT WERE READ
 used_long : (size : ℕ) (node : List ℕ) (count : ℕ) → IsUsable size node count → length (used_cells size node) ≡ count
 used_long size node count is = length-cells (take (keys_end size) node) (λ j. bytes_in (value_mark size j) node) 0 (count_of (take (keys_end size) node)) ∙ is.count_is
 
-pub path_counts : (size : ℕ) (nodes : List ℕ) (i : ℕ) (path : List (ℕ × ℕ)) → AreUsable size nodes i path → counts (nodes_from size nodes i path) ≡ path
-path_counts size nodes i [] is = refl
-path_counts size nodes i (p ∷ path) is =
-    (λ j. (p.0, used_long size (bytes_in (record { off = i * size; len = size }) nodes) p.1 is.0 j) ∷ path_counts size nodes (i + 1) path is.1 j)
+pub path_counts : (size : ℕ) (nodes : List ℕ) (path : List (ℕ × ℕ)) → AreUsable size nodes path → counts (nodes_from size nodes path) ≡ path
+path_counts size nodes [] is = refl
+path_counts size nodes (p ∷ path) is = (λ j. (p.0, used_long size (take size nodes) p.1 is.0 j) ∷ path_counts size (drop size nodes) path is.1 j)
 
-path_few : (size : ℕ) (nodes : List ℕ) (i : ℕ) (path : List (ℕ × ℕ)) → AreUsable size nodes i path → AllByRecursion (λ (w : ℕ × List Cell). length w.1 ≤ cell_count size) (nodes_from size nodes i path)
-path_few size nodes i [] is = tt
-path_few size nodes i (p ∷ path) is =
-    (let few = is.0.few in omega (arith, used_long size (bytes_in (record { off = i * size; len = size }) nodes) p.1 is.0), path_few size nodes (i + 1) path is.1)
+path_few : (size : ℕ) (nodes : List ℕ) (path : List (ℕ × ℕ)) → AreUsable size nodes path → AllByRecursion (λ (w : ℕ × List Cell). length w.1 ≤ cell_count size) (nodes_from size nodes path)
+path_few size nodes [] is = tt
+path_few size nodes (p ∷ path) is = (let few = is.0.few in omega (arith, used_long size (take size nodes) p.1 is.0), path_few size (drop size nodes) path is.1)
 
-length-nodes : (size : ℕ) (nodes : List ℕ) (i : ℕ) (path : List (ℕ × ℕ)) → length (nodes_from size nodes i path) ≡ length path
-length-nodes size nodes i [] = refl
-length-nodes size nodes i (p ∷ path) = ap suc (length-nodes size nodes (i + 1) path)
+length-nodes : (size : ℕ) (nodes : List ℕ) (path : List (ℕ × ℕ)) → length (nodes_from size nodes path) ≡ length path
+length-nodes size nodes [] = refl
+length-nodes size nodes (p ∷ path) = ap suc (length-nodes size (drop size nodes) path)
 
 -- THE WAY UP OVER THEM
 pub record IsWay (n : ℕ) (path : List (ℕ × ℕ)) (news : List ℕ) (way : Climb) : Type 0 where
   pub count : length way.writes ≡ 2 * full_row n path + 1
   pub root : way.root ≡ cond (full_row n path == length path) (Some (get_or news (length path) 0, length path)) None
 
-pub way_is : (a : Area) (key : List ℕ) (new : Cell) (nodes : List ℕ) (path : List (ℕ × ℕ)) (news : List ℕ) → 1 ≤ cell_count a.size → AreUsable a.size nodes 0 path → need_of (cell_count a.size) path ≤ length news
-    → IsWay (cell_count a.size) path news (climb (cell_count a.size) key 0 new 0 (nodes_from a.size nodes 0 path) news)
+pub way_is : (a : Area) (key : List ℕ) (new : Cell) (nodes : List ℕ) (path : List (ℕ × ℕ)) (news : List ℕ) → 1 ≤ cell_count a.size → AreUsable a.size nodes path → need_of (cell_count a.size) path ≤ length news
+    → IsWay (cell_count a.size) path news (climb (cell_count a.size) key 0 new 0 (nodes_from a.size nodes path) news)
 way_is a key new nodes path news some usable enough =
     let n = cell_count a.size in
-    let ws = nodes_from a.size nodes 0 path in
-    let same = path_counts a.size nodes 0 path usable in
-    let long = length-nodes a.size nodes 0 path in
-    let shape = climb_shape n key 0 new 0 ws news some (path_few a.size nodes 0 path usable) (subst (λ (p : List (ℕ × ℕ)). need_of n p ≤ length news) (sym same) enough) in
+    let ws = nodes_from a.size nodes path in
+    let same = path_counts a.size nodes path usable in
+    let long = length-nodes a.size nodes path in
+    let shape = climb_shape n key 0 new 0 ws news some (path_few a.size nodes path usable) (subst (λ (p : List (ℕ × ℕ)). need_of n p ≤ length news) (sym same) enough) in
     let none : 0 + length ws ≡ length path = omega (arith, long) in
     grind arith
 
@@ -73,11 +71,16 @@ pub record IsWayOf (path : List (ℕ × ℕ)) (news : List ℕ) (full : ℕ) (wa
   pub count : length way.writes ≡ 2 * full + 1
   pub root : way.root ≡ cond (full == length path) (Some (get_or news (length path) 0, length path)) None
 
-pub way_of : (a : Area) (area : IsTreeArea a) (key : List ℕ) (new : Cell) (nodes : List ℕ) (path : List (ℕ × ℕ)) (news : List ℕ) (full : ℕ) → IsBlock a.size → AreUsable a.size nodes 0 path → need_of (cell_count a.size) path ≤ length news
-    → full ≡ full_row (cell_count a.size) path → IsWayOf path news full (climb (cell_count a.size) key 0 new 0 (nodes_from a.size nodes 0 path) news)
-way_of a area key new nodes path news full is usable enough full_is =
-    let way = way_is a key new nodes path news (omega arith) usable enough in
-    grind arith
+pub way_of : (w : Way) (new : Entry) (full : ℕ) → full ≡ full_row (cell_count w.area.size) w.path.now → IsWayOf w.path.now w.news.now full (climbed w 0 new 0)
+way_of w new full full_is =
+    let way = way_is w.area w.key.now (spelled new) w.nodes.now w.path.now w.news.now (some_cell w.area w.kind) w.usable w.enough in
+    way_as w.path.now w.news.now (climbed w 0 new 0) (cell_count w.area.size) full way full_is
+  where
+    some_cell : (a : Area) → IsTreeArea a → 1 ≤ cell_count a.size
+    some_cell a area = let l = area.least_size in omega arith
+
+    way_as : (path : List (ℕ × ℕ)) (news : List ℕ) (way : Climb) (n full : ℕ) → IsWay n path news way → full ≡ full_row n path → IsWayOf path news full way
+    way_as path news way n full is full_is = record { count = is.count ∙ ap (λ (f : ℕ). 2 * f + 1) (sym full_is); root = is.root ∙ ap (λ (f : ℕ). cond (f == length path) (Some (get_or news (length path) 0, length path)) None) (sym full_is) }
 
 -- WHAT THE CODE COUNTS
 -- the nodes that are written: the full ones in a row, and one more
@@ -136,7 +139,7 @@ few_taken (suc n) [] = omega arith
 few_taken (suc n) (x ∷ xs) = (let rest = few_taken n xs in omega arith)
 
 -- what they need of the buffer
-pub room_taken : (size n many : ℕ) (path : List (ℕ × ℕ)) → length path * size ≤ many → (0 + length (take n path)) * size ≤ many
+pub room_taken : (size n many : ℕ) (path : List (ℕ × ℕ)) → length path * size ≤ many → length (take n path) * size ≤ many
 room_taken size n many path room = grind (arith, few_taken) steps 100000
 
 -- THE BLOCKS THAT ARE TAKEN
@@ -244,14 +247,13 @@ module _ (a : Area) (area : IsTreeArea a) (path : List (ℕ × ℕ)) (F : List �
         pub taken_refused : (u : Tx) (e : StoreError) → ((f : List (ℕ × List Cell) → Program Answer) → HasRun (again_some f) t u (Err e)) → HasRun taking t u (Err e)
         taken_refused u e refused = run_from taking (again_some (go taken)) t t u (Err e) at_some (refused (go taken))
 
-        pub taken_run : (u v : Tx) (result : Result (Unit {0}) StoreError) (nodes news part : List ℕ) → news ≡ taken → part ≡ value_part value
-            → ((f : List (ℕ × List Cell) → Program Answer) → IsAt (again_some f) (f (nodes_from a.size nodes 0 some)) t u)
-            → HasRun (put_writes a first news (climb n key 0 (key, part) 0 (nodes_from a.size nodes 0 some) news)) u v result → HasRun taking t v result
-        taken_run u v result nodes news part news_are part_is read run =
-            let ns = nodes_from a.size nodes 0 some in
+        pub taken_run : (u v : Tx) (result : Result (Unit {0}) StoreError) (nodes news : List ℕ) → news ≡ taken
+            → ((f : List (ℕ × List Cell) → Program Answer) → IsAt (again_some f) (f (nodes_from a.size nodes some)) t u)
+            → HasRun (put_writes a first news (climb n key 0 (key, value_part value) 0 (nodes_from a.size nodes some) news)) u v result → HasRun taking t v result
+        taken_run u v result nodes news news_are read run =
+            let ns = nodes_from a.size nodes some in
             run_from taking (go taken ns) t u v result (at_join taking (again_some (go taken)) (go taken ns) t t u at_some (read (go taken)))
-            (subst (λ (p : List ℕ). HasRun (put_writes a first taken (climb n key 0 (key, p) 0 ns taken)) u v result) part_is
-            (subst (λ (l : List ℕ). HasRun (put_writes a first l (climb n key 0 (key, part) 0 ns l)) u v result) news_are run))
+            (subst (λ (l : List ℕ). HasRun (put_writes a first l (climb n key 0 (key, value_part value) 0 ns l)) u v result) news_are run)
 
 -- THE READ OF THE MAP
 pub shown_still : (a : Area) (t u : Tx) (path : List (ℕ × ℕ)) → HasRead t u → AreShownUsable a t path → AreShownUsable a u path

@@ -1,5 +1,5 @@
 -- The bytes of a node that gets a cell, cell by cell.
-use Rattle.iso_tree.proofs.{Words.{◌≡◌, ◌∙◌, sym, refl, ap, ℕ, zero, suc, ◌+◌, ◌-◌, ◌*◌, ◌/◌, ◌%◌, ◌<◌, ◌≤◌, ◌==◌, true, false, cond, List, [], ◌∷◌, ◌++◌, length, map, take, drop, replicate, arith, inl, inr, eq-eqb, ne_eqb, nat_lt, range_with_len, flat_map, cases_lt, cases_eq, nat_tests, append_assoc, length-take, length-drop, cell_count, keys_end, key_part, value_mark, key_at, are_key_parts, laid_at, bytes_in, before, Cell, FitCells, IsBlock, count_of, cells_by, used_cells, node_bytes, upto_from, key_in_row, part_in_row, row_from, cells_from, put_after, placed}, Building.laid_mid, Bytes.length-key_part, Fits.key_short}
+use Rattle.iso_tree.proofs.{Words.{◌≡◌, ◌∙◌, sym, refl, ap, ℕ, zero, suc, ◌+◌, ◌-◌, ◌*◌, ◌/◌, ◌%◌, ◌<◌, ◌≤◌, ◌==◌, true, false, cond, List, [], ◌∷◌, ◌++◌, length, map, take, drop, replicate, arith, inl, inr, eq-eqb, ne_eqb, nat_lt, range_with_len, flat_map, cases_lt, cases_eq, nat_tests, append_assoc, length-take, length-drop, cell_count, keys_end, key_part, value_mark, key_at, are_key_parts, laid_at, bytes_in, before, Cell, FitCells, IsBlock, count_of, cells_by, used_cells, node_bytes, upto_from, key_in_row, part_in_row, row_from, cells_from, put_after, placed, spelled, row, Growth, block_size_is, length-part}, Building.laid_mid, Bytes.length-key_part, Fits.key_short}
 
 -- STEPS OF THE LOOP OVER KEYS
 upto_step : (key keys : List ℕ) (i n : ℕ) → i < n → upto_from key keys i (n - i) ≡ cond (before key (key_at keys i)) 0 (suc (upto_from key keys (i + 1) (n - (i + 1))))
@@ -56,6 +56,11 @@ module _ (size : ℕ) (node : List ℕ) (place : ℕ) (new : Cell) where
   row_fits parts short sized long whole inside from zero most = tt
   row_fits parts short sized long whole inside from (suc n) most =
       ((key_fits parts short inside from (omega arith), part_fits sized long whole inside from (omega arith)), row_fits parts short sized long whole inside (from + 1) n (omega arith))
+
+-- the cells of a node that gets one fit their places
+pub growth_fits : (g : Growth) (from n : ℕ) → from + n ≤ cell_count g.area.size + 1 → FitCells (row g from n)
+growth_fits g from n most =
+    row_fits g.area.size g.node.now g.place (spelled g.entry.now) g.parts g.entry.now.short (block_size_is g.area.size g.kind.block_size) g.long (length-part 32 g.entry.now.value.now g.entry.now.fits) g.inside from n most
 
 -- the row is the node's cells with the new one in its place
 before_place : (size : ℕ) (node : List ℕ) (place : ℕ) (new : Cell) (i n : ℕ) → i + n ≤ place → row_from size node place new i n ≡ cells_by (take (keys_end size) node) (λ j. bytes_in (value_mark size j) node) i n

@@ -198,8 +198,10 @@ below_as a from to most root level some wanted =
     ∙ sym (ap (λ (b : Bool). cond b (Done (Ok [])) (scan_from a from to level root most)) (ne_eqb root 0 some))
 
 pub below_run : (a : Area) (from to : List ℕ) (most root level : ℕ) (t u : Tx) (result : Scanned) (nodes : List (ℕ × ℕ)) → (root ≡ 0 → ⊥) → 0 < most → nodes ≡ (level, root) ∷ []
-    → HasScanned (scan_nodes a from to nodes most []) t u result → HasScanned (scan_below a from to most root level) t u result
-below_run a from to most root level t u result nodes some wanted is run = grind (arith, below_as) steps 100000
+    → HasScanned (scan_nodes a from to nodes (most - 0) []) t u result → HasScanned (scan_below a from to most root level) t u result
+below_run a from to most root level t u result nodes some wanted is run =
+    let all : most - 0 ≡ most = omega arith in
+    subst (λ (p : Program Scanned). HasScanned p t u result) ((λ i. scan_nodes a from to (is i) (all i) []) ∙ below_as a from to most root level some wanted) run
 
 pub below_memory : (a : Area) (from to : List ℕ) (most root level : ℕ) (t : Tx) (e : StoreError) → e ≡ store.Tx error.Memory → HasScanned (scan_below a from to most root level) t t (Err e)
 below_memory a from to most root level t e is = let p = scan_below a from to most root level in inr (ap (λ x. Err x) is, began_at p p t t t (at_start p t) refl)

@@ -44,20 +44,19 @@ marked_so t u w b keys values many is none some =
       | inr other ↦ marked_access t u w (look_access b (keys ∷ [])) values is (some (omega arith)) ∙ ap access (sym (ne_eqb many 0 other))
     ]
 
--- the head and key parts of a node that is well formed, as a piece of its bytes
-pub record AreKeysOf (a : Area) (level : ℕ) (bytes keys : List ℕ) : Type 0 where
-  pub same : keys ≡ keys_of a bytes
+-- the head and key parts of a node that is well formed
+pub record HasKeys (a : Area) (level : ℕ) (bytes : List ℕ) : Type 0 where
   pub node : is_node a.size level (keys_of a bytes) ≡ true
-  pub parts : are_key_parts a.size keys ≡ true
-  pub few : count_of keys ≤ cell_count a.size
-  pub some : 0 < level → 0 < count_of keys
+  pub parts : are_key_parts a.size (keys_of a bytes) ≡ true
+  pub few : count_of (keys_of a bytes) ≤ cell_count a.size
+  pub some : 0 < level → 0 < count_of (keys_of a bytes)
 
-pub keys_read : (a : Area) (level : ℕ) (bytes keys : List ℕ) (n : ℕ) (passes : Bool) → keys ≡ take (64 + 31 * n) (drop 0 bytes) → n ≡ cell_count a.size → passes ≡ is_node a.size level keys → passes ≡ true → AreKeysOf a level bytes keys
+pub keys_read : (a : Area) (level : ℕ) (bytes keys : List ℕ) (n : ℕ) (passes : Bool) → keys ≡ take (64 + 31 * n) (drop 0 bytes) → n ≡ cell_count a.size → passes ≡ is_node a.size level keys → passes ≡ true → HasKeys a level bytes
 keys_read a level bytes keys n passes is cells test good =
     let same : keys ≡ keys_of a bytes = is ∙ ap (λ (m : ℕ). take (64 + 31 * m) (drop 0 bytes)) cells in
-    let node : is_node a.size level keys ≡ true = sym test ∙ good in
-    let shape = node_parts a.size level keys node in
-    record { same = same; node = ap (is_node a.size level) (sym same) ∙ node; parts = shape.parts; few = shape.few; some = λ high. omega (arith, inner_many a.size level keys node high) }
+    let node : is_node a.size level (keys_of a bytes) ≡ true = ap (is_node a.size level) (sym same) ∙ sym test ∙ good in
+    let shape = node_parts a.size level (keys_of a bytes) node in
+    record { node = node; parts = shape.parts; few = shape.few; some = λ high. omega (arith, inner_many a.size level (keys_of a bytes) node high) }
 
 module _ (a : Area) (from to : List ℕ) (level : ℕ) (bytes : List ℕ) (first many : ℕ) (node : is_node a.size level (keys_of a bytes) ≡ true)
     (first_is : first ≡ first_in level from (keys_of a bytes)) (many_is : many ≡ many_in level from to (keys_of a bytes)) where

@@ -1,5 +1,5 @@
 -- The cells of a node that gets one more.
-use Rattle.std.specs.{Prelude.{◌≡◌, ℕ, zero, suc, ◌+◌, ◌-◌, ◌*◌, ◌<◌, ◌≤◌, ◌==◌, true, cond, List, [], ◌∷◌, nat_lt, length, take, map}, List.{range_with_len, AllByRecursion}, Option.ForSome}
+use Rattle.std.specs.{Prelude.{◌≡◌, ℕ, zero, suc, ◌+◌, ◌-◌, ◌<◌, ◌≤◌, ◌==◌, true, cond, List, [], ◌∷◌, nat_lt, length, take, drop, map}, List.{range_with_len, AllByRecursion}, Option.ForSome}
 use Rattle.store_model.specs.{declared.stores.Area.Area, Cells.{cell_count, keys_end, value_mark, key_at, are_key_parts}, Stores.bytes_in, TreeNodes.{before, Cell, cells_by, count_of, used_cells}}
 use Rattle.iso_model.specs.{Array.Array, Effect.own, Premises.block_at}
 use Rattle.store_model.specs.TreeCalls.{need_of}
@@ -26,18 +26,10 @@ row_from size node place new from n = map (λ i. (key_in_row (take (keys_end siz
 abbrev pub cells_from : (size : ℕ) → (node : List ℕ) → (from n : ℕ) → List Cell
 cells_from size node from n = cells_by (take (keys_end size) node) (λ i. bytes_in (value_mark size i) node) from n
 
--- a node of `size` bytes that gets a cell at a place
-pub record GetsCell (size : ℕ) (node : List ℕ) (place : ℕ) (new : Cell) : Type 0 where
-  pub long : length node ≡ size
-  pub parts : are_key_parts size (take (keys_end size) node) ≡ true
-  pub inside : place ≤ cell_count size
-  pub key : length new.0 ≤ 28
-  pub part : length new.1 ≡ 33
-
--- the nodes of a path whose blocks stand one after the other, from block i on
-abbrev pub nodes_from : (size : ℕ) → (nodes : List ℕ) → (i : ℕ) → List (ℕ × ℕ) → List (ℕ × List Cell)
-nodes_from size nodes i [] = []
-nodes_from size nodes i (p ∷ path) = (p.0, used_cells size (bytes_in (record { off = i * size; len = size }) nodes)) ∷ nodes_from size nodes (i + 1) path
+-- the nodes of a path whose blocks stand one after the other
+abbrev pub nodes_from : (size : ℕ) → (nodes : List ℕ) → List (ℕ × ℕ) → List (ℕ × List Cell)
+nodes_from size nodes [] = []
+nodes_from size nodes (p ∷ path) = (p.0, used_cells size (take size nodes)) ∷ nodes_from size (drop size nodes) path
 
 -- a block whose key parts and count are those of a node with `count` cells
 pub record IsUsable (size : ℕ) (block : List ℕ) (count : ℕ) : Type 0 where
@@ -46,10 +38,10 @@ pub record IsUsable (size : ℕ) (block : List ℕ) (count : ℕ) : Type 0 where
   pub some : 1 ≤ count
   pub few : count ≤ cell_count size
 
--- each block of a path is usable, from block i on
-abbrev pub AreUsable : (size : ℕ) → (nodes : List ℕ) → (i : ℕ) → List (ℕ × ℕ) → Type 0
-AreUsable size nodes i [] = Unit {0}
-AreUsable size nodes i (p ∷ path) = IsUsable size (bytes_in (record { off = i * size; len = size }) nodes) p.1 × AreUsable size nodes (i + 1) path
+-- each block of a path is usable, as they stand one after the other
+abbrev pub AreUsable : (size : ℕ) → (nodes : List ℕ) → List (ℕ × ℕ) → Type 0
+AreUsable size nodes [] = Unit {0}
+AreUsable size nodes (p ∷ path) = IsUsable size (take size nodes) p.1 × AreUsable size (drop size nodes) path
 
 -- blocks of a region
 abbrev pub AreInside : Area → List (ℕ × ℕ) → Type 0

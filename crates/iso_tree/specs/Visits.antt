@@ -3,7 +3,7 @@ use Rattle.std.specs.{Prelude.{◌≡◌, ◌⊎◌, ℕ, zero, suc, ◌+◌, �
 use Rattle.iso_model.specs.declared.access.Span.{Span}
 use Rattle.store_model.specs.{declared.stores.Area.Area, declared.stores.StoreError.StoreError, declared.stores.StoreError.TheVariants.Broken, Cells.{keys_end, keys_mark}, Stores.{Program, Done, Look, bytes_in, further_bytes, then_do}, TreeNodes.is_node, TreeCalls.{and_then, first_in, many_in, parts_of, scan_from, scan_further, Scanned}, TreeRegion.is_part_at}
 use Rattle.tx_blocks.specs.{Runs.{HasRun, WantsMemory}, Tx.Tx}
-use Rattle.iso_tree.specs.declared.visit.Visit.{Visit}
+use Rattle.iso_tree.specs.{declared.key_range.KeyRange.KeyRange, declared.visit.Visit.Visit}
 
 -- the mark over the value parts of `many` cells from one on
 abbrev pub values_mark : (size first many : ℕ) → Span
@@ -41,6 +41,10 @@ scan_nodes a from to [] most found = Done (Ok found)
 scan_nodes a from to (node ∷ nodes) zero found = Done (Ok found)
 scan_nodes a from to (node ∷ nodes) (suc most) found =
     then_do (scan_from a from to node.0 node.1 (suc most)) (λ r. and_then r (λ pairs. scan_nodes a from to nodes (suc most - length pairs) (found ++ pairs)))
+
+-- what is left of a scan, where these nodes are unread still and these pairs were found
+abbrev pub left_of : KeyRange → List (ℕ × ℕ) → List (List ℕ × List ℕ) → Program Scanned
+left_of r nodes found = scan_nodes r.area r.from.now r.to.now nodes (r.max - length found) found
 
 -- how a part of a scan ends: as its program does, or without memory for the pairs and the nodes that it has read
 abbrev pub HasScanned : {X : Type 0} → Program (Result X StoreError) → (t u : Tx) → Result X StoreError → Type 0

@@ -3,7 +3,7 @@ ghost use Rattle.std.specs.{Prelude.{◌≡◌, ◌+◌, ◌*◌, ◌<◌, ◌�
 ghost use Rattle.store_model.specs.{Cells.{are_key_parts, cell_count, key_part, keys_end}, TreeNodes.{is_node, node_bytes, used_cells, Cell, FitCells, IsBlock}, TreeCalls.without_key};
 ghost use Rattle.iso_tree.specs.Rows.{cells_from};
 
-use crate::keys::{count_of, key_of};
+use crate::keys::{Keys, count_of, key_of};
 use iso_alloc::{cell_count, clear, lay, piece, spell};
 
 /// A node of a level without cells.
@@ -91,11 +91,11 @@ pub fn copy_without(key: &[u8], old: &[u8], into: &mut [u8])
 {
     let size = old.len();
     let end = 64 + 31 * cell_count(size);
-    let keys = piece(old, 0, end);
+    let keys = Keys::of(size, old);
     empty_node(into, 0);
     let mut kept = 0;
-    for cell in 0..count_of(keys) {
+    for cell in 0..count_of(keys.bytes) {
         let part = piece(old, end + 33 * cell, 33);
-        kept = add_other(into, kept, key, key_of(size, keys, cell), part);
+        kept = add_other(into, kept, key, key_of(&keys, cell), part);
     }
 }

@@ -1,17 +1,20 @@
 // The way up of a put: the writes of nodes, from the leaf to the first one that is not full, or to a new root.
-ghost use Rattle.std.specs.Prelude.{◌≡◌, ◌+◌, ◌-◌, ◌*◌, ◌<◌, ◌≤◌, OnOk, IfErr, IfSome, IfNone, Ok, length, take, [], ◌∷◌, true};
-ghost use Rattle.store_model.specs.{Cells.{are_key_parts, cell_count, keys_end}, Stores.{Done, Program, Store}, TreeNodes.{count_of, node_bytes, used_cells, Cell, IsBlock}, Trees.emptied, TreeCalls.{Answer, climb, need_of, placed, store_nodes}, TreeRegion.IsTreeArea};
+ghost use Rattle.std.specs.Prelude.{◌≡◌, ◌+◌, ◌<◌, ◌≤◌, OnOk, IfErr, IfSome, IfNone, Ok, length, take, [], ◌∷◌, true};
+ghost use Rattle.store_model.specs.{Cells.{are_key_parts, cell_count, keys_end}, Stores.{Done, Program, Store}, TreeNodes.{count_of, used_cells, Cell}, TreeCalls.{Answer, placed, store_nodes}, TreeRegion.IsTreeArea};
 ghost use Rattle.tx_blocks.specs.{Tx.room_of, Runs.{HasArea, HasRun}};
-ghost use Rattle.iso_tree.specs.{Rows.{nodes_from, row_from, AreBlocks, AreInside, AreUsable, GetsCell}, Walks.{HasWritten, IsFollowed}};
+ghost use Rattle.iso_tree.specs.{Entries.row, Rows.row_from, Walks.{HasWritten, IsFollowed}, Ways.{climbed, halves_of}};
 
-use crate::fill::{child_part, empty_first, fill_root, fill_row, row_key, upto};
-use iso_alloc::{cell_count, piece};
-use store_model::{Area, StoreError, TxError};
+use crate::entry::Entry;
+use crate::fill::{empty_first, fill_root, fill_row, row_key, upto};
+use crate::growth::Growth;
+use crate::keys::Keys;
+use crate::way::Way;
+use iso_alloc::cell_count;
+use store_model::{StoreError, TxError};
 use tx_blocks::{TxBlocks, store};
 
 // Where a new cell comes in a node: after the last one whose key is not above the searched one. An inner node's first cell stays.
 fn place_in(size: usize, level: u8, key: &[u8], node: &[u8]) -> usize
-    requires size { IsBlock size }
     requires least { 256 ≤ size }
     requires node { length node.now ≡ size }
     requires parts { are_key_parts size (take (keys_end size) node.now) ≡ true }
@@ -20,11 +23,11 @@ fn place_in(size: usize, level: u8, key: &[u8], node: &[u8]) -> usize
     ensures row { (new : Cell) → row_from size node.now result new 0 (count_of (take (keys_end size) node.now) + 1) ≡ placed level key.now new (used_cells size node.now) }
     ensures most { result ≤ cell_count size }
 {
-    let keys = piece(node, 0, 64 + 31 * cell_count(size));
+    let keys = Keys::of(size, node);
     if level == 0 {
-        return upto(size, key, keys, 0);
+        return upto(key, &keys, 0);
     }
-    1 + upto(size, key, keys, 1)
+    1 + upto(key, &keys, 1)
 }
 
 /// The first node of a path, and the others.
@@ -69,142 +72,116 @@ fn store_next<T: TxBlocks>(tx: &mut T, block: u32, bytes: &[u8]) -> Result<(), S
 // Writes a full node with its new cell as two: the first cells in its place, the others in a new block.
 fn store_halves<T: TxBlocks>(
     tx: &mut T,
-    area: Area,
     level: u8,
     block: u32,
     new: u32,
-    node: &[u8],
-    place: usize,
-    key: &[u8],
-    part: &[u8],
-    half: usize,
-    others: usize,
+    growth: &Growth,
     into: &mut [u8],
 ) -> Result<(), StoreError>
-    requires within { HasArea IsTreeArea (T.state tx.old) area }
-    requires block_size { IsBlock area.size }
+    requires within { HasArea IsTreeArea (T.state tx.old) growth.now.area }
     requires is_open { (T.state tx.old).is_open ≡ true }
     requires room { 1 < room_of (T.state tx.old) }
-    requires block { block < area.blocks }
-    requires new { new < area.blocks }
-    requires gets { GetsCell area.size node.now place (key.now, part.now) }
-    requires into { length into.old ≡ area.size }
-    requires inside { half + others ≤ cell_count area.size + 1 }
-    requires half { half ≤ cell_count area.size }
-    requires some { 1 ≤ others }
-    requires others { others ≤ cell_count area.size }
-    ensures run { (rest : Program Answer) → IsFollowed (Store (area.start + block) [] (node_bytes area.size level (row_from area.size node.now place (key.now, part.now) 0 half)) (Store (area.start + new) [] (node_bytes area.size level (emptied level (row_from area.size node.now place (key.now, part.now) half others))) rest)) rest (T.state tx.old) (T.state tx.new) result }
+    requires block { block < growth.now.area.blocks }
+    requires new { new < growth.now.area.blocks }
+    requires into { length into.old ≡ growth.now.area.size }
+    ensures run { (rest : Program Answer) → IsFollowed (store_nodes growth.now.area (halves_of level block new growth.now) rest) rest (T.state tx.old) (T.state tx.new) result }
     ensures after { OnOk result (HasWritten 2 (T.state tx.old) (T.state tx.new)) }
     ensures memory { IfErr result (λ e. e ≡ StoreError.Tx TxError.Memory) }
     ensures device { T.device tx.new ≡ T.device tx.old }
 {
-    fill_row(into, level, node, place, key, part, 0, half);
-    if let Err(e) = store_next(tx, area.start + block, into) {
+    let cells = cell_count(growth.area.size as usize);
+    let half = (cells + 1) / 2;
+    fill_row(into, level, growth, 0, half);
+    if let Err(e) = store_next(tx, growth.area.start + block, into) {
         return Err(e);
     }
-    fill_row(into, level, node, place, key, part, half, others);
+    fill_row(into, level, growth, half, cells + 1 - half);
     empty_first(into, level);
-    store_next(tx, area.start + new, into)
+    store_next(tx, growth.area.start + new, into)
 }
 
 // Writes a node with its new cell, the last one of a way up.
 fn store_grown<T: TxBlocks>(
     tx: &mut T,
-    area: Area,
     level: u8,
     block: u32,
-    node: &[u8],
-    place: usize,
-    key: &[u8],
-    part: &[u8],
+    growth: &Growth,
     count: usize,
     into: &mut [u8],
 ) -> Result<(), StoreError>
-    requires within { HasArea IsTreeArea (T.state tx.old) area }
-    requires block_size { IsBlock area.size }
+    requires within { HasArea IsTreeArea (T.state tx.old) growth.now.area }
     requires room { 0 < room_of (T.state tx.old) }
     requires is_open { (T.state tx.old).is_open ≡ true }
-    requires block { block < area.blocks }
-    requires gets { GetsCell area.size node.now place (key.now, part.now) }
-    requires into { length into.old ≡ area.size }
-    requires count { count ≤ cell_count area.size }
-    ensures run { HasRun (Store (area.start + block) [] (node_bytes area.size level (row_from area.size node.now place (key.now, part.now) 0 count)) (Done (Ok tt))) (T.state tx.old) (T.state tx.new) result }
+    requires block { block < growth.now.area.blocks }
+    requires into { length into.old ≡ growth.now.area.size }
+    requires count { count ≤ cell_count growth.now.area.size }
+    ensures run { HasRun (store_nodes growth.now.area ((block, level, row growth.now 0 count) ∷ []) (Done (Ok tt))) (T.state tx.old) (T.state tx.new) result }
     ensures memory { IfErr result (λ e. e ≡ StoreError.Tx TxError.Memory) }
     ensures device { T.device tx.new ≡ T.device tx.old }
 {
-    fill_row(into, level, node, place, key, part, 0, count);
-    store_next(tx, area.start + block, into)
+    fill_row(into, level, growth, 0, count);
+    store_next(tx, growth.area.start + block, into)
 }
 
-/// The writes from a node of a level up, which gets a new cell; the path begins with that node, and the nodes' bytes
-/// are there from block `i` on.
+/// The writes of a way up, from a node of a level on, which gets an entry.
 ///
 /// # Errors
 ///
 /// `Tx`: want of memory. The writes before it stay.
 pub fn climb<T: TxBlocks>(
     tx: &mut T,
-    area: Area,
-    key: &[u8],
     level: u8,
-    new_key: &[u8],
-    part: &[u8],
+    entry: &Entry,
     below: u32,
-    path: &[(u32, u32)],
-    i: usize,
-    nodes: &[u8],
-    news: &[u32],
+    way: &Way,
     into: &mut [u8],
 ) -> Result<(), StoreError>
-    requires within { HasArea IsTreeArea (T.state tx.old) area }
-    requires block_size { IsBlock area.size }
+    requires within { HasArea IsTreeArea (T.state tx.old) way.now.area }
     requires is_open { (T.state tx.old).is_open ≡ true }
-    requires new_key { length new_key.now ≤ 28 }
-    requires part { length part.now ≡ 33 }
-    requires level { level + length path.now ≤ 255 }
-    requires path { AreInside area path.now }
-    requires nodes { (i + length path.now) * area.size ≤ length nodes.now }
-    requires short { length nodes.now ≤ 1048576 }
-    requires usable { AreUsable area.size nodes.now i path.now }
-    requires news { AreBlocks area news.now }
-    requires enough { need_of (cell_count area.size) path.now ≤ length news.now }
-    requires room { length (climb (cell_count area.size) key.now level (new_key.now, part.now) below (nodes_from area.size nodes.now i path.now) news.now).writes ≤ room_of (T.state tx.old) }
-    requires into { length into.old ≡ area.size }
-    ensures run { HasRun (store_nodes area (climb (cell_count area.size) key.now level (new_key.now, part.now) below (nodes_from area.size nodes.now i path.now) news.now).writes (Done (Ok tt))) (T.state tx.old) (T.state tx.new) result }
+    requires level { level + length way.now.path.now ≤ 255 }
+    requires room { length (climbed way.now level entry.now below).writes ≤ room_of (T.state tx.old) }
+    requires into { length into.old ≡ way.now.area.size }
+    ensures run { HasRun (store_nodes way.now.area (climbed way.now level entry.now below).writes (Done (Ok tt))) (T.state tx.old) (T.state tx.new) result }
     ensures memory { IfErr result (λ e. e ≡ StoreError.Tx TxError.Memory) }
     ensures device { T.device tx.new ≡ T.device tx.old }
 {
+    let area = way.area;
     let size = area.size as usize;
-    let Some(((block, count), rest)) = first_node(path) else {
-        let Some((root, _)) = first_new(news) else {
+    let Some(((block, count), path)) = first_node(way.path) else {
+        let Some((root, _)) = first_new(way.news) else {
             return Ok(());
         };
-        fill_root(into, level, below, new_key, part);
+        fill_root(into, level, below, entry);
         return store_next(tx, area.start + root, into);
     };
-    let bytes = piece(nodes, i * size, size);
-    let place = place_in(size, level, key, bytes);
+    let (node, nodes) = way.nodes.split_at(size);
+    let place = place_in(size, level, way.key, node);
+    let growth = Growth {
+        area,
+        node,
+        place,
+        entry: &*entry,
+    };
     if (count as usize) < cell_count(size) {
-        let grown = count as usize + 1;
-        return store_grown(
-            tx, area, level, block, bytes, place, new_key, part, grown, into,
-        );
+        return store_grown(tx, level, block, &growth, count as usize + 1, into);
     }
-    let Some((new, more)) = first_new(news) else {
+    let Some((new, news)) = first_new(way.news) else {
         return Ok(());
     };
-    let half = (count as usize + 1) / 2;
-    let others = count as usize + 1 - half;
-    if let Err(e) = store_halves(
-        tx, area, level, block, new, bytes, place, new_key, part, half, others, into,
-    ) {
+    if let Err(e) = store_halves(tx, level, block, new, &growth, into) {
         return Err(e);
     }
-    let keys = piece(bytes, 0, 64 + 31 * cell_count(size));
-    let separator = row_key(size, keys, place, new_key, half);
-    let new_part = child_part(new);
-    let (above, next) = (level + 1, i + 1);
-    climb(
-        tx, area, key, above, separator, &new_part, block, rest, next, nodes, more, into,
-    )
+    let number = new.to_be_bytes();
+    let separator = Entry {
+        key: row_key(&growth, (cell_count(size) + 1) / 2),
+        value: &number,
+    };
+    let above = Way {
+        area,
+        key: way.key,
+        path,
+        nodes,
+        news,
+    };
+    climb(tx, level + 1, &separator, block, &above, into)
 }

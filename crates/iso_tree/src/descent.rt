@@ -6,6 +6,7 @@ ghost use Rattle.iso_tree.specs.{Rows.AreInside, Walks.{child_program, head_prog
 
 use crate::node::NodeView;
 use crate::path::Path;
+use crate::root::Root;
 use iso_alloc::{cell_count, piece, region_of, word_at};
 use iso_model::Span;
 use store_model::{Area, StoreError};
@@ -172,30 +173,27 @@ fn read_leaf<T: TxBlocks>(
 /// - `Tx`: the transaction refuses a read.
 pub fn descend<T: TxBlocks>(
     tx: &mut T,
-    area: Area,
+    root: Root,
     key: &[u8],
     with_value: bool,
-    root: u32,
-    level: u8,
     path: &mut Path,
     buffer: &mut [u8],
 ) -> Result<Leaf, StoreError>
-    requires within { HasArea IsTreeArea (T.state tx.old) area }
-    requires root { root < area.blocks }
-    requires level { level ≤ 31 }
+    requires within { HasArea IsTreeArea (T.state tx.old) root.area }
     requires path { path.old ≡ [] }
-    requires buffer { length buffer.old ≡ area.size }
-    ensures run { HasDescended area key.now with_value root level (T.state tx.old) (T.state tx.new) path.new buffer.new result }
-    ensures leaf { IfOk result (IsLeaf area key.now buffer.new) }
-    ensures path { OnOk result (AreInside area path.new) }
-    ensures long { OnOk result (length path.new ≡ level) }
-    ensures bytes { IfOk result (λ leaf. AreBytesOf (T.state tx.new) (area.start + leaf.block) buffer.new) }
+    requires buffer { length buffer.old ≡ root.area.size }
+    ensures run { HasDescended root.area key.now with_value root.block root.level (T.state tx.old) (T.state tx.new) path.new buffer.new result }
+    ensures leaf { IfOk result (IsLeaf root.area key.now buffer.new) }
+    ensures path { OnOk result (AreInside root.area path.new) }
+    ensures long { OnOk result (length path.new ≡ root.level) }
+    ensures bytes { IfOk result (λ leaf. AreBytesOf (T.state tx.new) (root.area.start + leaf.block) buffer.new) }
     ensures reads { OnlyReads (T.state tx.old) (T.state tx.new) (T.device tx.old) (T.device tx.new) result }
-    ensures size { length buffer.new ≡ area.size }
+    ensures size { length buffer.new ≡ root.area.size }
 {
-    let mut block = root;
-    for passed in 0..level {
-        let (child, count) = match enter(tx, area, key, level - passed, block, buffer) {
+    let area = root.area;
+    let mut block = root.block;
+    for passed in 0..root.level {
+        let (child, count) = match enter(tx, area, key, root.level - passed, block, buffer) {
             Ok(next) => next,
             Err(e) => return Err(e),
         };

@@ -1,13 +1,15 @@
 // A put that takes new blocks, from the read of the map on.
-ghost use Rattle.std.specs.Prelude.{◌≡◌, ◌+◌, ◌-◌, ◌*◌, ◌<◌, ◌≤◌, ◌==◌, ℕ, List, cond, get_or, length, take, suc, true, Some, None};
-ghost use Rattle.store_model.specs.{Cells.{cell_count, value_part}, FreeMap.{map_bytes, map_mark}, Stores.bytes_in, TreeNodes.IsBlock, TreeCalls.{climb, full_row, need_of, put_new, put_writes, with_map, with_used}, TreeRegion.IsTreeArea};
+ghost use Rattle.std.specs.Prelude.{◌≡◌, ◌+◌, ◌*◌, ◌<◌, ◌≤◌, ◌==◌, ℕ, List, cond, get_or, length, take, suc, true, Some, None};
+ghost use Rattle.store_model.specs.{Cells.cell_count, FreeMap.{map_bytes, map_mark}, Stores.bytes_in, TreeCalls.{full_row, need_of, put_new, put_writes, with_map, with_used}, TreeRegion.IsTreeArea};
 ghost use Rattle.tx_blocks.specs.Runs.{HasArea, Behaves, HasRun};
-ghost use Rattle.iso_tree.specs.{FirstBlock.Up, Rows.{nodes_from, AreBlocks, AreInside, AreUsable, NeedsBlocks}};
+ghost use Rattle.iso_tree.specs.{FirstBlock.Up, Rows.NeedsBlocks, Ways.climbed};
 
 use crate::climb::{climb, first_node};
+use crate::entry::Entry;
 use crate::first::store_first;
 use crate::grow::{look_nodes, take_blocks};
-use iso_alloc::{buffer, cell_count, free_blocks, map_span, region_of, value_part};
+use crate::way::Way;
+use iso_alloc::{buffer, cell_count, free_blocks, map_span, region_of};
 use iso_model::Span;
 use std::alloc::Global;
 use store_model::{Area, StoreError, TxError};
@@ -67,69 +69,49 @@ fn written(path: &[(u32, u32)], full: usize) -> &[(u32, u32)]
 // nodes, so there are at most 66 writes: the first block, two for each full node, and one more.
 fn put_writes<T: TxBlocks>(
     tx: &mut T,
-    area: Area,
-    key: &[u8],
-    part: &[u8],
-    path: &[(u32, u32)],
-    full: usize,
-    nodes: &[u8],
+    entry: &Entry,
+    way: &Way,
     map: &[u8],
-    news: &[u32],
     into: &mut [u8],
 ) -> Result<(), StoreError>
-    requires within { HasArea IsTreeArea (T.state tx.old) area }
-    requires block_size { IsBlock area.size }
+    requires within { HasArea IsTreeArea (T.state tx.old) way.now.area }
     requires is_open { (T.state tx.old).is_open ≡ true }
-    requires key { length key.now ≤ 28 }
-    requires part { length part.now ≡ 33 }
-    requires path { AreInside area path.now }
-    requires long { length path.now ≤ 32 }
-    requires full { full ≡ full_row (cell_count area.size) path.now }
-    requires most { full ≤ length path.now }
-    requires nodes { (0 + length path.now) * area.size ≤ length nodes.now }
-    requires short { length nodes.now ≤ 1048576 }
-    requires usable { AreUsable area.size nodes.now 0 path.now }
-    requires map { length map.now ≡ area.size }
-    requires rising { Up 1 news.now }
-    requires news { AreBlocks area news.now }
-    requires some { 0 < length news.now }
-    requires enough { need_of (cell_count area.size) path.now ≤ length news.now }
-    requires into { length into.old ≡ area.size }
-    ensures run { (first : List ℕ) → take (64 + map_bytes area.blocks) map.now ≡ with_used first news.now → HasRun (put_writes area first news.now (climb (cell_count area.size) key.now 0 (key.now, part.now) 0 (nodes_from area.size nodes.now 0 path.now) news.now)) (T.state tx.old) (T.state tx.new) result }
+    requires long { length way.now.path.now ≤ 32 }
+    requires map { length map.now ≡ way.now.area.size }
+    requires rising { Up 1 way.now.news.now }
+    requires some { 0 < length way.now.news.now }
+    requires into { length into.old ≡ way.now.area.size }
+    ensures run { (first : List ℕ) → take (64 + map_bytes way.now.area.blocks) map.now ≡ with_used first way.now.news.now → HasRun (put_writes way.now.area first way.now.news.now (climbed way.now 0 entry.now 0)) (T.state tx.old) (T.state tx.new) result }
     ensures behaves { Behaves (T.state tx.old) (T.state tx.new) 66 (T.device tx.old) (T.device tx.new) result }
 {
+    let full = full_row(way.area.size as usize, way.path);
     if let Err(e) = reserve(tx, 2 + 2 * full as u32) {
         return Err(StoreError::Tx(e));
     }
-    let root = new_root(news, path.len(), full);
-    if let Err(e) = store_first(tx, area, map, news, root, into) {
+    let root = new_root(way.news, way.path.len(), full);
+    if let Err(e) = store_first(tx, way.area, map, way.news, root, into) {
         return Err(StoreError::Tx(e));
     }
-    climb(tx, area, key, 0, key, part, 0, path, 0, nodes, news, into)
+    climb(tx, 0, entry, 0, way, into)
 }
 
 // The put, once the first block with the map is read.
 fn put_taken<T: TxBlocks>(
     tx: &mut T,
     area: Area,
-    key: &[u8],
-    value: &[u8],
+    entry: &Entry,
     path: &[(u32, u32)],
     map: &mut [u8],
     nodes: &mut [u8],
     into: &mut [u8],
 ) -> Result<(), StoreError>
     requires within { HasArea IsTreeArea (T.state tx.old) area }
-    requires block_size { IsBlock area.size }
     requires is_open { (T.state tx.old).is_open ≡ true }
-    requires key { length key.now ≤ 28 }
-    requires value { length value.now ≤ 32 }
     requires path { NeedsBlocks area (T.state tx.old) path.now }
     requires map { length map.old ≡ area.size }
     requires nodes { length path.now * area.size ≤ length nodes.old }
-    requires short { length nodes.old ≤ 1048576 }
     requires into { length into.old ≡ area.size }
-    ensures run { HasRun (put_new area key.now value.now path.now (bytes_in (map_mark area.blocks) map.old) (need_of (cell_count area.size) path.now)) (T.state tx.old) (T.state tx.new) result }
+    ensures run { HasRun (put_new area entry.now.key.now entry.now.value.now path.now (bytes_in (map_mark area.blocks) map.old) (need_of (cell_count area.size) path.now)) (T.state tx.old) (T.state tx.new) result }
     ensures behaves { Behaves (T.state tx.old) (T.state tx.new) 66 (T.device tx.old) (T.device tx.new) result }
 {
     let full = full_row(area.size as usize, path);
@@ -145,22 +127,17 @@ fn put_taken<T: TxBlocks>(
     let mut news = [0; 33];
     take_blocks(map, region, need, &mut news);
     let rows = written(path, full);
-    if let Err(e) = look_nodes(tx, area, rows, 0, nodes, into) {
+    if let Err(e) = look_nodes(tx, area, rows, nodes) {
         return Err(e);
     }
-    let part = value_part(value);
-    put_writes(
-        tx,
+    let way = Way {
         area,
-        key,
-        &part,
-        rows,
-        full,
+        key: entry.key,
+        path: rows,
         nodes,
-        map,
-        &news[..need],
-        into,
-    )
+        news: &news[..need],
+    };
+    put_writes(tx, entry, &way, map, into)
 }
 
 /// The mark over head and map.
@@ -183,18 +160,14 @@ pub fn put_new<T: TxBlocks>(
     alloc: Global,
     tx: &mut T,
     area: Area,
-    key: &[u8],
-    value: &[u8],
+    entry: &Entry,
     path: &[(u32, u32)],
     map: &mut [u8],
 ) -> Result<(), StoreError>
     requires within { HasArea IsTreeArea (T.state tx.old) area }
-    requires block_size { IsBlock area.size }
-    requires key { length key.now ≤ 28 }
-    requires value { length value.now ≤ 32 }
     requires path { NeedsBlocks area (T.state tx.old) path.now }
     requires map { length map.old ≡ area.size }
-    ensures run { HasRun (with_map area key.now value.now path.now) (T.state tx.old) (T.state tx.new) result }
+    ensures run { HasRun (with_map area entry.now.key.now entry.now.value.now path.now) (T.state tx.old) (T.state tx.new) result }
     ensures behaves { Behaves (T.state tx.old) (T.state tx.new) 66 (T.device tx.old) (T.device tx.new) result }
 {
     let Ok(mut nodes) = buffer(alloc, path.len() * area.size as usize) else {
@@ -206,5 +179,5 @@ pub fn put_new<T: TxBlocks>(
     if let Err(e) = look(tx, area.start, map_mark(area), map) {
         return Err(StoreError::Tx(e));
     }
-    put_taken(tx, area, key, value, path, map, &mut nodes, &mut into)
+    put_taken(tx, area, entry, path, map, &mut nodes, &mut into)
 }

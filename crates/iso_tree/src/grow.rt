@@ -6,7 +6,7 @@ ghost use Rattle.iso_tree.specs.{Rows.{nodes_from, AreInside, AreShownUsable, Ar
 
 use crate::climb::first_node;
 use crate::keys::count_of;
-use iso_alloc::{are_key_parts, cell_count, lay, piece, take_lowest};
+use iso_alloc::{are_key_parts, cell_count, piece, take_lowest};
 use store_model::{Area, Region, StoreError, TxError};
 use tx_blocks::{TxBlocks, look_whole};
 
@@ -44,8 +44,8 @@ fn is_usable(size: usize, block: &[u8], count: u32) -> bool
     count_of(keys) == count as usize && 1 <= count && count as usize <= cell_count(size)
 }
 
-/// Reads the nodes of a path again, unmarked; their bytes come from block `i` on. The descent has tested them, and
-/// no test is asked here: a disk whose bytes are known shows the same ones.
+/// Reads the nodes of a path again, unmarked, one after the other. The descent has tested them, and no test is asked
+/// here: a disk whose bytes are known shows the same ones.
 ///
 /// # Errors
 ///
@@ -55,35 +55,29 @@ pub fn look_nodes<T: TxBlocks>(
     tx: &mut T,
     area: Area,
     path: &[(u32, u32)],
-    i: usize,
     nodes: &mut [u8],
-    into: &mut [u8],
 ) -> Result<(), StoreError>
     requires within { HasArea IsTreeArea (T.state tx.old) area }
-    requires block_size { IsBlock area.size }
     requires is_open { (T.state tx.old).is_open ≡ true }
     requires path { AreInside area path.now }
     requires usable { AreShownUsable area (T.state tx.old) path.now }
-    requires nodes { (i + length path.now) * area.size ≤ length nodes.old }
-    requires short { length nodes.old ≤ 1048576 }
-    requires into { length into.old ≡ area.size }
-    ensures read { OnOk result ((f : List (ℕ × List Cell) → Program Answer) → IsAt (look_again area (map (λ p. p.0) path.now) f) (f (nodes_from area.size nodes.new i path.now)) (T.state tx.old) (T.state tx.new)) }
+    requires nodes { length path.now * area.size ≤ length nodes.old }
+    ensures read { OnOk result ((f : List (ℕ × List Cell) → Program Answer) → IsAt (look_again area (map (λ p. p.0) path.now) f) (f (nodes_from area.size nodes.new path.now)) (T.state tx.old) (T.state tx.new)) }
     ensures refused { IfErr result (λ e. (f : List (ℕ × List Cell) → Program Answer) → HasRun (look_again area (map (λ p. p.0) path.now) f) (T.state tx.old) (T.state tx.new) (Err e)) }
     ensures unbroken { IfErr result (λ e. (refusal : TxError) × (e ≡ StoreError.Tx refusal)) }
-    ensures usable { OnOk result (AreUsable area.size nodes.new i path.now) }
-    ensures kept { take (i * area.size) nodes.new ≡ take (i * area.size) nodes.old }
+    ensures usable { OnOk result (AreUsable area.size nodes.new path.now) }
     ensures reads { OnlyReads (T.state tx.old) (T.state tx.new) (T.device tx.old) (T.device tx.new) result }
 {
     let size = area.size as usize;
     let Some(((block, count), rest)) = first_node(path) else {
         return Ok(());
     };
-    if let Err(e) = look_whole(tx, area.start + block, into) {
+    let (node, others) = nodes.split_at_mut(size);
+    if let Err(e) = look_whole(tx, area.start + block, node) {
         return Err(StoreError::Tx(e));
     }
-    if !is_usable(size, into, count) {
+    if !is_usable(size, node, count) {
         return Err(StoreError::Tx(TxError::Memory));
     }
-    lay(nodes, i * size, into);
-    look_nodes(tx, area, rest, i + 1, nodes, into)
+    look_nodes(tx, area, rest, others)
 }

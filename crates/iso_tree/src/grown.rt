@@ -1,9 +1,10 @@
 // The bytes of a node with a cell more, in a buffer of their own: each byte of it is written once.
-ghost use Rattle.std.specs.Prelude.{◌≡◌, ◌+◌, ◌-◌, ◌*◌, ◌/◌, ◌%◌, ◌<◌, ◌≤◌, ◌∷◌, ◌++◌, IfOk, OnOk, drop, length, replicate, take, true};
-ghost use Rattle.store_model.specs.{Cells.{are_key_parts, cell_count, keys_end}, TreeNodes.{node_bytes, IsBlock}};
-ghost use Rattle.iso_tree.specs.Rows.{row_from};
+ghost use Rattle.std.specs.Prelude.{◌≡◌, ◌+◌, ◌-◌, ◌*◌, ◌/◌, ◌%◌, ◌<◌, ◌≤◌, ◌∷◌, ◌++◌, IfOk, OnOk, drop, length, replicate, take};
+ghost use Rattle.store_model.specs.{Cells.cell_count, TreeNodes.node_bytes};
+ghost use Rattle.iso_tree.specs.Entries.{row};
 
-use iso_alloc::{cell_count, piece, spell};
+use crate::growth::Growth;
+use iso_alloc::{cell_count, piece, spell, value_part};
 use iso_model::Memory;
 use std::alloc::Global;
 
@@ -63,30 +64,25 @@ fn push_parts(
 pub fn grown_node(
     alloc: Global,
     level: u8,
-    node: &[u8],
-    place: usize,
+    growth: &Growth,
     count: usize,
-    key: &[u8],
-    part: &[u8],
 ) -> Result<Vec<u8>, Memory>
-    requires size { IsBlock (length node.now) }
-    requires least { 256 ≤ length node.now }
-    requires parts { are_key_parts (length node.now) (take (keys_end (length node.now)) node.now) ≡ true }
-    requires place { place ≤ count }
-    requires room { count < cell_count (length node.now) }
-    requires key { length key.now ≤ 28 }
-    requires part { length part.now ≡ 33 }
-    ensures bytes { IfOk result (λ v. v.items ≡ node_bytes (length node.now) level (row_from (length node.now) node.now place (key.now, part.now) 0 (count + 1))) }
-    ensures long { IfOk result (λ v. length v.items ≡ length node.now) }
+    requires place { growth.now.place ≤ count }
+    requires room { count < cell_count growth.now.area.size }
+    ensures bytes { IfOk result (λ v. v.items ≡ node_bytes growth.now.area.size level (row growth.now 0 (count + 1))) }
+    ensures long { IfOk result (λ v. length v.items ≡ growth.now.area.size) }
 {
-    let cells = cell_count(node.len());
+    let size = growth.area.size as usize;
+    let place = growth.place;
+    let cells = cell_count(size);
     let mut key_part = [0u8; 31];
-    spell(&mut key_part, key);
-    let keys = piece(node, 64, 31 * cells);
-    let values = piece(node, 64 + 31 * cells, 33 * cells);
-    let mut out = Vec::with_capacity(alloc, node.len())?;
+    spell(&mut key_part, growth.entry.key);
+    let part = value_part(growth.entry.value);
+    let keys = piece(growth.node, 64, 31 * cells);
+    let values = piece(growth.node, 64 + 31 * cells, 33 * cells);
+    let mut out = Vec::with_capacity(alloc, size)?;
     push_head(&mut out, level, count + 1)?;
     push_parts(&mut out, keys, 31 * place, 31 * count, &key_part)?;
-    push_parts(&mut out, values, 33 * place, 33 * count, part)?;
+    push_parts(&mut out, values, 33 * place, 33 * count, &part)?;
     Ok(out)
 }

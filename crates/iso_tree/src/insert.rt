@@ -1,13 +1,14 @@
 // The put of a key.
-ghost use Rattle.std.specs.Prelude.{◌≡◌, ◌↔◌, ◌+◌, ◌<◌, ◌≤◌, Err, IsFalse, IsTrue, true, IfOk, IfErr, OnOk, length};
+ghost use Rattle.std.specs.Prelude.{◌≡◌, ◌↔◌, ◌+◌, ◌≤◌, Err, IsFalse, IsTrue, true, IfOk, IfErr, OnOk, length};
 ghost use Rattle.store_model.specs.{HashCalls.{is_key, is_value}, HashRegion.put_op, TreeCalls.{put_below_root, put_program}, TreeRegion.{tree_map, IsTreeArea, IsTreeRegion}};
 ghost use Rattle.tx_blocks.specs.{Tx.IsLater, Runs.{HasArea, area_of, Behaves, HasEnded, HasRun, IsLocalCall, IsStoreCause, IsUnwritten}};
-ghost use Rattle.iso_tree.specs.Walks.{IsHead};
 
 use crate::descent::{descend, read_head};
 use crate::enlarge::put_new;
+use crate::entry::Entry;
 use crate::leaf::{put_cell, put_value};
 use crate::path::Path;
+use crate::root::Root;
 use iso_alloc::{buffer, cell_count, is_key, is_value};
 use std::alloc::Global;
 use store_model::{Area, Region, StoreError};
@@ -17,37 +18,32 @@ use tx_blocks::{TxBlocks, area_of};
 fn put_below<T: TxBlocks>(
     alloc: Global,
     tx: &mut T,
-    area: Area,
-    key: &[u8],
-    value: &[u8],
-    root: u32,
-    level: u8,
+    root: Root,
+    entry: &Entry,
     block: &mut [u8],
 ) -> Result<(), StoreError>
-    requires within { HasArea IsTreeArea (T.state tx.old) area }
-    requires key { length key.now ≤ 28 }
-    requires value { length value.now ≤ 32 }
-    requires head { IsHead area (root, level) }
-    requires block { length block.old ≡ area.size }
-    ensures run { HasRun (put_below_root area key.now value.now root level) (T.state tx.old) (T.state tx.new) result }
+    requires within { HasArea IsTreeArea (T.state tx.old) root.area }
+    requires block { length block.old ≡ root.area.size }
+    ensures run { HasRun (put_below_root root.area entry.now.key.now entry.now.value.now root.block root.level) (T.state tx.old) (T.state tx.new) result }
     ensures behaves { Behaves (T.state tx.old) (T.state tx.new) 66 (T.device tx.old) (T.device tx.new) result }
 {
-    if root == 0 {
-        return put_new(alloc, tx, area, key, value, &[], block);
+    let area = root.area;
+    if root.block == 0 {
+        return put_new(alloc, tx, area, entry, &[], block);
     }
     let mut path = Path::empty();
-    let leaf = match descend(tx, area, key, false, root, level, &mut path, block) {
+    let leaf = match descend(tx, root, entry.key, false, &mut path, block) {
         Ok(leaf) => leaf,
         Err(e) => return Err(e),
     };
     if let Some(cell) = leaf.cell {
-        return put_value(tx, area, leaf.block, cell, value, block);
+        return put_value(tx, area, leaf.block, cell, entry.value, block);
     }
     if (leaf.count as usize) < cell_count(area.size as usize) {
-        return put_cell(alloc, tx, area, key, value, leaf, block);
+        return put_cell(alloc, tx, area, entry, leaf, block);
     }
     path.push(leaf.block, leaf.count);
-    put_new(alloc, tx, area, key, value, path.nodes(), block)
+    put_new(alloc, tx, area, entry, path.nodes(), block)
 }
 
 // Puts a value at a key, with a buffer for a block.
@@ -67,7 +63,14 @@ fn put_with<T: TxBlocks>(
     ensures behaves { Behaves (T.state tx.old) (T.state tx.new) 66 (T.device tx.old) (T.device tx.new) result }
 {
     match read_head(tx, area, block) {
-        Ok((root, level)) => put_below(alloc, tx, area, key, value, root, level, block),
+        Ok((number, level)) => {
+            let root = Root {
+                area,
+                block: number,
+                level,
+            };
+            put_below(alloc, tx, root, &Entry { key, value }, block)
+        }
         Err(e) => Err(e),
     }
 }

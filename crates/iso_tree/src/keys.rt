@@ -1,8 +1,36 @@
 // Head and key parts of a node: tests, and the places of keys.
-ghost use Rattle.std.specs.{Prelude.{◌≡◌, ◌≢◌, ◌-◌, ◌<◌, ◌≤◌, ◌==◌, ◌||◌, ◌&&◌, true, length, IfSome}, Str.bytes_eq};
+ghost use Rattle.std.specs.{Prelude.{◌≡◌, ◌≢◌, ◌-◌, ◌<◌, ◌≤◌, ◌==◌, ◌||◌, ◌&&◌, true, length, take, IfSome}, Str.bytes_eq};
 ghost use Rattle.store_model.specs.{Cells.{cell_count, keys_end, are_key_parts, key_at, word_at}, TreeNodes.{are_cells, before, has_head, has_level, below_from, cell_of, count_of, is_node, place_of}};
 
 use iso_alloc::{are_zero, cell_count, is_key_part, key_part, piece, text_of, word_at};
+
+/// Head and key parts of a node's block, which are well formed.
+#[derive(Clone, Copy)]
+pub struct Keys<'a> {
+    pub size: usize,
+    pub bytes: &'a [u8],
+    ghost least: { 256 ≤ size },
+    ghost long: { length bytes.now ≡ keys_end size },
+    ghost parts: { are_key_parts size bytes.now ≡ true },
+    ghost few: { count_of bytes.now ≤ cell_count size },
+}
+
+impl<'a> Keys<'a> {
+    /// Head and key parts of a block.
+    pub fn of(size: usize, block: &'a [u8]) -> Keys<'a>
+        requires least { 256 ≤ size }
+        requires long { length block.now ≡ size }
+        requires parts { are_key_parts size (take (keys_end size) block.now) ≡ true }
+        requires few { count_of (take (keys_end size) block.now) ≤ cell_count size }
+        ensures size { result.size ≡ size }
+        ensures bytes { result.bytes.now ≡ take (keys_end size) block.now }
+    {
+        Keys {
+            size,
+            bytes: piece(block, 0, 64 + 31 * cell_count(size)),
+        }
+    }
+}
 
 // Whether a key is before another, by the number of the first four bytes of each.
 fn word_before(x: &[u8], y: &[u8]) -> bool
@@ -44,25 +72,19 @@ pub fn count_of(keys: &[u8]) -> usize
 }
 
 /// The key of a cell.
-pub fn key_of(size: usize, keys: &[u8], cell: usize) -> &[u8]
-    requires size { 64 ≤ size }
-    requires keys { length keys.now ≡ keys_end size }
-    requires parts { are_key_parts size keys.now ≡ true }
-    requires cell { cell < cell_count size }
-    ensures { result.now ≡ key_at keys.now cell }
+pub fn key_of<'a>(keys: &Keys<'a>, cell: usize) -> &'a [u8]
+    requires { cell < cell_count keys.now.size }
+    ensures { result.now ≡ key_at keys.now.bytes.now cell }
 {
-    text_of(key_part(keys, cell))
+    text_of(key_part(keys.bytes, cell))
 }
 
 // Whether a node that is well formed else may have this level.
-fn has_level(size: usize, level: u8, keys: &[u8], count: usize) -> bool
-    requires size { 256 ≤ size }
-    requires keys { length keys.now ≡ keys_end size }
-    requires parts { are_key_parts size keys.now ≡ true }
-    ensures { result ≡ has_level size level keys.now count }
+fn has_level(level: u8, keys: &Keys, count: usize) -> bool
+    ensures { result ≡ has_level keys.now.size level keys.now.bytes.now count }
 {
-    (level == 0 || (2 <= count && key_of(size, keys, 0).is_empty()))
-        && (level != 31 || count < cell_count(size))
+    (level == 0 || (2 <= count && key_of(keys, 0).is_empty()))
+        && (level != 31 || count < cell_count(keys.size))
 }
 
 // Whether the head is that of a node of this level.
@@ -118,20 +140,26 @@ pub fn is_node(size: usize, level: u8, keys: &[u8]) -> bool
         return false;
     }
     let count = count_of(keys);
-    are_cells(size, keys, count) && has_level(size, level, keys, count)
+    if !are_cells(size, keys, count) {
+        return false;
+    }
+    has_level(
+        level,
+        &Keys {
+            size,
+            bytes: &*keys,
+        },
+        count,
+    )
 }
 
 /// The used cell that has the key.
-pub fn cell_of(size: usize, key: &[u8], keys: &[u8]) -> Option<usize>
-    requires size { 64 ≤ size }
-    requires keys { length keys.now ≡ keys_end size }
-    requires parts { are_key_parts size keys.now ≡ true }
-    requires few { count_of keys.now ≤ cell_count size }
-    ensures value { result ≡ cell_of key.now keys.now }
-    ensures below { IfSome result (λ cell. cell < count_of keys.now) }
+pub fn cell_of(key: &[u8], keys: &Keys) -> Option<usize>
+    ensures value { result ≡ cell_of key.now keys.now.bytes.now }
+    ensures below { IfSome result (λ cell. cell < count_of keys.now.bytes.now) }
 {
-    for cell in 0..count_of(keys) {
-        if are_same(key_of(size, keys, cell), key) {
+    for cell in 0..count_of(keys.bytes) {
+        if are_same(key_of(keys, cell), key) {
             return Some(cell);
         }
     }
@@ -139,18 +167,14 @@ pub fn cell_of(size: usize, key: &[u8], keys: &[u8]) -> Option<usize>
 }
 
 /// How many cells have a key before this one.
-pub fn below(size: usize, key: &[u8], keys: &[u8], first: usize) -> usize
-    requires size { 64 ≤ size }
-    requires keys { length keys.now ≡ keys_end size }
-    requires parts { are_key_parts size keys.now ≡ true }
-    requires few { count_of keys.now ≤ cell_count size }
-    requires first { first ≤ count_of keys.now }
-    ensures value { result ≡ below_from key.now keys.now first (count_of keys.now - first) }
-    ensures most { result ≤ count_of keys.now - first }
+pub fn below(key: &[u8], keys: &Keys, first: usize) -> usize
+    requires { first ≤ count_of keys.now.bytes.now }
+    ensures value { result ≡ below_from key.now keys.now.bytes.now first (count_of keys.now.bytes.now - first) }
+    ensures most { result ≤ count_of keys.now.bytes.now - first }
 {
-    let count = count_of(keys);
+    let count = count_of(keys.bytes);
     for cell in first..count {
-        if !is_before(key_of(size, keys, cell), key) {
+        if !is_before(key_of(keys, cell), key) {
             return cell - first;
         }
     }
@@ -158,18 +182,14 @@ pub fn below(size: usize, key: &[u8], keys: &[u8], first: usize) -> usize
 }
 
 /// The last cell whose key is at most this one, the first cell where there is none.
-pub fn place_of(size: usize, key: &[u8], keys: &[u8]) -> usize
-    requires size { 64 ≤ size }
-    requires keys { length keys.now ≡ keys_end size }
-    requires parts { are_key_parts size keys.now ≡ true }
-    requires few { count_of keys.now ≤ cell_count size }
-    requires some { 0 < count_of keys.now }
-    ensures value { result ≡ place_of key.now keys.now }
-    ensures below { result < count_of keys.now }
+pub fn place_of(key: &[u8], keys: &Keys) -> usize
+    requires { 0 < count_of keys.now.bytes.now }
+    ensures value { result ≡ place_of key.now keys.now.bytes.now }
+    ensures below { result < count_of keys.now.bytes.now }
 {
-    let count = count_of(keys);
+    let count = count_of(keys.bytes);
     for cell in 1..count {
-        if is_before(key, key_of(size, keys, cell)) {
+        if is_before(key, key_of(keys, cell)) {
             return cell - 1;
         }
     }

@@ -1,19 +1,22 @@
-// A put into a leaf that has the key, or room for it.
-ghost use Rattle.std.specs.Prelude.{◌≡◌, ◌+◌, ◌*◌, ◌<◌, ◌≤◌, ℕ, List, length, take, true, Ok, IfErr, IfOk, [], ◌∷◌};
-ghost use Rattle.store_model.specs.{Cells.{block_with, cell_count, keys_end, value_mark, value_part}, Stores.{Done, Store}, TreeNodes.{count_of, is_node, node_bytes, used_cells, Cell, IsBlock}, Trees.put_after, TreeCalls.edit_leaf, TreeRegion.IsTreeArea};
+// Writes into one leaf, for puts and removals: a value, a new cell, or the whole leaf.
+ghost use Rattle.std.specs.Prelude.{◌≡◌, ◌+◌, ◌*◌, ◌<◌, ◌≤◌, ℕ, List, length, Ok, IfErr, IfOk, [], ◌∷◌};
+ghost use Rattle.store_model.specs.{Cells.{block_with, cell_count, keys_end, value_mark, value_part}, Stores.{Done, Store}, TreeNodes.{node_bytes, used_cells, Cell}, Trees.put_after, TreeCalls.edit_leaf, TreeRegion.IsTreeArea};
 ghost use Rattle.tx_blocks.specs.Runs.{HasArea, HasBlock, AreBytesOf, Behaves, HasRun};
-ghost use Rattle.iso_tree.specs.Walks.{IsLeaf, IsWalkError};
+ghost use Rattle.iso_tree.specs.{Entries.spelled, Walks.{IsLeaf, IsWalkError}};
 
 use crate::descent::{Leaf, value_mark};
+use crate::entry::Entry;
 use crate::fill::upto;
 use crate::grown::grown_node;
-use iso_alloc::{cell_count, lay_alone, piece, value_part};
+use crate::growth::Growth;
+use crate::keys::Keys;
+use iso_alloc::{lay_alone, value_part};
 use iso_model::Memory;
 use std::alloc::Global;
 use store_model::{Area, StoreError, TxError};
 use tx_blocks::{TxBlocks, last_store, look_whole, store};
 
-/// Writes the value of the cell that has the key, from a buffer of a block.
+/// Writes the value of this cell; `into` is scratch space of one block.
 ///
 /// # Errors
 ///
@@ -27,7 +30,6 @@ pub fn put_value<T: TxBlocks>(
     into: &mut [u8],
 ) -> Result<(), StoreError>
     requires within { HasArea IsTreeArea (T.state tx.old) area }
-    requires block_size { IsBlock area.size }
     requires block { block < area.blocks }
     requires cell { cell < cell_count area.size }
     requires value { length value.now ≤ 32 }
@@ -81,24 +83,19 @@ pub fn put_cell<T: TxBlocks>(
     alloc: Global,
     tx: &mut T,
     area: Area,
-    key: &[u8],
-    value: &[u8],
+    entry: &Entry,
     leaf: Leaf,
     old: &mut [u8],
 ) -> Result<(), StoreError>
     requires within { HasArea IsTreeArea (T.state tx.old) area }
-    requires block_size { IsBlock area.size }
-    requires leaf { IsLeaf area key.now old.old leaf }
+    requires leaf { IsLeaf area entry.now.key.now old.old leaf }
     requires room { leaf.count < cell_count area.size }
     requires bytes { AreBytesOf (T.state tx.old) (area.start + leaf.block) old.old }
-    requires key { length key.now ≤ 28 }
-    requires value { length value.now ≤ 32 }
     requires old { length old.old ≡ area.size }
-    ensures run { HasRun (edit_leaf area leaf.block (put_after key.now (key.now, value_part value.now)) (Ok tt)) (T.state tx.old) (T.state tx.new) result }
+    ensures run { HasRun (edit_leaf area leaf.block (put_after entry.now.key.now (spelled entry.now)) (Ok tt)) (T.state tx.old) (T.state tx.new) result }
     ensures behaves { Behaves (T.state tx.old) (T.state tx.new) 1 (T.device tx.old) (T.device tx.new) result }
 {
-    let part = value_part(value);
-    let Ok(bytes) = leaf_with(alloc, old, key, &part, leaf.count as usize) else {
+    let Ok(bytes) = leaf_with(alloc, area, old, entry, leaf) else {
         return Err(StoreError::Tx(TxError::Memory));
     };
     store_leaf(tx, area, leaf.block, &bytes, (), old)
@@ -107,22 +104,25 @@ pub fn put_cell<T: TxBlocks>(
 // The bytes of a leaf with a new cell.
 fn leaf_with(
     alloc: Global,
+    area: Area,
     old: &[u8],
-    key: &[u8],
-    part: &[u8],
-    count: usize,
+    entry: &Entry,
+    leaf: Leaf,
 ) -> Result<Vec<u8>, Memory>
-    requires size { IsBlock (length old.now) }
-    requires least { 256 ≤ length old.now }
-    requires node { is_node (length old.now) 0 (take (keys_end (length old.now)) old.now) ≡ true }
-    requires count { count ≡ count_of (take (keys_end (length old.now)) old.now) }
-    requires room { count < cell_count (length old.now) }
-    requires key { length key.now ≤ 28 }
-    requires part { length part.now ≡ 33 }
-    ensures bytes { IfOk result (λ v. v.items ≡ node_bytes (length old.now) 0 (put_after key.now (key.now, part.now) (used_cells (length old.now) old.now))) }
-    ensures long { IfOk result (λ v. length v.items ≡ length old.now) }
+    requires area { IsTreeArea area }
+    requires old { length old.now ≡ area.size }
+    requires leaf { IsLeaf area entry.now.key.now old.now leaf }
+    requires room { leaf.count < cell_count area.size }
+    ensures bytes { IfOk result (λ v. v.items ≡ node_bytes area.size 0 (put_after entry.now.key.now (spelled entry.now) (used_cells area.size old.now))) }
+    ensures long { IfOk result (λ v. length v.items ≡ area.size) }
 {
-    let size = old.len();
-    let place = upto(size, key, piece(old, 0, 64 + 31 * cell_count(size)), 0);
-    grown_node(alloc, 0, old, place, count, key, part)
+    let keys = Keys::of(area.size as usize, old);
+    let place = upto(entry.key, &keys, 0);
+    let growth = Growth {
+        area,
+        node: &*old,
+        place,
+        entry: &*entry,
+    };
+    grown_node(alloc, 0, &growth, leaf.count as usize)
 }

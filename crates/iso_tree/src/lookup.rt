@@ -1,11 +1,12 @@
 // The look-up of a key.
-ghost use Rattle.std.specs.Prelude.{◌≡◌, ◌↔◌, ◌+◌, ◌<◌, ◌≤◌, Err, IsFalse, true, IfOk, IfErr, OnOk, length};
+ghost use Rattle.std.specs.Prelude.{◌≡◌, ◌↔◌, ◌+◌, ◌≤◌, Err, IsFalse, true, IfOk, IfErr, OnOk, length};
 ghost use Rattle.store_model.specs.{HashCalls.is_key, HashRegion.get_op, TreeCalls.{get_below, get_program}, TreeRegion.{tree_map, IsTreeArea, IsTreeRegion}};
 ghost use Rattle.tx_blocks.specs.{Tx.IsLater, Runs.{HasArea, area_of, HasEnded, HasRead, HasRun, IsLocalCall, IsStoreCause}};
-ghost use Rattle.iso_tree.specs.Walks.{IsHead, OnlyReads};
+ghost use Rattle.iso_tree.specs.Walks.{OnlyReads};
 
 use crate::descent::{descend, read_head, value_part};
 use crate::path::Path;
+use crate::root::Root;
 use iso_alloc::{buffer, is_key, is_part, spelled};
 use iso_model::{Bytes, Items};
 use std::alloc::Global;
@@ -15,36 +16,33 @@ use tx_blocks::{TxBlocks, area_of};
 // The value of a key below a root.
 fn get_below<T: TxBlocks>(
     tx: &mut T,
-    area: Area,
+    root: Root,
     key: &[u8],
-    root: u32,
-    level: u8,
     block: &mut [u8],
     room: Vec<u8>,
 ) -> Result<Option<Bytes>, StoreError>
-    requires within { HasArea IsTreeArea (T.state tx.old) area }
-    requires head { IsHead area (root, level) }
-    requires block { length block.old ≡ area.size }
+    requires within { HasArea IsTreeArea (T.state tx.old) root.area }
+    requires block { length block.old ≡ root.area.size }
     requires room { length room.items ≡ 32 }
     requires is_open { (T.state tx.old).is_open ≡ true }
-    ensures run { HasRun (get_below area key.now root level) (T.state tx.old) (T.state tx.new) result }
+    ensures run { HasRun (get_below root.area key.now root.block root.level) (T.state tx.old) (T.state tx.new) result }
     ensures reads { OnlyReads (T.state tx.old) (T.state tx.new) (T.device tx.old) (T.device tx.new) result }
 {
-    if root == 0 {
+    if root.block == 0 {
         return Ok(None);
     }
     let mut path = Path::empty();
-    let leaf = match descend(tx, area, key, true, root, level, &mut path, block) {
+    let leaf = match descend(tx, root, key, true, &mut path, block) {
         Ok(leaf) => leaf,
         Err(e) => return Err(e),
     };
     let Some(cell) = leaf.cell else {
         return Ok(None);
     };
-    let part = value_part(area.size, block, cell);
+    let part = value_part(root.area.size, block, cell);
     if !is_part(part, 32) {
         return Err(StoreError::Broken {
-            block: area.start + leaf.block,
+            block: root.area.start + leaf.block,
         });
     }
     Ok(Some(Items::of(spelled(part, room))))
@@ -66,7 +64,14 @@ fn get_with<T: TxBlocks>(
     ensures reads { OnlyReads (T.state tx.old) (T.state tx.new) (T.device tx.old) (T.device tx.new) result }
 {
     match read_head(tx, area, block) {
-        Ok((root, level)) => get_below(tx, area, key, root, level, block, room),
+        Ok((number, level)) => {
+            let root = Root {
+                area,
+                block: number,
+                level,
+            };
+            get_below(tx, root, key, block, room)
+        }
         Err(e) => Err(e),
     }
 }

@@ -2,7 +2,7 @@
 ghost use Rattle.std.specs.Prelude.{◌≡◌, ◌↔◌, ◌+◌, ◌*◌, ◌<◌, ◌≤◌, IfSome, IsSome, IsTrue, length, true, Some, None};
 ghost use Rattle.store_model.specs.{Cells.{are_key_parts, cell_count, keys_end, keys_mark}, Stores.bytes_in, TreeNodes.{cell_of, child_of, count_of, find_in, is_child, is_node, keys_in, place_of, value_in}};
 
-use crate::keys::{below, cell_of, count_of, is_node, place_of};
+use crate::keys::{Keys, below, cell_of, count_of, is_node, place_of};
 use iso_alloc::{Cells, Region, are_zero, cell_count, piece, word_at};
 use std::marker::Model;
 
@@ -61,6 +61,14 @@ impl<'a> NodeView<'a> {
         })
     }
 
+    // Head and key parts.
+    fn keys(&self) -> Keys<'a>
+        ensures value { result.bytes.now ≡ keys_in self.now }
+        ensures most { result.size ≤ 4096 }
+    {
+        Keys::of(self.block.len(), self.block)
+    }
+
     /// How many cells are used.
     pub fn count(&self) -> u32
         ensures value { result ≡ count_of (keys_in self.now) }
@@ -81,7 +89,7 @@ impl<'a> NodeView<'a> {
         ensures value { result ≡ cell_of key.now (keys_in self.now) }
         ensures below { IfSome result (λ cell. cell < count_of (keys_in self.now)) }
     {
-        let cell = cell_of(self.block.len(), key, keys_of(self.block))?;
+        let cell = cell_of(key, &self.keys())?;
         Some(cell as u32)
     }
 
@@ -95,7 +103,7 @@ impl<'a> NodeView<'a> {
     {
         match self.cell(key) {
             Some(cell) => Ok(cell),
-            None => Err(below(self.block.len(), key, keys_of(self.block), 0) as u32),
+            None => Err(below(key, &self.keys(), 0) as u32),
         }
     }
 
@@ -105,7 +113,7 @@ impl<'a> NodeView<'a> {
         ensures value { result ≡ place_of key.now (keys_in self.now) }
         ensures below { result < count_of (keys_in self.now) }
     {
-        place_of(self.block.len(), key, keys_of(self.block)) as u32
+        place_of(key, &self.keys()) as u32
     }
 
     // The value part of a cell.

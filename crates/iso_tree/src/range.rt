@@ -1,17 +1,18 @@
 // The pairs of a range of keys.
 ghost use Rattle.std.specs.{Prelude.{◌≡◌, ◌⊎◌, ◌↔◌, ◌&&◌, ◌+◌, ◌-◌, ◌*◌, ◌<◌, ◌≤◌, ◌++◌, [], ◌∷◌, Err, IsFalse, true, IfOk, IfErr, OnOk, length, map, take}, List.list_all};
-ghost use Rattle.store_model.specs.{Cells.{are_key_parts, cell_count, is_part, keys_end}, HashCalls.is_key, TreeCalls.{pairs_with, parts_of, scan_below, scan_program}, TreeNodes.child_of, TreeRegion.{scan_op, tree_map, IsTreeArea, IsTreeRegion}};
+ghost use Rattle.store_model.specs.{Cells.{cell_count, is_part}, HashCalls.is_key, TreeCalls.{pairs_with, parts_of, scan_below, scan_program}, TreeNodes.child_of, TreeRegion.{scan_op, tree_map, IsTreeArea, IsTreeRegion}};
 ghost use Rattle.tx_blocks.{proofs.Progress.IsAt, specs.Tx.IsLater, specs.Runs.{HasArea, HasBlock, area_of, HasEnded, HasRead, IsLocalCall, IsStoreCause, WantsMemory}};
-ghost use Rattle.iso_tree.specs.{Visits.{scan_nodes, AreIn, HasScanned}, Walks.OnlyReads};
+ghost use Rattle.iso_tree.specs.{Visits.{left_of, AreIn, HasScanned}, Walks.OnlyReads};
 
 use crate::descent::read_head;
-use crate::keys::key_of;
+use crate::key_range::KeyRange;
+use crate::keys::{Keys, key_of};
 use crate::unread::Unread;
 use crate::visit::{Visit, read_node, values};
-use iso_alloc::{buffer, cell_count, is_key, piece, text_of, word_at};
+use iso_alloc::{buffer, is_key, piece, text_of, word_at};
 use iso_model::{Bytes, Items};
 use std::alloc::Global;
-use store_model::{Area, PairList, Region, StoreError, TxError};
+use store_model::{PairList, Region, StoreError, TxError};
 use tx_blocks::{TxBlocks, area_of};
 
 // Whether both are keys.
@@ -47,27 +48,23 @@ fn add_pair(alloc: Global, key: &[u8], value: &[u8], found: &mut PairList) -> Re
 // Adds the pairs of cells from one on at the end, until there are `max`.
 fn add_pairs(
     alloc: Global,
-    size: usize,
-    keys: &[u8],
+    keys: &Keys,
     values: &[u8],
     visit: Visit,
     max: usize,
     found: &mut PairList,
 ) -> Result<(), StoreError>
-    requires size { 64 ≤ size }
-    requires keys { length keys.now ≡ keys_end size }
-    requires parts { are_key_parts size keys.now ≡ true }
-    requires inside { visit.first + visit.many ≤ cell_count size }
+    requires inside { visit.first + visit.many ≤ cell_count keys.now.size }
     requires values { length values.now ≡ 33 * visit.many }
     requires texts { list_all (is_part 32) (parts_of values.now visit.many) ≡ true }
-    ensures ok { OnOk result (found.new ≡ found.old ++ take (max - length found.old) (pairs_with keys.now visit.first (parts_of values.now visit.many))) }
+    ensures ok { OnOk result (found.new ≡ found.old ++ take (max - length found.old) (pairs_with keys.now.bytes.now visit.first (parts_of values.now visit.many))) }
     ensures memory { IfErr result (λ e. e ≡ StoreError.Tx TxError.Memory) }
 {
     for i in 0..visit.many {
         if max <= found.len() {
             return Ok(());
         }
-        let key = key_of(size, keys, visit.first + i);
+        let key = key_of(keys, visit.first + i);
         let value = text_of(piece(values, 33 * i, 33));
         add_pair(alloc, key, value, found)?;
     }
@@ -97,34 +94,32 @@ fn add_children(
 fn step<T: TxBlocks>(
     alloc: Global,
     tx: &mut T,
-    area: Area,
-    from: &[u8],
-    to: &[u8],
-    level: u8,
-    block: u32,
-    max: usize,
+    range: &KeyRange,
+    node: (u8, u32),
     buffer: &mut [u8],
     unread: &mut Unread,
     found: &mut PairList,
 ) -> Result<(), StoreError>
-    requires block { HasBlock IsTreeArea (T.state tx.old) area block buffer.old }
-    requires nodes { AreIn area unread.old }
-    requires few { length found.old < max }
-    ensures run { OnOk result (IsAt (scan_nodes area from.now to.now ((level, block) ∷ unread.old) (max - length found.old) found.old) (scan_nodes area from.now to.now unread.new (max - length found.new) found.new) (T.state tx.old) (T.state tx.new)) }
-    ensures refused { IfErr result (λ e. HasScanned (scan_nodes area from.now to.now ((level, block) ∷ unread.old) (max - length found.old) found.old) (T.state tx.old) (T.state tx.new) (Err e)) }
-    ensures nodes { OnOk result (AreIn area unread.new) }
+    requires block { HasBlock IsTreeArea (T.state tx.old) range.now.area node.1 buffer.old }
+    requires nodes { AreIn range.now.area unread.old }
+    requires few { length found.old < range.now.max }
+    ensures run { OnOk result (IsAt (left_of range.now (node ∷ unread.old) found.old) (left_of range.now unread.new found.new) (T.state tx.old) (T.state tx.new)) }
+    ensures refused { IfErr result (λ e. HasScanned (left_of range.now (node ∷ unread.old) found.old) (T.state tx.old) (T.state tx.new) (Err e)) }
+    ensures nodes { OnOk result (AreIn range.now.area unread.new) }
     ensures more { OnOk result (length (T.state tx.new).accesses ≡ length (T.state tx.old).accesses + 1) }
     ensures reads { OnlyReads (T.state tx.old) (T.state tx.new) (T.device tx.old) (T.device tx.new) result }
 {
-    let size = area.size as usize;
-    let visit = match read_node(tx, area, from, to, level, block, buffer) {
+    let size = range.area.size as usize;
+    let max = range.max as usize;
+    let (level, block) = node;
+    let visit = match read_node(tx, range, level, block, buffer) {
         Ok(visit) => visit,
         Err(e) => return Err(e),
     };
     let values = values(buffer, visit);
     if level == 0 {
-        let keys = piece(buffer, 0, 64 + 31 * cell_count(size));
-        return add_pairs(alloc, size, keys, values, visit, max, found);
+        let keys = Keys::of(size, buffer);
+        return add_pairs(alloc, &keys, values, visit, max, found);
     }
     add_children(unread, level - 1, values, visit.many)
 }
@@ -133,28 +128,23 @@ fn step<T: TxBlocks>(
 fn walk<T: TxBlocks>(
     alloc: Global,
     tx: &mut T,
-    area: Area,
-    from: &[u8],
-    to: &[u8],
-    max: usize,
+    range: &KeyRange,
     buffer: &mut [u8],
     unread: &mut Unread,
 ) -> Result<PairList, StoreError>
-    requires within { HasArea IsTreeArea (T.state tx.old) area }
-    requires buffer { length buffer.old ≡ area.size }
-    requires nodes { AreIn area unread.old }
+    requires within { HasArea IsTreeArea (T.state tx.old) range.now.area }
+    requires buffer { length buffer.old ≡ range.now.area.size }
+    requires nodes { AreIn range.now.area unread.old }
     requires is_open { (T.state tx.old).is_open ≡ true }
-    ensures run { HasScanned (scan_nodes area from.now to.now unread.old max []) (T.state tx.old) (T.state tx.new) result }
+    ensures run { HasScanned (left_of range.now unread.old []) (T.state tx.old) (T.state tx.new) result }
     ensures reads { OnlyReads (T.state tx.old) (T.state tx.new) (T.device tx.old) (T.device tx.new) result }
 {
     let mut found = Items::empty(alloc);
-    while found.len() < max {
-        let Some((level, block)) = unread.pop() else {
+    while found.len() < range.max as usize {
+        let Some(node) = unread.pop() else {
             return Ok(found);
         };
-        if let Err(e) = step(
-            alloc, tx, area, from, to, level, block, max, buffer, unread, &mut found,
-        ) {
+        if let Err(e) = step(alloc, tx, range, node, buffer, unread, &mut found) {
             return Err(e);
         }
     }
@@ -165,20 +155,16 @@ fn walk<T: TxBlocks>(
 fn scan_below<T: TxBlocks>(
     alloc: Global,
     tx: &mut T,
-    area: Area,
-    from: &[u8],
-    to: &[u8],
-    max: u32,
+    range: &KeyRange,
     root: u32,
     level: u8,
     buffer: &mut [u8],
 ) -> Result<PairList, StoreError>
-    requires within { HasArea IsTreeArea (T.state tx.old) area }
-    requires root { root < area.blocks }
-    requires buffer { length buffer.old ≡ area.size }
-    requires max { 0 < max }
+    requires within { HasArea IsTreeArea (T.state tx.old) range.now.area }
+    requires root { root < range.now.area.blocks }
+    requires buffer { length buffer.old ≡ range.now.area.size }
     requires is_open { (T.state tx.old).is_open ≡ true }
-    ensures run { HasScanned (scan_below area from.now to.now max root level) (T.state tx.old) (T.state tx.new) result }
+    ensures run { HasScanned (scan_below range.now.area range.now.from.now range.now.to.now range.now.max root level) (T.state tx.old) (T.state tx.new) result }
     ensures reads { OnlyReads (T.state tx.old) (T.state tx.new) (T.device tx.old) (T.device tx.new) result }
 {
     let mut unread = Unread::empty(alloc);
@@ -186,7 +172,7 @@ fn scan_below<T: TxBlocks>(
         return Ok(Items::empty(alloc));
     }
     match unread.push(level, root) {
-        Ok(()) => walk(alloc, tx, area, from, to, max as usize, buffer, &mut unread),
+        Ok(()) => walk(alloc, tx, range, buffer, &mut unread),
         Err(e) => Err(e),
     }
 }
@@ -195,21 +181,16 @@ fn scan_below<T: TxBlocks>(
 fn scan_with<T: TxBlocks>(
     alloc: Global,
     tx: &mut T,
-    area: Area,
-    from: &[u8],
-    to: &[u8],
-    max: u32,
+    range: &KeyRange,
     buffer: &mut [u8],
 ) -> Result<PairList, StoreError>
-    requires within { HasArea IsTreeArea (T.state tx.old) area }
-    requires keys { (is_key from.now && is_key to.now) ≡ true }
-    requires buffer { length buffer.old ≡ area.size }
-    requires max { 0 < max }
-    ensures run { HasScanned (scan_program area from.now to.now max) (T.state tx.old) (T.state tx.new) result }
+    requires within { HasArea IsTreeArea (T.state tx.old) range.now.area }
+    requires buffer { length buffer.old ≡ range.now.area.size }
+    ensures run { HasScanned (scan_program range.now.area range.now.from.now range.now.to.now range.now.max) (T.state tx.old) (T.state tx.new) result }
     ensures reads { OnlyReads (T.state tx.old) (T.state tx.new) (T.device tx.old) (T.device tx.new) result }
 {
-    match read_head(tx, area, buffer) {
-        Ok((root, level)) => scan_below(alloc, tx, area, from, to, max, root, level, buffer),
+    match read_head(tx, range.area, buffer) {
+        Ok((root, level)) => scan_below(alloc, tx, range, root, level, buffer),
         Err(e) => Err(e),
     }
 }
@@ -248,6 +229,11 @@ pub fn scan<T: TxBlocks>(
         return Err(StoreError::BadKey);
     }
     let mut block = buffer(alloc, tx.block_size() as usize)?;
-    let area = area_of(tx, region);
-    scan_with(alloc, tx, area, from, to, max, &mut block)
+    let range = KeyRange {
+        area: area_of(tx, region),
+        from,
+        to,
+        max,
+    };
+    scan_with(alloc, tx, &range, &mut block)
 }

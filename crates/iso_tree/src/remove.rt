@@ -1,13 +1,14 @@
 // The removal of a key.
-ghost use Rattle.std.specs.Prelude.{◌≡◌, ◌↔◌, ◌+◌, ◌<◌, ◌≤◌, [], Err, Ok, IsFalse, true, IfOk, IfErr, OnErr, OnOk, length};
+ghost use Rattle.std.specs.Prelude.{◌≡◌, ◌↔◌, ◌+◌, ◌≤◌, Err, Ok, IsFalse, true, IfOk, IfErr, OnErr, OnOk, length};
 ghost use Rattle.store_model.specs.{HashCalls.is_key, HashRegion.del_op, TreeCalls.{del_below, del_program, edit_leaf, without_key}, TreeRegion.{tree_map, IsTreeArea, IsTreeRegion}};
 ghost use Rattle.tx_blocks.specs.{Tx.IsLater, Runs.{HasArea, AreBytesOf, area_of, Behaves, HasEnded, HasRun, HasRead, IsLocalCall, IsStoreCause}};
-ghost use Rattle.iso_tree.specs.Walks.{IsHead, IsLeaf, IsWalkError, TakesNoBlocks};
+ghost use Rattle.iso_tree.specs.Walks.{IsLeaf, IsWalkError, TakesNoBlocks};
 
 use crate::build::copy_without;
 use crate::descent::{Leaf, descend, read_head};
 use crate::leaf::store_leaf;
 use crate::path::Path;
+use crate::root::Root;
 use iso_alloc::{buffer, is_key};
 use std::alloc::Global;
 use store_model::{Area, Region, StoreError};
@@ -38,33 +39,30 @@ fn remove_cell<T: TxBlocks>(
 // Removes a key below a root.
 fn remove_below<T: TxBlocks>(
     tx: &mut T,
-    area: Area,
+    root: Root,
     key: &[u8],
-    root: u32,
-    level: u8,
     block: &mut [u8],
     into: &mut [u8],
 ) -> Result<bool, StoreError>
-    requires within { HasArea IsTreeArea (T.state tx.old) area }
-    requires head { IsHead area (root, level) }
-    requires block { length block.old ≡ area.size }
-    requires into { length into.old ≡ area.size }
-    ensures run { HasRun (del_below area key.now root level) (T.state tx.old) (T.state tx.new) result }
+    requires within { HasArea IsTreeArea (T.state tx.old) root.area }
+    requires block { length block.old ≡ root.area.size }
+    requires into { length into.old ≡ root.area.size }
+    ensures run { HasRun (del_below root.area key.now root.block root.level) (T.state tx.old) (T.state tx.new) result }
     ensures behaves { Behaves (T.state tx.old) (T.state tx.new) 1 (T.device tx.old) (T.device tx.new) result }
     ensures known { IfErr result IsWalkError }
 {
-    if root == 0 {
+    if root.block == 0 {
         return Ok(false);
     }
     let mut path = Path::empty();
-    let leaf = match descend(tx, area, key, false, root, level, &mut path, block) {
+    let leaf = match descend(tx, root, key, false, &mut path, block) {
         Ok(leaf) => leaf,
         Err(e) => return Err(e),
     };
     let Some(_) = leaf.cell else {
         return Ok(false);
     };
-    remove_cell(tx, area, key, leaf, block, into)
+    remove_cell(tx, root.area, key, leaf, block, into)
 }
 
 // Removes a key, with buffers for two blocks.
@@ -84,7 +82,14 @@ fn remove_with<T: TxBlocks>(
     ensures known { IfErr result IsWalkError }
 {
     match read_head(tx, area, block) {
-        Ok((root, level)) => remove_below(tx, area, key, root, level, block, into),
+        Ok((number, level)) => {
+            let root = Root {
+                area,
+                block: number,
+                level,
+            };
+            remove_below(tx, root, key, block, into)
+        }
         Err(e) => Err(e),
     }
 }

@@ -6,7 +6,8 @@ ghost use Rattle.tx_blocks.specs.{Runs.{HasBlock, HasRun, Ran}, Tx.mark_refusal}
 ghost use Rattle.iso_tree.specs.{Visits.{node_read, values_mark, visit_program, IsVisited}, Walks.OnlyReads};
 
 use crate::descent::keys_mark;
-use crate::keys::{below, count_of, is_node, place_of};
+use crate::key_range::KeyRange;
+use crate::keys::{Keys, below, count_of, is_node, place_of};
 use crate::node::is_child;
 use iso_alloc::{cell_count, is_part, piece};
 use iso_model::Span;
@@ -21,23 +22,19 @@ pub struct Visit {
 }
 
 // The cells of a node that a scan visits.
-fn cells_between(size: usize, level: u8, from: &[u8], to: &[u8], keys: &[u8]) -> Visit
-    requires size { 64 ≤ size }
-    requires keys { length keys.now ≡ keys_end size }
-    requires parts { are_key_parts size keys.now ≡ true }
-    requires few { count_of keys.now ≤ cell_count size }
-    requires some { 0 < level → 0 < count_of keys.now }
-    ensures first { result.first ≡ first_in level from.now keys.now }
-    ensures many { result.many ≡ many_in level from.now to.now keys.now }
-    ensures inside { result.first + result.many ≤ count_of keys.now }
+fn cells_between(level: u8, from: &[u8], to: &[u8], keys: &Keys) -> Visit
+    requires { 0 < level → 0 < count_of keys.now.bytes.now }
+    ensures first { result.first ≡ first_in level from.now keys.now.bytes.now }
+    ensures many { result.many ≡ many_in level from.now to.now keys.now.bytes.now }
+    ensures inside { result.first + result.many ≤ count_of keys.now.bytes.now }
 {
     if level == 0 {
-        let first = below(size, from, keys, 0);
-        let many = below(size, to, keys, 0).saturating_sub(first);
+        let first = below(from, keys, 0);
+        let many = below(to, keys, 0).saturating_sub(first);
         return Visit { first, many };
     }
-    let first = place_of(size, from, keys);
-    let many = (1 + below(size, to, keys, 1)).saturating_sub(first);
+    let first = place_of(from, keys);
+    let many = (1 + below(to, keys, 1)).saturating_sub(first);
     Visit { first, many }
 }
 
@@ -115,32 +112,32 @@ pub fn values(block: &[u8], visit: Visit) -> &[u8]
 /// - `Tx`: the transaction refuses the read.
 pub fn read_node<T: TxBlocks>(
     tx: &mut T,
-    area: Area,
-    from: &[u8],
-    to: &[u8],
+    range: &KeyRange,
     level: u8,
     block: u32,
     buffer: &mut [u8],
 ) -> Result<Visit, StoreError>
-    requires block { HasBlock IsTreeArea (T.state tx.old) area block buffer.old }
-    ensures run { OnOk result (Ran (visit_program area from.now to.now level block) (T.state tx.old) (T.state tx.new) (Ok (node_read area from.now to.now level buffer.new))) }
-    ensures refused { IfErr result (λ e. HasRun (visit_program area from.now to.now level block) (T.state tx.old) (T.state tx.new) (Err e)) }
-    ensures visited { IfOk result (IsVisited area from.now to.now level buffer.new) }
-    ensures inside { IfOk result (λ visit. visit.first + visit.many ≤ cell_count area.size) }
+    requires block { HasBlock IsTreeArea (T.state tx.old) range.now.area block buffer.old }
+    ensures run { OnOk result (Ran (visit_program range.now.area range.now.from.now range.now.to.now level block) (T.state tx.old) (T.state tx.new) (Ok (node_read range.now.area range.now.from.now range.now.to.now level buffer.new))) }
+    ensures refused { IfErr result (λ e. HasRun (visit_program range.now.area range.now.from.now range.now.to.now level block) (T.state tx.old) (T.state tx.new) (Err e)) }
+    ensures visited { IfOk result (IsVisited range.now.area range.now.from.now range.now.to.now level buffer.new) }
+    ensures inside { IfOk result (λ visit. visit.first + visit.many ≤ cell_count range.now.area.size) }
     ensures more { OnOk result (length (T.state tx.new).accesses ≡ length (T.state tx.old).accesses + 1) }
     ensures reads { OnlyReads (T.state tx.old) (T.state tx.new) (T.device tx.old) (T.device tx.new) result }
-    ensures size { length buffer.new ≡ area.size }
+    ensures size { length buffer.new ≡ range.now.area.size }
 {
+    let area = range.area;
     let size = area.size as usize;
     let image_block = area.start + block;
     if let Err(e) = look(tx, image_block, keys_mark(area.size), buffer) {
         return Err(StoreError::Tx(e));
     }
-    let keys = piece(buffer, 0, 64 + 31 * cell_count(size));
-    if !is_node(size, level, keys) {
+    let bytes = piece(buffer, 0, 64 + 31 * cell_count(size));
+    if !is_node(size, level, bytes) {
         return Err(StoreError::Broken { block: image_block });
     }
-    let visit = cells_between(size, level, from, to, keys);
+    let keys = Keys::of(size, buffer);
+    let visit = cells_between(level, range.from, range.to, &keys);
     mark_values(tx, area.size, visit);
     if !are_parts(area, level, values(buffer, visit), visit.many) {
         return Err(StoreError::Broken { block: image_block });

@@ -1,7 +1,4 @@
-use Rattle.iso_fs.proofs.{Words.{arith}, Files.{data_fits, entry_handed, file_parts}, RemoveSteps.{entries_step}}
-
-pub entry_at-requires : Rattle.iso_fs.proofs.left.give_data.Goals.entry_at-requires
-entry_at-requires c = grind (arith, data_fits) steps 100000
+use Rattle.iso_fs.proofs.{Words.{arith}, Files.{entry_handed, file_parts}, RemoveSteps.{entries_step}}
 
 pub give_back-requires-clause-block : Rattle.iso_fs.proofs.left.give_data.Goals.give_back-requires-clause-block
 give_back-requires-clause-block c = grind (arith, entry_handed, file_parts) steps 100000

@@ -1,4 +1,4 @@
-use Rattle.iso_fs.proofs.{Words.{arith}, Ended.no_memory, Existing.create_exists, CreateSteps.{bad_name, create_call, create_has}}
+use Rattle.iso_fs.proofs.{Words.{arith, areas_of}, Ended.no_memory, Existing.create_exists, CreateSteps.{bad_name, create_call, create_has}}
 use Rattle.iso_fs.proofs.making.create.Goals as goal
 
 pub returns-in_err-a-clause-ended : goal.returns-in_err-a-clause-ended
@@ -19,4 +19,5 @@ pub returns-in-Err-clause-exists : goal.returns-in-Err-clause-exists
 returns-in-Err-clause-exists g c = grind (arith, create_exists, no_memory, create_has) steps 100000
 
 pub returns-clause-exists : goal.returns-clause-exists
-returns-clause-exists g c = grind (arith, create_exists) steps 100000
+returns-clause-exists g c = λ key.
+    create_exists (areas_of (g.T.TxBlocks.state c.args.tx.now) c.args.at) c.args.name.now (g.T.TxBlocks.state c.args.tx.now) (g.T.TxBlocks.state c.create_with.new.tx) c.create_with.result key (rw c.in_ok-a.ensures.areas at c.create_with.ensures.run)

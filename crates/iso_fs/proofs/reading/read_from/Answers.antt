@@ -2,13 +2,14 @@ use Rattle.iso_fs.proofs.{Words.{◌∙◌, ap, arith, ℕ, ◌+◌, ◌-◌, co
 use Rattle.store_model.specs.declared.files.FsError.TheVariants as fs
 
 pub returns-then-bytes-off-clause-part : Rattle.iso_fs.proofs.reading.read_from.Goals.returns-then-bytes-off-clause-part
-returns-then-bytes-off-clause-part g c = λ number.
-    part_as (range_bad c.args.area c.args.off c.args.len number c.args.file.now (omega (arith, c.bytes_of-bytes.ensures, c.if-bytes-off.true))) (part_refused fs.BadRange (λ x. cc) tt)
+returns-then-bytes-off-clause-part g c =
+    part_as (range_bad c.args.file.now.area c.args.range.now.off c.args.range.now.len c.args.file.now.number c.args.file.now.bytes.now (omega (arith, c.bytes_of-bytes.ensures, c.if-bytes-off.true))) (part_refused fs.BadRange (λ x. cc) tt)
 
 pub returns-then-bytes-off-clause-reads : Rattle.iso_fs.proofs.reading.read_from.Goals.returns-then-bytes-off-clause-reads
 returns-then-bytes-off-clause-reads g c = read_none (g.T.TxBlocks.state c.args.tx.now)
 
 pub returns-clause-part : Rattle.iso_fs.proofs.reading.read_from.Goals.returns-clause-part
-returns-clause-part g c = λ number.
-    part_as (range_is c.args.area c.args.off c.args.len number c.args.file.now c.end_of-to.result (omega (arith, c.bytes_of-bytes.ensures, c.if-bytes-off.false))
-    (c.end_of-to.ensures.value ∙ ap (λ (n : ℕ). cond (nat_lt c.args.len (n - c.args.off)) (c.args.off + c.args.len) n) c.bytes_of-bytes.ensures)) c.read_pieces.ensures.part
+returns-clause-part g c =
+    part_as (range_is c.args.file.now.area c.args.range.now.off c.args.range.now.len c.args.file.now.number c.args.file.now.bytes.now c.end_of-to.result (omega (arith, c.bytes_of-bytes.ensures, c.if-bytes-off.false))
+    (c.end_of-to.ensures.value ∙ ap (λ (n : ℕ). cond (nat_lt c.args.range.now.len (n - c.args.range.now.off)) (c.args.range.now.off + c.args.range.now.len) n) c.bytes_of-bytes.ensures))
+    (rw c.requires.room at c.read_pieces.ensures.part)

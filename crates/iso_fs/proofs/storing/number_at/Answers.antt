@@ -1,17 +1,14 @@
-use Rattle.iso_fs.proofs.{Words.{◌∙◌, sym, arith, ◌-◌}, Files.data_fits, WriteSteps.{news_below, number_new, number_old, old_below}}
+use Rattle.iso_fs.proofs.{Words.{◌∙◌, sym, arith, ◌-◌}, WriteSteps.{news_below, number_new, number_old, old_below}}
 use Rattle.iso_fs.proofs.storing.number_at.Goals as goal
 
-pub entry_at-requires : goal.entry_at-requires
-entry_at-requires c = grind (arith, data_fits) steps 100000
-
 pub returns-then-place-old-clause-number : goal.returns-then-place-old-clause-number
-returns-then-place-old-clause-number c = c.entry_at.ensures ∙ sym (number_old c.args.area c.args.file.now c.args.news.now c.args.old c.requires.old c.args.place c.if-place-old.true)
+returns-then-place-old-clause-number c = c.entry_at.ensures ∙ sym (number_old c.args.file.now.area c.args.file.now.bytes.now c.args.news.now c.args.file.now.count c.args.file.now.counted c.args.place c.if-place-old.true)
 
 pub returns-then-place-old-clause-below : goal.returns-then-place-old-clause-below
 returns-then-place-old-clause-below c = grind (arith, old_below) steps 100000
 
 pub returns-clause-number : goal.returns-clause-number
-returns-clause-number c = sym (number_new c.args.area c.args.file.now c.args.news.now c.args.old c.requires.old c.args.place (let past = c.if-place-old.false in omega arith))
+returns-clause-number c = sym (number_new c.args.file.now.area c.args.file.now.bytes.now c.args.news.now c.args.file.now.count c.args.file.now.counted c.args.place (let past = c.if-place-old.false in omega arith))
 
 pub returns-clause-below : goal.returns-clause-below
-returns-clause-below c = news_below c.args.area c.args.news.now (c.args.place - c.args.old) c.requires.news (let past = c.if-place-old.false in let inside = c.requires.place in omega arith)
+returns-clause-below c = news_below c.args.file.now.area c.args.news.now (c.args.place - c.args.file.now.count) c.requires.news (let past = c.if-place-old.false in let inside = c.requires.place in omega arith)

@@ -1,12 +1,9 @@
-use Rattle.iso_fs.proofs.{Words.{◌+◌, ◌≤◌, arith, length, bytes_of}, Files.file_parts, Parts.part_as, WriteSteps.{as_kept, covered_old}}
-
-pub data_count-old-requires-clause-small : Rattle.iso_fs.proofs.writing.write_sized.Goals.data_count-old-requires-clause-small
-data_count-old-requires-clause-small g c = (file_parts c.args.writing.now.area c.args.writing.now.file.now c.args.writing.now.good).few
+use Rattle.iso_fs.proofs.{Words.{◌+◌, ◌≤◌, arith, length, bytes_of}, Parts.part_as, WriteSteps.{as_kept, covered_old}}
 
 pub write_pieces-requires-clause-covered : Rattle.iso_fs.proofs.writing.write_sized.Goals.write_pieces-requires-clause-covered
 write_pieces-requires-clause-covered g c = grind (arith, covered_old) steps 100000
 
 pub returns-clause-part : Rattle.iso_fs.proofs.writing.write_sized.Goals.returns-clause-part
 returns-clause-part g c =
-    let past : c.args.writing.now.off + length c.args.writing.now.bytes.now ≤ bytes_of c.args.writing.now.file.now = omega (arith, c.if-bytes_of-end.false, c.bytes_of.ensures) in
-    part_as (as_kept c.args.writing.now.area c.args.writing.now.off c.args.writing.now.number c.args.writing.now.bytes.now c.args.writing.now.file.now c.args.news.now c.data_count-old.result c.data_count-old.ensures.count past (c.requires.none past)) c.write_pieces.ensures.part
+    let past : c.args.writing.now.off + length c.args.writing.now.bytes.now ≤ bytes_of c.args.writing.now.file.bytes.now = omega (arith, c.if-bytes_of-end.false, c.bytes_of.ensures) in
+    part_as (as_kept c.args.writing.now.file.area c.args.writing.now.off c.args.writing.now.file.number c.args.writing.now.bytes.now c.args.writing.now.file.bytes.now c.args.news.now c.args.writing.now.file.count c.args.writing.now.file.counted past (c.requires.none past)) c.write_pieces.ensures.part

@@ -1,23 +1,23 @@
-use Rattle.iso_tree.proofs.{Words.{◌≡◌, ◌∙◌, sym, refl, ap, ◌+◌, ◌*◌, ◌<◌, ◌≤◌, ℕ, List, not, cond, [], ◌∷◌, ◌++◌, length, take, drop, arith, bytes_eq, cell_count, keys_end, key_at, are_key_parts, value_mark, bytes_in, count_of, node_bytes}, Building.{copied, copied_more, copied_long, copied_fit}, Facts.node_parts, Fits.key_short}
+use Rattle.iso_tree.proofs.{Words.{◌≡◌, ◌∙◌, sym, refl, ap, ◌+◌, ◌*◌, ◌<◌, ◌≤◌, ℕ, List, not, cond, [], ◌∷◌, ◌++◌, length, take, drop, arith, bytes_eq, cell_count, keys_end, key_at, value_mark, bytes_in, count_of, node_bytes}, Building.{copied, copied_more, copied_long, copied_fit}, Facts.node_parts, Fits.key_short}
 
 pub piece-part-requires : Rattle.iso_tree.proofs.build.copy_without.Goals.piece-part-requires
 piece-part-requires c =
     let old = c.args.old.now in
     let keys = take (keys_end (length old)) old in
     let parts = node_parts (length old) 0 keys c.requires.node in
-    omega (arith, c.requires.size.whole, parts.few, c.loop-cell-test.true, c.count_of-cell-end.ensures, ap count_of (c.piece-keys.ensures.value ∙ ap (λ (n : ℕ). take (64 + 31 * n) old) c.cell_count.ensures), c.cell_count.ensures)
+    omega (arith, c.requires.size.whole, parts.few, c.loop-cell-test.true, c.count_of-cell-end.ensures, ap count_of c.of-keys.ensures.bytes, c.cell_count.ensures)
 
-pub key_of-requires-clause-parts : Rattle.iso_tree.proofs.build.copy_without.Goals.key_of-requires-clause-parts
-key_of-requires-clause-parts c =
-    let old = c.args.old.now in
-    let keys = take (keys_end (length old)) old in
-    ap (are_key_parts (length old)) (c.piece-keys.ensures.value ∙ ap (λ (n : ℕ). take (64 + 31 * n) old) c.cell_count.ensures) ∙ (node_parts (length old) 0 keys c.requires.node).parts
+pub of-keys-requires-clause-parts : Rattle.iso_tree.proofs.build.copy_without.Goals.of-keys-requires-clause-parts
+of-keys-requires-clause-parts c = (node_parts (length c.args.old.now) 0 (take (keys_end (length c.args.old.now)) c.args.old.now) c.requires.node).parts
+
+pub of-keys-requires-clause-few : Rattle.iso_tree.proofs.build.copy_without.Goals.of-keys-requires-clause-few
+of-keys-requires-clause-few c = (node_parts (length c.args.old.now) 0 (take (keys_end (length c.args.old.now)) c.args.old.now) c.requires.node).few
 
 pub add_other-kept-requires-clause-other : Rattle.iso_tree.proofs.build.copy_without.Goals.add_other-kept-requires-clause-other
 add_other-kept-requires-clause-other c =
     let old = c.args.old.now in
     let keys = take (keys_end (length old)) old in
-    let keys_is : c.piece-keys.result.now ≡ keys = c.piece-keys.ensures.value ∙ ap (λ (n : ℕ). take (64 + 31 * n) old) c.cell_count.ensures in
+    let keys_is : c.of-keys.result.bytes.now ≡ keys = c.of-keys.ensures.bytes in
     let parts = node_parts (length old) 0 keys c.requires.node in
     let inside : c.loop-cell.cell < cell_count (length old) = omega (arith, parts.few, c.loop-cell-test.true, c.count_of-cell-end.ensures, ap count_of keys_is) in
     omega (arith, (key_short (length old) keys c.loop-cell.cell parts.parts inside), ap length (c.key_of.ensures ∙ ap (λ (k : List ℕ). key_at k c.loop-cell.cell) keys_is))
@@ -29,7 +29,7 @@ loop-cell-preserved c =
     let key = c.args.key.now in
     let cell = c.loop-cell.cell in
     let keys = take (keys_end (length old)) old in
-    let keys_is : c.piece-keys.result.now ≡ keys = c.piece-keys.ensures.value ∙ ap (λ (n : ℕ). take (64 + 31 * n) old) c.cell_count.ensures in
+    let keys_is : c.of-keys.result.bytes.now ≡ keys = c.of-keys.ensures.bytes in
     let inside : cell ≤ count_of keys = omega (arith, c.loop-cell-test.true, c.count_of-cell-end.ensures, ap count_of keys_is) in
     let same : c.key_of.result.now ≡ key_at keys cell = c.key_of.ensures ∙ ap (λ (k : List ℕ). key_at k cell) keys_is in
     let part : c.piece-part.result.now ≡ bytes_in (value_mark size cell) old = c.piece-part.ensures.value ∙ ap (λ (n : ℕ). take 33 (drop (64 + 31 * n + 33 * cell) old)) c.cell_count.ensures in

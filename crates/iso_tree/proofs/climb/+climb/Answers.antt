@@ -1,86 +1,134 @@
-use Rattle.iso_tree.proofs.{Words.{◌≡◌, ◌∙◌, sym, refl, ap, subst, ℕ, suc, ◌+◌, ◌*◌, ◌/◌, ◌≤◌, List, [], length, take, Ok, rules, arith, cell_count, keys_end, Done, Store, bytes_in, HasRun, Cell, count_of, node_bytes, used_cells, key_in_row, row_from, placed, root_cells, store_nodes, are_key_parts, true, Err}, Climbing.{first_usable, rest_usable, rest_inside, last_writes, code_writes, rest_enough, more_inside, full_some, followed_end, root_run}, Filling.key_fits, Rereading.{few_nodes, path_room}}
+use Rattle.iso_tree.proofs.{Words.{◌≡◌, ◌∙◌, sym, refl, ap, subst, ℕ, suc, ◌+◌, ◌/◌, ◌≤◌, List, length, take, Ok, rules, arith, cell_count, keys_end, AreBlocks, Done, HasRun, Cell, key_in_row, node_bytes, root_cells, spelled, store_nodes, Err, climb, nodes_from, room_of, value_part}, Climbing.{IsFirst, full_some, grown_writes, halves_writes, node_long, node_usable, node_inside, others_inside, others_room, others_usable, rest_enough, followed_end, root_run}, Filling.key_fits, Rereading.path_room}
 use Rattle.iso_tree.proofs.climb.+climb.Goals as goal
 
--- the key that goes up
-key_up : (size : ℕ) (b : List ℕ) {n : ℕ} {keys separator : List ℕ} (place : ℕ) (key : List ℕ) (cell : ℕ) → separator ≡ key_in_row keys place key cell → keys ≡ take (64 + 31 * n) b → n ≡ cell_count size → separator ≡ key_in_row (take (keys_end size) b) place key cell
-key_up size b place key cell is keys_are count = is ∙ ap (λ (x : List ℕ). key_in_row x place key cell) (keys_are ∙ ap (λ (n : ℕ). take (64 + 31 * n) b) count)
+pub split_at-requires : goal.split_at-requires
+split_at-requires g t c =
+    (path_room c.args.way.now.area.size (length c.args.way.now.nodes.now) c.in-Some.block c.in-Some.count c.in-Some.path.now c.args.way.now.path.now c.in-Some.ensures.some c.args.way.now.room).0
 
-pub piece-bytes-requires : goal.piece-bytes-requires
-piece-bytes-requires g t c = omega (arith, (path_room c.args.area.size c.args.i (length c.args.nodes.now) c.in-Some.block c.in-Some.count c.in-Some.rest.now c.args.path.now c.in-Some.ensures.some c.requires.nodes).0)
+pub place_in-place-requires-clause-node : goal.place_in-place-requires-clause-node
+place_in-place-requires-clause-node g t c =
+    let w = c.args.way.now in
+    let f : IsFirst w c.in-Some.block c.in-Some.count c.in-Some.path.now c.split_at.result.0.now c.split_at.result.1.now = record { is = c.in-Some.ensures.some; node_is = c.split_at.ensures.front; others_are = c.split_at.ensures.back } in
+    node_long w _ _ _ _ _ f
 
-pub overflow_add-next : goal.overflow_add-next
-overflow_add-next g t c = omega (arith, few_nodes c.args.i c.args.area.size _ c.requires.within.area.least_size (path_room c.args.area.size c.args.i (length c.args.nodes.now) c.in-Some.block c.in-Some.count c.in-Some.rest.now c.args.path.now c.in-Some.ensures.some c.requires.nodes).0 c.requires.short)
+pub place_in-place-requires-clause-parts : goal.place_in-place-requires-clause-parts
+place_in-place-requires-clause-parts g t c =
+    let w = c.args.way.now in
+    let f : IsFirst w c.in-Some.block c.in-Some.count c.in-Some.path.now c.split_at.result.0.now c.split_at.result.1.now = record { is = c.in-Some.ensures.some; node_is = c.split_at.ensures.front; others_are = c.split_at.ensures.back } in
+    (node_usable w _ _ _ _ _ f).parts
+
+pub place_in-place-requires-clause-few : goal.place_in-place-requires-clause-few
+place_in-place-requires-clause-few g t c =
+    let w = c.args.way.now in
+    let f : IsFirst w c.in-Some.block c.in-Some.count c.in-Some.path.now c.split_at.result.0.now c.split_at.result.1.now = record { is = c.in-Some.ensures.some; node_is = c.split_at.ensures.front; others_are = c.split_at.ensures.back } in
+    let u = node_usable w _ _ _ _ _ f in omega (arith, u.count_is, u.few)
+
+pub place_in-place-requires-clause-some : goal.place_in-place-requires-clause-some
+place_in-place-requires-clause-some g t c =
+    let w = c.args.way.now in
+    let f : IsFirst w c.in-Some.block c.in-Some.count c.in-Some.path.now c.split_at.result.0.now c.split_at.result.1.now = record { is = c.in-Some.ensures.some; node_is = c.split_at.ensures.front; others_are = c.split_at.ensures.back } in
+    let u = node_usable w _ _ _ _ _ f in omega (arith, u.count_is, u.some)
+
+pub invariant_of-growth : goal.invariant_of-growth
+invariant_of-growth g t c =
+    let w = c.args.way.now in
+    let f : IsFirst w c.in-Some.block c.in-Some.count c.in-Some.path.now c.split_at.result.0.now c.split_at.result.1.now = record { is = c.in-Some.ensures.some; node_is = c.split_at.ensures.front; others_are = c.split_at.ensures.back } in
+    record { kind = w.kind; long = node_long w _ _ _ _ _ f; parts = (node_usable w _ _ _ _ _ f).parts; few = (let u = node_usable w _ _ _ _ _ f in omega (arith, u.count_is, u.few)); inside = c.place_in-place.ensures.most }
+
+pub store_grown-requires-clause-block : goal.store_grown-requires-clause-block
+store_grown-requires-clause-block g t c =
+    let w = c.args.way.now in
+    let f : IsFirst w c.in-Some.block c.in-Some.count c.in-Some.path.now c.split_at.result.0.now c.split_at.result.1.now = record { is = c.in-Some.ensures.some; node_is = c.split_at.ensures.front; others_are = c.split_at.ensures.back } in
+    node_inside w _ _ _ _ _ f
 
 pub store_grown-requires-clause-room : goal.store_grown-requires-clause-room
 store_grown-requires-clause-room g t c =
-    let writes = last_writes c.args.area c.args.key.now c.args.level (c.args.new_key.now, c.args.part.now) c.args.below c.in-Some.block c.in-Some.count c.args.i c.in-Some.rest.now c.args.path.now c.args.nodes.now c.args.news.now c.in-Some.ensures.some c.requires.usable (omega (arith, c.if-count-cell_count.true, c.cell_count.ensures)) in
-    omega (arith, ap length writes, c.requires.room)
+    let w = c.args.way.now in
+    let f : IsFirst w c.in-Some.block c.in-Some.count c.in-Some.path.now c.split_at.result.0.now c.split_at.result.1.now = record { is = c.in-Some.ensures.some; node_is = c.split_at.ensures.front; others_are = c.split_at.ensures.back } in
+    omega (arith, ap length (grown_writes w _ _ _ _ _ f c.args.level c.args.entry.now c.args.below c.place_in-place.result (c.place_in-place.ensures.row (spelled c.args.entry.now)) (omega (arith, c.if-count-cell_count.true, c.cell_count.ensures))), c.requires.room)
 
 pub returns-then-count-cell_count-clause-run : goal.returns-then-count-cell_count-clause-run
 returns-then-count-cell_count-clause-run g t c =
+    let w = c.args.way.now in
+    let f : IsFirst w c.in-Some.block c.in-Some.count c.in-Some.path.now c.split_at.result.0.now c.split_at.result.1.now = record { is = c.in-Some.ensures.some; node_is = c.split_at.ensures.front; others_are = c.split_at.ensures.back } in
     let state = g.T.TxBlocks.state in
-    let a = c.args.area in
-    let size = a.size in
-    let new : Cell = (c.args.new_key.now, c.args.part.now) in
-    let node = bytes_in (record { off = c.args.i * a.size; len = a.size }) c.args.nodes.now in
-    let usable = first_usable a c.args.key.now c.args.level new c.args.below c.in-Some.block c.in-Some.count c.args.i c.in-Some.rest.now c.args.path.now c.args.nodes.now c.args.news.now c.in-Some.ensures.some c.requires.usable in
-    let writes = last_writes a c.args.key.now c.args.level new c.args.below c.in-Some.block c.in-Some.count c.args.i c.in-Some.rest.now c.args.path.now c.args.nodes.now c.args.news.now c.in-Some.ensures.some c.requires.usable (omega (arith, c.if-count-cell_count.true, c.cell_count.ensures)) in
-    let row : row_from size node c.place_in-place.result new 0 (count_of (take (keys_end size) node) + 1) ≡ placed c.args.level c.args.key.now new (used_cells size node) =
-    subst (λ (b : List ℕ). row_from size b c.place_in-place.result new 0 (count_of (take (keys_end size) b) + 1) ≡ placed c.args.level c.args.key.now new (used_cells size b)) c.piece-bytes.ensures.value (c.place_in-place.ensures.row new) in
-    let into : node_bytes size c.args.level (row_from size c.piece-bytes.result.now c.place_in-place.result new 0 (c.in-Some.count + 1)) ≡ node_bytes size c.args.level (placed c.args.level c.args.key.now new (used_cells size node)) =
-    (λ j. node_bytes size c.args.level (row_from size (c.piece-bytes.ensures.value j) c.place_in-place.result new 0 (sym usable.count_is j + 1)))
-    ∙ ap (node_bytes size c.args.level) row in
-    subst (λ (ws : List (ℕ × ℕ × List Cell)). HasRun (store_nodes a ws (Done (Ok tt))) (state c.args.tx.now) (state c.store_grown.new.tx) c.store_grown.result) (sym writes)
-    (subst (λ (b : List ℕ). HasRun (Store (a.start + c.in-Some.block) [] b (Done (Ok tt))) (state c.args.tx.now) (state c.store_grown.new.tx) c.store_grown.result) into c.store_grown.ensures.run)
-
-pub store_halves-requires-clause-room : goal.store_halves-requires-clause-room
-store_halves-requires-clause-room g t c =
-    let writes = code_writes c.args.area c.args.key.now c.args.level (c.args.new_key.now, c.args.part.now) c.args.below c.in-Some.block c.in-Some.count c.args.i c.in-Some.rest.now c.args.path.now c.args.nodes.now c.args.news.now c.in-Some.ensures.some c.requires.usable
-    (omega (arith, c.if-count-cell_count.false, c.cell_count.ensures)) c.in-Some-first_new-2.new c.in-Some-first_new-2.more.now c.in-Some-first_new-2.ensures.some c.place_in-place.result c.piece-bytes.result.now c.piece-bytes.ensures.value (c.place_in-place.ensures.row (c.args.new_key.now, c.args.part.now)) c.requires.within.area.least_size _ _ refl refl in
-    omega (arith, ap length writes, c.requires.room)
-
-pub returns-in-Err-clause-run : goal.returns-in-Err-clause-run
-returns-in-Err-clause-run g t c =
-    let a = c.args.area in
-    let writes = code_writes a c.args.key.now c.args.level (c.args.new_key.now, c.args.part.now) c.args.below c.in-Some.block c.in-Some.count c.args.i c.in-Some.rest.now c.args.path.now c.args.nodes.now c.args.news.now c.in-Some.ensures.some c.requires.usable
-    (omega (arith, c.if-count-cell_count.false, c.cell_count.ensures)) c.in-Some-first_new-2.new c.in-Some-first_new-2.more.now c.in-Some-first_new-2.ensures.some c.place_in-place.result c.piece-bytes.result.now c.piece-bytes.ensures.value (c.place_in-place.ensures.row (c.args.new_key.now, c.args.part.now)) c.requires.within.area.least_size _ _ refl refl in
-    subst (λ (ws : List (ℕ × ℕ × List Cell)). HasRun {X = Unit {0}} (store_nodes a ws (Done (Ok tt))) (g.T.TxBlocks.state c.args.tx.now) (g.T.TxBlocks.state c.store_halves.new.tx) (Err c.in-Err.e)) (sym writes) (c.in-Err.ensures.run _)
-
-pub climb-requires : goal.climb-requires
-climb-requires g t c κs within =
-    let a = c.args.area in
-    let r = c.in-Some-first_new-2.new in
-    let b = c.piece-bytes.result.now in
-    let writes = code_writes a c.args.key.now c.args.level (c.args.new_key.now, c.args.part.now) c.args.below c.in-Some.block c.in-Some.count c.args.i c.in-Some.rest.now c.args.path.now c.args.nodes.now c.args.news.now c.in-Some.ensures.some c.requires.usable
-    (omega (arith, c.if-count-cell_count.false, c.cell_count.ensures)) r c.in-Some-first_new-2.more.now c.in-Some-first_new-2.ensures.some c.place_in-place.result b c.piece-bytes.ensures.value (c.place_in-place.ensures.row (c.args.new_key.now, c.args.part.now)) c.requires.within.area.least_size c.row_key-separator.result.now c.child_part-new_part.result (key_up c.args.area.size c.piece-bytes.result.now c.place_in-place.result c.args.new_key.now ((c.in-Some.count + 1) / 2) c.row_key-separator.ensures c.piece-keys.ensures.value c.cell_count-2.ensures) c.child_part-new_part.ensures in
-    let after = c.in_default-store_halves.ensures.after in
-    let usable = first_usable a c.args.key.now c.args.level (c.args.new_key.now, c.args.part.now) c.args.below c.in-Some.block c.in-Some.count c.args.i c.in-Some.rest.now c.args.path.now c.args.nodes.now c.args.news.now c.in-Some.ensures.some c.requires.usable in
-    let row2 = subst (λ (x : List ℕ). row_from a.size x c.place_in-place.result (c.args.new_key.now, c.args.part.now) 0 (count_of (take (keys_end a.size) x) + 1) ≡ placed c.args.level c.args.key.now (c.args.new_key.now, c.args.part.now) (used_cells a.size x)) c.piece-bytes.ensures.value (c.place_in-place.ensures.row (c.args.new_key.now, c.args.part.now)) in
-    let shorter : length c.args.path.now ≡ suc (length c.in-Some.rest.now) = ap length c.in-Some.ensures.some in
-    let least : length c.args.path.now ≤ 255 = let l = c.requires.level in omega arith in
-    let short : length c.row_key-separator.result.now ≤ 28 = omega (arith, ap length (key_up c.args.area.size c.piece-bytes.result.now c.place_in-place.result c.args.new_key.now ((c.in-Some.count + 1) / 2) c.row_key-separator.ensures c.piece-keys.ensures.value c.cell_count-2.ensures), key_fits a.size b c.place_in-place.result (c.args.new_key.now, c.args.part.now) (subst (λ (x : List ℕ). are_key_parts a.size (take (keys_end a.size) x) ≡ true) (sym c.piece-bytes.ensures.value) usable.parts) c.requires.new_key c.place_in-place.ensures.most ((c.in-Some.count + 1) / 2) (let few = usable.few in omega arith)) in
-    let inside = rest_inside a c.args.key.now c.args.level (c.args.new_key.now, c.args.part.now) c.args.below c.in-Some.block c.in-Some.count c.args.i c.in-Some.rest.now c.args.path.now c.args.nodes.now c.args.news.now c.in-Some.ensures.some c.requires.usable c.requires.path in
-    let space = (path_room c.args.area.size c.args.i (length c.args.nodes.now) c.in-Some.block c.in-Some.count c.in-Some.rest.now c.args.path.now c.in-Some.ensures.some c.requires.nodes).1 in
-    let others = rest_usable a c.args.key.now c.args.level (c.args.new_key.now, c.args.part.now) c.args.below c.in-Some.block c.in-Some.count c.args.i c.in-Some.rest.now c.args.path.now c.args.nodes.now c.args.news.now c.in-Some.ensures.some c.requires.usable in
-    let more = more_inside a c.args.key.now c.args.level (c.args.new_key.now, c.args.part.now) c.args.below c.in-Some.block c.in-Some.count c.args.i c.in-Some.rest.now c.args.path.now c.args.nodes.now c.args.news.now c.in-Some.ensures.some c.requires.usable (omega (arith, c.if-count-cell_count.false, c.cell_count.ensures)) r c.in-Some-first_new-2.more.now c.in-Some-first_new-2.ensures.some c.place_in-place.result row2 c.requires.within.area.least_size c.requires.news in
-    let enough = rest_enough a c.args.key.now c.args.level (c.args.new_key.now, c.args.part.now) c.args.below c.in-Some.block c.in-Some.count c.args.i c.in-Some.rest.now c.args.path.now c.args.nodes.now c.args.news.now c.in-Some.ensures.some c.requires.usable (omega (arith, c.if-count-cell_count.false, c.cell_count.ensures)) r c.in-Some-first_new-2.more.now c.in-Some-first_new-2.ensures.some c.place_in-place.result row2 c.requires.within.area.least_size c.requires.enough in
-    (omega (arith, shorter, c.decreases), (search rules, (record { area = c.requires.within.area; size = after.size ∙ c.requires.within.size; fits = omega (arith, c.requires.within.fits, after.blocks) }, (c.requires.block_size, (after.is_open ∙ c.requires.is_open, (short, (ap length c.child_part-new_part.ensures, (omega (arith, shorter, c.requires.level), (inside, (space, (c.requires.short, (others, (more, (enough, (omega (arith, ap length writes, c.requires.room, after.room), c.store_halves.auto.into ∙ c.requires.into)))))))))))))))
-
-pub returns-clause-run : goal.returns-clause-run
-returns-clause-run g t c =
-    let a = c.args.area in
-    let b = c.piece-bytes.result.now in
-    let writes = code_writes a c.args.key.now c.args.level (c.args.new_key.now, c.args.part.now) c.args.below c.in-Some.block c.in-Some.count c.args.i c.in-Some.rest.now c.args.path.now c.args.nodes.now c.args.news.now c.in-Some.ensures.some c.requires.usable
-    (omega (arith, c.if-count-cell_count.false, c.cell_count.ensures)) c.in-Some-first_new-2.new c.in-Some-first_new-2.more.now c.in-Some-first_new-2.ensures.some c.place_in-place.result b c.piece-bytes.ensures.value (c.place_in-place.ensures.row (c.args.new_key.now, c.args.part.now)) c.requires.within.area.least_size c.row_key-separator.result.now c.child_part-new_part.result (key_up c.args.area.size c.piece-bytes.result.now c.place_in-place.result c.args.new_key.now ((c.in-Some.count + 1) / 2) c.row_key-separator.ensures c.piece-keys.ensures.value c.cell_count-2.ensures) c.child_part-new_part.ensures in
-    subst (λ (ws : List (ℕ × ℕ × List Cell)). HasRun (store_nodes a ws (Done (Ok tt))) (g.T.TxBlocks.state c.args.tx.now) (g.T.TxBlocks.state c.climb.new.tx) c.climb.result) (sym writes) (c.in_default-store_halves.ensures.run _ (g.T.TxBlocks.state c.climb.new.tx) c.climb.result c.climb.ensures.run)
+    subst (λ (ws : List (ℕ × ℕ × List Cell)). HasRun (store_nodes w.area ws (Done (Ok tt))) (state c.args.tx.now) (state c.store_grown.new.tx) c.store_grown.result) (sym (grown_writes w _ _ _ _ _ f c.args.level c.args.entry.now c.args.below c.place_in-place.result (c.place_in-place.ensures.row (spelled c.args.entry.now)) (omega (arith, c.if-count-cell_count.true, c.cell_count.ensures)))) c.store_grown.ensures.run
 
 pub returns-in_default-first_new-2-clause-run : goal.returns-in_default-first_new-2-clause-run
 returns-in_default-first_new-2-clause-run g t c =
-    absurd (full_some c.args.area c.args.key.now c.args.level (c.args.new_key.now, c.args.part.now) c.args.below c.in-Some.block c.in-Some.count c.args.i c.in-Some.rest.now c.args.path.now c.args.nodes.now c.args.news.now c.in-Some.ensures.some c.requires.usable (omega (arith, c.if-count-cell_count.false, c.cell_count.ensures)) c.requires.enough c.in_default-first_new-2.ensures.none)
+    let w = c.args.way.now in
+    let f : IsFirst w c.in-Some.block c.in-Some.count c.in-Some.path.now c.split_at.result.0.now c.split_at.result.1.now = record { is = c.in-Some.ensures.some; node_is = c.split_at.ensures.front; others_are = c.split_at.ensures.back } in
+    absurd (full_some w _ _ _ _ _ f (omega (arith, c.if-count-cell_count.false, c.cell_count.ensures)) c.in_default-first_new-2.ensures.none)
+
+pub store_halves-requires-clause-block : goal.store_halves-requires-clause-block
+store_halves-requires-clause-block g t c =
+    let w = c.args.way.now in
+    let f : IsFirst w c.in-Some.block c.in-Some.count c.in-Some.path.now c.split_at.result.0.now c.split_at.result.1.now = record { is = c.in-Some.ensures.some; node_is = c.split_at.ensures.front; others_are = c.split_at.ensures.back } in
+    node_inside w _ _ _ _ _ f
+
+pub store_halves-requires-clause-new : goal.store_halves-requires-clause-new
+store_halves-requires-clause-new g t c =
+    (subst (AreBlocks c.args.way.now.area) c.in-Some-first_new-2.ensures.some c.args.way.now.blocks).0
+
+pub store_halves-requires-clause-room : goal.store_halves-requires-clause-room
+store_halves-requires-clause-room g t c =
+    let w = c.args.way.now in
+    let f : IsFirst w c.in-Some.block c.in-Some.count c.in-Some.path.now c.split_at.result.0.now c.split_at.result.1.now = record { is = c.in-Some.ensures.some; node_is = c.split_at.ensures.front; others_are = c.split_at.ensures.back } in
+    omega (arith, ap length (halves_writes w _ _ _ _ _ f c.args.level c.args.entry.now c.args.below c.place_in-place.result (c.place_in-place.ensures.row (spelled c.args.entry.now)) (omega (arith, c.if-count-cell_count.false, c.cell_count.ensures)) c.in-Some-first_new-2.new c.in-Some-first_new-2.news.now c.in-Some-first_new-2.ensures.some _ _ refl refl), c.requires.room)
+
+pub returns-in-Err-clause-run : goal.returns-in-Err-clause-run
+returns-in-Err-clause-run g t c =
+    let w = c.args.way.now in
+    let f : IsFirst w c.in-Some.block c.in-Some.count c.in-Some.path.now c.split_at.result.0.now c.split_at.result.1.now = record { is = c.in-Some.ensures.some; node_is = c.split_at.ensures.front; others_are = c.split_at.ensures.back } in
+    subst (λ (ws : List (ℕ × ℕ × List Cell)). HasRun {X = Unit {0}} (store_nodes w.area ws (Done (Ok tt))) (g.T.TxBlocks.state c.args.tx.now) (g.T.TxBlocks.state c.store_halves.new.tx) (Err c.in-Err.e)) (sym (halves_writes w _ _ _ _ _ f c.args.level c.args.entry.now c.args.below c.place_in-place.result (c.place_in-place.ensures.row (spelled c.args.entry.now)) (omega (arith, c.if-count-cell_count.false, c.cell_count.ensures)) c.in-Some-first_new-2.new c.in-Some-first_new-2.news.now c.in-Some-first_new-2.ensures.some _ _ refl refl)) (c.in-Err.ensures.run _)
+
+pub invariant_of-separator : goal.invariant_of-separator
+invariant_of-separator g t c =
+    let w = c.args.way.now in
+    let f : IsFirst w c.in-Some.block c.in-Some.count c.in-Some.path.now c.split_at.result.0.now c.split_at.result.1.now = record { is = c.in-Some.ensures.some; node_is = c.split_at.ensures.front; others_are = c.split_at.ensures.back } in
+    let new = spelled c.args.entry.now in
+    let most : (c.cell_count-2.result + 1) / 2 ≤ cell_count w.area.size = let l = w.kind.least_size in omega (arith, c.cell_count-2.ensures) in
+    record {
+      short = omega (arith, ap length c.row_key.ensures, key_fits w.area.size c.split_at.result.0.now c.place_in-place.result new (node_usable w _ _ _ _ _ f).parts c.args.entry.now.short c.place_in-place.ensures.most ((c.cell_count-2.result + 1) / 2) most);
+      fits = omega arith;
+    }
+
+pub invariant_of-above : goal.invariant_of-above
+invariant_of-above g t c =
+    let w = c.args.way.now in
+    let f : IsFirst w c.in-Some.block c.in-Some.count c.in-Some.path.now c.split_at.result.0.now c.split_at.result.1.now = record { is = c.in-Some.ensures.some; node_is = c.split_at.ensures.front; others_are = c.split_at.ensures.back } in
+    record {
+      kind = w.kind;
+      inside = others_inside w _ _ _ _ _ f;
+      room = others_room w _ _ _ _ _ f;
+      usable = others_usable w _ _ _ _ _ f;
+      blocks = (subst (AreBlocks w.area) c.in-Some-first_new-2.ensures.some w.blocks).1;
+      enough = rest_enough w _ _ _ _ _ f (omega (arith, c.if-count-cell_count.false, c.cell_count.ensures)) c.in-Some-first_new-2.new c.in-Some-first_new-2.news.now c.in-Some-first_new-2.ensures.some;
+    }
+
+pub climb-requires : goal.climb-requires
+climb-requires g t c κs within =
+    let w = c.args.way.now in
+    let f : IsFirst w c.in-Some.block c.in-Some.count c.in-Some.path.now c.split_at.result.0.now c.split_at.result.1.now = record { is = c.in-Some.ensures.some; node_is = c.split_at.ensures.front; others_are = c.split_at.ensures.back } in
+    let after = c.in_default-store_halves.ensures.after in
+    let shorter : length w.path.now ≡ suc (length c.in-Some.path.now) = ap length c.in-Some.ensures.some in
+    let writes = halves_writes w _ _ _ _ _ f c.args.level c.args.entry.now c.args.below c.place_in-place.result (c.place_in-place.ensures.row (spelled c.args.entry.now)) (omega (arith, c.if-count-cell_count.false, c.cell_count.ensures)) c.in-Some-first_new-2.new c.in-Some-first_new-2.news.now c.in-Some-first_new-2.ensures.some _ _ (c.row_key.ensures ∙ (λ i. key_in_row (take (keys_end w.area.size) c.split_at.result.0.now) c.place_in-place.result c.args.entry.now.key.now ((c.cell_count-2.ensures i + 1) / 2))) c.to_be_bytes-number.ensures in
+    let fits : length (climb (cell_count w.area.size) w.key.now (c.args.level + 1) (c.row_key.result.now, value_part c.to_be_bytes-number.result) c.in-Some.block (nodes_from w.area.size c.split_at.result.1.now c.in-Some.path.now) c.in-Some-first_new-2.news.now).writes ≤ room_of (g.T.TxBlocks.state c.store_halves.new.tx) =
+    omega (arith, ap length writes, c.requires.room, after.room) in
+    (omega (arith, shorter, c.decreases), (search rules, (record { area = w.kind; size = after.size ∙ c.requires.within.size; fits = omega (arith, c.requires.within.fits, after.blocks) }, (after.is_open ∙ c.requires.is_open, (omega (arith, shorter, c.requires.level), (fits, c.store_halves.auto.into ∙ c.requires.into))))))
+
+pub returns-clause-run : goal.returns-clause-run
+returns-clause-run g t c =
+    let w = c.args.way.now in
+    let f : IsFirst w c.in-Some.block c.in-Some.count c.in-Some.path.now c.split_at.result.0.now c.split_at.result.1.now = record { is = c.in-Some.ensures.some; node_is = c.split_at.ensures.front; others_are = c.split_at.ensures.back } in
+    let state = g.T.TxBlocks.state in
+    let writes = halves_writes w _ _ _ _ _ f c.args.level c.args.entry.now c.args.below c.place_in-place.result (c.place_in-place.ensures.row (spelled c.args.entry.now)) (omega (arith, c.if-count-cell_count.false, c.cell_count.ensures)) c.in-Some-first_new-2.new c.in-Some-first_new-2.news.now c.in-Some-first_new-2.ensures.some _ _ (c.row_key.ensures ∙ (λ i. key_in_row (take (keys_end w.area.size) c.split_at.result.0.now) c.place_in-place.result c.args.entry.now.key.now ((c.cell_count-2.ensures i + 1) / 2))) c.to_be_bytes-number.ensures in
+    subst (λ (ws : List (ℕ × ℕ × List Cell)). HasRun (store_nodes w.area ws (Done (Ok tt))) (state c.args.tx.now) (state c.climb.new.tx) c.climb.result) (sym writes) (c.in_default-store_halves.ensures.run _ (state c.climb.new.tx) c.climb.result c.climb.ensures.run)
 
 pub returns-in_default-clause-run : goal.returns-in_default-clause-run
 returns-in_default-clause-run g t c =
     let state = g.T.TxBlocks.state in
-    root_run c.args.area (cell_count c.args.area.size) c.args.key.now c.args.level (c.args.new_key.now, c.args.part.now) c.args.below c.args.i c.in-Some-first_new.root c.args.path.now c.args.nodes.now c.args.news.now c.in-Some-first_new.field-0-1.now c.fill_root.new.into
+    let w = c.args.way.now in
+    root_run w.area (cell_count w.area.size) w.key.now c.args.level (spelled c.args.entry.now) c.args.below c.in-Some-first_new.root w.path.now w.nodes.now w.news.now c.in-Some-first_new.field-0-1.now c.fill_root.new.into
     (state c.args.tx.now) (state c.store_next.new.tx) c.store_next.result (search rules) c.in-Some-first_new.ensures.some
-    (c.fill_root.ensures ∙ ap (λ (n : ℕ). node_bytes n c.args.level (root_cells c.args.level c.args.below (c.args.new_key.now, c.args.part.now))) c.requires.into) (followed_end _ (state c.args.tx.now) (state c.store_next.new.tx) c.store_next.result (c.store_next.ensures.run (Done (Ok tt))))
+    (c.fill_root.ensures ∙ ap (λ (n : ℕ). node_bytes n c.args.level (root_cells c.args.level c.args.below (spelled c.args.entry.now))) c.requires.into) (followed_end _ (state c.args.tx.now) (state c.store_next.new.tx) c.store_next.result (c.store_next.ensures.run (Done (Ok tt))))

@@ -4,11 +4,11 @@ use Rattle.iso_tree.proofs.enlarge.put_new.Goals as goal
 
 pub returns-in_default-clause-run : goal.returns-in_default-clause-run
 returns-in_default-clause-run g c =
-    map_refused c.args.area c.args.key.now c.args.value.now c.args.path.now (g.T.TxBlocks.state c.args.tx.now) (g.T.TxBlocks.state c.args.tx.now) (g.T.TxBlocks.device c.args.tx.now) (g.T.TxBlocks.device c.args.tx.now) error.Memory refl refl
+    map_refused c.args.area c.args.entry.now.key.now c.args.entry.now.value.now c.args.path.now (g.T.TxBlocks.state c.args.tx.now) (g.T.TxBlocks.state c.args.tx.now) (g.T.TxBlocks.device c.args.tx.now) (g.T.TxBlocks.device c.args.tx.now) error.Memory refl refl
 
 pub returns-in_default-buffer-clause-run : goal.returns-in_default-buffer-clause-run
 returns-in_default-buffer-clause-run g c =
-    map_refused c.args.area c.args.key.now c.args.value.now c.args.path.now (g.T.TxBlocks.state c.args.tx.now) (g.T.TxBlocks.state c.args.tx.now) (g.T.TxBlocks.device c.args.tx.now) (g.T.TxBlocks.device c.args.tx.now) error.Memory refl refl
+    map_refused c.args.area c.args.entry.now.key.now c.args.entry.now.value.now c.args.path.now (g.T.TxBlocks.state c.args.tx.now) (g.T.TxBlocks.state c.args.tx.now) (g.T.TxBlocks.device c.args.tx.now) (g.T.TxBlocks.device c.args.tx.now) error.Memory refl refl
 
 pub returns-in-Err-clause-run : goal.returns-in-Err-clause-run
 returns-in-Err-clause-run g c = grind (arith, map_refused) steps 100000
@@ -30,7 +30,7 @@ put_taken-requires-clause-path g c =
 pub returns-clause-run : goal.returns-clause-run
 returns-clause-run g c =
     let state = g.T.TxBlocks.state in
-    map_run c.args.area c.args.key.now c.args.value.now c.args.path.now (state c.args.tx.now) (state c.look.new.tx) (state c.put_taken.new.tx) c.look.new.into c.put_taken.result c.in_default-look.ensures.bytes (g.met.T.TxBlocks.limits c.look.new.tx).count (looked_as (state c.args.tx.now) (state c.look.new.tx) c.args.area.start _ _ c.in_default-look.ensures.read c.map_mark.ensures) c.put_taken.ensures.run
+    map_run c.args.area c.args.entry.now.key.now c.args.entry.now.value.now c.args.path.now (state c.args.tx.now) (state c.look.new.tx) (state c.put_taken.new.tx) c.look.new.into c.put_taken.result c.in_default-look.ensures.bytes (g.met.T.TxBlocks.limits c.look.new.tx).count (looked_as (state c.args.tx.now) (state c.look.new.tx) c.args.area.start _ _ c.in_default-look.ensures.read c.map_mark.ensures) c.put_taken.ensures.run
 
 pub returns-clause-behaves : goal.returns-clause-behaves
 returns-clause-behaves g c =

@@ -1,4 +1,4 @@
-use Rattle.iso_tree.proofs.{Words.{◌∙◌, sym, ap, subst, ℕ, suc, ◌+◌, ◌*◌, ◌<◌, ◌≤◌, List, length, take, arith, Region, cell_count, map_mark, bytes_in, behaves_next, AreInside, full_row, need_of}, Enlarging.{all_taken, need_taken, room_taken, row_taken, used_same, shown_taken, news_are, taken_is, few_run, taken_refused, taken_run}}
+use Rattle.iso_tree.proofs.{Words.{◌∙◌, sym, ap, subst, ℕ, suc, ◌*◌, ◌<◌, ◌≤◌, List, length, take, arith, Region, cell_count, map_mark, bytes_in, behaves_next, AreInside, need_of}, Enlarging.{all_taken, need_taken, room_taken, used_same, shown_taken, news_are, taken_is, few_run, taken_refused, taken_run}}
 use Rattle.iso_tree.proofs.enlarge.put_taken.Goals as goal
 
 pub returns-then-free-need-clause-run : goal.returns-then-free-need-clause-run
@@ -11,21 +11,16 @@ look_nodes-requires-clause-usable g c =
 pub returns-in-Err-clause-run : goal.returns-in-Err-clause-run
 returns-in-Err-clause-run g c =
     taken_refused c.args.area c.requires.within.area c.args.path.now c.args.map.now c.full_row-full.result c.need_of-need.result c.free_blocks-free.result c.full_row-full.ensures.value c.need_of-need.ensures
-    c.region_of-region.result.size (ap (λ (r : Region). r.size) c.region_of-region.ensures) c.free_blocks-free.ensures c.args.key.now c.args.value.now (g.T.TxBlocks.state c.args.tx.now) (omega (arith, c.if-free-need.false))
+    c.region_of-region.result.size (ap (λ (r : Region). r.size) c.region_of-region.ensures) c.free_blocks-free.ensures c.args.entry.now.key.now c.args.entry.now.value.now (g.T.TxBlocks.state c.args.tx.now) (omega (arith, c.if-free-need.false))
     c.written-rows.result.now c.written-rows.ensures (g.T.TxBlocks.state c.look_nodes.new.tx) c.in-Err.e c.in-Err.ensures.refused
 
-pub put_writes-requires-clause-path : goal.put_writes-requires-clause-path
-put_writes-requires-clause-path g c =
+pub invariant_of-way-clause-inside : goal.invariant_of-way-clause-inside
+invariant_of-way-clause-inside g c =
     subst (AreInside c.args.area) (sym c.written-rows.ensures) (all_taken (λ (p : ℕ × ℕ). p.0 < c.args.area.blocks) (suc c.full_row-full.result) c.args.path.now c.requires.path.inside)
 
-pub put_writes-requires-clause-full : goal.put_writes-requires-clause-full
-put_writes-requires-clause-full g c =
-    let n = cell_count c.args.area.size in
-    c.full_row-full.ensures.value ∙ sym (row_taken n c.args.path.now) ∙ ap (λ (f : ℕ). full_row n (take (suc f) c.args.path.now)) (sym c.full_row-full.ensures.value) ∙ ap (full_row n) (sym c.written-rows.ensures)
-
-pub put_writes-requires-clause-nodes : goal.put_writes-requires-clause-nodes
-put_writes-requires-clause-nodes g c =
-    subst (λ (p : List (ℕ × ℕ)). (0 + length p) * c.args.area.size ≤ length c.look_nodes.new.nodes) (sym c.written-rows.ensures)
+pub invariant_of-way-clause-room : goal.invariant_of-way-clause-room
+invariant_of-way-clause-room g c =
+    subst (λ (p : List (ℕ × ℕ)). length p * c.args.area.size ≤ length c.look_nodes.new.nodes) (sym c.written-rows.ensures)
     (room_taken c.args.area.size (suc c.full_row-full.result) (length c.look_nodes.new.nodes) c.args.path.now (omega (arith, c.look_nodes.auto.nodes, c.requires.nodes)))
 
 pub put_writes-requires-clause-rising : goal.put_writes-requires-clause-rising
@@ -33,13 +28,13 @@ put_writes-requires-clause-rising g c =
     (news_are c.args.area c.requires.within.area c.args.path.now c.args.map.now c.full_row-full.result c.need_of-need.result c.free_blocks-free.result c.full_row-full.ensures.value c.need_of-need.ensures
     c.region_of-region.result.size (ap (λ (r : Region). r.size) c.region_of-region.ensures) c.free_blocks-free.ensures (omega (arith, c.if-free-need.false)) c.take_blocks.new.news c.take_blocks.ensures.taken).0
 
-pub put_writes-requires-clause-news : goal.put_writes-requires-clause-news
-put_writes-requires-clause-news g c =
+pub invariant_of-way-clause-blocks : goal.invariant_of-way-clause-blocks
+invariant_of-way-clause-blocks g c =
     (news_are c.args.area c.requires.within.area c.args.path.now c.args.map.now c.full_row-full.result c.need_of-need.result c.free_blocks-free.result c.full_row-full.ensures.value c.need_of-need.ensures
     c.region_of-region.result.size (ap (λ (r : Region). r.size) c.region_of-region.ensures) c.free_blocks-free.ensures (omega (arith, c.if-free-need.false)) c.take_blocks.new.news c.take_blocks.ensures.taken).1
 
-pub put_writes-requires-clause-enough : goal.put_writes-requires-clause-enough
-put_writes-requires-clause-enough g c =
+pub invariant_of-way-clause-enough : goal.invariant_of-way-clause-enough
+invariant_of-way-clause-enough g c =
     let n = cell_count c.args.area.size in
     let news = news_are c.args.area c.requires.within.area c.args.path.now c.args.map.now c.full_row-full.result c.need_of-need.result c.free_blocks-free.result c.full_row-full.ensures.value c.need_of-need.ensures
     c.region_of-region.result.size (ap (λ (r : Region). r.size) c.region_of-region.ensures) c.free_blocks-free.ensures (omega (arith, c.if-free-need.false)) c.take_blocks.new.news c.take_blocks.ensures.taken in
@@ -55,8 +50,8 @@ returns-clause-run g c =
     let inside = (news_are c.args.area c.requires.within.area c.args.path.now c.args.map.now c.full_row-full.result c.need_of-need.result c.free_blocks-free.result c.full_row-full.ensures.value c.need_of-need.ensures
     c.region_of-region.result.size (ap (λ (r : Region). r.size) c.region_of-region.ensures) c.free_blocks-free.ensures (omega (arith, c.if-free-need.false)) c.take_blocks.new.news c.take_blocks.ensures.taken).1 in
     taken_run c.args.area c.requires.within.area c.args.path.now c.args.map.now c.full_row-full.result c.need_of-need.result c.free_blocks-free.result c.full_row-full.ensures.value c.need_of-need.ensures
-    c.region_of-region.result.size (ap (λ (r : Region). r.size) c.region_of-region.ensures) c.free_blocks-free.ensures c.args.key.now c.args.value.now (state c.args.tx.now) (omega (arith, c.if-free-need.false))
-    c.written-rows.result.now c.written-rows.ensures (state c.look_nodes.new.tx) (state c.put_writes.new.tx) c.put_writes.result c.look_nodes.new.nodes (take c.need_of-need.result c.take_blocks.new.news) c.value_part-part.result is c.value_part-part.ensures c.in_default.ensures.read
+    c.region_of-region.result.size (ap (λ (r : Region). r.size) c.region_of-region.ensures) c.free_blocks-free.ensures c.args.entry.now.key.now c.args.entry.now.value.now (state c.args.tx.now) (omega (arith, c.if-free-need.false))
+    c.written-rows.result.now c.written-rows.ensures (state c.look_nodes.new.tx) (state c.put_writes.new.tx) c.put_writes.result c.look_nodes.new.nodes (take c.need_of-need.result c.take_blocks.new.news) is c.in_default.ensures.read
     (c.put_writes.ensures.run (bytes_in (map_mark c.args.area.blocks) c.args.map.now) (used_same c.args.area c.requires.within.area c.args.map.now c.take_blocks.new.map (take c.need_of-need.result c.take_blocks.new.news) inside c.take_blocks.ensures.used))
 
 pub returns-clause-behaves : goal.returns-clause-behaves

@@ -1,39 +1,34 @@
-use Rattle.iso_tree.proofs.{Words.{◌≡◌, ◌∙◌, sym, refl, ap, subst, ℕ, suc, ◌+◌, ◌*◌, ◌≤◌, [], ◌∷◌, length, rules, arith, look_access, Tx, HasArea, IsTreeArea, read_one}, Descending.reads_after, Rereading.{few_nodes, map_ok, map_err, first_refused, rest_refused, rest_read, shown_after, here_after, before_after, none_again, path_room, usable_more}}
+use Rattle.iso_tree.proofs.{Words.{◌≡◌, ◌∙◌, refl, ap, subst, suc, ◌+◌, ◌*◌, ◌≤◌, [], ◌∷◌, length, rules, arith, look_access, Tx, HasArea, IsTreeArea, read_one, used_cells, AreInside}, Descending.reads_after, Rereading.{map_ok, map_err, first_refused, rest_refused, rest_read, shown_after, none_again, path_room, usable_more}}
 use Rattle.iso_tree.proofs.grow.+look_nodes.Goals as goal
+
+pub split_at_mut-node-requires : goal.split_at_mut-node-requires
+split_at_mut-node-requires g t c = (path_room c.args.area.size (length c.args.nodes.now) c.in-Some.block c.in-Some.count c.in-Some.rest.now c.args.path.now c.in-Some.ensures.some c.requires.nodes).0
 
 pub returns-in-Err-clause-refused : goal.returns-in-Err-clause-refused
 returns-in-Err-clause-refused g t c = λ f.
     first_refused c.args.area c.in-Some.block c.in-Some.count c.in-Some.rest.now c.args.path.now c.in-Some.ensures.some f (g.T.TxBlocks.state c.args.tx.now) (g.T.TxBlocks.state c.look_whole.new.tx)
     (g.T.TxBlocks.device c.args.tx.now) (g.T.TxBlocks.device c.look_whole.new.tx) c.in-Err.e c.in-Err.ensures.kept c.in-Err.ensures.cause
 
-pub lay-requires : goal.lay-requires
-lay-requires g t c =
-    omega (arith, (path_room c.args.area.size c.args.i (length c.args.nodes.now) c.in-Some.block c.in-Some.count c.in-Some.rest.now c.args.path.now c.in-Some.ensures.some c.requires.nodes).0, c.look_whole.auto.into, c.requires.into)
-
-pub overflow_add-i : goal.overflow_add-i
-overflow_add-i g t c = omega (arith, few_nodes c.args.i c.args.area.size _ c.requires.within.area.least_size (path_room c.args.area.size c.args.i (length c.args.nodes.now) c.in-Some.block c.in-Some.count c.in-Some.rest.now c.args.path.now c.in-Some.ensures.some c.requires.nodes).0 c.requires.short)
-
 pub look_nodes-requires : goal.look_nodes-requires
 look_nodes-requires g t c κs within =
     let state = g.T.TxBlocks.state in
     let read = c.in_default-look_whole.ensures.read in
     let shorter : length c.args.path.now ≡ suc (length c.in-Some.rest.now) = ap length c.in-Some.ensures.some in
-    let room = (path_room c.args.area.size c.args.i (length c.args.nodes.now) c.in-Some.block c.in-Some.count c.in-Some.rest.now c.args.path.now c.in-Some.ensures.some c.requires.nodes).1 in
-    let inside = subst (Rattle.iso_tree.specs.Rows.AreInside c.args.area) c.in-Some.ensures.some c.requires.path in
+    let inside = subst (AreInside c.args.area) c.in-Some.ensures.some c.requires.path in
     let there : HasArea IsTreeArea (state c.look_whole.new.tx) c.args.area = record { area = c.requires.within.area; size = ap (λ (w : Tx). w.size) read ∙ c.requires.within.size; fits = omega (arith, c.requires.within.fits, ap (λ (w : Tx). w.blocks) read) } in
     let usable = shown_after c.args.area c.in-Some.block c.in-Some.count c.in-Some.rest.now c.args.path.now (state c.args.tx.now) (state c.look_whole.new.tx) (c.args.area.start + c.in-Some.block) c.in-Some.ensures.some read c.requires.usable in
-    let fits = subst (λ (n : ℕ). (c.args.i + 1 + length c.in-Some.rest.now) * c.args.area.size ≤ n) (sym c.lay.auto.into) room in
-    (omega (arith, shorter, c.decreases), (search rules, (there, (c.requires.block_size, (ap (λ (w : Tx). w.is_open) read ∙ c.requires.is_open, (inside.1, (usable, (fits, (omega (arith, c.requires.short, c.lay.auto.into), c.look_whole.auto.into ∙ c.requires.into)))))))))
+    let room = (path_room c.args.area.size (length c.args.nodes.now) c.in-Some.block c.in-Some.count c.in-Some.rest.now c.args.path.now c.in-Some.ensures.some c.requires.nodes).1 in
+    let fits : length c.in-Some.rest.now * c.args.area.size ≤ length c.split_at_mut-node.result.1.now = omega (arith, room, c.split_at_mut-node.ensures.back_len) in
+    (omega (arith, shorter, c.decreases), (search rules, (there, (ap (λ (w : Tx). w.is_open) read ∙ c.requires.is_open, (inside.1, (usable, fits))))))
 
 pub returns-clause-read : goal.returns-clause-read
 returns-clause-read g t c =
     let state = g.T.TxBlocks.state in
     let a = c.args.area in
-    let room = (path_room a.size c.args.i (length c.args.nodes.now) c.in-Some.block c.in-Some.count c.in-Some.rest.now c.args.path.now c.in-Some.ensures.some c.requires.nodes).0 in
-    let here = here_after a.size c.args.i c.look_whole.new.into c.args.nodes.now c.lay.new.into c.look_nodes.new.nodes (c.look_whole.auto.into ∙ c.requires.into) room c.lay.ensures c.look_nodes.ensures.kept in
+    let bytes = c.look_whole.new.into in
     map_ok c.look_nodes.result (λ read. λ f.
-    rest_read a c.in-Some.block c.in-Some.count c.in-Some.rest.now c.args.path.now c.in-Some.ensures.some f c.look_whole.new.into (state c.args.tx.now) (state c.look_whole.new.tx) c.in_default-look_whole.ensures.bytes
-    (g.met.T.TxBlocks.limits c.look_whole.new.tx).count c.in_default-look_whole.ensures.read (state c.look_nodes.new.tx) c.look_nodes.new.nodes c.args.i here (read (λ nodes. f ((c.in-Some.block, Rattle.store_model.specs.TreeNodes.used_cells a.size c.look_whole.new.into) ∷ nodes)))) c.look_nodes.ensures.read
+    rest_read a c.in-Some.block c.in-Some.count c.in-Some.rest.now c.args.path.now c.in-Some.ensures.some f bytes (state c.args.tx.now) (state c.look_whole.new.tx) c.in_default-look_whole.ensures.bytes
+    (g.met.T.TxBlocks.limits c.look_whole.new.tx).count c.in_default-look_whole.ensures.read (state c.look_nodes.new.tx) c.look_nodes.new.nodes (c.look_whole.auto.into ∙ c.split_at_mut-node.ensures.front_len) (read (λ nodes. f ((c.in-Some.block, used_cells a.size bytes) ∷ nodes)))) c.look_nodes.ensures.read
 
 pub returns-clause-refused : goal.returns-clause-refused
 returns-clause-refused g t c =
@@ -41,19 +36,12 @@ returns-clause-refused g t c =
     let a = c.args.area in
     map_err c.look_nodes.result (λ e run. λ f.
     rest_refused a c.in-Some.block c.in-Some.count c.in-Some.rest.now c.args.path.now c.in-Some.ensures.some f c.look_whole.new.into (state c.args.tx.now) (state c.look_whole.new.tx) c.in_default-look_whole.ensures.bytes
-    (g.met.T.TxBlocks.limits c.look_whole.new.tx).count c.in_default-look_whole.ensures.read (state c.look_nodes.new.tx) e (run (λ nodes. f ((c.in-Some.block, Rattle.store_model.specs.TreeNodes.used_cells a.size c.look_whole.new.into) ∷ nodes)))) c.look_nodes.ensures.refused
+    (g.met.T.TxBlocks.limits c.look_whole.new.tx).count c.in_default-look_whole.ensures.read (state c.look_nodes.new.tx) e (run (λ nodes. f ((c.in-Some.block, used_cells a.size c.look_whole.new.into) ∷ nodes)))) c.look_nodes.ensures.refused
 
 pub returns-clause-usable : goal.returns-clause-usable
 returns-clause-usable g t c =
-    let a = c.args.area in
-    let room = (path_room a.size c.args.i (length c.args.nodes.now) c.in-Some.block c.in-Some.count c.in-Some.rest.now c.args.path.now c.in-Some.ensures.some c.requires.nodes).0 in
-    let here = here_after a.size c.args.i c.look_whole.new.into c.args.nodes.now c.lay.new.into c.look_nodes.new.nodes (c.look_whole.auto.into ∙ c.requires.into) room c.lay.ensures c.look_nodes.ensures.kept in
-    map_ok c.look_nodes.result (λ others. usable_more a.size c.args.i c.in-Some.block c.in-Some.count c.in-Some.rest.now c.args.path.now c.look_nodes.new.nodes c.look_whole.new.into c.in-Some.ensures.some here (c.is_usable.ensures.0 c.if-not-is_usable.false) others) c.look_nodes.ensures.usable
-
-pub returns-clause-kept : goal.returns-clause-kept
-returns-clause-kept g t c =
-    let room = (path_room c.args.area.size c.args.i (length c.args.nodes.now) c.in-Some.block c.in-Some.count c.in-Some.rest.now c.args.path.now c.in-Some.ensures.some c.requires.nodes).0 in
-    before_after c.args.area.size c.args.i c.look_whole.new.into c.args.nodes.now c.lay.new.into c.look_nodes.new.nodes room c.lay.ensures c.look_nodes.ensures.kept
+    map_ok c.look_nodes.result (λ others. usable_more c.args.area.size c.in-Some.block c.in-Some.count c.in-Some.rest.now c.args.path.now c.look_whole.new.into c.look_nodes.new.nodes c.in-Some.ensures.some
+    (c.look_whole.auto.into ∙ c.split_at_mut-node.ensures.front_len) (c.is_usable.ensures.0 c.if-not-is_usable.false) others) c.look_nodes.ensures.usable
 
 pub returns-clause-reads : goal.returns-clause-reads
 returns-clause-reads g t c =
@@ -63,4 +51,4 @@ returns-clause-reads g t c =
     c.in_default-look_whole.ensures.later c.in_default-look_whole.ensures.passed c.look_nodes.ensures.reads
 
 pub returns-in_default-clause-read : goal.returns-in_default-clause-read
-returns-in_default-clause-read g t c = λ f. none_again c.args.area c.args.path.now f c.args.nodes.now c.args.i (g.T.TxBlocks.state c.args.tx.now) (search rules)
+returns-in_default-clause-read g t c = λ f. none_again c.args.area c.args.path.now f c.args.nodes.now (g.T.TxBlocks.state c.args.tx.now) (search rules)

@@ -4,13 +4,13 @@ use Rattle.iso_tree.proofs.insert.put_below.Goals as goal
 pub returns-in-Err-clause-run : goal.returns-in-Err-clause-run
 returns-in-Err-clause-run g c =
     let state = g.T.TxBlocks.state in
-    below_refused (with_map c.args.area c.args.key.now c.args.value.now []) c.args.area c.args.key.now false c.args.root c.args.level (put_at c.args.area c.args.key.now c.args.value.now) c.if-root-eq0.false (λ block. refl) (state c.args.tx.now) (state c.descend.new.tx) c.descend.new.path c.descend.new.buffer c.in-Err.e c.in-Err.ensures.run
+    below_refused (with_map c.args.root.area c.args.entry.now.key.now c.args.entry.now.value.now []) c.args.root.area c.args.entry.now.key.now false c.args.root.block c.args.root.level (put_at c.args.root.area c.args.entry.now.key.now c.args.entry.now.value.now) c.if-root-eq0.false (λ block. refl) (state c.args.tx.now) (state c.descend.new.tx) c.descend.new.path c.descend.new.buffer c.in-Err.e c.in-Err.ensures.run
 
 pub put_value-requires-clause-cell : goal.put_value-requires-clause-cell
 put_value-requires-clause-cell g c =
-    let keys = take (keys_end c.args.area.size) c.descend.new.buffer in
-    let used = cell_used c.args.key.now keys c.in-Some.cell (sym c.in-Ok.ensures.leaf.cell ∙ c.in-Some.is) in
-    omega (arith, used, (node_parts c.args.area.size 0 keys c.in-Ok.ensures.leaf.node).few)
+    let keys = take (keys_end c.args.root.area.size) c.descend.new.buffer in
+    let used = cell_used c.args.entry.now.key.now keys c.in-Some.cell (sym c.in-Ok.ensures.leaf.cell ∙ c.in-Some.is) in
+    omega (arith, used, (node_parts c.args.root.area.size 0 keys c.in-Ok.ensures.leaf.node).few)
 
 pub returns-in-Some-clause-run : goal.returns-in-Some-clause-run
 returns-in-Some-clause-run g c = grind (arith, put_found)
@@ -21,7 +21,7 @@ returns-in-Some-clause-behaves g c = behaves_next c.in-Ok.ensures.reads.reads c.
 pub returns-then-leaf-cell_count-clause-run : goal.returns-then-leaf-cell_count-clause-run
 returns-then-leaf-cell_count-clause-run g c =
     let state = g.T.TxBlocks.state in
-    put_room c.args.area c.args.key.now c.args.value.now c.args.root c.args.level c.if-root-eq0.false (state c.args.tx.now) (state c.descend.new.tx) c.descend.new.path c.descend.new.buffer c.in-Ok.leaf c.in-Ok.ensures.leaf c.in-Ok.ensures.run
+    put_room c.args.root.area c.args.entry.now.key.now c.args.entry.now.value.now c.args.root.block c.args.root.level c.if-root-eq0.false (state c.args.tx.now) (state c.descend.new.tx) c.descend.new.path c.descend.new.buffer c.in-Ok.leaf c.in-Ok.ensures.leaf c.in-Ok.ensures.run
     (state c.put_cell.new.tx) c.put_cell.result (missing c.in-Ok.leaf.cell c.in_default.not-Some) (omega (arith, c.if-leaf-cell_count.true, c.cell_count.ensures)) c.put_cell.ensures.run
 
 pub returns-then-leaf-cell_count-clause-behaves : goal.returns-then-leaf-cell_count-clause-behaves
@@ -30,16 +30,16 @@ returns-then-leaf-cell_count-clause-behaves g c = behaves_next c.in-Ok.ensures.r
 pub put_new-requires-2-clause-path : goal.put_new-requires-2-clause-path
 put_new-requires-2-clause-path g c =
     let state = g.T.TxBlocks.state in
-    let n = cell_count c.args.area.size in
+    let n = cell_count c.args.root.area.size in
     let least = c.requires.within.area.least_size in
     let one : 1 ≤ c.in-Ok.leaf.count = omega (arith, c.if-leaf-cell_count.false, c.cell_count.ensures) in
-    let few = (node_parts c.args.area.size 0 (take (keys_end c.args.area.size) c.descend.new.buffer) c.in-Ok.ensures.leaf.node).few in
+    let few = (node_parts c.args.root.area.size 0 (take (keys_end c.args.root.area.size) c.descend.new.buffer) c.in-Ok.ensures.leaf.node).few in
     let full : c.in-Ok.leaf.count ≡ n = omega (arith, c.if-leaf-cell_count.false, c.cell_count.ensures, c.in-Ok.ensures.leaf.count) in
-    let long : length c.descend.new.path + 1 ≤ 32 = omega (arith, c.in-Ok.ensures.long, c.requires.head.level) in
-    subst (NeedsBlocks c.args.area (state c.descend.new.tx)) (sym (c.nodes.ensures ∙ c.push.ensures)) (record {
+    let long : length c.descend.new.path + 1 ≤ 32 = omega (arith, c.in-Ok.ensures.long, c.args.root.low) in
+    subst (NeedsBlocks c.args.root.area (state c.descend.new.tx)) (sym (c.nodes.ensures ∙ c.push.ensures)) (record {
       inside = (c.in-Ok.ensures.leaf.inside, c.in-Ok.ensures.path);
       long = omega (arith, long);
-      usable = leaf_usable c.args.area c.args.key.now c.args.value.now c.args.root c.args.level c.if-root-eq0.false (state c.args.tx.now) (state c.descend.new.tx) c.descend.new.path c.descend.new.buffer c.in-Ok.leaf c.in-Ok.ensures.leaf c.in-Ok.ensures.run c.in-Ok.ensures.reads.reads one;
+      usable = leaf_usable c.args.root.area c.args.entry.now.key.now c.args.entry.now.value.now c.args.root.block c.args.root.level c.if-root-eq0.false (state c.args.tx.now) (state c.descend.new.tx) c.descend.new.path c.descend.new.buffer c.in-Ok.leaf c.in-Ok.ensures.leaf c.in-Ok.ensures.run c.in-Ok.ensures.reads.reads one;
       some = full_needs n c.in-Ok.leaf.block c.in-Ok.leaf.count c.descend.new.path full;
     })
 

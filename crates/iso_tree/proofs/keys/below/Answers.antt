@@ -5,7 +5,7 @@ returns-then-not-is_before-clause-value c = grind (arith, below_ends) steps 1000
 
 pub loop-cell-preserved : Rattle.iso_tree.proofs.keys.below.Goals.loop-cell-preserved
 loop-cell-preserved c =
-    let e : before (key_at c.args.keys.now c.loop-cell.cell) c.args.key.now ≡ c.is_before.result = ap (λ (x : List ℕ). before x c.args.key.now) (sym c.key_of.ensures) ∙ sym c.is_before.ensures in
-    let on = below_goes_on c.args.key.now c.args.keys.now c.loop-cell.cell c.count_of-count.result (c.loop-cell.cell - c.args.first) _ c.loop-cell-test.true c.loop-cell.invariant (e ∙ c.if-not-is_before.false) in
+    let e : before (key_at c.args.keys.now.bytes.now c.loop-cell.cell) c.args.key.now ≡ c.is_before.result = ap (λ (x : List ℕ). before x c.args.key.now) (sym c.key_of.ensures) ∙ sym c.is_before.ensures in
+    let on = below_goes_on c.args.key.now c.args.keys.now.bytes.now c.loop-cell.cell c.count_of-count.result (c.loop-cell.cell - c.args.first) _ c.loop-cell-test.true c.loop-cell.invariant (e ∙ c.if-not-is_before.false) in
     let past = c.loop-cell.auto.cell in
     omega arith

@@ -2,4 +2,4 @@ use Rattle.iso_tree.proofs.Words.{◌≡◌, ◌-◌, bytes_eq, key_at, first_fr
 
 -- the cells that are left decide
 abbrev pub invariant-loop-cell : Rattle.iso_tree.proofs.keys.cell_of.Given.invariant-loop-cell
-invariant-loop-cell l = first_from (λ i. bytes_eq (key_at l.keys i) l.key) l.cell (l.cell-end - l.cell) ≡ cell_of l.key l.keys
+invariant-loop-cell l = first_from (λ i. bytes_eq (key_at l.keys.bytes.now i) l.key) l.cell (l.cell-end - l.cell) ≡ cell_of l.key l.keys.bytes.now

@@ -2,10 +2,10 @@ use Rattle.iso_tree.proofs.{Words.{◌≡◌, ◌∙◌, ◌-◌, sym, ap, key_a
 
 pub returns-then-is_before-clause-value : Rattle.iso_tree.proofs.keys.place_of.Goals.returns-then-is_before-clause-value
 returns-then-is_before-clause-value c =
-    let e : before c.args.key.now (key_at c.args.keys.now c.loop-cell.cell) ≡ c.is_before.result = ap (before c.args.key.now) (sym c.key_of.ensures) ∙ sym c.is_before.ensures in
-    place_ends c.args.key.now c.args.keys.now (c.loop-cell.cell - 1) c.loop-cell.cell c.count_of-count.result (place_of c.args.key.now c.args.keys.now) c.loop-cell-test.true c.loop-cell.invariant (e ∙ c.if-is_before.true)
+    let e : before c.args.key.now (key_at c.args.keys.now.bytes.now c.loop-cell.cell) ≡ c.is_before.result = ap (before c.args.key.now) (sym c.key_of.ensures) ∙ sym c.is_before.ensures in
+    place_ends c.args.key.now c.args.keys.now.bytes.now (c.loop-cell.cell - 1) c.loop-cell.cell c.count_of-count.result (place_of c.args.key.now c.args.keys.now.bytes.now) c.loop-cell-test.true c.loop-cell.invariant (e ∙ c.if-is_before.true)
 
 pub loop-cell-preserved : Rattle.iso_tree.proofs.keys.place_of.Goals.loop-cell-preserved
 loop-cell-preserved c =
-    let e : before c.args.key.now (key_at c.args.keys.now c.loop-cell.cell) ≡ c.is_before.result = ap (before c.args.key.now) (sym c.key_of.ensures) ∙ sym c.is_before.ensures in
-    place_goes_on c.args.key.now c.args.keys.now (c.loop-cell.cell - 1) c.loop-cell.cell c.count_of-count.result (place_of c.args.key.now c.args.keys.now) c.loop-cell-test.true c.loop-cell.invariant (e ∙ c.if-is_before.false)
+    let e : before c.args.key.now (key_at c.args.keys.now.bytes.now c.loop-cell.cell) ≡ c.is_before.result = ap (before c.args.key.now) (sym c.key_of.ensures) ∙ sym c.is_before.ensures in
+    place_goes_on c.args.key.now c.args.keys.now.bytes.now (c.loop-cell.cell - 1) c.loop-cell.cell c.count_of-count.result (place_of c.args.key.now c.args.keys.now.bytes.now) c.loop-cell-test.true c.loop-cell.invariant (e ∙ c.if-is_before.false)

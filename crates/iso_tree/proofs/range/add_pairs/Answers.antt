@@ -19,9 +19,9 @@ pub loop-i-preserved : goal.loop-i-preserved
 loop-i-preserved c =
     let i = c.loop-i.i in
     let few : length c.loop-i.found < c.args.max = omega (arith, c.len.ensures, c.if-max-len.false) in
-    let added : c.add_pair.new.found ≡ c.loop-i.found ++ (key_at c.args.keys.now (c.args.visit.first + i), text_of (take 33 (drop (33 * i) c.args.values.now))) ∷ [] =
+    let added : c.add_pair.new.found ≡ c.loop-i.found ++ (key_at c.args.keys.now.bytes.now (c.args.visit.first + i), text_of (take 33 (drop (33 * i) c.args.values.now))) ∷ [] =
     c.in_ok-add_pair.ensures.ok ∙ (λ j. c.loop-i.found ++ (c.key_of-key.ensures j, (c.text_of-value.ensures ∙ ap text_of c.piece.ensures.value) j) ∷ []) in
     record {
-      pairs = sym (pairs_step c.args.keys.now c.args.values.now c.args.visit.first i c.args.visit.many c.args.max c.loop-i.found c.add_pair.new.found c.loop-i-test.true few added) ∙ c.loop-i.invariant.pairs;
+      pairs = sym (pairs_step c.args.keys.now.bytes.now c.args.values.now c.args.visit.first i c.args.visit.many c.args.max c.loop-i.found c.add_pair.new.found c.loop-i-test.true few added) ∙ c.loop-i.invariant.pairs;
       texts = (parts_pass (is_part 32) c.args.values.now i c.args.visit.many c.loop-i-test.true c.loop-i.invariant.texts).1;
     }

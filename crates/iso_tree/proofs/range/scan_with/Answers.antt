@@ -3,11 +3,11 @@ use Rattle.iso_tree.proofs.{Words.{Err, inl, scan_below}, Getting.head_refused, 
 pub returns-in-Err-clause-run : Rattle.iso_tree.proofs.range.scan_with.Goals.returns-in-Err-clause-run
 returns-in-Err-clause-run g c =
     let state = g.T.TxBlocks.state in
-    scan_run c.args.area c.args.from.now c.args.to.now c.args.max (state c.args.tx.now) (state c.read_head.new.tx) (Err c.in-Err.e) c.requires.keys
-    (inl (head_refused c.args.area (scan_below c.args.area c.args.from.now c.args.to.now c.args.max) (state c.args.tx.now) (state c.read_head.new.tx) c.in-Err.e c.in-Err.ensures.run))
+    scan_run c.args.range.now.area c.args.range.now.from.now c.args.range.now.to.now c.args.range.now.max (state c.args.tx.now) (state c.read_head.new.tx) (Err c.in-Err.e) c.args.range.now.keys
+    (inl (head_refused c.args.range.now.area (scan_below c.args.range.now.area c.args.range.now.from.now c.args.range.now.to.now c.args.range.now.max) (state c.args.tx.now) (state c.read_head.new.tx) c.in-Err.e c.in-Err.ensures.run))
 
 pub returns-in-Ok-clause-run : Rattle.iso_tree.proofs.range.scan_with.Goals.returns-in-Ok-clause-run
 returns-in-Ok-clause-run g c =
     let state = g.T.TxBlocks.state in
-    scan_run c.args.area c.args.from.now c.args.to.now c.args.max (state c.args.tx.now) (state c.scan_below.new.tx) c.scan_below.result c.requires.keys
-    (head_scanned c.args.area (scan_below c.args.area c.args.from.now c.args.to.now c.args.max) (state c.args.tx.now) (state c.read_head.new.tx) (state c.scan_below.new.tx) (c.in-Ok.root, c.in-Ok.level) c.scan_below.result c.in-Ok.ensures.run c.scan_below.ensures.run)
+    scan_run c.args.range.now.area c.args.range.now.from.now c.args.range.now.to.now c.args.range.now.max (state c.args.tx.now) (state c.scan_below.new.tx) c.scan_below.result c.args.range.now.keys
+    (head_scanned c.args.range.now.area (scan_below c.args.range.now.area c.args.range.now.from.now c.args.range.now.to.now c.args.range.now.max) (state c.args.tx.now) (state c.read_head.new.tx) (state c.scan_below.new.tx) (c.in-Ok.root, c.in-Ok.level) c.scan_below.result c.in-Ok.ensures.run c.scan_below.ensures.run)

@@ -3,7 +3,7 @@ use Rattle.iso_tree.proofs.{Words.{refl, Ok, false, Done, del_at, arith, behaves
 pub returns-in-Err-clause-run : Rattle.iso_tree.proofs.remove.remove_below.Goals.returns-in-Err-clause-run
 returns-in-Err-clause-run g c =
     let state = g.T.TxBlocks.state in
-    below_refused (Done (Ok false)) c.args.area c.args.key.now false c.args.root c.args.level (del_at c.args.area c.args.key.now) c.if-root-eq0.false (λ block. refl) (state c.args.tx.now) (state c.descend.new.tx) c.descend.new.path c.descend.new.buffer c.in-Err.e c.in-Err.ensures.run
+    below_refused (Done (Ok false)) c.args.root.area c.args.key.now false c.args.root.block c.args.root.level (del_at c.args.root.area c.args.key.now) c.if-root-eq0.false (λ block. refl) (state c.args.tx.now) (state c.descend.new.tx) c.descend.new.path c.descend.new.buffer c.in-Err.e c.in-Err.ensures.run
 
 pub returns-in_default-clause-run : Rattle.iso_tree.proofs.remove.remove_below.Goals.returns-in_default-clause-run
 returns-in_default-clause-run g c = grind (arith, del_missing, missing) steps 100000
@@ -14,5 +14,5 @@ returns-clause-behaves g c = behaves_next c.in-Ok.ensures.reads.reads c.in-Ok.en
 pub returns-clause-run : Rattle.iso_tree.proofs.remove.remove_below.Goals.returns-clause-run
 returns-clause-run g c =
     let state = g.T.TxBlocks.state in
-    del_found c.args.area c.args.key.now c.args.root c.args.level c.if-root-eq0.false (state c.args.tx.now) (state c.descend.new.tx) c.descend.new.path c.descend.new.buffer c.in-Ok.leaf c.in-Ok.ensures.leaf c.in-Ok.ensures.run
+    del_found c.args.root.area c.args.key.now c.args.root.block c.args.root.level c.if-root-eq0.false (state c.args.tx.now) (state c.descend.new.tx) c.descend.new.path c.descend.new.buffer c.in-Ok.leaf c.in-Ok.ensures.leaf c.in-Ok.ensures.run
     c.in-Some.field-0 (state c.remove_cell.new.tx) c.remove_cell.result c.in-Some.is c.remove_cell.ensures.run
