@@ -1,7 +1,7 @@
 //! The laws of a bench: each function does nothing, and its contract is the law.
 ghost use Rattle.std.specs.Prelude.{◌≡◌, ℕ, ◌+◌, ◌*◌, ◌≤◌, List, None, filter, length};
-ghost use Rattle.script_model.specs.{declared.script.Line.Line, declared.script.Reply.Reply, Bench.{answers_to, bench_text, bench_world, is_committed, is_conflict}, Script.{replies, script}};
-ghost use Rattle.iso_model.specs.World.{World};
+ghost use Rattle.script_model.specs.{declared.script.Line.Line, declared.script.Reply.Reply, Bench.{answers_to, bench_text, bench_world, is_committed, is_conflict}, Script.{after, replies, script}};
+ghost use Rattle.iso_model.specs.{History.last, World.World};
 ghost use Rattle.script_runner.specs.{Replies.{AreSameButShown, text_of}, Told.ArePlain};
 ghost use Rattle.bench_script.specs.{Ends.{DrawnState, drawn_state}, Rounds.{AreRoundReplies, one_places}};
 
@@ -29,6 +29,12 @@ pub fn commits_are_twice_the_rounds_less_the_conflicts()
     ensures { (seed count : ℕ) → count ≤ 100000
         → length (filter is_committed (answers_to bench_world (script (bench_text count seed)).lines))
         + length (filter is_conflict (answers_to bench_world (script (bench_text count seed)).lines)) ≡ 2 * count }
+{}
+
+/// How many replies to a bench tell of a commit is the number of the last commit once all its lines are answered.
+pub fn the_last_commit_counts_all()
+    ensures { (seed count : ℕ) → count ≤ 100000 → length (filter is_committed (answers_to bench_world (script (bench_text count seed)).lines))
+        ≡ last (after bench_world (script (bench_text count seed)).lines).history }
 {}
 
 /// The model's replies to lines are one a line, and their text is that of these replies.

@@ -1,29 +1,24 @@
-// The replies of a bench as they come: their digest, and what they tell.
-ghost use Rattle.std.specs.Prelude.{◌≡◌, ◌≤◌, ℕ, List, [], filter, length, take, IfOk, OnErr};
+// The digest of the replies of a bench as they come.
+ghost use Rattle.std.specs.Prelude.{◌≡◌, ◌≤◌, [], length, take, IfOk, OnErr};
 ghost use Rattle.counts.specs.Count.{HasCause, faults_after};
 ghost use Rattle.iso_io.specs.Sink.{Wrote, refusals_after};
-ghost use Rattle.script_model.specs.{declared.script.Line.Line, declared.script.Reply.Reply, Bench.{is_committed, is_conflict}};
-ghost use Rattle.script_runner.specs.Replies.{text_of};
 ghost use Rattle.sha2.specs.Sha256.{sha256};
 ghost use Rattle.bench_script.specs.Ends.{digested_state};
 
 use crate::taken::{Piece, Taken};
-use crate::tally::{Tally, count_lines};
 use counts::raise;
 use iso_io::{Sink, SinkFault};
 use sha2::{Digest, Sha256};
 use std::alloc::Global;
 use std::marker::Model;
 
-/// How many bytes wait before their lines are counted and digested.
+/// How many bytes wait before they are digested.
 const MOST_WAITING: usize = 8192;
 
-/// A sink that keeps the digest of all that it is given, and how many replies in it tell of a commit or of a conflict. It fails only
-/// for want of memory, or past 2^64 bytes.
+/// A sink that keeps the digest of all that it is given. It fails only for want of memory, or past 2^64 bytes.
 #[derive(Drop)]
 pub struct ReplyDigest {
     hasher: Sha256,
-    counts: Tally,
     waiting: Vec<u8>,
     size: u64,
     taken: Taken,
@@ -37,7 +32,7 @@ impl Model for ReplyDigest {
 
     ghost view = { λ s. record { text = s.taken.text; faults = s.faults } };
 
-    ghost invariant = { λ s. IsFed s.hasher s.taken.text s.waiting.items s.counts.commits s.counts.conflicts s.size };
+    ghost invariant = { λ s. IsFed s.hasher s.taken.text s.waiting.items s.size };
 }
 
 impl ReplyDigest {
@@ -47,10 +42,6 @@ impl ReplyDigest {
     {
         ReplyDigest {
             hasher: Sha256::new(),
-            counts: Tally {
-                commits: 0,
-                conflicts: 0,
-            },
             waiting: Vec::new(alloc),
             size: 0,
             taken: Taken::nothing(),
@@ -58,37 +49,27 @@ impl ReplyDigest {
         }
     }
 
-    /// Counts and digests the lines that have ended.
+    /// Digests what waits.
     fn fold(&mut self)
         ensures { self.new ≡ self.old }
     {
-        let (counts, ended) = count_lines(self.counts, &self.waiting);
-        self.hasher.update(&self.waiting[..ended]);
-        self.counts = counts;
-        let left = self.waiting.len() - ended;
-        self.waiting.copy_within(ended.., 0);
-        self.waiting.truncate(left);
+        self.hasher.update(&*self.waiting);
+        self.waiting.clear();
     }
 
-    /// What the replies say, and the digest of all bytes taken.
-    pub fn finish(self) -> (Tally, [u8; 32])
-        ensures commits { (lines : List (ℕ × Line)) (given : List Reply) → length given ≡ length lines → self.text ≡ text_of lines given
-            → result.0.commits ≡ length (filter is_committed given) }
-        ensures conflicts { (lines : List (ℕ × Line)) (given : List Reply) → length given ≡ length lines → self.text ≡ text_of lines given
-            → result.0.conflicts ≡ length (filter is_conflict given) }
-        ensures digest { result.1 ≡ sha256 self.text }
+    /// The digest of all bytes taken.
+    pub fn finish(self) -> [u8; 32]
+        ensures { result ≡ sha256 self.text }
     {
         let ReplyDigest {
             mut hasher,
-            counts,
             waiting,
             size: _,
             taken: _,
             faults: _,
         } = self;
-        let (counts, _ended) = count_lines(counts, &waiting);
         hasher.update(&*waiting);
-        (counts, hasher.finalize())
+        hasher.finalize()
     }
 }
 

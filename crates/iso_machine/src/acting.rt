@@ -7,7 +7,7 @@ ghost use Rattle.script_runner.specs.Counts.{BlamesDisk};
 ghost use Rattle.iso_machine.specs.Accessing.{IsActive, IsShown, act_step, or_stop};
 
 use crate::accessing::{fill, mark, put, write};
-use crate::reading::{get, read};
+use crate::reading::{BlockRange, get, read};
 use iso_core::Core;
 use iso_disk::Disk;
 use iso_model::Memory;
@@ -55,7 +55,17 @@ pub fn act<D: Disk>(
             or_stop(put(work, buffer, *block, *off, bytes.as_slice()))
         }
         Op::Read { block } => read(alloc, core, tx, work, *block),
-        Op::Get { block, off, len } => { get(alloc, core, tx, work, buffer, *block, *off, *len) }
+        Op::Get { block, off, len } => {
+            let (block, off, len) = (*block, *off, *len);
+            get(
+                alloc,
+                core,
+                tx,
+                work,
+                buffer,
+                BlockRange { block, off, len },
+            )
+        }
         Op::Write { block, bytes } => or_stop(write(work, *block, bytes.as_slice())),
         Op::Fill { block, bytes } => or_stop(fill(work, buffer, *block, bytes.as_slice())),
         Op::Mark { off, len } => Ok(mark(work, *off, *len)),

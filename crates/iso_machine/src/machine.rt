@@ -1,6 +1,6 @@
 // The machine.
 ghost use Rattle.std.specs.{Prelude.{◌≡◌, ◌<◌, [], None, IfSome, MatchOption, length}, List.HoldsAt};
-ghost use Rattle.iso_model.specs.{Step.with_live, World.{World, attached}};
+ghost use Rattle.iso_model.specs.{History.last, Step.with_live, World.{World, attached}};
 
 use crate::attached::{Attached, index_at_client};
 use crate::finder::Finder;
@@ -54,6 +54,14 @@ impl<D: Disk> Machine<D> {
         ensures here { (W : World) → IsMachineOf D.state self.now W → MatchOption result (attached W client ≡ None) (HoldsAt (IsHere W client) self.now.live.items) }
     {
         index_at_client(self.finder.at_client(client), &self.live, client)
+    }
+
+    /// The number of the last commit.
+    pub fn last_commit(&self) -> u64
+        ensures { (W : World) → IsMachineOf D.state self.now W → result ≡ last W.history }
+    {
+        let stat = self.core.stat();
+        stat.last
     }
 
     /// The core, once all live transactions are aborted. It takes no memory, and makes no call of the disk.

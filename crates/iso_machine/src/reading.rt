@@ -84,26 +84,33 @@ pub(crate) fn read<D: Disk>(
     }
 }
 
-/// A read of `len` bytes at `off`, with one mark over them. They are read into their place in the buffer.
+/// Bytes of a block: `len` of them, from `off` on.
+#[derive(Clone, Copy)]
+pub(crate) struct BlockRange {
+    pub(crate) block: u32,
+    pub(crate) off: u32,
+    pub(crate) len: u32,
+}
+
+/// A read of a range, with one mark over it. The bytes are read into their place in the buffer.
 pub(crate) fn get<D: Disk>(
     alloc: Global,
     core: &mut Core<D>,
     tx: u64,
     work: &mut Work,
     buffer: &mut Vec<u8>,
-    block: u32,
-    off: u32,
-    len: u32,
+    range: BlockRange,
 ) -> Result<Reply, Stop>
     requires { (W : World) × (t : Live) × StandsFor D.state core.old W up × IsTx W tx t × IsActive W t work.old }
     ensures given { (W : World) (t : Live) → StandsFor D.state core.old W up → IsTx W tx t → IsActive W t work.old
-        → IfOk result (IsShown (D.state (disk_of core.old)) W t (get_step W t block off len) work.new) }
+        → IfOk result (IsShown (D.state (disk_of core.old)) W t (get_step W t range.block range.off range.len) work.new) }
     ensures kept { OnErr result (work.new ≡ record work.old { ready = work.new.ready }) }
     ensures same { (W : World) → StandsFor D.state core.old W up → StandsFor D.state core.new W up }
     ensures unwritten { WritesNothing (D.state (disk_of core.old)) (D.state (disk_of core.new)) }
     ensures up { ¬ IsErrOf result Stop.Down }
     ensures cause { BlamesDisk (D.state (disk_of core.old)).faults (D.state (disk_of core.new)).faults result }
 {
+    let BlockRange { block, off, len } = range;
     let size = work.block_size();
     if let Some(reply) = refusal(work, block, is_outside(size, off, len as usize)) {
         return Ok(reply);

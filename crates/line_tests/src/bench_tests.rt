@@ -1,9 +1,8 @@
-// What no clause says: the text as the language prints it, and a tally of replies that no script gives in this order.
+// What no clause says: the text as the language prints it, and a digest by another program.
 
 use crate::text_tests::same;
-use bench_script::{DrawnScript, ReplyDigest, Tally};
+use bench_script::{DrawnScript, ReplyDigest};
 use iso_io::{Sink, Source};
-use std::alloc::Global;
 use std::test::Fail;
 
 /// The first round of seed 0, as it is in the examples of the language.
@@ -32,34 +31,14 @@ fn a_script_is_taken_piece_by_piece(rt: HostRuntime) -> Result<(), Fail> {
     Ok(())
 }
 
-/// The digest of a text and what it says, given in these pieces.
-fn told_of(alloc: Global, pieces: &[&[u8]]) -> (Tally, [u8; 32]) {
-    let mut replies = ReplyDigest::new(alloc);
-    for piece in pieces {
-        let _ = replies.put(piece);
-    }
-    replies.finish()
-}
-
-#[test]
-fn commits_and_conflicts_are_counted(rt: HostRuntime) -> Result<(), Fail> {
-    let text =
-        b"1 ok begin 0\n2 ok\n1 ok c0\n1 ok commit 1\n2 conflict with 1 block 0 at 3\n12 ok compact 1\n2 conflict with 1 block 0 at 3\n3 not-in-tx\n";
-    let (counts, _digest) = told_of(rt.alloc(), &[text]);
-    let wanted = Tally {
-        commits: 1,
-        conflicts: 2,
-    };
-    same(&rt, counts, wanted);
-    Ok(())
-}
-
 #[test]
 fn replies_are_digested_in_order(rt: HostRuntime) -> Result<(), Fail> {
-    let (_counts, digest) = told_of(rt.alloc(), &[b"1 ok\n", b"2 ok commit 1\n"]);
+    let mut replies = ReplyDigest::new(rt.alloc());
+    let _ = replies.put(b"1 ok\n");
+    let _ = replies.put(b"2 ok commit 1\n");
     same(
         &rt,
-        digest,
+        replies.finish(),
         [
             160, 246, 194, 224, 89, 63, 242, 25, 45, 97, 105, 48, 57, 179, 149, 176, 83, 58, 195,
             254, 113, 106, 79, 76, 88, 2, 12, 172, 66, 104, 248, 17,
@@ -75,16 +54,14 @@ fn put_three(replies: &mut ReplyDigest) {
 }
 
 #[test]
-fn replies_past_what_waits_are_counted(rt: HostRuntime) -> Result<(), Fail> {
+fn replies_past_what_waits_are_digested(rt: HostRuntime) -> Result<(), Fail> {
     let mut replies = ReplyDigest::new(rt.alloc());
     for _ in 0..400 {
         put_three(&mut replies);
     }
-    let (counts, digest) = replies.finish();
-    same(&rt, (counts.commits, counts.conflicts), (400, 400));
     same(
         &rt,
-        digest,
+        replies.finish(),
         [
             132, 93, 1, 142, 250, 188, 247, 46, 156, 115, 141, 204, 27, 121, 159, 13, 37, 110, 147,
             195, 99, 126, 209, 93, 84, 173, 24, 214, 144, 219, 94, 121,

@@ -3,11 +3,10 @@ pub mod WordLemmas
 pub mod HexLemmas
 pub mod HexPairs
 pub mod LineLemmas
-pub mod EnoughWords
 pub mod Extending
-pub mod FirstItems
 pub mod Fronts
 pub mod Numerals
 pub mod Spaces
 pub mod WordCuts
+pub mod SaidLines
 pub mod Readings

@@ -1,5 +1,5 @@
 -- Lines that say nothing, and the carriage return at a line's end.
-use Rattle.script_text.proofs.Words.{◌≡◌, ℕ, ◌≢◌, inl, inr, Bool, true, false, nat_eq, List, [], ◌∷◌, ◌++◌, take, length, ◌≤◌, refl, ap, sym, ◌∙◌, arith, Bor, Option, Some, None, unwrap_or, MatchOption, list_all, pointwise, cond-true, cond-false, ne_eqb, cases_eq, le-ltb, MAX_LINE, is_printable, is_skipped, parse, said, without_return, words_of}
+use Rattle.script_text.proofs.Words.{◌≡◌, ℕ, ◌≢◌, inl, inr, Bool, true, false, nat_eq, List, [], ◌∷◌, ◌++◌, take, length, ◌≤◌, refl, ap, sym, ◌∙◌, arith, Bor, Option, Some, None, unwrap_or, MatchOption, list_all, pointwise, cond-true, cond-false, ne_eqb, cases_eq, le-ltb, if◌then◌else◌, Err, MAX_LINE, is_printable, is_skipped, parse, said, without_return, words_of}
 
 -- a line that begins with no `#`, or is empty, says nothing where it is all spaces
 pub is_skipped-no_comment : (text : List ℕ) (r : Bool) → false ≡ pointwise nat_eq (35 ∷ []) (take 1 text) → r ≡ list_all (nat_eq 32) text → r ≡ is_skipped text
@@ -33,3 +33,17 @@ pub parse-said : (text : List ℕ) → length text ≤ MAX_LINE → is_skipped t
 unfolding parse
 parse-said text short says printable =
     sym (cond-false _ _ _ (le-ltb MAX_LINE (length text) short) ∙ cond-false _ _ _ says ∙ cond-true _ _ _ printable)
+
+pub parse-unprintable : (text : List ℕ) → length text ≤ MAX_LINE → is_skipped text ≡ false → list_all is_printable text ≡ false → parse text ≡ Err 8
+unfolding parse
+parse-unprintable text short says other =
+    cond-false _ _ _ (le-ltb MAX_LINE (length text) short) ∙ cond-false _ _ _ says ∙ cond-false _ _ _ other
+
+-- a line that says nothing fails by that, or by a byte that is not printable
+pub parse-failed : (text : List ℕ) (cause : ℕ) → length text ≤ MAX_LINE → is_skipped text ≡ false → said (words_of text) ≡ Err cause
+    → parse text ≡ Err (if list_all is_printable text then cause else 8)
+parse-failed text cause short says failed = by (list_all is_printable text) refl
+  where
+    by : (t : Bool) → list_all is_printable text ≡ t → parse text ≡ Err (if t then cause else 8)
+    by true printable = sym (parse-said text short says printable) ∙ failed
+    by false other = parse-unprintable text short says other

@@ -1,13 +1,14 @@
--- The words that are printed are read as what they are printed of.
+-- Printed decimals, hex texts and labels are words, and are read back as the same values; bench_script cites it too.
 use Rattle.script_text.proofs.{Words.{◌≡◌, ◌∙◌, ap, sym, refl, ℕ, zero, suc, ◌+◌, ◌*◌, ◌-◌, ◌/◌, ◌%◌, ◌<◌, ◌≤◌, ◌^◌, Bool, true, ◌&&◌, IsTrue, nat_le, List, [], ◌∷◌, length, Some, Ok, decimal, arith, list_all, cond-true, and_parts, leb-true, le-leb, agree_below_at, decimal_by_steps, decimal_digit, decimal_nonempty, first_decimal, list_all-append, fold-append, decode_of-encode_lower, AreBytes, hex_argument, label_argument, digit_of, hex_text, is_decimal, number_of, value_of, is_digit, is_label, is_label_byte, AreSome, is_word_byte}, HexLemmas.{encode_lower-hex_text, hex_argument-ok}, WordLemmas.{is_decimal-by_all, number_of-decimal}}
 use Rattle.std.proofs.Common.{ok_or}
 
+-- a word of a line: not empty, each byte from 33 to 126
 pub record IsWord (word : List ℕ) : Type 0 where
   pub some : 0 < length word
   pub bytes : list_all is_word_byte word ≡ true
 
--- where each byte that passes the one test passes the other
-weaker : (p q : ℕ → Bool) → ((b : ℕ) → p b ≡ true → q b ≡ true) → (word : List ℕ) → list_all p word ≡ true → list_all q word ≡ true
+-- each byte that passes p passes q, so a word of p's bytes is one of q's
+pub weaker : (p q : ℕ → Bool) → ((b : ℕ) → p b ≡ true → q b ≡ true) → (word : List ℕ) → list_all p word ≡ true → list_all q word ≡ true
 weaker p q each [] all = refl
 weaker p q each (b ∷ word) all =
     let parts = and_parts (p b) (list_all p word) all in
@@ -21,7 +22,7 @@ within low high b test =
     let parts = and_parts (nat_le low b) (nat_le b high) test in
     (leb-true low b parts.0, leb-true b high parts.1)
 
-digit_in_word : (b : ℕ) → is_digit b ≡ true → is_word_byte b ≡ true
+pub digit_in_word : (b : ℕ) → is_digit b ≡ true → is_word_byte b ≡ true
 digit_in_word b test = let is = within 48 57 b test in between 33 126 b (omega arith) (omega arith)
 
 -- decimal digits
@@ -73,7 +74,7 @@ hex_argument-printed bytes are =
     hex_argument-ok (hex_text bytes) bytes (λ e. omega arith) (rw (sym same) (decode_of-encode_lower bytes are.values))
 
 -- labels
-label_in_word : (b : ℕ) → is_label_byte b ≡ true → is_word_byte b ≡ true
+pub label_in_word : (b : ℕ) → is_label_byte b ≡ true → is_word_byte b ≡ true
 label_in_word b test = grind arith
 
 pub label_word : (label : List ℕ) → IsTrue (is_label label) → IsWord label

@@ -1,30 +1,33 @@
 -- Words with one space between them are the words of their line.
-use Rattle.script_text.proofs.{Words.{◌≡◌, ◌∙◌, ◌≢◌, ap, sym, refl, append-nil, flat_map, ℕ, ◌≤◌, ◌<◌, Bool, true, false, ◌&&◌, not, nat_le, List, [], ◌∷◌, ◌++◌, length, arith, list_all, filter, and_parts, cond-false, ne_eqb, leb-true, le-leb, nat_tests, list_all-append, is_printable, is_skipped, before_piece, is_empty, pieces, words_of, is_digit, spaced, is_word_byte, word_before}, Numerals.IsWord}
+use Rattle.script_text.proofs.{Words.{◌≡◌, ◌∙◌, ap, sym, refl, append-nil, flat_map, ℕ, ◌<◌, ◌==◌, true, false, not, nat_le, List, [], ◌∷◌, ◌++◌, length, arith, list_all, filter, and_from, and_parts, cond-false, ne_eqb, not-true, not_from_false, leb-true, le-leb, list_all-append, is_printable, is_skipped, before_piece, is_empty, pieces, words_of, is_digit, spaced, is_no_space, is_word_byte, word_before}, Numerals.{IsWord, weaker}}
 
 abbrev pub AreWords : List (List ℕ) → Type 0
 AreWords [] = Unit {0}
 AreWords (word ∷ words) = IsWord word × AreWords words
 
-no_space : (b : ℕ) → is_word_byte b ≡ true → b ≢ 32
-no_space b test e = omega (arith, leb-true 33 b (and_parts (nat_le 33 b) (nat_le b 126) test).0)
+no_space : (b : ℕ) → is_word_byte b ≡ true → is_no_space b ≡ true
+no_space b test = not_from_false (b == 32) (ne_eqb b 32 (λ e. omega (arith, leb-true 33 b (and_parts (nat_le 33 b) (nat_le b 126) test).0)))
+
+spaceless : (word : List ℕ) → list_all is_word_byte word ≡ true → list_all is_no_space word ≡ true
+spaceless = weaker is_word_byte is_no_space no_space
 
 -- a word before a space, and before the end
-piece_before : (word rest : List ℕ) → list_all is_word_byte word ≡ true → pieces 32 (word ++ 32 ∷ rest) ≡ word ∷ pieces 32 rest
+piece_before : (word rest : List ℕ) → list_all is_no_space word ≡ true → pieces 32 (word ++ 32 ∷ rest) ≡ word ∷ pieces 32 rest
 piece_before [] rest all = refl
 piece_before (b ∷ word) rest all =
-    let parts = and_parts (is_word_byte b) (list_all is_word_byte word) all in
-    cond-false _ _ _ (ne_eqb b 32 (no_space b parts.0)) ∙ ap (before_piece b) (piece_before word rest parts.1)
+    let parts = and_parts (is_no_space b) (list_all is_no_space word) all in
+    cond-false _ _ _ (not-true (b == 32) parts.0) ∙ ap (before_piece b) (piece_before word rest parts.1)
 
-piece_alone : (word : List ℕ) → list_all is_word_byte word ≡ true → pieces 32 word ≡ word ∷ []
+piece_alone : (word : List ℕ) → list_all is_no_space word ≡ true → pieces 32 word ≡ word ∷ []
 piece_alone [] all = refl
 piece_alone (b ∷ word) all =
-    let parts = and_parts (is_word_byte b) (list_all is_word_byte word) all in
-    cond-false _ _ _ (ne_eqb b 32 (no_space b parts.0)) ∙ ap (before_piece b) (piece_alone word parts.1)
+    let parts = and_parts (is_no_space b) (list_all is_no_space word) all in
+    cond-false _ _ _ (not-true (b == 32) parts.0) ∙ ap (before_piece b) (piece_alone word parts.1)
 
 spaced_pieces : (word : List ℕ) (words : List (List ℕ)) → AreWords (word ∷ words) → pieces 32 (spaced (word ∷ words)) ≡ word ∷ words
-spaced_pieces word [] are = piece_alone word are.0.bytes
+spaced_pieces word [] are = piece_alone word (spaceless word are.0.bytes)
 spaced_pieces word (next ∷ words) are =
-    piece_before word (spaced (next ∷ words)) are.0.bytes ∙ ap (λ (more : List (List ℕ)). word ∷ more) (spaced_pieces next words are.1)
+    piece_before word (spaced (next ∷ words)) (spaceless word are.0.bytes) ∙ ap (λ (more : List (List ℕ)). word ∷ more) (spaced_pieces next words are.1)
 
 kept : (word : List ℕ) (words : List (List ℕ)) → 0 < length word → filter (λ w. not (is_empty w)) (word ∷ words) ≡ word ∷ filter (λ w. not (is_empty w)) words
 kept [] words some = absurd (omega arith)
@@ -40,13 +43,13 @@ words_of-spaced word words are =
     ap (filter (λ (w : List ℕ). not (is_empty w))) (spaced_pieces word words are) ∙ all_kept (word ∷ words) are
 
 -- a line of words is printable
+pub byte_printable : (b : ℕ) → is_word_byte b ≡ true → is_printable b ≡ true
+byte_printable b test =
+    let ends = and_parts (nat_le 33 b) (nat_le b 126) test in
+    and_from (nat_le 32 b) (nat_le b 126) (le-leb 32 b (omega (arith, leb-true 33 b ends.0))) ends.1
+
 word_printable : (word : List ℕ) → list_all is_word_byte word ≡ true → list_all is_printable word ≡ true
-word_printable [] all = refl
-word_printable (b ∷ word) all =
-    let parts = and_parts (is_word_byte b) (list_all is_word_byte word) all in
-    let ends = and_parts (nat_le 33 b) (nat_le b 126) parts.0 in
-    let over : 32 ≤ b = omega (arith, leb-true 33 b ends.0) in
-    rw (le-leb 32 b over, ends.1) (word_printable word parts.1)
+word_printable = weaker is_word_byte is_printable byte_printable
 
 pub spaced_printable : (words : List (List ℕ)) → AreWords words → list_all is_printable (spaced words) ≡ true
 spaced_printable [] are = refl
@@ -60,33 +63,15 @@ kept_before : (word : List ℕ) (words : List (List ℕ)) → filter (λ w. not 
 kept_before [] words = refl
 kept_before (b ∷ word) words = refl
 
-pub words_of-cut : (word more : List ℕ) → list_all is_word_byte word ≡ true → words_of (word ++ 32 ∷ more) ≡ word_before word (words_of more)
+pub words_of-cut : (word more : List ℕ) → list_all is_no_space word ≡ true → words_of (word ++ 32 ∷ more) ≡ word_before word (words_of more)
 unfolding words_of
 words_of-cut word more all =
     ap (filter (λ (w : List ℕ). not (is_empty w))) (piece_before word more all) ∙ kept_before word (pieces 32 more)
 
-pub words_of-last : (word : List ℕ) → list_all is_word_byte word ≡ true → words_of word ≡ word_before word (words_of [])
+pub words_of-last : (word : List ℕ) → list_all is_no_space word ≡ true → words_of word ≡ word_before word (words_of [])
 unfolding words_of
 words_of-last word all =
     ap (filter (λ (w : List ℕ). not (is_empty w))) (piece_alone word all) ∙ kept_before word []
-
-pub printable_cut : (word more : List ℕ) → list_all is_word_byte word ≡ true → list_all is_printable (word ++ 32 ∷ more) ≡ list_all is_printable more
-printable_cut word more all = list_all-append is_printable word (32 ∷ more) ∙ rw (word_printable word all) refl
-
-pub printable_last : (word : List ℕ) → list_all is_word_byte word ≡ true → list_all is_printable word ≡ true
-printable_last = word_printable
-
--- a byte that ends a word and is no space is not printable
-not_printable : (b : ℕ) → is_word_byte b ≡ false → b ≢ 32 → is_printable b ≡ false
-not_printable b ends other = grind (arith, nat_tests)
-
-and_false : (b : Bool) → (b && false) ≡ false
-and_false true = refl
-and_false false = refl
-
-pub printable_not : (word : List ℕ) (b : ℕ) (more : List ℕ) → is_word_byte b ≡ false → b ≢ 32 → list_all is_printable (word ++ b ∷ more) ≡ false
-printable_not word b more ends other =
-    list_all-append is_printable word (b ∷ more) ∙ ap (λ (t : Bool). list_all is_printable word && (t && list_all is_printable more)) (not_printable b ends other) ∙ and_false (list_all is_printable word)
 
 -- a line whose first word is a number says something
 not_skipped : (b : ℕ) (text : List ℕ) → is_digit b ≡ true → is_skipped (b ∷ text) ≡ false

@@ -3,7 +3,7 @@ use Rattle.script_text.proofs.Words.{◌≡◌, ℕ, zero, suc, ◌+◌, ◌-◌
 use Rattle.std.specs.Prelude.{not}
 
 -- a word is decimal where it has no zero before others, and all its bytes are digits
-is_decimal-by_parts : (word : List ℕ) → is_decimal word ≡ (may_be_decimal word && list_all is_digit word)
+pub is_decimal-by_parts : (word : List ℕ) → is_decimal word ≡ (may_be_decimal word && list_all is_digit word)
 is_decimal-by_parts [] = refl
 is_decimal-by_parts (b ∷ []) = grind arith
 is_decimal-by_parts (b ∷ c ∷ word) = refl

@@ -1,15 +1,14 @@
--- The words of a line, where slices hold them, and their bytes.
-use Rattle.std.specs.Prelude.{ℕ, ◌==◌, Bool, true, false, ◌&&◌, cond, not, List, [], ◌∷◌, map, nat_le}
+-- The bytes of a line's words.
+use Rattle.std.specs.Prelude.{ℕ, ◌==◌, Bool, true, false, ◌&&◌, cond, not, List, [], ◌∷◌, nat_le}
 use Rattle.script_model.specs.Text.{is_empty}
-use denote.Ref.{Bor}
-
--- what the slices borrow
-abbrev pub texts : List (Bor (List ℕ)) → List (List ℕ)
-texts slices = map (λ slice. slice.now) slices
 
 -- a byte of a word: printable, and no space
 abbrev pub is_word_byte : ℕ → Bool
 is_word_byte b = nat_le 33 b && nat_le b 126
+
+-- a byte that ends no word
+abbrev pub is_no_space : ℕ → Bool
+is_no_space b = not (b == 32)
 
 -- a word before others, if it has a byte
 abbrev pub word_before : List ℕ → List (List ℕ) → List (List ℕ)

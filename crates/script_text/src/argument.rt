@@ -1,10 +1,10 @@
 // The arguments of an operation, each with the cause that it fails by.
 ghost use Rattle.std.specs.Prelude.{[], ◌∷◌};
-ghost use Rattle.script_model.specs.{Script.{client_in_range, hex_argument, label_argument, labels_of, mode_argument, number_argument, store_argument}, Text.number_of};
-ghost use Rattle.script_text.specs.{Parsing.{Gives, GivesBehind}, Words.texts};
+ghost use Rattle.script_model.specs.{Script.{client_in_range, hex_argument, label_argument, labels_of, mode_argument, number_argument, store_argument}, Text.{number_of, words_of}};
+ghost use Rattle.script_text.specs.Parsing.{Gives, GivesBehind};
 
 use crate::hex_digits::decode;
-use crate::word::number_of;
+use crate::word::{next_word, number_of};
 use iso_model::{Bytes, Label, LabelList, Mode};
 use script_model::LineError;
 use std::alloc::Global;
@@ -56,20 +56,20 @@ pub(crate) fn label(word: &[u8]) -> Result<Label, LineError>
     Label::new(word).ok_or(LineError::Cause(6))
 }
 
-/// The labels that the words spell.
-pub(crate) fn labels(alloc: Global, words: &[&[u8]]) -> Result<LabelList, LineError>
-    ensures { Gives result (labels_of (texts words.now)) }
+/// The labels that the words of a text spell.
+pub(crate) fn labels(alloc: Global, text: &[u8]) -> Result<LabelList, LineError>
+    ensures { Gives result (labels_of (words_of text.now)) }
 {
     let mut labels = LabelList::empty(alloc);
-    push_labels(&mut labels, words)?;
+    push_labels(&mut labels, text)?;
     Ok(labels)
 }
 
-/// Adds the labels that the words spell.
-fn push_labels(labels: &mut LabelList, words: &[&[u8]]) -> Result<(), LineError>
-    ensures { GivesBehind result (labels_of (texts words.now)) labels.old labels.new }
+/// Adds the labels that the words of a text spell.
+fn push_labels(labels: &mut LabelList, text: &[u8]) -> Result<(), LineError>
+    ensures { GivesBehind result (labels_of (words_of text.now)) labels.old labels.new }
 {
-    let Some((first, others)) = words.split_first() else {
+    let Some((first, others)) = next_word(text) else {
         return Ok(());
     };
     push_label(labels, first)?;

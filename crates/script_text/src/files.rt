@@ -1,9 +1,10 @@
 // The operations on files.
-ghost use Rattle.script_model.specs.Script.{file_operation, key_and_value, one_key, read_arguments, write_arguments};
+ghost use Rattle.script_model.specs.{Script.{file_operation, key_and_value, one_key, read_arguments, write_arguments}, Text.words_of};
 ghost use Rattle.script_model.specs.declared.script.Op.TheVariants as ops;
-ghost use Rattle.script_text.specs.{Parsing.{Gives, said_by}, Words.texts};
+ghost use Rattle.script_text.specs.Parsing.{Gives, said_by};
 
 use crate::argument::{hex, number, stored};
+use crate::word::{one_word, three_words, two_words};
 use script_model::{Line, LineError, Op, Parsed};
 use std::alloc::Global;
 
@@ -13,9 +14,9 @@ pub(crate) fn file_operation(
     alloc: Global,
     client: u8,
     name: &[u8],
-    arguments: &[&[u8]],
+    arguments: &[u8],
 ) -> Result<Parsed, LineError>
-    ensures { Gives result (said_by client (file_operation name.now (texts arguments.now))) }
+    ensures { Gives result (said_by client (file_operation name.now (words_of arguments.now))) }
 {
     if name == b"fnew".as_slice() {
         return file_new(alloc, client, arguments);
@@ -35,10 +36,10 @@ pub(crate) fn file_operation(
     Err(LineError::Cause(2))
 }
 
-fn file_new(alloc: Global, client: u8, arguments: &[&[u8]]) -> Result<Parsed, LineError>
-    ensures { Gives result (said_by client (one_key ops.FileNew (texts arguments.now))) }
+fn file_new(alloc: Global, client: u8, arguments: &[u8]) -> Result<Parsed, LineError>
+    ensures { Gives result (said_by client (one_key ops.FileNew (words_of arguments.now))) }
 {
-    let [name] = arguments else {
+    let Some(name) = one_word(arguments) else {
         return Err(LineError::Cause(3));
     };
     let name = stored(alloc, name)?;
@@ -48,10 +49,10 @@ fn file_new(alloc: Global, client: u8, arguments: &[&[u8]]) -> Result<Parsed, Li
     }))
 }
 
-fn file_write(alloc: Global, client: u8, arguments: &[&[u8]]) -> Result<Parsed, LineError>
-    ensures { Gives result (said_by client (write_arguments (texts arguments.now))) }
+fn file_write(alloc: Global, client: u8, arguments: &[u8]) -> Result<Parsed, LineError>
+    ensures { Gives result (said_by client (write_arguments (words_of arguments.now))) }
 {
-    let [name, off, bytes] = arguments else {
+    let Some((name, off, bytes)) = three_words(arguments) else {
         return Err(LineError::Cause(3));
     };
     let name = stored(alloc, name)?;
@@ -63,10 +64,10 @@ fn file_write(alloc: Global, client: u8, arguments: &[&[u8]]) -> Result<Parsed, 
     }))
 }
 
-fn file_read(alloc: Global, client: u8, arguments: &[&[u8]]) -> Result<Parsed, LineError>
-    ensures { Gives result (said_by client (read_arguments (texts arguments.now))) }
+fn file_read(alloc: Global, client: u8, arguments: &[u8]) -> Result<Parsed, LineError>
+    ensures { Gives result (said_by client (read_arguments (words_of arguments.now))) }
 {
-    let [name, off, len] = arguments else {
+    let Some((name, off, len)) = three_words(arguments) else {
         return Err(LineError::Cause(3));
     };
     let name = stored(alloc, name)?;
@@ -78,10 +79,10 @@ fn file_read(alloc: Global, client: u8, arguments: &[&[u8]]) -> Result<Parsed, L
     }))
 }
 
-fn file_move(alloc: Global, client: u8, arguments: &[&[u8]]) -> Result<Parsed, LineError>
-    ensures { Gives result (said_by client (key_and_value ops.FileMove (texts arguments.now))) }
+fn file_move(alloc: Global, client: u8, arguments: &[u8]) -> Result<Parsed, LineError>
+    ensures { Gives result (said_by client (key_and_value ops.FileMove (words_of arguments.now))) }
 {
-    let [from, to] = arguments else {
+    let Some((from, to)) = two_words(arguments) else {
         return Err(LineError::Cause(3));
     };
     let from = stored(alloc, from)?;
@@ -92,10 +93,10 @@ fn file_move(alloc: Global, client: u8, arguments: &[&[u8]]) -> Result<Parsed, L
     }))
 }
 
-fn file_delete(alloc: Global, client: u8, arguments: &[&[u8]]) -> Result<Parsed, LineError>
-    ensures { Gives result (said_by client (one_key ops.FileDelete (texts arguments.now))) }
+fn file_delete(alloc: Global, client: u8, arguments: &[u8]) -> Result<Parsed, LineError>
+    ensures { Gives result (said_by client (one_key ops.FileDelete (words_of arguments.now))) }
 {
-    let [name] = arguments else {
+    let Some(name) = one_word(arguments) else {
         return Err(LineError::Cause(3));
     };
     let name = stored(alloc, name)?;

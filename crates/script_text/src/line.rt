@@ -1,11 +1,11 @@
 // What a line of a script says.
-ghost use Rattle.std.specs.Prelude.{◌≡◌};
-ghost use Rattle.script_model.specs.Script.{is_skipped, parse, parse_whole, said, without_return};
-ghost use Rattle.script_text.specs.{Parsing.Gives, Words.texts};
+ghost use Rattle.std.specs.{Prelude.{◌≡◌, if◌then◌else◌}, List.list_all};
+ghost use Rattle.script_model.specs.{Script.{is_printable, is_skipped, parse, parse_whole, said, without_return}, Text.words_of};
+ghost use Rattle.script_text.specs.Parsing.{Gives};
 
 use crate::argument::client;
 use crate::operation::operation_of;
-use crate::word::{MOST_WORDS, cut_words};
+use crate::word::next_word;
 use iso_model::MAX_LINE;
 use script_model::{LineError, Parsed};
 use std::alloc::Global;
@@ -26,11 +26,12 @@ pub fn parse_line(alloc: Global, text: &[u8]) -> Result<Parsed, LineError>
     if is_skipped(text) {
         return Ok(Parsed::Skip);
     }
-    let mut places: [&[u8]; MOST_WORDS] = [b""; MOST_WORDS];
-    let Some(count) = cut_words(text, &mut places) else {
-        return Err(LineError::Cause(8));
-    };
-    said(alloc, &places[..count])
+    match said(alloc, text) {
+        // what a line says has printable bytes alone, so these are looked at where it says nothing
+        Err(LineError::Cause(cause)) => Err(LineError::Cause(first_cause(text, cause))),
+        Err(LineError::Memory) => Err(LineError::Memory),
+        Ok(parsed) => Ok(parsed),
+    }
 }
 
 /// What the bytes before a line feed say. A carriage return at their end counts in their length alone.
@@ -62,20 +63,28 @@ fn is_skipped(text: &[u8]) -> bool
     text.starts_with(b"#") || text.iter().all(|byte| *byte == b' ')
 }
 
+/// The first test that a line fails whose words fail by this cause.
+fn first_cause(text: &[u8], cause: u8) -> u8
+    ensures { result ≡ if list_all is_printable text.now then cause else 8 }
+{
+    if text.iter().all(|byte| (b' '..=b'~').contains(byte)) {
+        cause
+    } else {
+        8
+    }
+}
+
 /// What the words of a line say.
 #[tactic(auto, unfolding(script_model::specs::Script::said))]
-fn said(alloc: Global, words: &[&[u8]]) -> Result<Parsed, LineError>
-    ensures { Gives result (said (texts words.now)) }
+fn said(alloc: Global, text: &[u8]) -> Result<Parsed, LineError>
+    ensures { Gives result (said (words_of text.now)) }
 {
-    match words {
-        [] => Err(LineError::Cause(1)),
-        [first] => {
-            client(first)?;
-            Err(LineError::Cause(2))
-        }
-        [first, name, arguments @ ..] => {
-            let client = client(first)?;
-            operation_of(alloc, client, name, arguments)
-        }
-    }
+    let Some((first, rest)) = next_word(text) else {
+        return Err(LineError::Cause(1));
+    };
+    let client = client(first)?;
+    let Some((name, arguments)) = next_word(rest) else {
+        return Err(LineError::Cause(2));
+    };
+    operation_of(alloc, client, name, arguments)
 }

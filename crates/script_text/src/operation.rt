@@ -1,10 +1,11 @@
 // The operations, each with its arguments, which are tested from the left.
-ghost use Rattle.script_model.specs.Script.{bare, begin_arguments, group_arguments, key_and_value, number_and_bytes, one_key, one_label, one_number, operation_of, other_operation, put_arguments, scan_arguments, store_operation, three_numbers, tree_operation, two_numbers};
+ghost use Rattle.script_model.specs.{Script.{bare, begin_arguments, group_arguments, key_and_value, number_and_bytes, one_key, one_label, one_number, operation_of, other_operation, put_arguments, scan_arguments, store_operation, three_numbers, tree_operation, two_numbers}, Text.words_of};
 ghost use Rattle.script_model.specs.declared.script.Op.TheVariants as ops;
-ghost use Rattle.script_text.specs.{Parsing.{Gives, said_by}, Words.texts};
+ghost use Rattle.script_text.specs.Parsing.{Gives, said_by};
 
 use crate::argument::{hex, label, labels, mode, number, stored};
 use crate::files::file_operation;
+use crate::word::{count_words, next_word, one_word, three_words, two_words};
 use script_model::{Line, LineError, MAX_LABELS, Op, Parsed};
 use std::alloc::Global;
 
@@ -14,9 +15,9 @@ pub(crate) fn operation_of(
     alloc: Global,
     client: u8,
     name: &[u8],
-    arguments: &[&[u8]],
+    arguments: &[u8],
 ) -> Result<Parsed, LineError>
-    ensures { Gives result (said_by client (operation_of name.now (texts arguments.now))) }
+    ensures { Gives result (said_by client (operation_of name.now (words_of arguments.now))) }
 {
     if name == b"begin".as_slice() {
         return begin(client, arguments);
@@ -53,9 +54,9 @@ fn other_operation(
     alloc: Global,
     client: u8,
     name: &[u8],
-    arguments: &[&[u8]],
+    arguments: &[u8],
 ) -> Result<Parsed, LineError>
-    ensures { Gives result (said_by client (other_operation name.now (texts arguments.now))) }
+    ensures { Gives result (said_by client (other_operation name.now (words_of arguments.now))) }
 {
     if name == b"release".as_slice() {
         return release(client, arguments);
@@ -89,9 +90,9 @@ fn store_operation(
     alloc: Global,
     client: u8,
     name: &[u8],
-    arguments: &[&[u8]],
+    arguments: &[u8],
 ) -> Result<Parsed, LineError>
-    ensures { Gives result (said_by client (store_operation name.now (texts arguments.now))) }
+    ensures { Gives result (said_by client (store_operation name.now (words_of arguments.now))) }
 {
     if name == b"hput".as_slice() {
         return hash_put(alloc, client, arguments);
@@ -110,9 +111,9 @@ fn tree_operation(
     alloc: Global,
     client: u8,
     name: &[u8],
-    arguments: &[&[u8]],
+    arguments: &[u8],
 ) -> Result<Parsed, LineError>
-    ensures { Gives result (said_by client (tree_operation name.now (texts arguments.now))) }
+    ensures { Gives result (said_by client (tree_operation name.now (words_of arguments.now))) }
 {
     if name == b"tput".as_slice() {
         return tree_put(alloc, client, arguments);
@@ -131,38 +132,38 @@ fn tree_operation(
 
 /// An operation that has no arguments.
 #[inline(always)]
-fn bare(client: u8, op: Op, arguments: &[&[u8]]) -> Result<Parsed, LineError>
-    ensures { Gives result (said_by client (bare op (texts arguments.now))) }
+fn bare(client: u8, op: Op, arguments: &[u8]) -> Result<Parsed, LineError>
+    ensures { Gives result (said_by client (bare op (words_of arguments.now))) }
 {
-    match arguments {
-        [] => Ok(Parsed::Line(Line { client, op })),
-        _ => Err(LineError::Cause(3)),
+    match next_word(arguments) {
+        None => Ok(Parsed::Line(Line { client, op })),
+        Some(_) => Err(LineError::Cause(3)),
     }
 }
 
-fn begin(client: u8, arguments: &[&[u8]]) -> Result<Parsed, LineError>
-    ensures { Gives result (said_by client (begin_arguments (texts arguments.now))) }
+fn begin(client: u8, arguments: &[u8]) -> Result<Parsed, LineError>
+    ensures { Gives result (said_by client (begin_arguments (words_of arguments.now))) }
 {
-    match arguments {
-        [] => Ok(Parsed::Line(Line {
+    let Some((word, more)) = next_word(arguments) else {
+        return Ok(Parsed::Line(Line {
             client,
             op: Op::Begin { mode: None },
-        })),
-        [word] => {
-            let mode = mode(word)?;
-            Ok(Parsed::Line(Line {
-                client,
-                op: Op::Begin { mode: Some(mode) },
-            }))
-        }
-        _ => Err(LineError::Cause(3)),
+        }));
+    };
+    if let Some(_) = next_word(more) {
+        return Err(LineError::Cause(3));
     }
+    let mode = mode(word)?;
+    Ok(Parsed::Line(Line {
+        client,
+        op: Op::Begin { mode: Some(mode) },
+    }))
 }
 
-fn put(alloc: Global, client: u8, arguments: &[&[u8]]) -> Result<Parsed, LineError>
-    ensures { Gives result (said_by client (put_arguments (texts arguments.now))) }
+fn put(alloc: Global, client: u8, arguments: &[u8]) -> Result<Parsed, LineError>
+    ensures { Gives result (said_by client (put_arguments (words_of arguments.now))) }
 {
-    let [block, start, text] = arguments else {
+    let Some((block, start, text)) = three_words(arguments) else {
         return Err(LineError::Cause(3));
     };
     let block = number(block)?;
@@ -174,10 +175,10 @@ fn put(alloc: Global, client: u8, arguments: &[&[u8]]) -> Result<Parsed, LineErr
     }))
 }
 
-fn read(client: u8, arguments: &[&[u8]]) -> Result<Parsed, LineError>
-    ensures { Gives result (said_by client (one_number ops.Read (texts arguments.now))) }
+fn read(client: u8, arguments: &[u8]) -> Result<Parsed, LineError>
+    ensures { Gives result (said_by client (one_number ops.Read (words_of arguments.now))) }
 {
-    let [block] = arguments else {
+    let Some(block) = one_word(arguments) else {
         return Err(LineError::Cause(3));
     };
     let block = number(block)?;
@@ -187,10 +188,10 @@ fn read(client: u8, arguments: &[&[u8]]) -> Result<Parsed, LineError>
     }))
 }
 
-fn get(client: u8, arguments: &[&[u8]]) -> Result<Parsed, LineError>
-    ensures { Gives result (said_by client (three_numbers ops.Get (texts arguments.now))) }
+fn get(client: u8, arguments: &[u8]) -> Result<Parsed, LineError>
+    ensures { Gives result (said_by client (three_numbers ops.Get (words_of arguments.now))) }
 {
-    let [block, off, len] = arguments else {
+    let Some((block, off, len)) = three_words(arguments) else {
         return Err(LineError::Cause(3));
     };
     let block = number(block)?;
@@ -202,10 +203,10 @@ fn get(client: u8, arguments: &[&[u8]]) -> Result<Parsed, LineError>
     }))
 }
 
-fn write(alloc: Global, client: u8, arguments: &[&[u8]]) -> Result<Parsed, LineError>
-    ensures { Gives result (said_by client (number_and_bytes ops.Write (texts arguments.now))) }
+fn write(alloc: Global, client: u8, arguments: &[u8]) -> Result<Parsed, LineError>
+    ensures { Gives result (said_by client (number_and_bytes ops.Write (words_of arguments.now))) }
 {
-    let [block, bytes] = arguments else {
+    let Some((block, bytes)) = two_words(arguments) else {
         return Err(LineError::Cause(3));
     };
     let block = number(block)?;
@@ -216,10 +217,10 @@ fn write(alloc: Global, client: u8, arguments: &[&[u8]]) -> Result<Parsed, LineE
     }))
 }
 
-fn fill(alloc: Global, client: u8, arguments: &[&[u8]]) -> Result<Parsed, LineError>
-    ensures { Gives result (said_by client (number_and_bytes ops.Fill (texts arguments.now))) }
+fn fill(alloc: Global, client: u8, arguments: &[u8]) -> Result<Parsed, LineError>
+    ensures { Gives result (said_by client (number_and_bytes ops.Fill (words_of arguments.now))) }
 {
-    let [block, bytes] = arguments else {
+    let Some((block, bytes)) = two_words(arguments) else {
         return Err(LineError::Cause(3));
     };
     let block = number(block)?;
@@ -230,10 +231,10 @@ fn fill(alloc: Global, client: u8, arguments: &[&[u8]]) -> Result<Parsed, LineEr
     }))
 }
 
-fn mark(client: u8, arguments: &[&[u8]]) -> Result<Parsed, LineError>
-    ensures { Gives result (said_by client (two_numbers ops.Mark (texts arguments.now))) }
+fn mark(client: u8, arguments: &[u8]) -> Result<Parsed, LineError>
+    ensures { Gives result (said_by client (two_numbers ops.Mark (words_of arguments.now))) }
 {
-    let [off, len] = arguments else {
+    let Some((off, len)) = two_words(arguments) else {
         return Err(LineError::Cause(3));
     };
     let off = number(off)?;
@@ -244,10 +245,10 @@ fn mark(client: u8, arguments: &[&[u8]]) -> Result<Parsed, LineError>
     }))
 }
 
-fn release(client: u8, arguments: &[&[u8]]) -> Result<Parsed, LineError>
-    ensures { Gives result (said_by client (one_label ops.Release (texts arguments.now))) }
+fn release(client: u8, arguments: &[u8]) -> Result<Parsed, LineError>
+    ensures { Gives result (said_by client (one_label ops.Release (words_of arguments.now))) }
 {
-    let [text] = arguments else {
+    let Some(text) = one_word(arguments) else {
         return Err(LineError::Cause(3));
     };
     let label = label(text)?;
@@ -257,10 +258,10 @@ fn release(client: u8, arguments: &[&[u8]]) -> Result<Parsed, LineError>
     }))
 }
 
-fn takeover(client: u8, arguments: &[&[u8]]) -> Result<Parsed, LineError>
-    ensures { Gives result (said_by client (one_label ops.Takeover (texts arguments.now))) }
+fn takeover(client: u8, arguments: &[u8]) -> Result<Parsed, LineError>
+    ensures { Gives result (said_by client (one_label ops.Takeover (words_of arguments.now))) }
 {
-    let [text] = arguments else {
+    let Some(text) = one_word(arguments) else {
         return Err(LineError::Cause(3));
     };
     let label = label(text)?;
@@ -270,10 +271,10 @@ fn takeover(client: u8, arguments: &[&[u8]]) -> Result<Parsed, LineError>
     }))
 }
 
-fn await_label(client: u8, arguments: &[&[u8]]) -> Result<Parsed, LineError>
-    ensures { Gives result (said_by client (one_label ops.Await (texts arguments.now))) }
+fn await_label(client: u8, arguments: &[u8]) -> Result<Parsed, LineError>
+    ensures { Gives result (said_by client (one_label ops.Await (words_of arguments.now))) }
 {
-    let [text] = arguments else {
+    let Some(text) = one_word(arguments) else {
         return Err(LineError::Cause(3));
     };
     let label = label(text)?;
@@ -283,10 +284,11 @@ fn await_label(client: u8, arguments: &[&[u8]]) -> Result<Parsed, LineError>
     }))
 }
 
-fn group(alloc: Global, client: u8, arguments: &[&[u8]]) -> Result<Parsed, LineError>
-    ensures { Gives result (said_by client (group_arguments (texts arguments.now))) }
+fn group(alloc: Global, client: u8, arguments: &[u8]) -> Result<Parsed, LineError>
+    ensures { Gives result (said_by client (group_arguments (words_of arguments.now))) }
 {
-    if arguments.is_empty() || arguments.len() > MAX_LABELS {
+    let count = count_words(arguments);
+    if count == 0 || count > MAX_LABELS {
         return Err(LineError::Cause(3));
     }
     let labels = labels(alloc, arguments)?;
@@ -296,10 +298,10 @@ fn group(alloc: Global, client: u8, arguments: &[&[u8]]) -> Result<Parsed, LineE
     }))
 }
 
-fn hash_put(alloc: Global, client: u8, arguments: &[&[u8]]) -> Result<Parsed, LineError>
-    ensures { Gives result (said_by client (key_and_value ops.HashPut (texts arguments.now))) }
+fn hash_put(alloc: Global, client: u8, arguments: &[u8]) -> Result<Parsed, LineError>
+    ensures { Gives result (said_by client (key_and_value ops.HashPut (words_of arguments.now))) }
 {
-    let [key, value] = arguments else {
+    let Some((key, value)) = two_words(arguments) else {
         return Err(LineError::Cause(3));
     };
     let key = stored(alloc, key)?;
@@ -310,10 +312,10 @@ fn hash_put(alloc: Global, client: u8, arguments: &[&[u8]]) -> Result<Parsed, Li
     }))
 }
 
-fn hash_get(alloc: Global, client: u8, arguments: &[&[u8]]) -> Result<Parsed, LineError>
-    ensures { Gives result (said_by client (one_key ops.HashGet (texts arguments.now))) }
+fn hash_get(alloc: Global, client: u8, arguments: &[u8]) -> Result<Parsed, LineError>
+    ensures { Gives result (said_by client (one_key ops.HashGet (words_of arguments.now))) }
 {
-    let [key] = arguments else {
+    let Some(key) = one_word(arguments) else {
         return Err(LineError::Cause(3));
     };
     let key = stored(alloc, key)?;
@@ -323,10 +325,10 @@ fn hash_get(alloc: Global, client: u8, arguments: &[&[u8]]) -> Result<Parsed, Li
     }))
 }
 
-fn hash_delete(alloc: Global, client: u8, arguments: &[&[u8]]) -> Result<Parsed, LineError>
-    ensures { Gives result (said_by client (one_key ops.HashDelete (texts arguments.now))) }
+fn hash_delete(alloc: Global, client: u8, arguments: &[u8]) -> Result<Parsed, LineError>
+    ensures { Gives result (said_by client (one_key ops.HashDelete (words_of arguments.now))) }
 {
-    let [key] = arguments else {
+    let Some(key) = one_word(arguments) else {
         return Err(LineError::Cause(3));
     };
     let key = stored(alloc, key)?;
@@ -336,10 +338,10 @@ fn hash_delete(alloc: Global, client: u8, arguments: &[&[u8]]) -> Result<Parsed,
     }))
 }
 
-fn tree_put(alloc: Global, client: u8, arguments: &[&[u8]]) -> Result<Parsed, LineError>
-    ensures { Gives result (said_by client (key_and_value ops.TreePut (texts arguments.now))) }
+fn tree_put(alloc: Global, client: u8, arguments: &[u8]) -> Result<Parsed, LineError>
+    ensures { Gives result (said_by client (key_and_value ops.TreePut (words_of arguments.now))) }
 {
-    let [key, value] = arguments else {
+    let Some((key, value)) = two_words(arguments) else {
         return Err(LineError::Cause(3));
     };
     let key = stored(alloc, key)?;
@@ -350,10 +352,10 @@ fn tree_put(alloc: Global, client: u8, arguments: &[&[u8]]) -> Result<Parsed, Li
     }))
 }
 
-fn tree_get(alloc: Global, client: u8, arguments: &[&[u8]]) -> Result<Parsed, LineError>
-    ensures { Gives result (said_by client (one_key ops.TreeGet (texts arguments.now))) }
+fn tree_get(alloc: Global, client: u8, arguments: &[u8]) -> Result<Parsed, LineError>
+    ensures { Gives result (said_by client (one_key ops.TreeGet (words_of arguments.now))) }
 {
-    let [key] = arguments else {
+    let Some(key) = one_word(arguments) else {
         return Err(LineError::Cause(3));
     };
     let key = stored(alloc, key)?;
@@ -363,10 +365,10 @@ fn tree_get(alloc: Global, client: u8, arguments: &[&[u8]]) -> Result<Parsed, Li
     }))
 }
 
-fn tree_delete(alloc: Global, client: u8, arguments: &[&[u8]]) -> Result<Parsed, LineError>
-    ensures { Gives result (said_by client (one_key ops.TreeDelete (texts arguments.now))) }
+fn tree_delete(alloc: Global, client: u8, arguments: &[u8]) -> Result<Parsed, LineError>
+    ensures { Gives result (said_by client (one_key ops.TreeDelete (words_of arguments.now))) }
 {
-    let [key] = arguments else {
+    let Some(key) = one_word(arguments) else {
         return Err(LineError::Cause(3));
     };
     let key = stored(alloc, key)?;
@@ -376,10 +378,10 @@ fn tree_delete(alloc: Global, client: u8, arguments: &[&[u8]]) -> Result<Parsed,
     }))
 }
 
-fn tree_scan(alloc: Global, client: u8, arguments: &[&[u8]]) -> Result<Parsed, LineError>
-    ensures { Gives result (said_by client (scan_arguments (texts arguments.now))) }
+fn tree_scan(alloc: Global, client: u8, arguments: &[u8]) -> Result<Parsed, LineError>
+    ensures { Gives result (said_by client (scan_arguments (words_of arguments.now))) }
 {
-    let [from, to, most] = arguments else {
+    let Some((from, to, most)) = three_words(arguments) else {
         return Err(LineError::Cause(3));
     };
     let from = stored(alloc, from)?;

@@ -1,44 +1,33 @@
 // The words of a line, and the numbers that they spell.
-ghost use Rattle.std.specs.{Prelude.{◌≡◌, ◌+◌, ◌<◌, ◌≤◌, [], ◌∷◌, IfNone, IfSome, drop, false, length, take, true}, List.list_all, Option.is_some};
-ghost use Rattle.script_model.specs.{Script.is_printable, Text.{number_of, words_of}};
-ghost use Rattle.script_text.specs.Words.{is_word_byte, may_be_decimal, texts, word_before};
-
-/// How many words a line is cut into: a client, a name, and one argument more than any operation has. So what follows them
-/// changes nothing.
-pub(crate) const MOST_WORDS: usize = 19;
+ghost use Rattle.std.specs.{Prelude.{◌≡◌, ◌≢◌, ◌+◌, ◌<◌, ◌≤◌, [], ◌∷◌, IfSome, MatchOption, drop, length, take, true}, List.list_all};
+ghost use Rattle.script_model.specs.Text.{number_of, words_of};
+ghost use Rattle.script_text.specs.Words.{is_no_space, may_be_decimal, word_before};
 
 // How many bytes of a long word are looked at with no way out between, and so at once. Most words are shorter.
 const LANES: usize = 16;
 
-/// Whether a byte belongs to a word: it is printable, and no space.
+/// Whether none of `LANES` bytes from a place on is found to be a space.
 #[inline(always)]
-fn is_word_byte(byte: u8) -> bool
-    ensures { result ≡ is_word_byte byte }
-{
-    (b'!'..=b'~').contains(&byte)
-}
-
-/// Whether `LANES` bytes from a place on belong to a word.
-#[inline(always)]
-fn are_word_bytes(rest: &[u8], at: usize) -> bool
-    requires { at + LANES ≤ length rest.now }
-    ensures { result ≡ true → list_all is_word_byte (take LANES (drop at rest.now)) ≡ true }
+fn have_no_space(text: &[u8], at: usize) -> bool
+    requires { at + LANES ≤ length text.now }
+    ensures { result ≡ true → list_all is_no_space (take LANES (drop at text.now)) ≡ true }
 {
     let mut good = true;
     'bytes: for k in 0..LANES {
-        good &= is_word_byte(rest[at + k]);
+        good &= text[at + k] != b' ';
     }
     good
 }
 
-/// How many bytes at the front of a line are found to belong to one word where many are looked at at once: none of a short line.
-fn begun_length(rest: &[u8]) -> usize
-    ensures within { result ≤ length rest.now }
-    ensures word { list_all is_word_byte (take result rest.now) ≡ true }
+/// How many bytes at the front of a text are found to have no space where many are looked at at once: none of a short text.
+#[inline(always)]
+fn begun_length(text: &[u8]) -> usize
+    ensures within { result ≤ length text.now }
+    ensures word { list_all is_no_space (take result text.now) ≡ true }
 {
     let mut at = 0;
-    'bytes: while rest.len() - at >= LANES {
-        if !are_word_bytes(rest, at) {
+    'bytes: while text.len() - at >= LANES {
+        if !have_no_space(text, at) {
             return at;
         }
         at += LANES;
@@ -46,49 +35,85 @@ fn begun_length(rest: &[u8]) -> usize
     at
 }
 
-/// The bytes before the first space, and what follows it. None where a byte before it is not printable.
+/// The bytes before the first space, and what follows it.
 #[inline(always)]
-fn cut_word(rest: &[u8]) -> Option<(&[u8], &[u8])>
-    requires { 0 < length rest.now }
-    ensures shorter { IfSome result (λ cut. length cut.1.now < length rest.now) }
-    ensures printable { IfSome result (λ cut. list_all is_printable rest.now ≡ list_all is_printable cut.1.now) }
-    ensures words { IfSome result (λ cut. words_of rest.now ≡ word_before cut.0.now (words_of cut.1.now)) }
-    ensures none { IfNone result (list_all is_printable rest.now ≡ false) }
+fn cut(text: &[u8]) -> (&[u8], &[u8])
+    requires { 0 < length text.now }
+    ensures shorter { length result.1.now < length text.now }
+    ensures words { words_of text.now ≡ word_before result.0.now (words_of result.1.now) }
 {
-    let mut at = begun_length(rest);
-    'bytes: while at < rest.len() {
-        if is_word_byte(rest[at]) {
-            at += 1;
-            continue;
+    let mut at = begun_length(text);
+    'bytes: while at < text.len() {
+        if text[at] == b' ' {
+            let (word, behind) = text.split_at(at);
+            let (_, more) = behind.split_at(1);
+            return (word, more);
         }
-        if rest[at] != b' ' {
-            return None;
-        }
-        let (word, behind) = rest.split_at(at);
-        let (_, more) = behind.split_at(1);
-        return Some((word, more));
+        at += 1;
     }
-    Some(rest.split_at(at))
+    text.split_at(at)
 }
 
-/// Puts the first words between spaces into the places, and says how many these are. None where the line has a byte that is
-/// not printable.
-pub(crate) fn cut_words<'a>(line: &'a [u8], places: &mut [&'a [u8]; MOST_WORDS]) -> Option<usize>
-    ensures words { IfSome result (λ count. texts (take count places.new) ≡ take MOST_WORDS (words_of line.now)) }
-    ensures fits { IfSome result (λ count. count ≤ length places.new) }
-    ensures printable { is_some result ≡ list_all is_printable line.now }
+/// The first word of a text, and what follows it. None where it has no word.
+#[inline(always)]
+pub(crate) fn next_word(text: &[u8]) -> Option<(&[u8], &[u8])>
+    ensures words { MatchOption result (words_of text.now ≡ []) (λ found. words_of text.now ≡ found.0.now ∷ words_of found.1.now) }
+    ensures shorter { IfSome result (λ found. length found.1.now < length text.now) }
 {
-    let mut count = 0;
-    let mut rest = line;
+    let mut rest = text;
     while !rest.is_empty() {
-        let (word, behind) = cut_word(rest)?;
-        rest = behind;
-        if !word.is_empty() && count < MOST_WORDS {
-            places[count] = word;
-            count += 1;
+        let (word, behind) = cut(rest);
+        if !word.is_empty() {
+            return Some((word, behind));
         }
+        rest = behind;
     }
-    Some(count)
+    None
+}
+
+/// The word of a text that has one.
+#[inline(always)]
+pub(crate) fn one_word(text: &[u8]) -> Option<&[u8]>
+    ensures { MatchOption result (length (words_of text.now) ≢ 1) (λ word. words_of text.now ≡ word.now ∷ []) }
+{
+    let (word, rest) = next_word(text)?;
+    match next_word(rest) {
+        None => Some(word),
+        Some(_) => None,
+    }
+}
+
+/// The words of a text that has two.
+#[inline(always)]
+pub(crate) fn two_words(text: &[u8]) -> Option<(&[u8], &[u8])>
+    ensures { MatchOption result (length (words_of text.now) ≢ 2) (λ words. words_of text.now ≡ words.0.now ∷ words.1.now ∷ []) }
+{
+    let (first, rest) = next_word(text)?;
+    let second = one_word(rest)?;
+    Some((first, second))
+}
+
+/// The words of a text that has three.
+#[inline(always)]
+pub(crate) fn three_words(text: &[u8]) -> Option<(&[u8], &[u8], &[u8])>
+    ensures { MatchOption result (length (words_of text.now) ≢ 3) (λ words. words_of text.now ≡ words.0.now ∷ words.1.now ∷ words.2.now ∷ []) }
+{
+    let (first, rest) = next_word(text)?;
+    let (second, third) = two_words(rest)?;
+    Some((first, second, third))
+}
+
+/// How many words a text has.
+pub(crate) fn count_words(text: &[u8]) -> usize
+    ensures { result ≡ length (words_of text.now) }
+{
+    let mut count: usize = 0;
+    let mut rest = text;
+    while let Some((_, behind)) = next_word(rest) {
+        count += 1;
+        rest = behind;
+    }
+    count
 }
 
 /// Whether a word has a byte, and no zero before others.
