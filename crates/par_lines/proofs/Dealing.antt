@@ -1,35 +1,46 @@
 -- Lines that are taken off the end of a list, one by one, and the lines of each client.
-use Rattle.par_lines.proofs.Words.{◌≡◌, ℕ, zero, suc, ◌+◌, ◌-◌, ◌<◌, ◌≤◌, ◌==◌, ◌||◌, Bool, true, false, not, cond, List, [], ◌∷◌, ◌++◌, drop, get_or, length, map, reverse, refl, sym, ap, ◌∙◌, subst, arith, append_assoc, length-append, eqb-true, append-nil, map-append, reverse-append, filter-append, All-append, drop-cons, filter, All, list_any, range_with_len, Line, Job, has_line, lines_of}
+use Rattle.par_lines.proofs.Words.{◌≡◌, ℕ, zero, suc, ◌+◌, ◌-◌, ◌<◌, ◌≤◌, ◌==◌, ◌||◌, Bool, true, false, not, cond, List, [], ◌∷◌, ◌++◌, drop, get_or, length, map, reverse, refl, sym, ap, ◌∙◌, subst, arith, append_assoc, length-append, eqb-true, append-nil, map-append, reverse-append, filter-append, IfSome, Option, Some, None, slice_get, set, All-append, drop-cons, filter, All, list_any, range_with_len, Line, Job, has_line, lines_of}
 
 -- the list in the other order, as its last element is taken off
 pub turned_more : {X : Type 0} (whole out xs ys : List X) (x : X) → xs ≡ ys ++ x ∷ [] → whole ≡ out ++ reverse xs → whole ≡ (out ++ x ∷ []) ++ reverse ys
 turned_more whole out xs ys x e was = was ∙ (ap (λ l. out ++ l) (ap reverse e ∙ reverse-append ys (x ∷ [])) ∙ sym (append_assoc out (x ∷ []) (reverse ys)))
 
--- some of its elements, as the last one is taken off
-module _ {X : Type 0} (p : X → Bool) (whole out xs ys : List X) (x : X) (e : xs ≡ ys ++ x ∷ []) (was : whole ≡ out ++ filter p (reverse xs)) where
-  next : whole ≡ out ++ cond (p x) (x ∷ filter p (reverse ys)) (filter p (reverse ys))
-  next = was ∙ ap (λ l. out ++ filter p l) (ap reverse e ∙ reverse-append ys (x ∷ []))
+-- what holds of all elements holds of the one at a place, if there is one, and the other way round
+pub each_some : {X : Type 0} (P : X → Type 0) (xs : List X) → All P xs → (k : ℕ) → IfSome (slice_get xs k) P
+each_some P [] all k = tt
+each_some P (x ∷ xs) all zero = all zero x (omega arith)
+each_some P (x ∷ xs) all (suc k) = each_some P xs (λ n d lt. all (suc n) d (omega (arith, lt))) k
 
-  pub takes_more : p x ≡ true → whole ≡ (out ++ x ∷ []) ++ filter p (reverse ys)
-  takes_more is = next ∙ (ap (λ b. out ++ cond b (x ∷ filter p (reverse ys)) (filter p (reverse ys))) is ∙ sym (append_assoc out (x ∷ []) (filter p (reverse ys))))
+pub some_at : {X : Type 0} (P : X → Type 0) (xs : List X) (k : ℕ) (d : X) → k < length xs → IfSome (slice_get xs k) P → P (get_or xs k d)
+some_at P [] k d lt is = absurd (omega (arith, lt))
+some_at P (x ∷ xs) zero d lt is = is
+some_at P (x ∷ xs) (suc k) d lt is = some_at P xs k d (omega (arith, lt)) is
 
-  pub leaves_out : p x ≡ false → whole ≡ out ++ filter p (reverse ys)
-  leaves_out is = next ∙ ap (λ b. out ++ cond b (x ∷ filter p (reverse ys)) (filter p (reverse ys))) is
+pub some_too : {X : Type 0} (P Q : X → Type 0) (o : Option X) → ((x : X) → P x → Q x) → IfSome o P → IfSome o Q
+some_too P Q None gives is = tt
+some_too P Q (Some x) gives is = gives x is
 
--- the lines of a client are among those that are not another one's
-pub others_keep : (client c : ℕ) → (client ≡ c → ⊥) → (lines : List (ℕ × Line)) → lines_of c (filter (λ l. not (l.1.client == client)) lines) ≡ lines_of c lines
-others_keep client c apart [] = refl
-others_keep client c apart (l ∷ lines) = by (l.1.client == client) refl (others_keep client c apart lines)
-  where
-    by : (b : Bool) → (l.1.client == client) ≡ b → lines_of c (filter (λ l. not (l.1.client == client)) lines) ≡ lines_of c lines
-        → lines_of c (cond (not b) (l ∷ filter (λ l. not (l.1.client == client)) lines) (filter (λ l. not (l.1.client == client)) lines)) ≡ cond (l.1.client == c) (l ∷ lines_of c lines) (lines_of c lines)
-    by true is rest =
-        rest ∙ sym (ap (λ b. cond b (l ∷ lines_of c lines) (lines_of c lines)) (differ (l.1.client == c) refl))
-      where
-        differ : (b : Bool) → (l.1.client == c) ≡ b → (l.1.client == c) ≡ false
-        differ true at = absurd (apart (sym (eqb-true l.1.client client is) ∙ eqb-true l.1.client c at))
-        differ false at = at
-    by false is rest = ap (λ v. cond (l.1.client == c) (l ∷ v) v) rest
+-- what holds of each element at its place, after one has changed
+pub after_set : {X : Type 0} (Q : ℕ → X → Type 0) (xs : List X) (i : ℕ) (v : X) → (i < length xs → Q i v) → ((k : ℕ) → (k ≡ i → ⊥) → IfSome (slice_get xs k) (Q k)) → (k : ℕ) → IfSome (slice_get (set xs i v) k) (Q k)
+after_set Q [] i v now kept k = tt
+after_set Q (x ∷ xs) zero v now kept zero = now (omega arith)
+after_set Q (x ∷ xs) zero v now kept (suc k) = kept (suc k) (λ e. absurd (omega (arith, e)))
+after_set Q (x ∷ xs) (suc i) v now kept zero = kept zero (λ e. absurd (omega (arith, e)))
+after_set Q (x ∷ xs) (suc i) v now kept (suc k) =
+    after_set (λ n. Q (suc n)) xs i v (λ lt. now (omega (arith, lt))) (λ n apart. kept (suc n) (λ e. apart (omega (arith, e)))) k
+
+-- the lines of each client, as the last line is taken off and comes to its client's
+module _ (whole lines rest own : List (ℕ × Line)) (l : ℕ × Line) (e : lines ≡ rest ++ l ∷ []) (client : ℕ) (was : lines_of client whole ≡ lines_of client lines ++ reverse own) where
+  split : lines_of client lines ≡ lines_of client rest ++ cond (l.1.client == client) (l ∷ []) []
+  split = ap (lines_of client) e ∙ filter-append (λ x. x.1.client == client) rest (l ∷ [])
+
+  pub own_more : (l.1.client == client) ≡ true → lines_of client whole ≡ lines_of client rest ++ reverse (own ++ l ∷ [])
+  own_more is =
+      was ∙ ap (λ v. v ++ reverse own) (split ∙ ap (λ b. lines_of client rest ++ cond b (l ∷ []) []) is) ∙ append_assoc (lines_of client rest) (l ∷ []) (reverse own)
+      ∙ ap (λ v. lines_of client rest ++ v) (sym (reverse-append own (l ∷ [])))
+
+  pub own_same : (l.1.client == client) ≡ false → lines_of client whole ≡ lines_of client rest ++ reverse own
+  own_same is = was ∙ ap (λ v. v ++ reverse own) (split ∙ ap (λ b. lines_of client rest ++ cond b (l ∷ []) []) is ∙ append-nil (lines_of client rest))
 
 some_not_none : (n : ℕ) → not (suc n == 0) ≡ true
 some_not_none n = by (suc n == 0) refl
@@ -65,16 +76,6 @@ clients_some q n c m ids e f is was =
 pub clients_none : (q : ℕ → Bool) (n c m : ℕ) (ids : List ℕ) → c ≡ 1 + n → m ≡ n + 1 → q c ≡ false → ids ≡ filter q (range_with_len 1 n) → ids ≡ filter q (range_with_len 1 m)
 clients_none q n c m ids e f is was =
     was ∙ sym (append-nil (filter q (range_with_len 1 n))) ∙ sym (ap (λ b. filter q (range_with_len 1 n) ++ cond b ((1 + n) ∷ []) []) (ap q (sym e) ∙ is)) ∙ sym (clients_snoc q n) ∙ ap (λ k. filter q (range_with_len 1 k)) (sym f)
-
-rev_rev : {X : Type 0} (xs : List X) → reverse (reverse xs) ≡ xs
-rev_rev [] = refl
-rev_rev (x ∷ xs) = ap reverse (reverse-append (x ∷ []) xs) ∙ reverse-append (reverse xs) (x ∷ []) ∙ ap (λ l. x ∷ l) (rev_rev xs)
-
--- the lines that are left, as one client's are taken out
-pub rest_more : (client : ℕ) (lines rest others left : List (ℕ × Line)) → ((c : ℕ) → client ≤ c → lines_of c (reverse rest) ≡ lines_of c lines) → others ≡ filter (λ l. not (l.1.client == client)) (reverse rest) → left ≡ reverse others
-    → (c : ℕ) → client + 1 ≤ c → lines_of c (reverse left) ≡ lines_of c lines
-rest_more client lines rest others left kept is turned c above =
-    ap (λ l. lines_of c (reverse l)) turned ∙ ap (lines_of c) (rev_rev others ∙ is) ∙ others_keep client c (λ e. absurd (omega (arith, e, above))) (reverse rest) ∙ kept c (omega arith)
 
 -- the clients, as one more may come to them
 pub ids_more : {V : Type 0} (size : V → ℕ) (lines : List (ℕ × Line)) (client : ℕ) (own : V) (dealt after : List (ℕ × V)) → 1 ≤ client → after ≡ cond (size own == 0) dealt (dealt ++ (client, own) ∷ []) → size own ≡ length (lines_of client lines)

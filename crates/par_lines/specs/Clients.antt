@@ -1,5 +1,5 @@
 -- What contracts see of a client, and what a line makes of it.
-use Rattle.std.specs.Prelude.{◌≡◌, ℕ, ◌<◌, ◌≤◌, List, [], ◌∷◌, ◌++◌, Option, Some, Result, Ok, Err, IsTrue}
+use Rattle.std.specs.Prelude.{◌≡◌, ℕ, ◌<◌, List, [], ◌∷◌, ◌++◌, Option, Some, Result, Ok, Err, IsTrue}
 use Rattle.script_model.specs.{declared.script.Line.Line, declared.script.Reply.Reply, declared.stop.Stop.Stop}
 use Rattle.iso_model.specs.Geometry.{is_valid}
 use Rattle.iso_shared.specs.States.{Start}
@@ -21,7 +21,6 @@ module _ {D O : Type 0} where
     pub units : 33 < c.session.units
     pub device : c.session.device ≡ device_of c.shared.now
     pub geometry : c.geometry ≡ A.world.geometry
-    pub small : c.geometry.block ≤ 4096
     pub valid : IsTrue (is_valid A.world.geometry)
 
   -- one step of a client

@@ -1,11 +1,12 @@
 // The lines that write and mark, which make no entry.
-ghost use Rattle.std.specs.Prelude.{◌≡◌, ◌≤◌};
+ghost use Rattle.std.specs.Prelude.{◌≡◌};
 ghost use Rattle.script_model.specs.declared.script.Op.TheVariants.{Fill, Put, Write};
 ghost use Rattle.handle_pass.specs.Accesses.{mark_answer, HasMarked};
 ghost use Rattle.tx_blocks.specs.Tx.{IsRefused};
 ghost use Rattle.par_lines.specs.Answers.{Answered};
 ghost use Rattle.par_lines.specs.Replies as spec;
 
+use crate::image::ImageNumbers;
 use crate::replies::accessed;
 use handle_pass::Session;
 use iso_disk::Disk;
@@ -34,13 +35,13 @@ pub(crate) fn wrong_bytes<'a, D: Disk + Drop, O: Origin>(
 /// Writes a whole block.
 pub(crate) fn write<'a, D: Disk + Drop, O: Origin>(
     session: &mut Session<'a, D, O>,
-    geometry: &Geometry,
+    image: &ImageNumbers<O>,
     block: u32,
     bytes: &[u8],
 ) -> Result<Reply, Stop>
-    requires geometry { geometry.now ≡ O.start.world.geometry }
     ensures did { Answered O.start session.old (Write block bytes.now) result session.new }
 {
+    let geometry = &image.geometry;
     if bytes.len() != geometry.block as usize {
         return Ok(wrong_bytes(session, geometry, block));
     }
@@ -50,14 +51,14 @@ pub(crate) fn write<'a, D: Disk + Drop, O: Origin>(
 /// Writes a block full of one byte.
 pub(crate) fn fill<'a, D: Disk + Drop, O: Origin>(
     session: &mut Session<'a, D, O>,
-    geometry: &Geometry,
+    image: &ImageNumbers<O>,
     buffer: &mut Vec<u8>,
     block: u32,
     bytes: &[u8],
 ) -> Result<Reply, Stop>
-    requires geometry { geometry.now ≡ O.start.world.geometry }
     ensures did { Answered O.start session.old (Fill block bytes.now) result session.new }
 {
+    let geometry = &image.geometry;
     if bytes.len() != 1 {
         return Ok(wrong_bytes(session, geometry, block));
     }
@@ -81,16 +82,14 @@ fn refused_mark<'a, D: Disk + Drop, O: Origin>(session: &Session<'a, D, O>) -> T
 /// Marks a range of the last access, by numbers that may be larger than a block.
 pub(crate) fn mark_range<'a, D: Disk + Drop, O: Origin>(
     session: &mut Session<'a, D, O>,
-    geometry: &Geometry,
+    image: &ImageNumbers<O>,
     off: u32,
     len: u32,
 ) -> Result<(), TxError>
-    requires geometry { geometry.now ≡ O.start.world.geometry }
-    requires small { geometry.now.block ≤ 4096 }
     ensures cause { IsRefused (mark_answer O.start session.old off len) (λ e. ⊥) result }
     ensures did { HasMarked session.old off len result session.new }
 {
-    if is_outside(geometry.block, off, len as usize) {
+    if is_outside(image.geometry.block, off, len as usize) {
         return Err(refused_mark(session));
     }
     session.mark_accessed(off as u16, len as u16)
@@ -99,16 +98,15 @@ pub(crate) fn mark_range<'a, D: Disk + Drop, O: Origin>(
 /// Writes these bytes at `off`, and claims no others.
 pub(crate) fn put<'a, D: Disk + Drop, O: Origin>(
     session: &mut Session<'a, D, O>,
-    geometry: &Geometry,
+    image: &ImageNumbers<O>,
     buffer: &mut Vec<u8>,
     block: u32,
     off: u32,
     bytes: &[u8],
 ) -> Result<Reply, Stop>
-    requires geometry { geometry.now ≡ O.start.world.geometry }
-    requires small { geometry.now.block ≤ 4096 }
     ensures did { Answered O.start session.old (Put block off bytes.now) result session.new }
 {
+    let geometry = &image.geometry;
     if is_outside(geometry.block, off, bytes.len()) {
         return Ok(wrong_bytes(session, geometry, block));
     }
@@ -116,7 +114,7 @@ pub(crate) fn put<'a, D: Disk + Drop, O: Origin>(
         return Err(Stop::Memory);
     }
     match session.write_block(block, buffer.as_slice()) {
-        Ok(()) => accessed(mark_range(session, geometry, off, bytes.len() as u32)),
+        Ok(()) => accessed(mark_range(session, image, off, bytes.len() as u32)),
         Err(error) => accessed(Err(error)),
     }
 }

@@ -1,5 +1,5 @@
 // A client: its session, and what it was told.
-ghost use Rattle.std.specs.Prelude.{◌≡◌, ◌<◌, ◌≤◌, IsTrue};
+ghost use Rattle.std.specs.Prelude.{◌≡◌, ◌<◌, IsTrue};
 ghost use Rattle.iso_model.specs.Geometry.{is_valid};
 ghost use Rattle.handle_pass.specs.Sessions.{device_of};
 ghost use Rattle.par_lines.specs.Answers.{Answered};
@@ -7,8 +7,9 @@ ghost use Rattle.par_lines.specs.Answers.{Answered};
 use crate::accesses::{fill, mark_range, put, write};
 use crate::calls::end;
 use crate::groups::group;
+use crate::image::ImageNumbers;
 use crate::labels::await_label;
-use crate::reads::{get, read};
+use crate::reads::{ByteRange, get, read};
 use crate::replies::{
     aborted, accessed, begun, compacted, looked, numbers, posted, trimmed, upgraded,
 };
@@ -20,7 +21,7 @@ use iso_shared::{Origin, Shared};
 use par_runner::{Client, Flow};
 use script_model::{Line, Op, Reply, Stop};
 use std::alloc::Global;
-use std::marker::Brand;
+use std::marker::{Brand, PhantomData};
 use std::sync::Wait;
 use std::sync::ledger::Blank;
 
@@ -37,24 +38,33 @@ pub(crate) fn answer<'a, D: Disk + Drop, O: Origin, R: Wait>(
     requires device { session.old.device ≡ device_of shared.now }
     requires units { 33 < session.old.units }
     requires geometry { geometry.now ≡ O.start.world.geometry }
-    requires small { geometry.now.block ≤ 4096 }
     requires valid { IsTrue (is_valid O.start.world.geometry) }
     ensures did { Answered O.start session.old op.now result session.new }
 {
+    let known: ImageNumbers<O> = ImageNumbers {
+        geometry: *geometry,
+        origin: PhantomData,
+    };
+    let image = &known;
     match op {
         Op::Begin { mode } => begun(session.begin_tx(rt, *mode)),
         Op::End => end::<Brand, D, O, R>(Blank::new(1), rt, session),
         Op::Abort => aborted(session.abort_tx(rt)),
         Op::Put { block, off, bytes } => {
-            put(session, geometry, buffer, *block, *off, bytes.as_slice())
+            put(session, image, buffer, *block, *off, bytes.as_slice())
         }
-        Op::Read { block } => read(rt, alloc, session, geometry, *block),
-        Op::Get { block, off, len } => get(
-            rt, alloc, session, geometry, buffer, *block, *off, *len,
-        ),
-        Op::Write { block, bytes } => write(session, geometry, *block, bytes.as_slice()),
-        Op::Fill { block, bytes } => fill(session, geometry, buffer, *block, bytes.as_slice()),
-        Op::Mark { off, len } => accessed(mark_range(session, geometry, *off, *len)),
+        Op::Read { block } => read(rt, alloc, session, image, *block),
+        Op::Get { block, off, len } => {
+            let range = ByteRange {
+                block: *block,
+                off: *off,
+                len: *len,
+            };
+            get(rt, alloc, session, image, buffer, range)
+        }
+        Op::Write { block, bytes } => write(session, image, *block, bytes.as_slice()),
+        Op::Fill { block, bytes } => fill(session, image, buffer, *block, bytes.as_slice()),
+        Op::Mark { off, len } => accessed(mark_range(session, image, *off, *len)),
         Op::Release { label } => posted(session.post_tx(rt, label.copy())),
         Op::Takeover { label } => looked(session.look_tx(rt, label)),
         Op::Await { label } => await_label(rt, session, label),
@@ -74,7 +84,7 @@ pub(crate) fn answer<'a, D: Disk + Drop, O: Origin, R: Wait>(
         | Op::FileWrite { .. }
         | Op::FileRead { .. }
         | Op::FileMove { .. }
-        | Op::FileDelete { .. } => store(rt, alloc, session, geometry, op),
+        | Op::FileDelete { .. } => store(rt, alloc, session, image, op),
     }
 }
 

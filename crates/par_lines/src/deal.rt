@@ -1,10 +1,11 @@
 // Lines are dealt among their clients.
-ghost use Rattle.std.specs.Prelude.{◌≡◌, ◌==◌, ◌++◌, ◌∷◌, ◌≤◌, [], All, IfOk, OnOk, cond, filter, length, map, not, reverse};
+ghost use Rattle.std.specs.Prelude.{◌≡◌, ◌==◌, ◌++◌, ◌∷◌, ◌≤◌, ℕ, [], All, IfOk, IfSome, OnOk, cond, length, map, reverse, slice_get};
 ghost use Rattle.par_script.specs.Told.{clients_in, lines_of};
 
 use iso_model::Memory;
 use script_model::Line;
 use std::alloc::Global;
+use std::mem::replace;
 
 /// The lines in the other order.
 fn turned(alloc: Global, mut lines: Vec<(u64, Line)>) -> Result<Vec<(u64, Line)>, Memory>
@@ -17,24 +18,29 @@ fn turned(alloc: Global, mut lines: Vec<(u64, Line)>) -> Result<Vec<(u64, Line)>
     Ok(out)
 }
 
-/// A client's lines, and those of all others. They are handed in in falling order, and come in rising order.
-fn parted(
-    alloc: Global,
-    mut lines: Vec<(u64, Line)>,
-    client: u8,
-) -> Result<(Vec<(u64, Line)>, Vec<(u64, Line)>), Memory>
-    ensures { IfOk result (λ r. (r.0.items ≡ lines_of client (reverse lines.items)) × (r.1.items ≡ filter (λ l. not (l.1.client == client)) (reverse lines.items))) }
+/// An empty list at the place of each number.
+fn empty_lists(alloc: Global) -> Result<Vec<Vec<(u64, Line)>>, Memory>
+    ensures all { IfOk result (λ r. length r.items ≡ 256) }
+    ensures empty { IfOk result (λ r. All (λ own. own.items ≡ []) r.items) }
 {
-    let mut own = Vec::new(alloc);
-    let mut others = Vec::new(alloc);
-    while let Some(line) = lines.pop() {
-        if line.1.client == client {
-            own.push(line)?;
-        } else {
-            others.push(line)?;
-        }
+    let mut lists = Vec::new(alloc);
+    for _ in 0..256u16 {
+        lists.push(Vec::new(alloc))?;
     }
-    Ok((own, others))
+    Ok(lists)
+}
+
+/// The lines of each client, in falling number, at the place of its number.
+fn by_client(alloc: Global, mut lines: Vec<(u64, Line)>) -> Result<Vec<Vec<(u64, Line)>>, Memory>
+    ensures all { IfOk result (λ r. length r.items ≡ 256) }
+    ensures own { IfOk result (λ r. (client : ℕ) → IfSome (slice_get r.items client) (λ own. reverse own.items ≡ lines_of client lines.items)) }
+{
+    let mut lists = empty_lists(alloc)?;
+    while let Some(line) = lines.pop() {
+        let client = line.1.client as usize;
+        lists[client].push(line)?;
+    }
+    Ok(lists)
 }
 
 /// Keeps the lines of a client, where there are some.
@@ -61,11 +67,10 @@ pub(crate) fn deal(
     ensures lines { IfOk result (λ d. All (λ a. a.1.items ≡ lines_of a.0 lines.items) d.items) }
 {
     let mut dealt = Vec::new(alloc);
-    let mut rest = turned(alloc, lines)?;
+    let mut lists = by_client(alloc, lines)?;
     for client in 1..65u8 {
-        let (own, others) = parted(alloc, rest, client)?;
-        keep(&mut dealt, client, own)?;
-        rest = turned(alloc, others)?;
+        let own = replace(&mut lists[client as usize], Vec::new(alloc));
+        keep(&mut dealt, client, turned(alloc, own)?)?;
     }
     Ok(dealt)
 }

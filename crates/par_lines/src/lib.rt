@@ -10,6 +10,7 @@ mod calls;
 mod client;
 mod deal;
 mod groups;
+mod image;
 mod labels;
 mod par;
 mod reads;

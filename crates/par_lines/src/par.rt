@@ -43,7 +43,6 @@ fn new_job<'a, D: Disk + Drop, O: Origin>(
     requires port { IsPort shared.now port.old }
     requires units { 4294967296 < (port_view port.old).units }
     requires image { first_geometry shared.now ≡ O.start.world.geometry }
-    requires small { O.start.world.geometry.block ≤ 4096 }
     requires valid { IsTrue (is_valid O.start.world.geometry) }
     requires own { own.items ≡ lines_of id lines.now.value.items }
     ensures port { IsPort shared.now port.new }
@@ -82,7 +81,6 @@ fn make_jobs<'a, D: Disk + Drop, O: Origin>(
     requires port { IsPort shared.now port.old }
     requires units { ((port_view port.old).units ≡ LAST) × ((port_view port.old).mine ≡ []) }
     requires image { first_geometry shared.now ≡ O.start.world.geometry }
-    requires small { O.start.world.geometry.block ≤ 4096 }
     requires valid { IsTrue (is_valid O.start.world.geometry) }
     requires dealt { All (λ a. a.1.items ≡ lines_of a.0 lines.now.value.items) dealt.items }
     requires few { length dealt.items ≤ 64 }
@@ -192,7 +190,6 @@ fn run_dealt<D: Disk + Drop + Send, O: Origin + Send + Sync, G: Gate, R: Threads
 ) -> ParEnd
     requires port { IsPort shared.now port.old × (port_view port.old ≡ fresh) }
     requires image { first_geometry shared.now ≡ O.start.world.geometry }
-    requires small { O.start.world.geometry.block ≤ 4096 }
     requires valid { IsTrue (is_valid O.start.world.geometry) }
     requires clients { map (λ a. a.0) dealt.items ≡ clients_in lines.now.value.items }
     requires few { length dealt.items ≤ 64 }

@@ -1,5 +1,5 @@
 // The lines that read.
-ghost use Rattle.std.specs.Prelude.{◌≡◌, ◌≤◌, length, vec_len};
+ghost use Rattle.std.specs.Prelude.{◌≡◌, length, vec_len};
 ghost use Rattle.script_model.specs.declared.script.Op.TheVariants.{Get, Read};
 ghost use Rattle.handle_pass.specs.Accesses.{access_answer, HasRead, IsReadCause};
 ghost use Rattle.tx_blocks.specs.Tx.{IsRefused};
@@ -7,15 +7,24 @@ ghost use Rattle.par_lines.specs.Answers.{Answered};
 ghost use Rattle.par_lines.specs.Replies as spec;
 
 use crate::accesses::{mark_range, wrong_bytes};
+use crate::image::ImageNumbers;
 use crate::replies::accessed;
 use handle_pass::Session;
 use iso_disk::Disk;
-use iso_model::{Bytes, Geometry};
+use iso_model::Bytes;
 use iso_shared::Origin;
 use script_model::{Reply, Stop, copy_from, fit, is_outside, zeros};
 use std::alloc::Global;
 use std::sync::Wait;
 use store_model::TxError;
+
+/// Bytes of a block, by numbers that may be larger than a block.
+#[derive(Drop)]
+pub(crate) struct ByteRange {
+    pub(crate) block: u32,
+    pub(crate) off: u32,
+    pub(crate) len: u32,
+}
 
 /// Reads a block into a vector that has as many bytes.
 fn read_into<'a, D: Disk + Drop, O: Origin, R: Wait>(
@@ -47,13 +56,12 @@ pub(crate) fn read<'a, D: Disk + Drop, O: Origin, R: Wait>(
     rt: &R,
     alloc: Global,
     session: &mut Session<'a, D, O>,
-    geometry: &Geometry,
+    image: &ImageNumbers<O>,
     block: u32,
 ) -> Result<Reply, Stop>
-    requires geometry { geometry.now ≡ O.start.world.geometry }
     ensures did { Answered O.start session.old (Read block) result session.new }
 {
-    match zeros(alloc, geometry.block) {
+    match zeros(alloc, image.geometry.block) {
         Ok(mut bytes) => {
             let answer = read_into(rt, session, &mut bytes, block);
             shown(answer, bytes)
@@ -62,21 +70,19 @@ pub(crate) fn read<'a, D: Disk + Drop, O: Origin, R: Wait>(
     }
 }
 
-/// Reads `len` bytes at `off`, and claims no others. The block is read into the buffer.
+/// Reads these bytes, and claims no others. The block is read into the buffer.
 pub(crate) fn get<'a, D: Disk + Drop, O: Origin, R: Wait>(
     rt: &R,
     alloc: Global,
     session: &mut Session<'a, D, O>,
-    geometry: &Geometry,
+    image: &ImageNumbers<O>,
     buffer: &mut Vec<u8>,
-    block: u32,
-    off: u32,
-    len: u32,
+    range: ByteRange,
 ) -> Result<Reply, Stop>
-    requires geometry { geometry.now ≡ O.start.world.geometry }
-    requires small { geometry.now.block ≤ 4096 }
-    ensures did { Answered O.start session.old (Get block off len) result session.new }
+    ensures did { Answered O.start session.old (Get range.block range.off range.len) result session.new }
 {
+    let ByteRange { block, off, len } = range;
+    let geometry = &image.geometry;
     if is_outside(geometry.block, off, len as usize) {
         return Ok(wrong_bytes(session, geometry, block));
     }
@@ -88,7 +94,7 @@ pub(crate) fn get<'a, D: Disk + Drop, O: Origin, R: Wait>(
     }
     match read_into(rt, session, buffer, block) {
         Ok(()) => {
-            let answer = mark_range(session, geometry, off, len);
+            let answer = mark_range(session, image, off, len);
             copy_from(&mut bytes, buffer, off);
             shown(answer, bytes)
         }

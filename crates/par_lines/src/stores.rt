@@ -4,9 +4,10 @@ ghost use Rattle.iso_model.specs.{declared.access.Mode.TheVariants.{Serial as Is
 ghost use Rattle.store_calls.specs.Calls.{is_empty_scan, placed, store_areas};
 ghost use Rattle.par_lines.specs.{Answers.Answered, Stores.{IsOnStore, settled}};
 
+use crate::image::ImageNumbers;
 use handle_pass::{Left, Session, Visit};
 use iso_disk::Disk;
-use iso_model::{Geometry, Mode};
+use iso_model::Mode;
 use iso_shared::Origin;
 use script_model::{Op, Reply, Stop};
 use std::alloc::Global;
@@ -64,15 +65,13 @@ pub(crate) fn store<'a, D: Disk + Drop, O: Origin, R: Wait>(
     rt: &R,
     alloc: Global,
     session: &mut Session<'a, D, O>,
-    geometry: &Geometry,
+    image: &ImageNumbers<O>,
     op: &Op,
 ) -> Result<Reply, Stop>
-    requires geometry { geometry.now ≡ O.start.world.geometry }
-    requires valid { IsTrue (is_valid O.start.world.geometry) }
     requires op { IsOnStore op.now }
     ensures did { Answered O.start session.old op.now result session.new }
 {
-    let region = store_region(geometry, op);
+    let region = store_region(&image.geometry, op);
     match session.mode() {
         None => Ok(Reply::NotInTx),
         Some(mode) => {

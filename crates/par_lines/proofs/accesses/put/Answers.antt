@@ -4,7 +4,7 @@ pub returns-then-is_outside : Rattle.par_lines.proofs.accesses.put.Goals.returns
 returns-then-is_outside g c =
     record {
       did = subst (λ r. Answered g.O.Origin.start c.args.session.now (Put c.args.block c.args.off c.args.bytes.now) (Ok r) c.args.session.now) (sym c.wrong_bytes.ensures)
-          (wrong_put g.O.Origin.start c.args.block c.args.off c.args.bytes.now c.args.geometry.now c.args.session.now c.requires.geometry (sym c.if-is_outside.ensures));
+          (wrong_put g.O.Origin.start c.args.block c.args.off c.args.bytes.now c.args.image.now.geometry c.args.session.now c.args.image.now.same (sym c.if-is_outside.ensures));
     }
 
 pub returns-in-Err : Rattle.par_lines.proofs.accesses.put.Goals.returns-in-Err
@@ -14,9 +14,9 @@ pub returns-in-Ok : Rattle.par_lines.proofs.accesses.put.Goals.returns-in-Ok
 returns-in-Ok g c =
     record {
       did = subst (λ r. Answered g.O.Origin.start c.args.session.now (Put c.args.block c.args.off c.args.bytes.now) r c.mark_range.new.session) (sym c.accessed.ensures)
-          (right_put g.O.Origin.start c.args.block c.args.off c.args.bytes.now (ap (λ h. is_outside h.block c.args.off (length c.args.bytes.now)) (sym c.requires.geometry) ∙ sym c.if-is_outside.ensures)
+          (right_put g.O.Origin.start c.args.block c.args.off c.args.bytes.now (ap (λ h. is_outside h.block c.args.off (length c.args.bytes.now)) (sym c.args.image.now.same) ∙ sym c.if-is_outside.ensures)
           c.args.session.now c.write_block.new.self c.mark_range.new.session c.as_slice.result.now c.in-Ok.field-0 c.mark_range.result
-          (c.as_slice.ensures.value ∙ c.in_default.ensures ∙ ap (λ h. replicate c.args.off 0 ++ c.args.bytes.now ++ replicate (h.block - (c.args.off + length c.args.bytes.now)) 0) c.requires.geometry)
+          (c.as_slice.ensures.value ∙ c.in_default.ensures ∙ ap (λ h. replicate c.args.off 0 ++ c.args.bytes.now ++ replicate (h.block - (c.args.off + length c.args.bytes.now)) 0) c.args.image.now.same)
           c.in-Ok.ensures.cause c.in-Ok.ensures.did c.mark_range.ensures.cause c.mark_range.ensures.did);
     }
 
@@ -24,6 +24,6 @@ pub returns-in-Err-write_block : Rattle.par_lines.proofs.accesses.put.Goals.retu
 returns-in-Err-write_block g c =
     record {
       did = subst (λ r. Answered g.O.Origin.start c.args.session.now (Put c.args.block c.args.off c.args.bytes.now) r c.write_block.new.self) (sym c.accessed-in-Err-write_block.ensures)
-          (refused_put g.O.Origin.start c.args.block c.args.off c.args.bytes.now (ap (λ h. is_outside h.block c.args.off (length c.args.bytes.now)) (sym c.requires.geometry) ∙ sym c.if-is_outside.ensures)
+          (refused_put g.O.Origin.start c.args.block c.args.off c.args.bytes.now (ap (λ h. is_outside h.block c.args.off (length c.args.bytes.now)) (sym c.args.image.now.same) ∙ sym c.if-is_outside.ensures)
           c.args.session.now c.write_block.new.self c.as_slice.result.now c.in-Err-write_block.error c.in-Err-write_block.ensures.cause c.in-Err-write_block.ensures.did);
     }

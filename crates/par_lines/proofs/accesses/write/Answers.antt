@@ -4,12 +4,12 @@ pub returns-then-bytes-geometry : Rattle.par_lines.proofs.accesses.write.Goals.r
 returns-then-bytes-geometry g c =
     record {
       did = subst (λ r. Answered g.O.Origin.start c.args.session.now (Write c.args.block c.args.bytes.now) (Ok r) c.args.session.now) (sym c.wrong_bytes.ensures)
-          (wrong_write g.O.Origin.start c.args.block c.args.bytes.now c.args.geometry.now c.args.session.now c.requires.geometry c.if-bytes-geometry.true);
+          (wrong_write g.O.Origin.start c.args.block c.args.bytes.now c.args.image.now.geometry c.args.session.now c.args.image.now.same c.if-bytes-geometry.true);
     }
 
 pub returns : Rattle.par_lines.proofs.accesses.write.Goals.returns
 returns g c =
     record {
       did = subst (λ r. Answered g.O.Origin.start c.args.session.now (Write c.args.block c.args.bytes.now) r c.write_block.new.self) (sym c.accessed.ensures)
-          (right_write g.O.Origin.start c.args.block c.args.bytes.now c.args.geometry.now c.args.session.now c.write_block.new.self c.write_block.result c.requires.geometry c.if-bytes-geometry.false c.write_block.ensures.cause c.write_block.ensures.did);
+          (right_write g.O.Origin.start c.args.block c.args.bytes.now c.args.image.now.geometry c.args.session.now c.write_block.new.self c.write_block.result c.args.image.now.same c.if-bytes-geometry.false c.write_block.ensures.cause c.write_block.ensures.did);
     }

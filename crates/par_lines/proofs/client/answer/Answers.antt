@@ -1,6 +1,13 @@
-use Rattle.par_lines.proofs.{Words.{ap, sym, ◌∙◌, Ok}, Answering.{aborted, begun, compacted, looked, posted, said, told_numbers, trimmed, upgraded}, Marking.mark_line}
+use Rattle.par_lines.proofs.{Words.{Geometry, ◌≤◌, ap, limits, subst, sym, ◌∙◌, Ok}, Answering.{aborted, begun, compacted, looked, posted, said, told_numbers, trimmed, upgraded}, Marking.mark_line}
 use Rattle.script_model.specs.declared.script.Op.TheVariants as op
 use Rattle.par_lines.proofs.client.answer.Goals as goal
+
+pub invariant_of-known : goal.invariant_of-known
+invariant_of-known g c = record {
+  same = c.requires.geometry;
+  valid = c.requires.valid;
+  small = subst (λ (h : Geometry). h.block ≤ 4096) (sym c.requires.geometry) (limits g.O.Origin.start.world.geometry c.requires.valid).largest_block;
+}
 
 pub returns-in-Begin : goal.returns-in-Begin
 returns-in-Begin g c = record { did = said c.in-Begin.is c.begun.ensures (begun g.O.Origin.start _ _ _ c.begin_tx.result c.begin_tx.ensures.did) }
