@@ -127,25 +127,9 @@ int isotope_file_read(isotope_device number, isotope_transaction tx, const char 
     uint32_t most = room < ISOTOPE_MOST_FILE_BYTES ? (uint32_t)room : ISOTOPE_MOST_FILE_BYTES;
     ON(number, isotope_c_file_read(TX, TEXT(name), off, most, OUT(into, room), LENGTH(n)));
 }
-
-/* The library tells no sizes: it is where a read finds fewer bytes than it asked for, in a piece that is found by halving. */
-static int find_size(device *d, isotope_transaction tx, const char *name, uint64_t *n) {
-    enum { PIECE = ISOTOPE_MOST_FILE_BYTES, PIECES = ISOTOPE_MOST_BLOCK_SIZE / 4 };
-    uint8_t bytes[PIECE];
-    uint32_t whole = 0, beyond = PIECES;
-    for (uint32_t piece = 0; whole + 1 < beyond; piece = (whole + beyond) / 2) {
-        int status = isotope_c_file_read(TX, TEXT(name), piece * PIECE, PIECE, bytes, PIECE, n);
-        *n += (uint64_t)piece * PIECE;
-        if (status == ISOTOPE_BAD_RANGE) beyond = piece;
-        else if (status != ISOTOPE_OK || *n < (uint64_t)(piece + 1) * PIECE) return status;
-        else whole = piece;
-    }
-    return ISOTOPE_BROKEN;
-}
-
 int isotope_file_size(isotope_device number, isotope_transaction tx, const char *name, uint64_t *n) {
     *n = 0;
-    ON(number, find_size(d, tx, name, n));
+    ON(number, isotope_c_file_size(TX, TEXT(name), n));
 }
 int isotope_file_rename(isotope_device number, isotope_transaction tx, const char *from, const char *to) {
     ON(number, isotope_c_file_move(TX, TEXT(from), TEXT(to)));

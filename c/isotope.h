@@ -82,7 +82,7 @@ enum {
     ISOTOPE_BROKEN = 18,                /* a block is not what a store has to find there: something else wrote it */
     ISOTOPE_WORN = 19,                  /* the numbers of the image, or of this opening, are used up */
     ISOTOPE_MEMORY = 20,                /* want of memory, before anything was made */
-    ISOTOPE_DISK = 21,                  /* the file failed in this call; the device is down */
+    ISOTOPE_DISK = 21,                  /* the file failed in this call, or memory for what goes to it was wanting; the device is down */
     ISOTOPE_DOWN = 22,                  /* it failed before */
     ISOTOPE_NO_TRANSACTION = 23,        /* the device has no live transaction of this number */
     ISOTOPE_CLOSED = 24,                /* no device of this number is open */
@@ -230,12 +230,13 @@ int isotope_tree_scan(isotope_device device, isotope_transaction tx, const void 
 
 /* Makes an empty file. EXISTS. */
 int isotope_file_create(isotope_device device, isotope_transaction tx, const char *name);
-/* Writes 1 to ISOTOPE_MOST_FILE_BYTES at `off`, which is up to the file's size; it grows where they pass its end. BAD_RANGE. */
+/* Writes 1 to ISOTOPE_MOST_FILE_BYTES at `off`, which is up to the file's size; it grows where they pass its end, to (block_size - 64) / 4
+ * blocks at most. BAD_RANGE. */
 int isotope_file_write(isotope_device device, isotope_transaction tx, const char *name, uint32_t off, const void *bytes, size_t n);
 /* The bytes from `off` on, which is up to the file's size: as many as there are and `room` has, at most ISOTOPE_MOST_FILE_BYTES. *n says
  * how many, 0 at the end; `n` may be NULL. BAD_RANGE. */
 int isotope_file_read(isotope_device device, isotope_transaction tx, const char *name, uint32_t off, void *into, size_t room, uint64_t *n);
-/* It reads where the file ends, and of a long file some pieces before. */
+/* How many bytes it has. It reads eight bytes of the file's first block alone, which a write changes only where the file grows. */
 int isotope_file_size(isotope_device device, isotope_transaction tx, const char *name, uint64_t *n);
 /* EXISTS: `to` has a file, also where it is `from`. */
 int isotope_file_rename(isotope_device device, isotope_transaction tx, const char *from, const char *to);

@@ -55,6 +55,7 @@ int32_t isotope_c_file_new(isotope_slot *, uint64_t tx, const uint8_t *name, siz
 int32_t isotope_c_file_write(isotope_slot *, uint64_t tx, const uint8_t *name, size_t name_n, uint32_t off, const uint8_t *, size_t n);
 int32_t isotope_c_file_read(isotope_slot *, uint64_t tx, const uint8_t *name, size_t name_n, uint32_t off, uint32_t most, uint8_t *into,
                             size_t room, uint64_t *n);
+int32_t isotope_c_file_size(isotope_slot *, uint64_t tx, const uint8_t *name, size_t name_n, uint64_t *size);
 int32_t isotope_c_file_move(isotope_slot *, uint64_t tx, const uint8_t *from, size_t from_n, const uint8_t *to, size_t to_n);
 int32_t isotope_c_file_delete(isotope_slot *, uint64_t tx, const uint8_t *name, size_t name_n);
 #endif

@@ -5,7 +5,7 @@ ghost use Rattle.queued_disk.specs.Queued.{state_of};
 
 use device_desk::{Desk, create, hand_on, open, tape};
 use iso_image::image_size;
-use iso_model::{Geometry, Memory};
+use iso_model::{Geometry, Memory, Mode};
 use queued_disk::{Call, QueuedDisk};
 use std::alloc::Global;
 use test_cores::{change, small, zeros};
@@ -20,15 +20,36 @@ fn blank(alloc: Global, geometry: &Geometry) -> Result<QueuedDisk, Memory>
     Ok(QueuedDisk::new(alloc, bytes))
 }
 
-/// A desk over a small image, which is still on the tape, and a file of zeros to do the tape to.
-pub(crate) fn new_desk(alloc: Global) -> Result<(Desk<QueuedDisk>, Vec<u8>), Memory> {
-    let geometry = small();
-    let disk = blank(alloc, &geometry)?;
-    let file = zeros(alloc, 1152)?;
-    match create(alloc, disk, &geometry) {
-        Ok(desk) => Ok((desk, file)),
+// A desk over a new image of these numbers, which is still on the tape.
+fn desk_on(alloc: Global, geometry: &Geometry) -> Result<Desk<QueuedDisk>, Memory>
+    requires { IsTrue (is_valid geometry.now) }
+{
+    let disk = blank(alloc, geometry)?;
+    match create(alloc, disk, geometry) {
+        Ok(desk) => Ok(desk),
         Err((_error, _disk)) => Err(Memory),
     }
+}
+
+/// A desk over a small image, which is still on the tape, and a file of zeros to do the tape to.
+pub(crate) fn new_desk(alloc: Global) -> Result<(Desk<QueuedDisk>, Vec<u8>), Memory> {
+    let desk = desk_on(alloc, &small())?;
+    let file = zeros(alloc, 1152)?;
+    Ok((desk, file))
+}
+
+/// A desk over an image with room for files.
+pub(crate) fn desk_with_files(alloc: Global) -> Result<Desk<QueuedDisk>, Memory> {
+    let geometry = Geometry {
+        block: 256,
+        blocks: 16,
+        log: 8192,
+        mode: Mode::Serial,
+        hash: 0,
+        tree: 4,
+        form: 1,
+    };
+    desk_on(alloc, &geometry)
 }
 
 /// A desk over the image that the file holds.

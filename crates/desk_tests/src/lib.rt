@@ -8,6 +8,8 @@ mod desks;
 #[cfg(test)]
 mod number_tests;
 #[cfg(test)]
+mod size_tests;
+#[cfg(test)]
 mod steps;
 #[cfg(test)]
 mod tape_tests;

@@ -2,6 +2,8 @@ pub mod Lists
 pub mod Begins
 pub mod Own
 pub mod Peeks
+pub mod FileSizes
+pub mod Found
 pub mod Needs
 pub mod Lendings
 pub mod Fitting

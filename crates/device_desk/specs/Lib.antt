@@ -5,5 +5,6 @@ pub mod Status
 pub mod Numbers
 pub mod Oldest
 pub mod Peeked
+pub mod Sizes
 pub mod Lent
 pub mod Waiting

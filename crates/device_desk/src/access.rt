@@ -1,4 +1,5 @@
 // Accesses of a transaction, and its calls of the stores.
+ghost use Rattle.std.specs.Prelude.{OnOk};
 ghost use Rattle.iso_model.specs.World.{World, attached};
 ghost use Rattle.script_model.specs.{Operations.IsOp, Step.in_transaction};
 
@@ -10,7 +11,7 @@ use script_model::{Op, Reply, Stop};
 impl<D: Disk> Table<D> {
     ghost use Rattle.iso_core.specs.Core.{disk_of};
     ghost use Rattle.iso_machine.specs.{Accessing.act_step, Answering.{Always, Answers, AnswersTold}, Storing.store_act};
-    ghost use Rattle.device_desk.specs.Seats.{IsTableOf};
+    ghost use Rattle.device_desk.specs.{Seats.IsTableOf, Sizes.StandsBeside};
 
     /// An access or a mark of the transaction of this number.
     pub(crate) fn access(&mut self, number: u64, op: &Op) -> Result<Reply, Stop>
@@ -35,8 +36,10 @@ impl<D: Disk> Table<D> {
     /// An operation on a store by the transaction of this number.
     pub(crate) fn stored(&mut self, number: u64, op: &Op) -> Result<Reply, Stop>
         requires { (W : World) × IsTableOf D.state self.old W }
-        ensures { (W : World) → IsTableOf D.state self.old W
+        ensures answer { (W : World) → IsTableOf D.state self.old W
             → AnswersTold Always (IsTableOf D.state self.new) (D.state (disk_of self.old.core)) (D.state (disk_of self.new.core)) W (in_transaction W (attached W number) (λ t. store_act W t op.now)) ⊥ result }
+        ensures beside { (W : World) → IsTableOf D.state self.old W
+            → OnOk result (StandsBeside (IsTableOf D.state self.new) (D.state (disk_of self.old.core)) W (in_transaction W (attached W number) (λ t. store_act W t op.now)).1) }
     {
         let Some(i) = self.place_at(number) else {
             return Ok(Reply::NotInTx);

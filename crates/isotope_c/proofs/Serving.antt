@@ -4,9 +4,9 @@ use Rattle.iso_model.specs.World.{World}
 use Rattle.script_model.specs.{declared.script.Op.Op, declared.script.Reply.Reply, declared.stop.Stop.Stop}
 use Rattle.script_model.specs.declared.stop.Stop.TheVariants as stop
 use Rattle.queued_disk.specs.{declared.queued.QueuedDisk.QueuedDisk, Queued.{file_of, state_of}}
-use Rattle.device_desk.specs.{Device.{Answered, Device, IsRefusedDown, StandsAt, disk_under, state_at}, Waiting.Waits}
+use Rattle.device_desk.specs.{Device.{Answered, Device, IsRefusedDown, StandsAt, disk_under, state_at}, Sizes.Sized, Waiting.Waits}
 use Rattle.iso_machine.specs.Answering.{Answers as AnswersAs}
-use Rattle.isotope_c.specs.{declared.instance.Instance.Instance, declared.slot.Slot.Slot, Instances.desk_in, Exports.{EndsWaiting, Serves, Steps, device_in}}
+use Rattle.isotope_c.specs.{declared.instance.Instance.Instance, declared.slot.Slot.Slot, Instances.desk_in, Exports.{EndsWaiting, Serves, ServesSo, Steps, TellsSize, device_in}}
 use Rattle.isotope_c.specs.declared.instance.Instance.TheVariants.{Open}
 
 -- the slot's device is the one that was taken out
@@ -35,11 +35,12 @@ module _ (old new : Slot) {boxed held : Instance} {taken now : Device QueuedDisk
   no_device : {P : Type 0} → device_in old ≡ None → P
   no_device none = absurd (cc (sym (ap (λ (i : Instance). desk_in (Some i)) (sym value ∙ is)) ∙ (sym (ap desk_in there) ∙ none)))
 
-  -- the device has answered, and C is told so by a status that comes back from memory
-  pub served : {status : ℤ} → SFits w32 status → (number : ℕ) (op : Op) (IsTold : ℤ → Result Reply Stop → Type 0) {answer : Result Reply Stop}
-      → ((W : World) → StandsAt state_of taken W → Answered state_of taken now W number op answer) → (taken.up ≡ false → IsRefusedDown taken now answer) → IsTold status answer
-      → Serves old new (to_z w32 (of_z w32 status)) number op (IsTold (to_z w32 (of_z w32 status)))
-  served {status = status} fits number op IsTold {answer = answer} did refused told = subst (λ (s : ℤ). Serves old new s number op (IsTold s)) (sym (to_z-of_z fits)) (record {
+  -- the device has answered so, and C is told so by a status that comes back from memory
+  served_so : (Did : (old new : Device QueuedDisk) → World → Result Reply Stop → Type 0) → ((a b : Device QueuedDisk) (W : World) (answer : Result Reply Stop) → Did a b W answer → (state_at state_of b).bound ≡ (state_at state_of a).bound)
+      → {status : ℤ} → SFits w32 status → (IsTold : ℤ → Result Reply Stop → Type 0) {answer : Result Reply Stop}
+      → ((W : World) → StandsAt state_of taken W → Did taken now W answer) → (taken.up ≡ false → IsRefusedDown taken now answer) → IsTold status answer
+      → ServesSo old new (to_z w32 (of_z w32 status)) Did (IsTold (to_z w32 (of_z w32 status)))
+  served_so Did bound {status = status} fits IsTold {answer = answer} did refused told = subst (λ (s : ℤ). ServesSo old new s Did (IsTold s)) (sym (to_z-of_z fits)) (record {
     closed = no_device;
     down = λ d was off.
         let same : taken ≡ d = held_is was in
@@ -47,16 +48,28 @@ module _ (old new : Slot) {boxed held : Instance} {taken now : Device QueuedDisk
         (subst (IsTold status) refusal.answer told, holds ∙ ap Some (refusal.same ∙ same));
     answer = λ d W was stands.
         let same : taken ≡ d = held_is was in
-        let answered : Answered state_of d now W number op answer = subst (λ (e : Device QueuedDisk). (V : World) → StandsAt state_of e V → Answered state_of e now V number op answer) same did W stands in
+        let answered : Did d now W answer = subst (λ (e : Device QueuedDisk). (V : World) → StandsAt state_of e V → Did e now V answer) same did W stands in
         record {
           now = now;
           there = holds;
-          file = same_file (disk_under now) (disk_under d) answered.moments.same_bound;
+          file = same_file (disk_under now) (disk_under d) (bound d now W answer answered);
           answer = answer;
           did = answered;
           told = told;
         };
   })
+
+  -- the operation of a transaction
+  pub served : {status : ℤ} → SFits w32 status → (number : ℕ) (op : Op) (IsTold : ℤ → Result Reply Stop → Type 0) {answer : Result Reply Stop}
+      → ((W : World) → StandsAt state_of taken W → Answered state_of taken now W number op answer) → (taken.up ≡ false → IsRefusedDown taken now answer) → IsTold status answer
+      → Serves old new (to_z w32 (of_z w32 status)) number op (IsTold (to_z w32 (of_z w32 status)))
+  served fits number op IsTold did refused told = served_so (λ d e W r. Answered state_of d e W number op r) (λ a b W r is. is.moments.same_bound) fits IsTold did refused told
+
+  -- the size of a file
+  pub size_served : {status : ℤ} → SFits w32 status → (number : ℕ) (name : List ℕ) (IsTold : ℤ → Result Reply Stop → Type 0) {answer : Result Reply Stop}
+      → ((W : World) → StandsAt state_of taken W → Sized state_of taken now W number name answer) → (taken.up ≡ false → IsRefusedDown taken now answer) → IsTold status answer
+      → TellsSize old new (to_z w32 (of_z w32 status)) number name (IsTold (to_z w32 (of_z w32 status)))
+  size_served fits number name IsTold did refused told = served_so (λ d e W r. Sized state_of d e W number name r) (λ a b W r is. is.moments.same_bound) fits IsTold did refused told
 
   -- so too of a call that is more than an operation of one transaction
   pub stepped : {goes_on : Stop → Type 0} {given : World → Reply × World} {IsTold : World → Result Reply Stop → Type 0} {answer : Result Reply Stop}

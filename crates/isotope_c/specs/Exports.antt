@@ -8,7 +8,7 @@ use Rattle.iso_machine.specs.Answering.{Answers as AnswersAs}
 use Rattle.script_model.specs.{declared.script.Op.Op, declared.script.Reply.Reply, declared.stop.Stop.Stop}
 use Rattle.script_model.specs.declared.stop.Stop.TheVariants as stop
 use Rattle.queued_disk.specs.{declared.queued.QueuedDisk.QueuedDisk, Queued.{calls_of, file_of, file_with, given, handed_on, is_failed, state_of, tape_of}}
-use Rattle.device_desk.specs.{Device.{Answered, Device, StandsAt, disk_under, state_at}, Opened.{IsOpenedAs, IsReopenedAs}, Waiting.Waits}
+use Rattle.device_desk.specs.{Device.{Answered, Device, StandsAt, disk_under, state_at}, Opened.{IsOpenedAs, IsReopenedAs}, Sizes.Sized, Waiting.Waits}
 use Rattle.isotope_c.specs.{declared.records.Refusal.Refusal, declared.instance.Instance.Instance, declared.slot.Slot.Slot, Codes.code_of_open, Instances.{desk_in, laid_in}, Told.{code, refusal_of}}
 
 -- the open device in a slot, and the bytes of an image that is being laid
@@ -22,25 +22,32 @@ bytes_in s = laid_in s.inner.instance
 abbrev pub IsEmpty : Slot → Type 0
 IsEmpty s = s.inner.instance ≡ None
 
--- The device is in the slot again, and has answered the operation of the transaction of this number from the world W as the model
--- does. Of that answer C is told this. What the file had, and what was done to it, is as before: all else that the answer rests on
--- is on the tape.
-pub record HasAnswered (old : Device QueuedDisk) (new : Slot) (W : World) (number : ℕ) (op : Op) (IsTold : Result Reply Stop → Type 0) : Type 0 where
+-- The device is in the slot again, and has answered so. Of that answer C is told this. What the file had, and what was done to it, is
+-- as before: all else that the answer rests on is on the tape.
+pub record HasAnswered (old : Device QueuedDisk) (new : Slot) (Did : Device QueuedDisk → Result Reply Stop → Type 0) (IsTold : Result Reply Stop → Type 0) : Type 0 where
   pub now : Device QueuedDisk
   pub there : device_in new ≡ Some now
   pub file : file_of (disk_under now) ≡ file_of (disk_under old)
   pub answer : Result Reply Stop
-  pub did : Answered state_of old now W number op answer
+  pub did : Did now answer
   pub told : IsTold answer
 
 -- What a call makes of a slot, and what its status is.
-pub record Serves (old new : Slot) (status : ℤ) (number : ℕ) (op : Op) (IsTold : Result Reply Stop → Type 0) : Type 0 where
+pub record ServesSo (old new : Slot) (status : ℤ) (Did : (old new : Device QueuedDisk) → World → Result Reply Stop → Type 0) (IsTold : Result Reply Stop → Type 0) : Type 0 where
   -- where no device is open: closed, and the slot stays as it is
   pub closed : device_in old ≡ None → (status ≡ pos 24) × (new ≡ old)
   -- a device that is down says so, and stays as it is
   pub down : (d : Device QueuedDisk) → device_in old ≡ Some d → d.up ≡ false → IsTold (Err stop.Down) × (device_in new ≡ Some d)
-  -- one that represents a world answers as the model
-  pub answer : (d : Device QueuedDisk) (W : World) → device_in old ≡ Some d → StandsAt state_of d W → HasAnswered d new W number op IsTold
+  -- one that represents a world answers from it
+  pub answer : (d : Device QueuedDisk) (W : World) → device_in old ≡ Some d → StandsAt state_of d W → HasAnswered d new (λ now answer. Did d now W answer) IsTold
+
+-- the operation of the transaction of this number is answered as the model does
+abbrev pub Serves : (old new : Slot) (status : ℤ) (number : ℕ) → Op → (IsTold : Result Reply Stop → Type 0) → Type 0
+Serves old new status number op IsTold = ServesSo old new status (λ d now W answer. Answered state_of d now W number op answer) IsTold
+
+-- and the size of the file of a name so
+abbrev pub TellsSize : (old new : Slot) (status : ℤ) (number : ℕ) (name : List ℕ) → (IsTold : Result Reply Stop → Type 0) → Type 0
+TellsSize old new status number name IsTold = ServesSo old new status (λ d now W answer. Sized state_of d now W number name answer) IsTold
 
 -- the status is that of the answer
 abbrev pub Says : (status : ℤ) → Result Reply Stop → Type 0

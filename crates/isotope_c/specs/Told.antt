@@ -1,4 +1,5 @@
 -- What C is told of an answer, in the numbers and slices that it hands in.
+use Rattle.std.specs.Int.{from_be_bytes, w32}
 use Rattle.std.specs.Prelude.{◌≡◌, ◌⊎◌, ℕ, ℤ, pos, ◌-◌, ◌==◌, if◌then◌else◌, List, [], ◌∷◌, ◌++◌, Option, None, Some, Result, Ok, Err, drop, length, map, min, nat_le, option_map}
 use Rattle.iso_memdisk.specs.declared.record.Call.{Call}
 use Rattle.iso_memdisk.specs.declared.record.Call.TheVariants.{Write, Sync}
@@ -36,6 +37,11 @@ laid bytes into = if nat_le (length bytes) (length into) then (pos 0, (bytes ++ 
 abbrev pub found : (into : List ℕ) (len : ℕ) → Result Reply Stop → ℤ × (List ℕ × ℕ)
 found into len (Ok (reply.Found bytes)) = laid bytes into
 found into len answer = (code answer, (into, len))
+
+-- the status, and the size that is told, of an answer that finds one: the four bytes that spell it
+abbrev pub size_told : (size : ℕ) → Result Reply Stop → ℤ × ℕ
+size_told size (Ok (reply.Found bytes)) = if length bytes == 4 then (pos 0, from_be_bytes w32 bytes) else (pos 18, size)
+size_told size answer = (code answer, size)
 
 -- a key or a value after its length, which takes one byte: a key has at most 28 bytes, a value 32
 abbrev pub part_text : List ℕ → List ℕ

@@ -1,13 +1,13 @@
 // Calls on files.
 ghost use Rattle.std.specs.Prelude.{◌≡◌};
 ghost use Rattle.script_model.specs.declared.script.Op.TheVariants.{FileDelete, FileMove, FileNew, FileRead, FileWrite};
-ghost use Rattle.isotope_c.specs.Exports.{Says, Serves};
-ghost use Rattle.isotope_c.specs.Told.{found};
+ghost use Rattle.isotope_c.specs.Exports.{Says, Serves, TellsSize};
+ghost use Rattle.isotope_c.specs.Told.{found, size_told};
 
 use crate::code::{CLOSED, code_of};
 use crate::instance::Instance;
 use crate::slot::{Slot, is_open, put, take_open};
-use crate::told::hand_over;
+use crate::told::{hand_over, tell_size};
 
 /// Makes an empty file of this name.
 #[unsafe(no_mangle)]
@@ -72,6 +72,23 @@ pub extern "C" fn isotope_c_file_read(
     let answer = desk.file_read(tx, name, off, most);
     put(slot, instance);
     hand_over(&answer, into, len)
+}
+
+/// How many bytes a file has.
+#[unsafe(no_mangle)]
+pub extern "C" fn isotope_c_file_size(slot: &mut Slot, tx: u64, name: &[u8], size: &mut u64) -> i32
+    ensures { TellsSize slot.old slot.new result tx name.now (λ answer. (result, size.new) ≡ size_told size.old answer) }
+{
+    if !is_open(slot) {
+        return CLOSED;
+    }
+    let mut instance = take_open(slot);
+    let Instance::Open(desk) = &mut *instance else {
+        unreachable!()
+    };
+    let answer = desk.file_size(tx, name);
+    put(slot, instance);
+    tell_size(&answer, size)
 }
 
 /// Gives the file of one name another.

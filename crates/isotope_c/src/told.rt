@@ -1,10 +1,11 @@
 // What C is told of an answer.
 ghost use Rattle.std.specs.Prelude.{◌≡◌, ◌++◌, IfOk, OnOk, map, pos};
-ghost use Rattle.isotope_c.specs.Told.{IsScanned, begun, ended_of, ended_so, filled, fitted, found, group_told, laid, member_ended, over, pairs_text, part_text, reply_ended, shown, stop_code, waited_told};
+ghost use Rattle.isotope_c.specs.Told.{IsScanned, begun, ended_of, ended_so, filled, fitted, found, group_told, laid, member_ended, over, pairs_text, part_text, reply_ended, shown, size_told, stop_code, waited_told};
 
 use crate::code::{MEMORY, NO_TRANSACTION, TOO_SMALL, code, code_of};
 use crate::records::Ended;
-use device_desk::{Waited, status_of_reply};
+use device_desk::{Status, Waited, status_of_reply};
+use iso_alloc::word_at;
 use iso_model::{Bytes, Clash, GroupReply};
 use script_model::{Reply, Stop};
 use std::alloc::{AllocError, Global};
@@ -49,6 +50,28 @@ pub(crate) fn hand_over(answer: &Result<Reply, Stop>, into: &mut [u8], len: &mut
 {
     match answer {
         Ok(Reply::Found(bytes)) => lay(bytes.as_slice(), into, len),
+        _ => code_of(answer),
+    }
+}
+
+// Tells the size that four bytes spell, the highest first.
+#[tactic(auto, using(std::proofs::lemmas::List::take_all))]
+fn spelled(bytes: &[u8], size: &mut u64) -> i32
+    ensures { (result, size.new) ≡ size_told size.old (Ok (Reply.Found bytes.now)) }
+{
+    if bytes.len() != 4 {
+        return code(Status::Broken);
+    }
+    *size = u64::from(word_at(bytes, 0));
+    0
+}
+
+/// Tells the size that an answer has found.
+pub(crate) fn tell_size(answer: &Result<Reply, Stop>, size: &mut u64) -> i32
+    ensures { (result, size.new) ≡ size_told size.old answer.now }
+{
+    match answer {
+        Ok(Reply::Found(bytes)) => spelled(bytes.as_slice(), size),
         _ => code_of(answer),
     }
 }

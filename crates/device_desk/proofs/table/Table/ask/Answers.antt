@@ -35,4 +35,4 @@ returns-in-End g c W of isop =
 pub returns-in-HashPut : goal.returns-in-HashPut
 returns-in-HashPut g c W of isop =
     let so = store_so W c.args.number c.args.op.now c.in-HashPut.is in
-    never_plain c.stored.result so.1 (λ why may. tt) (told_as so.0 (c.stored.ensures W of))
+    never_plain c.stored.result so.1 (λ why may. tt) (told_as so.0 (c.stored.ensures.answer W of))
