@@ -10,14 +10,14 @@ use std::alloc::Global;
 use std::marker::PhantomData;
 use std::sync::Wait;
 
-// The word of a desk: no message, a request that has no response yet, a response.
+// The word of a desk: no message, a request that has no response yet, a response. The rule of the table fixes these numbers.
 const EMPTY: u64 = 0;
 
 const REQUESTED: u64 = 1;
 
 const RESPONDED: u64 = 2;
 
-// Whether the server's seat rests at the desk.
+// The perch's word: the server's seat is out, or rests at the desk.
 const ABSENT: u64 = 0;
 
 const PRESENT: u64 = 2;
@@ -48,10 +48,11 @@ pub struct Desk<P: Protocol> {
     server: Perch<Message<P::Request, P::Response>, Side<P::Request>>,
     ghost sized: { (table.shared.table_id.words ≡ 1) × (table.shared.table_id.slots ≡ 1) },
     ghost same: { server.table_id ≡ table.shared.table_id } by { TableId-set _ _ },
+    // the seat that rests is idle
     ghost idle: { stage_of server.view ≡ 5 },
 }
 
-/// The client's place at a desk, which is closed with it.
+/// The client's place at a desk. Without it the desk cannot be closed.
 #[derive(Drop)]
 pub struct Client<P: Protocol> {
     seat: Place<P>,
@@ -220,7 +221,7 @@ impl<P: Protocol> Desk<P> {
         self.table.shared.store::<Responds<P>>(seat, 0, RESPONDED);
     }
 
-    // Leaves the server's seat for whoever comes next. Who took it alone leaves it, so that there is room.
+    // Leaves the server's seat for whoever comes next. Only who took it has it, so the perch is empty.
     fn rest(&self, seat: Place<P>)
         requires desk { seat.table_id ≡ desk_id self.now }
         requires idle { seat.me ≡ idle }

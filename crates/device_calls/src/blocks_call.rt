@@ -2,7 +2,7 @@
 
 use tx_blocks::TxBlocks;
 
-/// A call on any transaction over blocks: of a store, or of several.
+/// A call on any transaction over blocks: of a store, or of several. `on_blocks` makes it on the transaction of a session.
 pub trait BlocksCall {
     ghost use Rattle.tx_blocks.specs.Tx.{Device, Tx};
 

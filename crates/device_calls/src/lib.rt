@@ -1,9 +1,8 @@
-//! Calls on a session that take less of their caller. `end_now` makes its own steps; `end_or_again` begins again after each conflict,
-//! so `Ended` has none (`did`). `with_device` does a `Job` in a session of a core's device, and gives the core back (`did`, `none`).
+//! Calls on a session that take less of their caller. `end_now` makes its own steps; `end_or_again` begins again after each conflict (`did`).
+//! `with_device` does a `Job` in a session of a core's device, and gives the core back (`did`, `none`).
 //!
-//! `on_blocks` makes a call on a session's transaction as stores see it: the entries of its fetches, and what the call says of the
-//! transaction (`HasCalled`); `hash_get` and `tree_scan` are such calls. `hash_region` and `tree_region` are their regions, none
-//! exactly where the image has no such store (`area`, `fits`, `none`). Calls may wait.
+//! `on_blocks` makes a call on a session's transaction as stores see it (`HasCalled`); `hash_get` and `tree_scan`
+//! are such calls. `hash_region` and `tree_region` are their regions, none exactly where the image has none (`area`, `none`). Calls may wait.
 #![tactic(auto)]
 
 mod beginning;

@@ -4,7 +4,7 @@ use Rattle.iso_model.specs.declared.core_error.CoreError.TheVariants as error
 use Rattle.iso_shared.specs.{declared.shared.Port.Port, Ports.{doing_of}}
 use Rattle.iso_shared.specs.declared.entry.Entry.TheVariants as entry
 use Rattle.handle_pass.{proofs.Entering.{left_kept, own_same}, proofs.Handing.{upto_same}, specs.Handles.{TookOver}, specs.Held.{held_state}, specs.Inside.{own_in}, specs.Sessions.{Own}, specs.Splits.{Joined}}
-use Rattle.group_commit.specs.{declared.each.Ended.Ended, Each.IsEndedIn, Outcomes.{IsEndedAlone, IsHandedBack, IsLost, IsRefusedIn}, Together.{Follows, IsAnswer, IsHandedOut, IsRefusal, Stays, Unended}}
+use Rattle.group_commit.specs.{declared.each.Ended.Ended, Each.IsEndedIn, Outcomes.{IsEndedAlone, IsHandedBack, IsLost, IsRefusedIn}, Together.{Follows, IsAnswer, IsHandedOut, IsRefusal, KeepsPlaces, Unended}}
 
 module _ (A : Start) where
   -- what follows in one list follows in those that hold it
@@ -55,7 +55,7 @@ module _ {D O : Type 0} (A : Start) where
 
   module _ (d : Shared D O) (s m : SessionState) (u : Tx D O) (out : IsHandedOut d A s u m) where
     -- the port of a transaction that is gone was joined into the session
-    pub rejoined : (t : SessionState) (q : Port D O) → (port_view q).units ≡ 1 → (port_view q).mine ≡ [] → Joined m q t → (t.own ≡ None) × Stays s t × (t.units ≡ s.units)
+    pub rejoined : (t : SessionState) (q : Port D O) → (port_view q).units ≡ 1 → (port_view q).mine ≡ [] → Joined m q t → (t.own ≡ None) × KeepsPlaces s t × (t.units ≡ s.units)
     rejoined t q one bare j = (
       j.tx.is ∙ out.left,
       record {

@@ -4,10 +4,14 @@ use mathlib.Core.List.{IsPrefix}
 use Rattle.iso_model.specs.{declared.access.GroupReply.GroupReply, declared.core_error.CoreError.CoreError}
 use Rattle.iso_model.specs.declared.core_error.CoreError.TheVariants as error
 use Rattle.iso_shared.specs.declared.entry.Call.TheVariants as call
-use Rattle.iso_shared.specs.{declared.entry.Entry.Entry, declared.shared.Shared.Shared, declared.tx.Tx.Tx, Groups.{answered, made_in, units_of}, Ports.{IsTx, number_of, tx_view}, States.Start, Told.{cause_of, members_in}}
+use Rattle.iso_shared.specs.{declared.entry.Entry.Entry, declared.shared.Shared.Shared, declared.tx.Tx.Tx, Groups.{ArePaired, IsBack, answered, made_in, units_of}, Ports.{IsTx, MadeAll, number_of, tx_view}, States.Start, Told.{cause_of, members_in}}
 use Rattle.iso_shared.specs.declared.entry.Entry.TheVariants as entry
 use Rattle.turn_lock.specs.{declared.view.View.View, Lists.times}
 use Rattle.handle_pass.specs.Logs.{AreNext}
+
+-- why a group is refused
+abbrev pub IsGroupRefusal : CoreError → Type 0
+IsGroupRefusal e = (e ≡ error.Down) ⊎ (e ≡ error.Disk) ⊎ (e ≡ error.Memory)
 
 -- the replies at the places that are marked, in order, and none at the others
 abbrev pub spread : List Bool → List GroupReply → List (Option GroupReply)
@@ -71,6 +75,21 @@ module _ {D O : Type 0} where
   -- the port, which got the places of the transactions, made these entries
   abbrev pub HasMade : Start → View Entry → List (Tx D O) → List Entry → View Entry → Type 0
   HasMade A v txs es w = AreNext A v.seen (count_all v txs) es w.seen (λ p. times p w.mine)
+
+  -- the port, which got the places of the transactions, made the one entry of their group, with these replies; or of its refusal
+  abbrev pub MadeGroup : Start → View Entry → List (Tx D O) → List GroupReply → View Entry → Type 0
+  MadeGroup A v txs replies w = MadeAll A v (map tx_view txs) (entry.EndGroup (answered (members_in txs) replies)) w
+
+  abbrev pub MadeRefusal : Start → View Entry → List (Tx D O) → CoreError → View Entry → Type 0
+  MadeRefusal A v txs e w = (before : ℕ) × (now : ℕ) × MadeAll A v (map tx_view txs) (entry.Refused (call.EndGroup (members_in txs)) (cause_of before now e)) w
+
+  -- the group was refused for a fault of the disk, which has ended the transactions: the port has their units
+  abbrev pub AreLost : Start → View Entry → List (Tx D O) → CoreError → View Entry → Type 0
+  AreLost A v txs e w = (e ≡ error.Disk) × (w.units ≡ units_all v txs) × MadeRefusal A v txs e w
+
+  -- the group was refused for another cause, and the transactions are handed back as they were, each with a unit
+  abbrev pub AreBack : Shared D O → Start → View Entry → List (Tx D O) → CoreError → List (Tx D O) → View Entry → Type 0
+  AreBack shared A v txs e back w = ((e ≡ error.Down) ⊎ (e ≡ error.Memory)) × (w.units + length txs ≡ units_all v txs) × ArePaired (IsBack shared A w.seen) txs back × MadeRefusal A v txs e w
 
   -- a group of these transactions was ended, or refused
   abbrev pub HasEnded : Start → View Entry → List (Tx D O) → Result (List GroupReply) CoreError → View Entry → Type 0

@@ -39,7 +39,7 @@ module _ {D O : Type 0} (shared : Shared D O) (A : Start) where
     pub bare : (port_view p).mine ≡ []
 
   -- all that the transaction had seen was seen, and then, last, this entry; all of that is legal
-  pub record HasSeen (t : Tx D O) (e : Entry) (seen : List Entry) : Type 0 where
+  pub record HasSeenLast (t : Tx D O) (e : Entry) (seen : List Entry) : Type 0 where
     pub before : List Entry
     pub told : IsPrefix (tx_view t).seen before
     pub seen_is : seen ≡ before ++ e ∷ []
@@ -50,7 +50,7 @@ module _ {D O : Type 0} (shared : Shared D O) (A : Start) where
     pub port : IsBare e.port
     pub reply : EndReply
     pub same : e.reply ≡ as_member reply
-    pub seen : HasSeen t (entry.End (number_of t) (doing_of t).accesses reply) (port_view e.port).seen
+    pub seen : HasSeenLast t (entry.End (number_of t) (doing_of t).accesses reply) (port_view e.port).seen
 
   -- its end was refused so
   pub record IsRefusedIn (t : Tx D O) (e : CoreError) (list : List Entry) : Type 0 where
@@ -58,7 +58,7 @@ module _ {D O : Type 0} (shared : Shared D O) (A : Start) where
     pub of : IsEndOf (number_of t) (doing_of t).accesses asked
     pub faults : ℕ
     pub now : ℕ
-    pub seen : HasSeen t (entry.Refused asked (cause_of faults now e)) list
+    pub seen : HasSeenLast t (entry.Refused asked (cause_of faults now e)) list
 
   -- and it was handed back as it was, without a place, and knows the refusal, which was for no fault of the disk
   pub record IsHandedBack (t : Tx D O) (e : CoreError) (u : Tx D O) : Type 0 where

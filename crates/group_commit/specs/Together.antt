@@ -27,7 +27,7 @@ pub record Follows (A : Start) (old : List Entry) (e : Entry) (new : List Entry)
   pub legal : IsLegal A (before ++ e ∷ [])
 
 -- the session made no entry, and keeps its places
-pub record Stays (s t : SessionState) : Type 0 where
+pub record KeepsPlaces (s t : SessionState) : Type 0 where
   pub known : IsPrefix s.seen t.seen
   pub places : (p : ℕ) → count t p ≡ count s p
   pub of : t.device ≡ s.device
@@ -38,7 +38,7 @@ pub record Unended (A : Start) (s : SessionState) (o : Own) (why : CoreError) (t
   pub was : s.own ≡ Some o
   pub left : t.own ≡ left_by why o
   pub upto : why ≢ error.Disk → t.checked ≡ s.checked
-  pub stays : Stays s t
+  pub stays : KeepsPlaces s t
   pub units : t.units ≡ s.units
   pub refusal : Entry
   pub is : IsRefusal o why refusal
@@ -51,10 +51,10 @@ pub record IsHandedOut {D O : Type 0} (shared : Shared D O) (A : Start) (s : Ses
   pub upto : (check_of u).upto ≡ s.checked
   pub told : IsPrefix s.seen (tx_view u).seen
   pub left : t.own ≡ None
-  pub stays : Stays s t
+  pub stays : KeepsPlaces s t
   pub units : t.units + 1 ≡ s.units
 
 abbrev pub HasEndedWith : Start → SessionState → Result GroupReply EndError → SessionState → Type 0
-HasEndedWith A s (Ok reply) t = (o : Own) × (s.own ≡ Some o) × (t.own ≡ None) × Stays s t × (t.units ≡ s.units) × (e : Entry) × IsAnswer o reply e × Follows A s.seen e t.seen
+HasEndedWith A s (Ok reply) t = (o : Own) × (s.own ≡ Some o) × (t.own ≡ None) × KeepsPlaces s t × (t.units ≡ s.units) × (e : Entry) × IsAnswer o reply e × Follows A s.seen e t.seen
 HasEndedWith A s (Err end.NotInTx) t = (s.own ≡ None) × (t ≡ s)
 HasEndedWith A s (Err (end.Core why)) t = (o : Own) × Unended A s o why t

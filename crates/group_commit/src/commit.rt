@@ -1,9 +1,8 @@
 // A group of those transactions that were found under labels.
-ghost use Rattle.std.specs.Prelude.{◌≡◌, ◌⊎◌, ◌<◌, ◌≤◌, [], is_some, length, map, IfErr, IfOk, IsOk};
+ghost use Rattle.std.specs.Prelude.{◌≡◌, ◌<◌, ◌≤◌, [], is_some, length, map, IfErr, IfOk, IsOk};
 ghost use Rattle.iso_core.specs.declared.group_end.TheConstants.{MAX_GROUP};
-ghost use Rattle.iso_model.specs.declared.core_error.CoreError.TheVariants.{Disk as OfDisk, Down as OfDown, Memory as OfMemory};
-ghost use Rattle.iso_shared.specs.{declared.entry.Entry.TheVariants.EndGroup, Groups.answered, Ports.{IsPort, MadeAll, port_view, tx_view}, Told.members_in};
-ghost use Rattle.group_commit.specs.Groups.{AreMembers, AreTxs, HasEnded, HasGrouped, KnowsAll, found_in, marks_of, units_all};
+ghost use Rattle.iso_shared.specs.Ports.{IsPort, port_view};
+ghost use Rattle.group_commit.specs.Groups.{AreMembers, AreTxs, HasEnded, HasGrouped, IsGroupRefusal, KnowsAll, MadeGroup, found_in, marks_of, units_all};
 
 use crate::aborts::{abort_all, abort_found};
 use crate::answers::{spread_all, tell_none};
@@ -28,8 +27,8 @@ pub(crate) fn end_all<D: Disk + Drop, O: Origin, R: Wait>(
     ensures port { IsPort shared.now port.new }
     ensures units { (port_view port.new).units ≡ units_all (port_view port.old) group.items }
     ensures did { HasEnded O.start (port_view port.old) group.items result (port_view port.new) }
-    ensures made { IfOk result (λ replies. MadeAll O.start (port_view port.old) (map tx_view group.items) (EndGroup (answered (members_in group.items) replies)) (port_view port.new)) }
-    ensures only { IfErr result (λ e. (e ≡ OfDown) ⊎ (e ≡ OfDisk) ⊎ (e ≡ OfMemory)) }
+    ensures made { IfOk result (λ replies. MadeGroup O.start (port_view port.old) group.items replies (port_view port.new)) }
+    ensures only { IfErr result IsGroupRefusal }
     ensures told { KnowsAll group.items (port_view port.new).seen }
 {
     match shared.end_group(rt, port, group) {
@@ -69,7 +68,7 @@ pub fn commit_found<D: Disk + Drop, O: Origin, R: Wait>(
     ensures did { HasGrouped O.start (port_view port.old) members.items result (port_view port.new) }
     ensures places { IfOk result (λ told. map is_some told ≡ marks_of members.items) }
     ensures none { found_in members.items ≡ [] → IsOk result }
-    ensures only { IfErr result (λ e. (e ≡ OfDown) ⊎ (e ≡ OfDisk) ⊎ (e ≡ OfMemory)) }
+    ensures only { IfErr result IsGroupRefusal }
     ensures told { KnowsAll (found_in members.items) (port_view port.new).seen }
 {
     if !is_found(members.as_slice()) {
@@ -109,7 +108,7 @@ pub fn commit_group<D: Disk + Drop, O: Origin, R: Wait>(
     ensures units { (port_view port.new).units ≡ units_all (port_view port.old) (found_in members.items) }
     ensures did { HasGrouped O.start (port_view port.old) members.items result (port_view port.new) }
     ensures places { IfOk result (λ told. map is_some told ≡ marks_of members.items) }
-    ensures only { IfErr result (λ e. (e ≡ OfDown) ⊎ (e ≡ OfDisk) ⊎ (e ≡ OfMemory)) }
+    ensures only { IfErr result IsGroupRefusal }
     ensures told { KnowsAll (found_in members.items) (port_view port.new).seen }
 {
     let mut told = Reserved::empty(alloc);

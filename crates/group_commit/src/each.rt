@@ -1,10 +1,8 @@
 // A group of which each member is told how it ended, in a port of its own.
-ghost use Rattle.std.specs.{Prelude.{◌≡◌, ◌⊎◌, ◌+◌, ◌++◌, ◌<◌, ◌≤◌, ℕ, List, [], length, map, Err, IfErr, IfNone, IfOk, IfSome, IsOk, MatchResult, Ok, OnOk, vec_capacity, vec_len}};
+ghost use Rattle.std.specs.{Prelude.{◌≡◌, ◌+◌, ◌++◌, ◌<◌, ◌≤◌, List, [], length, Err, IfErr, IfNone, IfOk, IfSome, IsOk, MatchResult, Ok, OnOk, vec_capacity, vec_len}};
 ghost use Rattle.iso_core.specs.declared.group_end.TheConstants.{MAX_GROUP};
-ghost use Rattle.iso_model.specs.declared.core_error.CoreError.TheVariants.{Disk as OfDisk, Down as OfDown, Memory as OfMemory};
-ghost use Rattle.iso_shared.specs.declared.entry.Call.TheVariants as TheCall;
-ghost use Rattle.iso_shared.specs.{declared.entry.Entry.TheVariants.{EndGroup, Refused}, Groups.{ArePaired, IsBack, answered, units_of}, Ports.{IsPort, MadeAll, port_view, tx_view}, Told.{cause_of, members_in}};
-ghost use Rattle.group_commit.specs.{Each.{IsDealt, IsEndedIn}, Groups.{AreMembers, AreTxs, HasEnded, HasGrouped, KnowsAll, found_in, units_all}};
+ghost use Rattle.iso_shared.specs.{Groups.ArePaired, Ports.{IsPort, port_view}};
+ghost use Rattle.group_commit.specs.{Each.{IsDealt, IsEndedIn}, Groups.{AreBack, AreLost, AreMembers, AreTxs, HasEnded, HasGrouped, KnowsAll, MadeGroup, found_in, units_all}};
 
 use crate::aborts::abort_found;
 use crate::commit::end_all;
@@ -71,14 +69,11 @@ pub fn end_each<D: Disk + Drop, O: Origin, R: Wait>(
     requires room { vec_len told.old + length group.items ≤ vec_capacity told.old }
     ensures port { IsPort shared.now port.new }
     ensures ok { OnOk result (ArePaired (IsEndedIn shared.now O.start) group.items told.new.items
-        × ((port_view port.new).units + length group.items ≡ (port_view port.old).units + units_of group.items)) }
-    ensures made { OnOk result ((replies : List GroupReply) × MadeAll O.start (port_view port.old) (map tx_view group.items) (EndGroup (answered (members_in group.items) replies)) (port_view port.new)) }
+        × ((port_view port.new).units + length group.items ≡ units_all (port_view port.old) group.items)) }
+    ensures made { OnOk result ((replies : List GroupReply) × MadeGroup O.start (port_view port.old) group.items replies (port_view port.new)) }
     ensures same { IfErr result (λ _. told.new.items ≡ []) }
-    ensures gone { IfErr result (λ e. IfNone e.1 ((e.0 ≡ OfDisk) × ((port_view port.new).units ≡ (port_view port.old).units + units_of group.items)
-        × ((before : ℕ) × (now : ℕ) × MadeAll O.start (port_view port.old) (map tx_view group.items) (Refused (TheCall.EndGroup (members_in group.items)) (cause_of before now e.0)) (port_view port.new)))) }
-    ensures kept { IfErr result (λ e. IfSome e.1 (λ back. ((e.0 ≡ OfDown) ⊎ (e.0 ≡ OfMemory)) × ((port_view port.new).units + length group.items ≡ (port_view port.old).units + units_of group.items)
-        × ArePaired (IsBack shared.now O.start (port_view port.new).seen) group.items back.items
-        × ((before : ℕ) × (now : ℕ) × MadeAll O.start (port_view port.old) (map tx_view group.items) (Refused (TheCall.EndGroup (members_in group.items)) (cause_of before now e.0)) (port_view port.new)))) }
+    ensures gone { IfErr result (λ e. IfNone e.1 (AreLost O.start (port_view port.old) group.items e.0 (port_view port.new))) }
+    ensures kept { IfErr result (λ e. IfSome e.1 (λ back. AreBack shared.now O.start (port_view port.old) group.items e.0 back.items (port_view port.new))) }
 {
     match shared.end_group(rt, port, group) {
         Ok(replies) => {
