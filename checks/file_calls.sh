@@ -210,4 +210,19 @@ for number in 1 2 3 4; do
   left_out fdatasync $((before + number))
 done
 
+# recover as the first call: where the second side is damaged both are alike afterwards, and without it the first one is left as it was.
+cp whole+0 m.img+0
+cp whole+1 m.img+1
+printf XXXX | dd of=m.img+1 bs=1 seek=300 conv=notrunc 2> said
+! cmp -s m.img+0 m.img+1 || tell 'the second side has these bytes already'
+timeout 60 "$program" recover m.img+ < empty.script > said || tell "recover of a mirror with a damaged second side: $(cat said)"
+cmp -s whole+0 m.img+0 || tell 'recover of a mirror with a damaged second side writes the first one'
+cmp -s m.img+0 m.img+1 || tell 'recover of a mirror leaves a damaged second side'
+rm m.img+1
+timeout 60 "$program" recover m.img+ < empty.script > said
+[ $? = 5 ] || tell 'recover of a mirror without its second side does not end with 5'
+[ "$(cat said)" = '! disk fault' ] || tell "recover of a mirror without its second side answers: $(cat said)"
+cmp -s whole+0 m.img+0 || tell 'recover of a mirror without its second side writes the first one'
+[ ! -e m.img+1 ] || tell 'recover of a mirror makes the side that is gone'
+
 exit $status
