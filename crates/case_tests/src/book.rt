@@ -1,16 +1,16 @@
 // Files of cases, line by line.
-use crate::call::{Call, Then, change_all, each_damage, each_row, leaves, on_each_crash, once};
+use crate::call::{Call, change_all, each_damage, each_row, on_each_crash, once};
 use crate::disks::{Outcome, Side, Sides};
 use crate::moments::{Each, each_of};
 use crate::script::{Row, Script, sides_of};
 use crate::stops::Again;
 use crate::telling::Telling;
-use crate::text::{Names, Short, Trouble, bytes_of, number_of, push_text};
-use iso_memdisk::CallKind;
+use crate::text::{Names, Short, Trouble, bytes_of, push_text, size_of, two, two_numbers};
+use crate::words::{Word, word_of};
 use std::alloc::Global;
 use std::sync::Wait;
 use std::thread::Threads;
-use top_calls::{Fault, part};
+use top_calls::part;
 
 /// What is made of a call and its rows.
 #[derive(Clone, Copy)]
@@ -47,49 +47,22 @@ pub(crate) struct Book {
     rounds: (u64, u64),
 }
 
-/// The two words of a text.
-fn two(text: &str) -> Result<(&str, &str), Trouble> {
-    match text.split_once(' ') {
-        Some(both) => Ok(both),
-        None => Err(Trouble::Said("two words are wanted behind this one")),
+/// The image under a name.
+fn kept_under<'a>(images: &'a [Kept], name: &str) -> Option<&'a [u8]> {
+    for kept in images {
+        if kept.name.as_str() == name {
+            return Some(kept.image.as_slice());
+        }
     }
+    None
 }
 
-/// Two numbers.
-fn two_numbers(text: &str) -> Result<(u64, u64), Trouble> {
-    let (one, two) = two(text)?;
-    Ok((number_of(one)?, number_of(two)?))
-}
-
-/// A number that counts bytes or places.
-fn size_of(text: &str) -> Result<usize, Trouble> {
-    match usize::try_from(number_of(text)?) {
-        Ok(size) => Ok(size),
-        Err(_) => Err(Trouble::Said("this number is too large")),
+/// A copy of it.
+fn image_of(alloc: Global, images: &[Kept], name: &str) -> Result<Vec<u8>, Trouble> {
+    match kept_under(images, name) {
+        Some(image) => Ok(image.to_vec(alloc)?),
+        None => Err(Trouble::Said("no image is kept under this name")),
     }
-}
-
-/// How a disk fails.
-fn fault_of(text: &str) -> Result<Fault, Trouble> {
-    let (kind, number) = two(text)?;
-    let number = number_of(number)?;
-    match kind {
-        "behind" => Ok(Fault::Behind(number)),
-        "at" => Ok(Fault::At(number)),
-        "read" => Ok(Fault::OfKind(CallKind::Read, number)),
-        "write" => Ok(Fault::OfKind(CallKind::Write, number)),
-        "sync" => Ok(Fault::OfKind(CallKind::Sync, number)),
-        "bind" => Ok(Fault::OfKind(CallKind::Bind, number)),
-        _ => Err(Trouble::Said(
-            "a disk fails behind or at a call, or at a read, write, sync or bind",
-        )),
-    }
-}
-
-/// At which call a source or a sink fails, and how long its pieces are.
-fn failing_of(text: &str) -> Result<Option<(u64, usize)>, Trouble> {
-    let (number, piece) = two(text)?;
-    Ok(Some((number_of(number)?, size_of(piece)?)))
 }
 
 /// Which side a line is of: the second one where it begins so. And the rest of it.
@@ -134,9 +107,23 @@ impl Book {
             return self.shorten(short);
         }
         let line = self.spelled(line)?;
-        let (side, line) = side_of(line.as_str());
-        let (word, rest) = line.split_once(' ').unwrap_or((line, ""));
-        if self.goes_on(word, rest)? || self.lays(word, rest)? || self.fails(side, word, rest)? {
+        self.read_spelled(rt, number, line.as_str())
+    }
+
+    /// The same of a line whose braces are spelled out.
+    fn read_spelled<R: Threads + Wait + Sync>(
+        &mut self,
+        rt: &R,
+        number: usize,
+        line: &str,
+    ) -> Result<(), Trouble> {
+        let (side, line) = side_of(line);
+        let (name, rest) = line.split_once(' ').unwrap_or((line, ""));
+        let Some(word) = word_of(name) else {
+            self.settle(rt)?;
+            return Err(Trouble::Said("no line of a case begins so"));
+        };
+        if self.goes_on(side, word, rest)? {
             return self.stands_by_a_call();
         }
         self.settle(rt)?;
@@ -157,7 +144,7 @@ impl Book {
     fn add_row(&mut self, line: usize, row: &str) -> Result<(), Trouble> {
         self.stands_by_a_call()?;
         if sides_of(row).1.is_some() {
-            self.telling.sums.count_reply();
+            self.telling.count_reply();
         }
         let text = String::from_str(self.alloc, row)?;
         self.rows.push(Row { line, text })?;
@@ -184,65 +171,31 @@ impl Book {
         Ok(())
     }
 
-    /// Whether a line says more of the call above it.
-    fn goes_on(&mut self, word: &str, rest: &str) -> Result<bool, Trouble> {
+    /// Whether a line says more of the call above it, or is one after which other rows begin.
+    fn goes_on(&mut self, side: Side, word: Word, rest: &str) -> Result<bool, Trouble> {
         match word {
-            "status" => self.call.status = number_of(rest)?,
-            "from" => self.call.from = number_of(rest)?,
-            "lasting" => self.call.lasting = Some(two_numbers(rest)?),
-            "kept" if rest == "pages" => self.call.plan.is_kept = true,
-            "for" if rest == "each row" => self.way = Way::ForEachRow,
-            "at" => match rest.strip_prefix("each ") {
+            Word::In if rest == "each crash" => self.way = Way::InEachCrash,
+            Word::For if rest == "each row" => self.way = Way::ForEachRow,
+            Word::At => match rest.strip_prefix("each ") {
                 Some(each) => self.way = Way::AtEach(each_of(each)?),
                 None => return Ok(false),
             },
-            "in" if rest == "each crash" => self.way = Way::InEachCrash,
-            "every" => match &mut self.call.then {
-                Some(then) => then.every = number_of(rest)?,
-                None => return Ok(false),
-            },
-            _ => return Ok(false),
+            Word::For | Word::Step | Word::Reached | Word::Or | Word::Shows | Word::Then => {
+                self.lay_rows()?;
+                return self.begins_rows(word, rest);
+            }
+            _ => return self.call.goes_on(side, word, rest),
         }
         Ok(true)
     }
 
     /// Whether a line is one after which other rows begin.
-    fn lays(&mut self, word: &str, rest: &str) -> Result<bool, Trouble> {
-        if !matches!(word, "step" | "reached" | "or" | "shows" | "then" | "for") {
-            return Ok(false);
+    fn begins_rows(&mut self, word: Word, rest: &str) -> Result<bool, Trouble> {
+        if let Word::For = word {
+            self.rounds = two_numbers(rest)?;
+            return Ok(true);
         }
-        self.lay_rows()?;
-        match word {
-            "step" => self.call.script.end_step(self.alloc, rest)?,
-            "reached" => self.call.script.reached = Some(number_of(rest)?),
-            "or" => self.call.script_below().begin_other(self.alloc)?,
-            "shows" => self.call.shows.push(Script::new(self.alloc))?,
-            "for" => self.rounds = two_numbers(rest)?,
-            _ => {
-                let words = String::from_str(self.alloc, rest)?;
-                let script = Script::new(self.alloc);
-                self.call.then = Some(Then {
-                    words,
-                    script,
-                    every: 1,
-                });
-            }
-        }
-        Ok(true)
-    }
-
-    /// Whether a line says how the disk, the source or the sink of the call above it fails, or how many calls of the disk are made.
-    fn fails(&mut self, side: Side, word: &str, rest: &str) -> Result<bool, Trouble> {
-        match (word, side) {
-            ("calls", Side::First) => self.call.calls = Some(number_of(rest)?),
-            ("calls", Side::Second) => self.call.second_calls = Some(number_of(rest)?),
-            ("fails", _) => self.call.plan.set(side, fault_of(rest)?),
-            ("source", _) => self.call.plan.source = failing_of(rest)?,
-            ("sink", _) => self.call.plan.sink = failing_of(rest)?,
-            ("breaks", _) => self.call.plan.breaks = number_of(rest)?,
-            _ => return Ok(false),
-        }
-        Ok(true)
+        self.call.begins_rows(self.alloc, word, rest)
     }
 
     /// Whether a line begins a call, a case or a name.
@@ -250,68 +203,73 @@ impl Book {
         &mut self,
         number: usize,
         line: &str,
-        word: &str,
+        word: Word,
         rest: &str,
     ) -> Result<bool, Trouble> {
         match word {
-            "isotope" => self.call.words = String::from_str(self.alloc, line)?,
-            "words" => self.way = Way::ForEachRow,
-            "refused" => self.way = Way::Refused,
-            "case" => {
-                self.telling.name = String::from_str(self.alloc, rest)?;
-                self.telling.line = number;
-                self.telling.sums.count_case();
-                self.sides = Sides::none(self.alloc);
-                self.last = Outcome::none(self.alloc);
+            Word::Isotope => self.call.begin(self.alloc, line)?,
+            Word::Words => self.way = Way::ForEachRow,
+            Word::Refused => self.way = Way::Refused,
+            Word::Case => {
+                self.begin_case(number, rest)?;
+                return Ok(true);
             }
             _ => return Ok(false),
         }
-        self.is_due = word != "case";
+        self.is_due = true;
         self.call.line = number;
         Ok(true)
     }
 
-    /// Whether a line makes an image, changes the one that is there, or asks for its bytes.
+    /// Begins a case, which has no image yet.
+    fn begin_case(&mut self, number: usize, name: &str) -> Result<(), Trouble> {
+        let name = String::from_str(self.alloc, name)?;
+        self.telling.begin_case(number, name);
+        self.sides = Sides::none(self.alloc);
+        self.last = Outcome::none(self.alloc);
+        Ok(())
+    }
+
+    /// Whether a line makes an image, changes the one that is there, gives it a name, or asks for its bytes.
     fn is_of_image(
         &mut self,
         number: usize,
         side: Side,
-        word: &str,
+        word: Word,
         rest: &str,
     ) -> Result<bool, Trouble> {
-        let mut image = self.sides.of(side).to_vec(self.alloc)?;
         match word {
-            "zeros" => image = vec![in self.alloc; 0; size_of(rest)?]?,
-            "cut" => image.truncate(size_of(rest)?),
-            "put" => change_all(self.alloc, &mut image, rest)?,
-            "add" => image.extend_from_slice(&bytes_of(self.alloc, rest)?)?,
-            "on" => image = self.image_of(rest)?,
-            "keep" => {
-                if self.image_of(rest).is_ok() {
-                    return Err(Trouble::Said("an image is kept under this name already"));
-                }
-                let name = String::from_str(self.alloc, rest)?;
-                self.images.push(Kept { name, image })?;
-                return Ok(true);
-            }
-            "left" => {
-                self.is_left(number, side, rest)?;
-                return Ok(true);
-            }
-            _ => return Ok(false),
+            Word::Keep => self.keep(side, rest)?,
+            Word::Left => self.is_left(number, side, rest)?,
+            _ => return self.changes(side, word, rest),
         }
-        self.sides.set(side, image);
         Ok(true)
     }
 
-    /// The image under a name.
-    fn image_of(&self, name: &str) -> Result<Vec<u8>, Trouble> {
-        for kept in &self.images {
-            if kept.name.as_str() == name {
-                return Ok(kept.image.to_vec(self.alloc)?);
-            }
+    /// Whether a line makes an image, or changes the one that is there.
+    fn changes(&mut self, side: Side, word: Word, rest: &str) -> Result<bool, Trouble> {
+        let alloc = self.alloc;
+        let image = self.sides.of_mut(side);
+        match word {
+            Word::Zeros => *image = vec![in alloc; 0; size_of(rest)?]?,
+            Word::Cut => image.truncate(size_of(rest)?),
+            Word::Put => change_all(alloc, image, rest)?,
+            Word::Add => image.extend_from_slice(&bytes_of(alloc, rest)?)?,
+            Word::On => *image = image_of(alloc, &self.images, rest)?,
+            _ => return Ok(false),
         }
-        Err(Trouble::Said("no image is kept under this name"))
+        Ok(true)
+    }
+
+    /// Keeps the image of a side under a name.
+    fn keep(&mut self, side: Side, name: &str) -> Result<(), Trouble> {
+        if kept_under(&self.images, name).is_some() {
+            return Err(Trouble::Said("an image is kept under this name already"));
+        }
+        let image = self.sides.of(side).to_vec(self.alloc)?;
+        let name = String::from_str(self.alloc, name)?;
+        self.images.push(Kept { name, image })?;
+        Ok(())
     }
 
     /// Whether an image has these bytes at a place.
@@ -321,19 +279,24 @@ impl Book {
         Ok(part(image, size_of(at)?, bytes.len()) == bytes.as_slice())
     }
 
+    /// Whether the image that is left has this size, is this other one, or has these bytes.
+    fn has_left(&self, side: Side, word: &str, more: &str) -> Result<bool, Trouble> {
+        let image = self.sides.of(side);
+        match word {
+            "size" => Ok(image.len() == size_of(more)?),
+            "at" => self.has_bytes(image, more),
+            "as" => {
+                let wanted = image_of(self.alloc, &self.images, more)?;
+                Ok(self.last.leaves(side, &wanted))
+            }
+            _ => Err(Trouble::Said("an image has a size, is as another, or has bytes at a place")),
+        }
+    }
+
     /// Asks for the size of the image that is left, for bytes of it, or for all of it.
     fn is_left(&mut self, number: usize, side: Side, rest: &str) -> Result<(), Trouble> {
         let (word, more) = two(rest)?;
-        let image = self.sides.of(side);
-        let is_right = match word {
-            "size" => image.len() == size_of(more)?,
-            "as" => leaves(self.alloc, &self.last, side, &self.image_of(more)?)?,
-            "at" => self.has_bytes(image, more)?,
-            _ => return Err(Trouble::Said(
-                "an image has a size, is as another, or has bytes at a place",
-            )),
-        };
-        if is_right {
+        if self.has_left(side, word, more)? {
             return Ok(());
         }
         self.telling
@@ -363,7 +326,7 @@ impl Book {
             self.lay_rows()?;
         }
         if self.is_due {
-            self.telling.sums.count_call();
+            self.telling.count_call();
             self.make(rt)?;
         }
         self.is_due = false;
@@ -377,21 +340,26 @@ impl Book {
         let alloc = self.alloc;
         let call = &self.call;
         let telling = &mut self.telling;
-        let sides = &self.sides;
+        let images = self.sides.lent();
         let names = Names {
             shorts: &self.shorts,
             round: 0,
         };
         match self.way {
             Way::Once => {
-                self.last = once(rt, alloc, telling, call, sides)?;
-                self.sides = self.last.left(alloc, 0)?;
+                self.last = once(rt, alloc, telling, call, images)?;
+                self.sides = self.last.synced(alloc)?;
                 Ok(())
             }
             Way::InEachCrash => on_each_crash(rt, alloc, telling, call, &self.last),
-            Way::AtEach(each) => Again { alloc, call, sides }.at_each(rt, telling, each),
-            Way::ForEachRow => each_row(rt, alloc, telling, call, sides, names, &self.rows),
-            Way::Refused => each_damage(rt, alloc, telling, &sides.first, names, &self.rows),
+            Way::AtEach(each) => Again {
+                alloc,
+                call,
+                images,
+            }
+            .at_each(rt, telling, each),
+            Way::ForEachRow => each_row(rt, alloc, telling, call, images, names, &self.rows),
+            Way::Refused => each_damage(rt, alloc, telling, images.first, names, &self.rows),
         }
     }
 }

@@ -1,7 +1,7 @@
 // The moments of a call at which its disk fails, or the sides of its mirror.
 use crate::call::Call;
 use crate::disks::{Plan, Side};
-use crate::text::Trouble;
+use crate::text::{Trouble, found};
 use std::alloc::{AllocError, Global};
 use top_calls::{Failing, Fault};
 
@@ -26,26 +26,32 @@ pub(crate) struct Each {
     pub(crate) of: Of,
 }
 
+const WHAT: [(&str, (bool, bool)); 3] = [
+    ("stop", (true, false)),
+    ("fault", (false, true)),
+    ("stop and fault", (true, true)),
+];
+
+const SIDES: [(&str, Of); 5] = [
+    ("", Of::All),
+    ("the first side", Of::One(Side::First)),
+    ("the second side", Of::One(Side::Second)),
+    ("either side", Of::Either),
+    ("both sides", Of::Both),
+];
+
 /// What comes after `at each`.
 pub(crate) fn each_of(text: &str) -> Result<Each, Trouble> {
     let (what, of) = text.split_once(" of ").unwrap_or((text, ""));
-    let of = match of {
-        "" => Of::All,
-        "the first side" => Of::One(Side::First),
-        "the second side" => Of::One(Side::Second),
-        "either side" => Of::Either,
-        "both sides" => Of::Both,
-        _ => return Err(Trouble::Said(
+    let Some(of) = found(&SIDES, of) else {
+        return Err(Trouble::Said(
             "a moment is one of the first side, of the second, of either or of both sides",
-        )),
+        ));
     };
-    let (stops, faults) = match what {
-        "stop" => (true, false),
-        "fault" => (false, true),
-        "stop and fault" => (true, true),
-        _ => return Err(Trouble::Said(
+    let Some((stops, faults)) = found(&WHAT, what) else {
+        return Err(Trouble::Said(
             "a call is made at each stop, at each fault, or at each stop and fault",
-        )),
+        ));
     };
     Ok(Each { stops, faults, of })
 }

@@ -167,6 +167,12 @@ impl Script {
         Ok(())
     }
 
+    /// Says that the next rows are told once this number of calls of the disk was made.
+    pub(crate) fn reach(&mut self, calls: &str) -> Result<(), Trouble> {
+        self.reached = Some(number_of(calls)?);
+        Ok(())
+    }
+
     /// Whether this is one of the ways in which it may be answered.
     pub(crate) fn is_answered(&self, found: &[u8]) -> bool {
         let mut is_right = found == self.told.text.as_slice();

@@ -1,11 +1,12 @@
 // Calls whose disk fails at each of their calls: what they are told, and what the images that a crash then leaves are opened to.
 use crate::call::{Call, Then, ask_numbers};
-use crate::disks::{Outcome, Plan, Side, Sides, image, made};
+use crate::disks::{Images, Outcome, Plan, Side, made};
+use crate::left::{Left, left_of, picks_of};
 use crate::moments::{Each, Moment, of_mirror};
-use crate::script::{Script, Step};
+use crate::reached::{Reached, steps_reached, tells_steps};
+use crate::script::Script;
 use crate::telling::Telling;
 use crate::text::Trouble;
-use iso_memdisk::MemDisk;
 use std::alloc::Global;
 use std::sync::Wait;
 use std::thread::Threads;
@@ -18,84 +19,10 @@ const RUN_MIRROR: &str = "isotope run t+";
 
 /// A call that is made again and again, over disks of these bytes.
 #[derive(Clone, Copy)]
-pub(crate) struct Again<'a> {
+pub(crate) struct Again<'a, 'b> {
     pub(crate) alloc: Global,
     pub(crate) call: &'a Call,
-    pub(crate) sides: &'a Sides,
-}
-
-/// Images of both sides that a crash leaves for a pick.
-#[derive(Drop)]
-struct Left {
-    pick: u64,
-    sides: Sides,
-}
-
-/// How many steps an image shows at least and at most: what is in it for certain, and what was written to it.
-#[derive(Clone, Copy)]
-struct Reached {
-    stable: usize,
-    written: usize,
-    /// Whether the images of a crash are known: for pick 0 what is stable, and for 1 what was written.
-    is_exact: bool,
-}
-
-impl Reached {
-    /// The least and the most steps for a pick.
-    fn of(self, pick: u64) -> (usize, usize) {
-        match pick {
-            0 if self.is_exact => (self.stable, self.stable),
-            1 if self.is_exact => (self.written, self.written),
-            _ => (self.stable, self.written),
-        }
-    }
-}
-
-/// Whether an output has this line.
-fn has_line(output: &[u8], line: &[u8]) -> bool {
-    for found in output.split(|b| *b == b'\n') {
-        if found == line {
-            return true;
-        }
-    }
-    false
-}
-
-/// Whether an output has the line of each step.
-fn tells_steps(script: &Script, output: &[u8]) -> bool {
-    let mut is_right = true;
-    for step in &script.steps {
-        if let Step::Line(line) = step {
-            is_right = is_right && has_line(output, line);
-        }
-    }
-    is_right
-}
-
-/// One more where this holds.
-fn plus(count: usize, more: bool) -> usize {
-    if more { count.saturating_add(1) } else { count }
-}
-
-/// How many steps were reached, where the disk fails after `calls` calls and `len` bytes of the replies were told.
-fn steps_reached(script: &Script, output: &[u8], len: usize, calls: u64) -> Reached {
-    let mut found = Reached {
-        stable: 0,
-        written: 0,
-        is_exact: true,
-    };
-    for step in &script.steps {
-        let (written, stable) = match step {
-            Step::Calls { written, stable } => (*written <= calls, *stable <= calls),
-            Step::Behind(end) => (*end <= len, *end <= len),
-            Step::Line(line) => (has_line(output, line), has_line(output, line)),
-        };
-        found.is_exact = found.is_exact && matches!(step, Step::Calls { .. });
-        found.written = plus(found.written, written);
-        found.stable = plus(found.stable, stable);
-    }
-    found.written = plus(found.written, !found.is_exact);
-    found
+    pub(crate) images: Images<'b>,
 }
 
 /// How many bytes an output has in front of the line of the fault. None where no such line is its last.
@@ -120,14 +47,23 @@ fn is_front(script: &Script, output: &[u8], len: usize) -> bool {
 
 /// Whether a disk failed, or both sides of a mirror did, that a call with status 0 told nothing of.
 fn is_untold(moment: Moment, outcome: &Outcome, is_mirror: bool) -> bool {
-    let is_first = outcome.first.calls() >= moment.number;
+    let is_first = outcome.calls.0 >= moment.number;
     match moment.other {
-        Some(other) => is_first && outcome.second.calls() >= other,
+        Some(other) => is_first && outcome.calls.1 >= other,
         None => is_first && !is_mirror,
     }
 }
 
-impl Again<'_> {
+/// Whether a call did not tell what failed, or went on after it.
+fn is_wrong(call: &Call, moment: Moment, outcome: &Outcome) -> bool {
+    match outcome.status {
+        0 => is_untold(moment, outcome, call.is_mirror()),
+        5 => moment.is_alone && !call.is_mirror() && outcome.calls.0 != moment.number,
+        _ => false,
+    }
+}
+
+impl Again<'_, '_> {
     /// What is wanted of the output at a moment, where the rows say after how many calls each is told.
     fn is_told_exactly(
         self,
@@ -197,28 +133,39 @@ impl Again<'_> {
         }
     }
 
-    /// How many steps an image shows, from the least to the most. None where it shows anything else.
-    fn shown<R: Threads + Wait + Sync>(
-        self,
-        rt: &R,
-        sides: &Sides,
-        bounds: (usize, usize),
-    ) -> Result<Option<usize>, Trouble> {
-        let is_mirror = self.call.is_mirror();
-        let words = if is_mirror { RUN_MIRROR } else { RUN };
-        let Some(show) = self.call.shows.first() else {
-            return Ok(Some(0));
-        };
-        let opened = made(rt, self.alloc, words, sides, Plan::none(), &show.input)?;
-        if is_mirror && opened.status == 0 && !opened.left(self.alloc, 0)?.are_alike() {
-            return Ok(None);
+    /// How many steps what was opened shows, from the least to the most. None where it shows anything else.
+    fn step_of(self, opened: &Outcome, bounds: (usize, usize)) -> Option<usize> {
+        if let Some(sides) = opened.left.first() {
+            if opened.status == 0 && !sides.lent().are_alike() {
+                return None;
+            }
         }
         for (i, show) in self.call.shows.iter().enumerate() {
             if bounds.0 <= i && i <= bounds.1 && show.is_answered(&opened.output) {
-                return Ok(Some(i));
+                return Some(i);
             }
         }
-        Ok(None)
+        None
+    }
+
+    /// How many steps an image shows. The sides of a mirror are to be alike then.
+    fn shown<R: Threads + Wait + Sync>(
+        self,
+        rt: &R,
+        images: Images<'_>,
+        bounds: (usize, usize),
+    ) -> Result<Option<usize>, Trouble> {
+        let Some(show) = self.call.shows.first() else {
+            return Ok(Some(0));
+        };
+        let (words, picks) = if self.call.is_mirror() {
+            (RUN_MIRROR, 1)
+        } else {
+            (RUN, 0)
+        };
+        let plan = Plan::none();
+        let opened = made(rt, self.alloc, words, images, plan, &show.input, picks)?;
+        Ok(self.step_of(&opened, bounds))
     }
 
     /// Whether each image that a crash leaves of a stop of the second call shows this step.
@@ -228,12 +175,42 @@ impl Again<'_> {
         outcome: &Outcome,
         step: usize,
     ) -> Result<bool, Trouble> {
-        for left in left_of(self.alloc, outcome, self.call.is_mirror(), 3)? {
-            if self.shown(rt, &left.sides, (step, step))?.is_none() {
+        let all = left_of(self.alloc, &outcome.left, self.call.is_mirror())?;
+        for left in &all {
+            if self.shown(rt, left.images, (step, step))?.is_none() {
                 return Ok(false);
             }
         }
         Ok(true)
+    }
+
+    /// Whether the second call, of which both sides stop at their call of this number, leaves what these images show. None where it does,
+    /// and a later call of the disk is to be stopped.
+    fn stays_behind<R: Threads + Wait + Sync>(
+        self,
+        rt: &R,
+        then: &Then,
+        images: Images<'_>,
+        step: usize,
+        number: u64,
+    ) -> Result<Option<bool>, Trouble> {
+        let plan = Moment::of_both(number, number).of_plan(Plan::none());
+        let words = then.words.as_str();
+        let picks = picks_of(self.call.is_mirror(), 3);
+        let outcome = made(
+            rt,
+            self.alloc,
+            words,
+            images,
+            plan,
+            &then.script.input,
+            picks,
+        )?;
+        let all_show = self.all_show(rt, &outcome, step)?;
+        if all_show && outcome.status != 0 {
+            return Ok(None);
+        }
+        Ok(Some(all_show))
     }
 
     /// Whether the second call, stopped at each of its calls on these images, leaves what they show. Where one in some stops is tried, it
@@ -242,25 +219,40 @@ impl Again<'_> {
         self,
         rt: &R,
         then: &Then,
-        sides: &Sides,
+        images: Images<'_>,
         step: usize,
         number: u64,
     ) -> Result<bool, Trouble> {
         let every = then.every.max(1);
-        let input = then.script.input.as_slice();
+        let first = (number % every).saturating_add(1);
         for round in 0..200u64 {
-            let calls = round.saturating_mul(every).saturating_add(number % every);
-            let number = calls.saturating_add(1);
-            let plan = Moment::of_both(number, number).of_plan(Plan::none());
-            let outcome = made(rt, self.alloc, then.words.as_str(), sides, plan, input)?;
-            if !self.all_show(rt, &outcome, step)? {
-                return Ok(false);
-            }
-            if outcome.status == 0 {
-                return Ok(true);
+            let number = round.saturating_mul(every).saturating_add(first);
+            if let Some(stays) = self.stays_behind(rt, then, images, step, number)? {
+                return Ok(stays);
             }
         }
         Ok(false)
+    }
+
+    /// Whether images that a crash leaves show the steps that were reached, and go on to do so after the second call.
+    fn is_shown<R: Threads + Wait + Sync>(
+        self,
+        rt: &R,
+        telling: &mut Telling,
+        moment: Moment,
+        left: Left<'_>,
+        bounds: (usize, usize),
+    ) -> Result<bool, Trouble> {
+        let shown = self.shown(rt, left.images, bounds)?;
+        let stays = match (shown, &self.call.then) {
+            (None, _) => false,
+            (Some(_), None) => true,
+            (Some(step), Some(then)) => self.stays(rt, then, left.images, step, moment.number)?,
+        };
+        if !stays {
+            self.tell_image(telling, moment, left.pick, shown, bounds)?;
+        }
+        Ok(stays)
     }
 
     /// Whether each image that a crash leaves shows the steps that were reached.
@@ -272,18 +264,9 @@ impl Again<'_> {
         outcome: &Outcome,
         steps: Reached,
     ) -> Result<bool, Trouble> {
-        for left in left_of(self.alloc, outcome, self.call.is_mirror(), 6)? {
-            let bounds = steps.of(left.pick);
-            let shown = self.shown(rt, &left.sides, bounds)?;
-            let stays = match (shown, &self.call.then) {
-                (None, _) => false,
-                (Some(_), None) => true,
-                (Some(shown), Some(then)) => {
-                    self.stays(rt, then, &left.sides, shown, moment.number)?
-                }
-            };
-            if !stays {
-                self.tell_image(telling, moment, left.pick, shown, bounds)?;
+        let all = left_of(self.alloc, &outcome.left, self.call.is_mirror())?;
+        for left in &all {
+            if !self.is_shown(rt, telling, moment, *left, steps.of(left.pick))? {
                 return Ok(false);
             }
         }
@@ -315,6 +298,42 @@ impl Again<'_> {
         telling.tell(self.call.line, text.as_str())
     }
 
+    /// What is asked of the status and the numbers at a moment. False, once this is told, where they are not as wanted.
+    fn ask_status(
+        self,
+        telling: &mut Telling,
+        moment: Moment,
+        outcome: &Outcome,
+    ) -> Result<bool, Trouble> {
+        let call = self.call;
+        if is_wrong(call, moment, outcome) {
+            let text = "the call that failed was not told, or was not the last one";
+            telling.tell(call.line, text)?;
+            return Ok(false);
+        }
+        if outcome.status == 0 && moment.other.is_none() && !call.is_mirror() {
+            ask_numbers(self.alloc, telling, call, call.line, outcome)?;
+        }
+        Ok(true)
+    }
+
+    /// What is asked of all that a call gave at a moment. False, once this is told, where anything is not as wanted.
+    fn ask_at<R: Threads + Wait + Sync>(
+        self,
+        rt: &R,
+        telling: &mut Telling,
+        moment: Moment,
+        outcome: &Outcome,
+    ) -> Result<bool, Trouble> {
+        let Some(steps) = self.steps_at(telling, moment, outcome)? else {
+            return Ok(false);
+        };
+        if !self.are_shown(rt, telling, moment, outcome, steps)? {
+            return Ok(false);
+        }
+        self.ask_status(telling, moment, outcome)
+    }
+
     /// The status at a moment. None, once this is told, where anything is not as wanted.
     fn status_at<R: Threads + Wait + Sync>(
         self,
@@ -323,35 +342,20 @@ impl Again<'_> {
         moment: Moment,
     ) -> Result<Option<u8>, Trouble> {
         let call = self.call;
+        let words = call.words.as_str();
         let plan = moment.of_plan(call.plan);
+        let picks = picks_of(call.is_mirror(), 6);
         let outcome = made(
             rt,
             self.alloc,
-            call.words.as_str(),
-            self.sides,
+            words,
+            self.images,
             plan,
             &call.script.input,
+            picks,
         )?;
-        let Some(steps) = self.steps_at(telling, moment, &outcome)? else {
-            return Ok(None);
-        };
-        if !self.are_shown(rt, telling, moment, &outcome, steps)? {
-            return Ok(None);
-        }
-        let is_wrong = match outcome.status {
-            0 => is_untold(moment, &outcome, call.is_mirror()),
-            5 => moment.is_alone && !call.is_mirror() && outcome.first.calls() != moment.number,
-            _ => false,
-        };
-        if is_wrong {
-            let text = "the call that failed was not told, or was not the last one";
-            telling.tell(call.line, text)?;
-            return Ok(None);
-        }
-        if outcome.status == 0 && moment.other.is_none() && !call.is_mirror() {
-            ask_numbers(self.alloc, telling, call, call.line, &outcome)?;
-        }
-        Ok(Some(outcome.status))
+        let is_right = self.ask_at(rt, telling, moment, &outcome)?;
+        Ok(if is_right { Some(outcome.status) } else { None })
     }
 
     /// A disk that fails at each call, until none fails. Where the rows say after how many calls each is told, up to two after the last.
@@ -384,6 +388,27 @@ impl Again<'_> {
         telling.tell(self.call.line, "it has no end within 200 calls of the disk")
     }
 
+    /// How many calls each side of a mirror gets where nothing fails. The replies are asked for.
+    fn calls_of_sides<R: Threads + Wait + Sync>(
+        self,
+        rt: &R,
+        telling: &mut Telling,
+    ) -> Result<(u64, u64), Trouble> {
+        let call = self.call;
+        let words = call.words.as_str();
+        let whole = made(
+            rt,
+            self.alloc,
+            words,
+            self.images,
+            call.plan,
+            &call.script.input,
+            0,
+        )?;
+        let _ = telling.is_told(self.alloc, "a reply", &whole.output, &call.script)?;
+        Ok(whole.calls)
+    }
+
     /// The moments of a mirror.
     fn over_a_mirror<R: Threads + Wait + Sync>(
         self,
@@ -392,20 +417,10 @@ impl Again<'_> {
         way: Failing,
         each: Each,
     ) -> Result<(), Trouble> {
-        let call = self.call;
-        let words = call.words.as_str();
-        let whole = made(
-            rt,
-            self.alloc,
-            words,
-            self.sides,
-            call.plan,
-            &call.script.input,
-        )?;
-        let calls = (whole.first.calls(), whole.second.calls());
-        let _ = telling.is_told(self.alloc, "a reply", &whole.output, &call.script)?;
-        for moment in of_mirror(self.alloc, call, way, each.of, calls)? {
-            if self.status_at(rt, telling, moment)?.is_none() {
+        let calls = self.calls_of_sides(rt, telling)?;
+        let moments = of_mirror(self.alloc, self.call, way, each.of, calls)?;
+        for moment in &moments {
+            if self.status_at(rt, telling, *moment)?.is_none() {
                 return Ok(());
             }
         }
@@ -428,55 +443,4 @@ impl Again<'_> {
         }
         Ok(())
     }
-}
-
-/// Whether one of these images has these bytes.
-fn is_among(bytes: &[u8], images: &[Vec<u8>]) -> bool {
-    for image in images {
-        if image.as_slice() == bytes {
-            return true;
-        }
-    }
-    false
-}
-
-/// The images that a crash leaves of a disk for the first four picks, each of them once.
-fn unlike_images(alloc: Global, disk: &MemDisk) -> Result<Vec<Vec<u8>>, Trouble> {
-    let mut images = Vec::new(alloc);
-    for pick in 0..4 {
-        let image = image(alloc, disk, pick)?;
-        if !is_among(&image, &images) {
-            images.push(image)?;
-        }
-    }
-    Ok(images)
-}
-
-/// What a crash leaves of a disk for `picks` picks, or of two sides, each image of the one with each of the other.
-fn left_of(
-    alloc: Global,
-    outcome: &Outcome,
-    is_mirror: bool,
-    picks: u64,
-) -> Result<Vec<Left>, Trouble> {
-    let mut all = Vec::new(alloc);
-    if !is_mirror {
-        for pick in 0..picks {
-            let sides = outcome.left(alloc, pick)?;
-            all.push(Left { pick, sides })?;
-        }
-        return Ok(all);
-    }
-    let seconds = unlike_images(alloc, &outcome.second)?;
-    for one in unlike_images(alloc, &outcome.first)? {
-        for two in &seconds {
-            let first = one.to_vec(alloc)?;
-            let second = two.to_vec(alloc)?;
-            all.push(Left {
-                pick: 2,
-                sides: Sides { first, second },
-            })?;
-        }
-    }
-    Ok(all)
 }

@@ -91,6 +91,29 @@ impl Telling {
         }
     }
 
+    /// Begins a file, which has nothing so far.
+    pub(crate) fn begin_file(&mut self, file: String) {
+        self.file = file;
+        self.sums = Sums::none();
+    }
+
+    /// Begins a case.
+    pub(crate) fn begin_case(&mut self, line: usize, name: String) {
+        self.name = name;
+        self.line = line;
+        self.sums.count_case();
+    }
+
+    /// Counts a call.
+    pub(crate) fn count_call(&mut self) {
+        self.sums.count_call();
+    }
+
+    /// Counts a row with a reply.
+    pub(crate) fn count_reply(&mut self) {
+        self.sums.count_reply();
+    }
+
     /// Reports a line of the file.
     pub(crate) fn tell(&mut self, line: usize, what: &str) -> Result<(), Trouble> {
         self.failed = self.failed.saturating_add(1);

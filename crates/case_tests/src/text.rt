@@ -78,6 +78,38 @@ pub(crate) fn number_of(text: &str) -> Result<u64, Trouble> {
     Ok(number)
 }
 
+/// A number that counts bytes or places.
+pub(crate) fn size_of(text: &str) -> Result<usize, Trouble> {
+    match usize::try_from(number_of(text)?) {
+        Ok(size) => Ok(size),
+        Err(_) => Err(Trouble::Said("this number is too large")),
+    }
+}
+
+/// The two words of a text.
+pub(crate) fn two(text: &str) -> Result<(&str, &str), Trouble> {
+    match text.split_once(' ') {
+        Some(both) => Ok(both),
+        None => Err(Trouble::Said("two words are wanted behind this one")),
+    }
+}
+
+/// Two numbers.
+pub(crate) fn two_numbers(text: &str) -> Result<(u64, u64), Trouble> {
+    let (one, two) = two(text)?;
+    Ok((number_of(one)?, number_of(two)?))
+}
+
+/// What a table has under a name. A `match` of texts is a call for each of them, all of which are proved.
+pub(crate) fn found<T: Copy>(table: &[(&str, T)], name: &str) -> Option<T> {
+    for (own, value) in table {
+        if *own == name {
+            return Some(*value);
+        }
+    }
+    None
+}
+
 /// The byte of an escape, which begins after a backslash, and how long it is.
 fn escaped(bytes: &[u8]) -> Option<(u8, usize)> {
     match bytes {

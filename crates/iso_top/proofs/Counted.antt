@@ -2,7 +2,7 @@
 use Rattle.iso_top.proofs.{Words.{◌≡◌, Bool, inl, inr, ◌∙◌, ap, sym, subst, ℕ, ◌+◌, ◌-◌, ◌*◌, List, arith, filter, length, IfSome, Option, Bench, DiskState, SinkState, Wrote, SourceState, Line, Reply, Script, answers_to, bench_text, bench_world, is_committed, is_conflict, one_places, script, sha256, RunEnd, AreLinesOf, AreSameButShown, ArePlain, HasRun, plain_same, text_of, HasBenched, HasMet, PrintedBench, PrintedLine, PrintsCounts, TellsNamed, bench_text_of, summary_of}, Plainly.zero_is_begun}
 use Rattle.script_runner.specs.declared.run_end.RunEnd.TheVariants as end
 
-abbrev SameCounts : (test : Reply → Bool) → Type 0
+abbrev pub SameCounts : (test : Reply → Bool) → Type 0
 SameCounts test = (xs ys : List Reply) → AreSameButShown xs ys → length (filter test xs) ≡ length (filter test ys)
 
 module _ {D : Type 0} (state : D → DiskState) (name : List ℕ) (old new : D) (input_old input_new : SourceState) (output_old output_new : SinkState) (seed count : ℕ) where

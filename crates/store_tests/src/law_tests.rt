@@ -49,8 +49,7 @@ fn put_and_scan<T: TxBlocks>(
     alloc: Global,
     tx: &mut T,
     region: Region,
-    key: &[u8],
-    value: &[u8],
+    pair: (&[u8], &[u8]),
     from: &[u8],
     to: &[u8],
     max: u32,
@@ -59,9 +58,9 @@ fn put_and_scan<T: TxBlocks>(
     requires fits { region.start + region.size ≤ (T.state tx.old).blocks }
     requires max { 0 < max }
     ensures { IfOk result (λ r. (A : Array) → (T.state tx.old).base ≡ Some A → (T.state tx.old).accesses ≡ [] → IsTreeRegion (area_of (T.state tx.old) region) A
-        → r ≡ (scan_op from.now to.now max (insert (tree_map (area_of (T.state tx.old) region) A) key.now value.now)).0) }
+        → r ≡ (scan_op from.now to.now max (insert (tree_map (area_of (T.state tx.old) region) A) pair.entry.0.now pair.entry.1.now)).0) }
 {
-    match iso_tree::put(alloc, tx, region, key, value) {
+    match iso_tree::put(alloc, tx, region, pair.0, pair.1) {
         Ok(()) => scan(alloc, tx, region, from, to, max),
         Err(e) => Err(e),
     }
@@ -72,7 +71,8 @@ fn a_transaction_scans_what_it_puts(rt: HostRuntime) -> Result<(), Fail> {
     let bytes = vec![in rt.alloc(); 0u8; 1280]?;
     let mut tx = PlainTx::new(rt.alloc(), bytes, 256);
     let region = Region { start: 1, size: 4 };
-    match put_and_scan(rt.alloc(), &mut tx, region, b"key", b"value", b"a", b"z", 9) {
+    let pair = (b"key".as_slice(), b"value".as_slice());
+    match put_and_scan(rt.alloc(), &mut tx, region, pair, b"a", b"z", 9) {
         Ok(found) => {
             same(&rt, found.len(), 1);
             match found.get(0) {
