@@ -2,7 +2,7 @@
 //!
 //! It meets `Disk` and `Image` as an opaque disk: sizes, counts, causes, how often a bind was asked for and which name is bound are
 //! promised (`size`, `binds`, `cause`), nothing of bytes or crashes. That the file keeps what was written is trusted. That a file
-//! which another disk has bound is a fault, and which names are found free, is only tested.
+//! bound by another disk is a fault, and which names are found free, is only tested.
 #![tactic(auto)]
 
 mod file_disk;

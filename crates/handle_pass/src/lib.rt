@@ -1,9 +1,9 @@
-//! Sessions: a port with at most one transaction, which can be handed to another session, in another thread too. That a session or a
-//! handle is in order is true of each, by the invariant of its `Model`, and no clause says it.
+//! Sessions: a port with at most one transaction, which can be handed to another session, in another thread too, in order by the
+//! invariant of its `Model`.
 //!
-//! Each call says how it ended, which entries it made, and which transaction the session has then (`did`); what the session's own
-//! state refuses is exact (`cause`). A handle carries a transaction with number, begin, mode, accesses and marks; `into_tx` gives it
-//! to a group. `SessionBlocks` meets the trait of `tx_blocks` with one fetch a read (`Visited`). Calls may wait.
+//! Each call says how it ended, which entries it made, and which transaction the session has then (`did`); what the session's own state
+//! refuses is exact (`cause`). A handle carries a transaction; `into_tx` gives it to a group. `SessionBlocks`
+//! meets the trait of `tx_blocks` with one fetch a read (`Visited`). Calls may wait.
 #![tactic(auto)]
 
 mod access;

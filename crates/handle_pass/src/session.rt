@@ -1,4 +1,4 @@
-// The session itself.
+// The session: its fields, what holds of them, its start and its end.
 ghost use Rattle.std.specs.Prelude.{◌≡◌, ◌-◌, ◌≤◌, None, Some, cond, is_some, length, option_map};
 ghost use Rattle.iso_shared.specs.Ports.{IsPort, first_geometry, port_view};
 ghost use Rattle.handle_pass.specs.{Accesses.accesses_of, Calls.HasFinished, Sessions.{device_of, IsPortAt}, Visits.HasItsBegin};
@@ -25,6 +25,7 @@ impl<'a, D: Disk + Drop, O: Origin> Model for Session<'a, D, O> {
 
     ghost view = { state_of };
 
+    // port and transaction are of this device, and the port has seen all that the transaction has
     ghost invariant = { IsSession O.start };
 }
 
@@ -39,7 +40,7 @@ pub(crate) fn attach<D: Disk + Drop, O: Origin>(place: &mut Option<Tx<D, O>>, tx
 }
 
 impl<'a, D: Disk + Drop, O: Origin> Session<'a, D, O> {
-    /// A session without a transaction.
+    /// A session without a transaction. It takes over what the port has seen, its own places and its units.
     pub fn new(shared: &'a Shared<D, O>, port: Port<D, O>) -> Session<'a, D, O>
         requires port { IsPort shared.now port }
         requires image { first_geometry shared.now ≡ O.start.world.geometry }

@@ -1,4 +1,4 @@
--- A core with one more commit.
+-- A core that takes in one appended commit represents the next world; for `take_in`.
 use Rattle.iso_core.proofs.{Words.{◌≡◌, ◌∙◌, sym, ap, ℕ, zero, suc, ◌+◌, ◌-◌, ◌<◌, ◌≤◌, ◌==◌, not, List, [], ◌∷◌, ◌++◌, length, map, arith, subst, nat_eq, slice_index_or, drop, length-drop, transport, drop-map, length_push, AllByRecursion, remove_entry, Extent, AreNotes, AreNotesAfter, Held, Note, above, added_after, dropped_after, Half, half_of_world, last_told, with_records, half_after, log_place, History, last, Commit, Geometry, IsRecord, Written, written, after_commit, commit_from, World, Live, floor, floor_of, without, IsWorld, all_filter, floor_above, floor_below, floor_between, IsIndexOf, BlockVersions, at_work, Begun, PartSpan, HasTaken, MayTake, index_more, may_take, Kept, IsGrownBy, written_of, bare, IsOf, LogExtent, extent_of}, Numbers.last_is, Transactions.{kept_floor, kept_without}}
 
 all_dropped : {X : Type 0} (P : X → Type 0) (n : ℕ) (xs : List X) → AllByRecursion P xs → AllByRecursion P (drop n xs)
@@ -27,6 +27,7 @@ pub next_half : (W : World) (t : Live) (at : ℕ) → IsWorld W → half_of_worl
 next_half W t at is =
     half_after W t at is.since (omega arith) is.history.first
 
+-- the transaction commits in W, and its record was appended to the core, which has not taken it in
 module _ (W : World) (tx : ℕ) (t : Live) (kept : Kept) (gate : ℕ) (writes : List (ℕ × List Extent)) (grown : IsGrownBy W tx t kept gate writes) where
   told_number : last_told (half_of_world W kept.half) ≡ last W.history
   told_number = last_is W kept.half grown.was.world
@@ -34,14 +35,14 @@ module _ (W : World) (tx : ℕ) (t : Live) (kept : Kept) (gate : ℕ) (writes : 
   pub number_is : kept.log.last ≡ last W.history + 1
   number_is = omega (arith, ap (λ (e : LogExtent). e.last) grown.log, length_push (half_of_world W kept.half).told (written_of W t), told_number)
 
-  -- its versions may be taken in
+  -- the index may take in the versions of the commit
   pub may_take_in : (number : ℕ) (parts : List PartSpan) → number ≡ kept.log.last → parts ≡ kept.parts.items → MayTake number gate parts kept.index
   may_take_in number parts number_of parts_of =
       let x : Half = half_of_world W kept.half in
       let may = may_take W.geometry x W.trim (written_of W t) kept.index grown.was.world.valid grown.was.keeps.half (held_records W kept.half grown.was.world) grown.follows grown.was.keeps.index in
       transport (λ i. MayTake (sym (number_of ∙ number_is ∙ ap (λ (n : ℕ). n + 1) (sym told_number)) i) (sym grown.gate_is i) (sym (parts_of ∙ grown.prepared.spelled.parts) i) kept.index) may
 
-  -- the numbers of the notes are below it
+  -- the number of each note is below that of the new commit
   pub notes_below : (number : ℕ) → number ≡ kept.log.last → (k : ℕ) (d : Note) → k < length kept.notes.notes → (slice_index_or kept.notes.notes k d).0 < number
   notes_below number number_of k d below =
       let from : grown.was.keeps.notes.from ≤ floor W = grown.was.keeps.notes.before in

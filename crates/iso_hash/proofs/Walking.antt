@@ -1,4 +1,4 @@
--- One block of a walk.
+-- One step of the walk along a bucket's chain of blocks, for the answers of `walk`.
 use Rattle.iso_hash.proofs.{Words.{◌≡◌, ◌∙◌, sym, refl, ap, subst, ℕ, suc, ◌+◌, ◌-◌, ◌*◌, ◌<◌, ◌≤◌, ◌==◌, Bool, true, false, cond, List, [], ◌∷◌, length, take, Option, Some, None, IfSome, arith, eq-eqb, ne_eqb, ForSome, Span, Area, Spot, own, or_else, block_at, Program, Done, bytes_in, further_bytes, with_further, look_access, cell_count, keys_end, keys_mark, value_mark, cell_with, unused_cell, are_key_parts, Walked, AtCell, AtEnd, AtBroken, walk, walk_from, walk_further, walk_next, spare_in, spot_in, is_linked, next_of, last_position, bucket_of, Tx, Device, with_accesses, Ran, IsCut, IsCause, TxError, IsAt, at_start, at_look, ran_at, cut_at_look, IsSpot, at_as}, Chains.{next_in, head_of}}
 
 pub walk_begins : (a : Area) (key : List ℕ) (with_value : Bool) (bucket n : ℕ) (t : Tx) → bucket ≡ bucket_of a key → n ≡ last_position a
@@ -25,7 +25,7 @@ marks with_value mark = grind arith
 bytes_of : (with_value : Bool) (mark : Span) (bytes : List ℕ) → further_bytes (cond with_value (Some mark) None) bytes ≡ cond with_value (bytes_in mark bytes) []
 bytes_of with_value mark bytes = grind arith
 
--- the facts of one block of a walk that is to be read, and then its bytes
+-- The walk is at this block, which has these bytes: after the read it ends broken, ends at the last block, ends at the key, or goes on.
 pub record IsReading (whole : Program Walked) (a : Area) (key : List ℕ) (bucket : ℕ) (with_value : Bool) (end position before block : ℕ) (spare : Option Spot) (t u : Tx) (bytes : List ℕ) : Type 0 where
   pub here : IsAt whole (walk_from a key bucket with_value (end - position) position before block spare) t u
   pub below : position < end

@@ -1,9 +1,9 @@
--- What the laws of a disk ask of the record of its calls.
+-- Lemmas about recorded calls, which the laws of a disk cite: the bytes that they wrote may be left by a crash, and the length stays.
 use Rattle.std.{specs.Prelude.{◌≡◌, ◌≤◌, ◌+◌, ℕ, zero, suc, List, [], ◌∷◌, length, take, refl}, proofs.Common.{ap, subst, sym, ◌∙◌}, proofs.lemmas.Option.none-some}
 use Rattle.iso_disk.{specs.Disk.{spliced, TornFrom}, proofs.Bytes.{length-spliced, spliced_torn}}
 use Rattle.iso_memdisk.specs.{declared.record.Call.Call, declared.record.Call.TheVariants.{Write, Sync}, Record.{written, images_after, AllFit}}
 
--- what is read is one of the images
+-- the bytes after the calls are one of the images that a crash may leave
 pub written-image : (calls : List Call) (bytes : List ℕ) (images : List ℕ → Type 0) → AllFit (length bytes) calls → images bytes → images_after calls bytes images (written calls bytes)
 written-image [] bytes images fit here = here
 written-image (Write at new ∷ calls) bytes images fit here =

@@ -1,9 +1,9 @@
 //! A core and its labels, shared by threads.
 //!
-//! Each call that waits makes exactly one entry of one legal list, with its transaction, arguments and answer (`made`, `ok`, `err`):
-//! what one thread's rules give at its place. What a port or transaction has seen only grows (`told`). `close` gives the core of the
-//! whole list, whose history is isolated (`core`, `legal`, `isolated`). Each image of a crash shows it at some commit (`came`), and from
-//! the end of a turn on all commits of the list up to that turn (`ended`). That a call returns is no clause.
+//! Each call that waits makes one entry of a legal list (`made`, `ok`, `err`). What a port or
+//! transaction has seen only grows (`told`). `close` gives the core of the whole list, whose history is isolated (`core`, `legal`, `isolated`).
+//! Each image of a crash shows it at some commit (`came`), and from the end of a turn on all commits up to that turn (`ended`). No clause says
+//! that a call returns.
 #![tactic(auto)]
 
 mod ahead;
