@@ -9,13 +9,12 @@ use crate::view::{LAST, Names, Stands, View};
 use atomic_table::{Refused, Seat, Table, TableRule};
 use iso_model::Memory;
 use std::alloc::Global;
-use std::hint::spin_loop;
 use std::marker::Brand;
 use std::snapshot::Snapshot;
 use std::sync::Wait;
 
-// The words of the table, and its slot. After the first two come the gate before the tickets, how many wait at it, and how many
-// turns in a row went past them.
+// The words of the table, and its slot. After the first two come the gate before the tickets, how many wait at it, how many turns in a
+// row went past them, how many of them are awake or to be woken, whether one of these looks, and how many are to be woken.
 const TICKETS: usize = 0;
 
 const SERVED: usize = 1;
@@ -26,23 +25,42 @@ const WAITING: usize = 3;
 
 const PAST: usize = 4;
 
+const AWAKE: usize = 5;
+
+const LOOKING: usize = 6;
+
+const WAKES: usize = 7;
+
+// Far behind these, on a line of memory that nobody writes.
+const STILL: usize = 23;
+
 const VALUE: usize = 0;
 
-// The gate is open, or shut, or shut while some may sleep at it. It is kept for one of those who wait where its last two bits are
-// these: the ticket that is served then is before them, so that no keeping is taken for another one.
+// The gate is open, or shut, or kept for one of those who wait where its last two bits are these: the ticket that is served then is
+// before them, so that no keeping is taken for another one.
 const OPEN: u64 = 0;
 
 const SHUT: u64 = 1;
 
-const SLEPT_AT: u64 = 2;
-
 const KEPT: u64 = 3;
 
-// So often one looks whether the gate opens, before it waits.
-const LOOKS: u64 = 100;
+// So often one looks at the gate before it waits, and who was woken before it sleeps again. Between two looks are so many loads of
+// another word, two microseconds: a look takes the line of these words from who has the turn.
+const FIRST_LOOKS: u64 = 16;
+
+const LOOKS: u64 = 64;
+
+const PAUSES: u64 = 4096;
+
+// So often in a row one finds the gate open before it passes: who had the turn does not come back for the next one.
+const STAYS_OPEN: u64 = 8;
+
+// After so many turns in a row past those who wait, the gate is kept for one that looks. That makes twelve turns: whole transactions
+// of three, four or six.
+const SOME_PAST: u64 = 11;
 
 // How many turns in a row may go past those who wait. The gate is then kept for one of them.
-const MOST_PAST: u64 = 4;
+const MOST_PAST: u64 = 47;
 
 /// The rule of the table.
 pub struct Ticketed;
@@ -63,7 +81,7 @@ pub type Pass<V> = Seat<Option<V>, View<<V as Stands>::Entry>>;
 #[derive(Drop)]
 pub struct TurnLock<V: Stands + Drop> {
     table: Table<Option<V>, View<V::Entry>, (), Ticketed, Global>,
-    ghost sized: { (table.shared.table_id.words ≡ 5) × (table.shared.table_id.slots ≡ 1) },
+    ghost sized: { (table.shared.table_id.words ≡ 24) × (table.shared.table_id.slots ≡ 1) },
 }
 
 impl<V: Stands + Drop> TurnLock<V> {
@@ -84,7 +102,7 @@ impl<V: Stands + Drop> TurnLock<V> {
             slots.destroy_empty();
             return Err((Memory, failed.value.unwrap()));
         }
-        match Table::new(alloc, &[0; 5], slots, &()) {
+        match Table::new(alloc, &[0; 24], slots, &()) {
             Ok((table, pass)) => Ok((TurnLock { table }, pass)),
             Err(Refused { mut slots }) => {
                 let value = slots.pop().unwrap();
@@ -145,52 +163,127 @@ impl<V: Stands + Drop> TurnLock<V> {
             return;
         };
         self.table.shared.fetch_add::<AtGate>(pass, WAITING, 1);
-
-        // It is kept for those who were counted before this one, unless this one is woken for it.
-        if is_kept(found) {
-            self.table.shared.park(rt, GATE, low_half(found));
-        }
-        self.wait(rt, pass);
+        self.wait(rt, pass, found);
         self.table.shared.fetch_sub::<AtGate>(pass, WAITING, 1);
         self.table.shared.store::<AtGate>(pass, PAST, 0);
     }
 
-    // Passes the gate if it opens while one looks, and answers else how it was found last. It waits for nobody.
+    // Passes the gate if it is open, or stays open while one looks, and answers else how it was found last. It waits for nobody.
     fn slip_in(&self, pass: &mut Pass<V>) -> Option<u64>
         requires { pass.old.table_id ≡ lock_id self.now }
         ensures lock { IsSamePass pass.old pass.new }
         ensures same { pass.new.me ≡ pass.old.me }
     {
-        for _ in 0..LOOKS {
+        if self.changes_gate(pass, OPEN, SHUT) {
+            return None;
+        }
+        let mut open: u64 = 0;
+        for _ in 0..FIRST_LOOKS {
             let found = self.table.shared.peek(GATE);
             if is_kept(found) {
                 return Some(found);
             }
-            if found == OPEN && self.changes_gate(pass, OPEN, SHUT) {
+            open = if found == OPEN {
+                open.saturating_add(1)
+            } else {
+                0
+            };
+            if open >= STAYS_OPEN && self.changes_gate(pass, OPEN, SHUT) {
                 return None;
             }
-            spin_loop();
+            self.pause();
         }
         Some(SHUT)
     }
 
-    // Sleeps until the gate is open or kept, and passes it.
-    fn wait<R: Wait>(&self, rt: &R, pass: &mut Pass<V>)
+    // Sleeps until the gate is open or kept, but not kept since before this one waits, and passes it.
+    fn wait<R: Wait>(&self, rt: &R, pass: &mut Pass<V>, before: u64)
+        requires { pass.old.table_id ≡ lock_id self.now }
+        ensures lock { IsSamePass pass.old pass.new }
+        ensures same { pass.new.me ≡ pass.old.me }
+    {
+        let mut skipped = before;
+        for _ in rt.forever() {
+            let found = self.table.shared.peek(GATE);
+            if found == OPEN || is_kept(found) && found != skipped {
+                if self.changes_gate(pass, found, SHUT) {
+                    return;
+                }
+            } else {
+                self.sleep(rt, pass);
+                if self.looks(pass) {
+                    return;
+                }
+                skipped = SHUT;
+            }
+        }
+        unreachable!()
+    }
+
+    // Sleeps until one is to be woken.
+    fn sleep<R: Wait>(&self, rt: &R, pass: &mut Pass<V>)
         requires { pass.old.table_id ≡ lock_id self.now }
         ensures lock { IsSamePass pass.old pass.new }
         ensures same { pass.new.me ≡ pass.old.me }
     {
         for _ in rt.forever() {
-            let found = self.table.shared.peek(GATE);
-            if found == OPEN || is_kept(found) {
-                if self.changes_gate(pass, found, SLEPT_AT) {
+            let wakes = self.table.shared.peek(WAKES);
+            if wakes == 0 {
+                self.table.shared.park(rt, WAKES, 0);
+            } else {
+                let found = self
+                    .table
+                    .shared
+                    .compare_exchange::<AtGate>(pass, WAKES, wakes, wakes - 1);
+                if found == wakes {
                     return;
                 }
-            } else if found == SLEPT_AT || self.changes_gate(pass, SHUT, SLEPT_AT) {
-                self.table.shared.park(rt, GATE, low_half(SLEPT_AT));
             }
         }
         unreachable!()
+    }
+
+    // Who was woken looks, and answers whether it passed the gate. If it did not, it is no longer awake before it looks once more.
+    fn looks(&self, pass: &mut Pass<V>) -> bool
+        requires { pass.old.table_id ≡ lock_id self.now }
+        ensures lock { IsSamePass pass.old pass.new }
+        ensures same { pass.new.me ≡ pass.old.me }
+    {
+        self.table.shared.store::<AtGate>(pass, LOOKING, 1);
+        let has_passed = self.passes(pass);
+        self.table.shared.store::<AtGate>(pass, LOOKING, 0);
+        self.table.shared.fetch_sub::<AtGate>(pass, AWAKE, 1);
+        has_passed
+    }
+
+    // Passes the gate if it is kept, or stays open, while one looks. Otherwise turns take long, and the gate is to be kept at the next.
+    fn passes(&self, pass: &mut Pass<V>) -> bool
+        requires { pass.old.table_id ≡ lock_id self.now }
+        ensures lock { IsSamePass pass.old pass.new }
+        ensures same { pass.new.me ≡ pass.old.me }
+    {
+        let mut open: u64 = 0;
+        for _ in 0..LOOKS {
+            let found = self.table.shared.peek(GATE);
+            open = if found == OPEN {
+                open.saturating_add(1)
+            } else {
+                0
+            };
+            if (open >= STAYS_OPEN || is_kept(found)) && self.changes_gate(pass, found, SHUT) {
+                return true;
+            }
+            self.pause();
+        }
+        self.table.shared.store::<AtGate>(pass, PAST, MOST_PAST);
+        false
+    }
+
+    // Between two looks at the gate.
+    fn pause(&self) {
+        for _ in 0..PAUSES {
+            self.table.shared.peek(STILL);
+        }
     }
 
     // Whether the gate was so, and was changed.
@@ -272,13 +365,40 @@ impl<V: Stands + Drop> TurnLock<V> {
         for _ in 0..later {
             self.table.shared.wake_one(SERVED);
         }
-        if self.table.shared.peek(PAST) >= MOST_PAST && self.table.shared.peek(WAITING) > 0 {
-            let kept = served.wrapping_mul(4).wrapping_add(KEPT);
-            self.table.shared.store::<AtGate>(pass, GATE, kept);
-            self.table.shared.wake_one(GATE);
-        } else if self.table.shared.swap::<AtGate>(pass, GATE, OPEN) == SLEPT_AT {
-            self.table.shared.wake_one(GATE);
+        let gate = if self.is_enough() {
+            served.wrapping_mul(4).wrapping_add(KEPT)
+        } else {
+            OPEN
+        };
+        self.table.shared.store::<AtGate>(pass, GATE, gate);
+        if self.table.shared.peek(WAITING) > 0 && self.is_to_wake(gate) {
+            self.wake(pass);
         }
+    }
+
+    // Wakes one of those who wait.
+    fn wake(&self, pass: &mut Pass<V>)
+        requires { pass.old.table_id ≡ lock_id self.now }
+        ensures lock { IsSamePass pass.old pass.new }
+        ensures same { pass.new.me ≡ pass.old.me }
+    {
+        self.table.shared.fetch_add::<AtGate>(pass, AWAKE, 1);
+        self.table.shared.fetch_add::<AtGate>(pass, WAKES, 1);
+        self.table.shared.wake_one(WAKES);
+    }
+
+    // Whether one of those who wait is to be woken. Who was woken may still want a processor, while the gate is kept.
+    fn is_to_wake(&self, gate: u64) -> bool {
+        self.table.shared.peek(AWAKE) == 0 || is_kept(gate) && self.table.shared.peek(LOOKING) == 0
+    }
+
+    // Whether too many turns went past those who wait.
+    fn is_enough(&self) -> bool {
+        let past = self.table.shared.peek(PAST);
+        if past < SOME_PAST || self.table.shared.peek(WAITING) == 0 {
+            return false;
+        }
+        past >= MOST_PAST || self.table.shared.peek(LOOKING) == 1
     }
 
     /// A new pass, which has seen the same and gets the number and the units. It waits for nobody.
