@@ -155,10 +155,9 @@ impl Notes {
         ensures { IfOk result (λ copy. copy.notes ≡ above number self.now.notes) }
     {
         let mut notes = Vec::new(*self.notes.allocator());
-        for note in &self.notes {
-            if number < note.0 {
-                notes.push((note.0, note.1.copy()?))?;
-            }
+        let place = place_after(self.notes.as_slice(), number);
+        for note in &self.notes.as_slice()[place..] {
+            notes.push((note.0, note.1.copy()?))?;
         }
         Ok(Notes {
             notes,
