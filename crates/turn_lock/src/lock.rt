@@ -48,19 +48,19 @@ const KEPT: u64 = 3;
 // another word, two microseconds: a look takes the line of these words from who has the turn.
 const FIRST_LOOKS: u64 = 16;
 
-const LOOKS: u64 = 64;
+const LOOKS: u64 = 256;
 
 const PAUSES: u64 = 4096;
 
 // So often in a row one finds the gate open before it passes: who had the turn does not come back for the next one.
 const STAYS_OPEN: u64 = 8;
 
-// After so many turns in a row past those who wait, the gate is kept for one that looks. That makes twelve turns: whole transactions
-// of three, four or six.
-const SOME_PAST: u64 = 11;
+// After so many turns in a row past those who wait, the gate is kept for one that looks: another thread finds nothing of the value
+// near its processor, which costs as much as ten short turns. With one's own these are 96: whole transactions of three, four, six or eight.
+const SOME_PAST: u64 = 95;
 
 // How many turns in a row may go past those who wait. The gate is then kept for one of them.
-const MOST_PAST: u64 = 47;
+const MOST_PAST: u64 = 119;
 
 /// The rule of the table.
 pub struct Ticketed;
