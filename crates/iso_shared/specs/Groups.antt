@@ -1,11 +1,12 @@
 -- What a port and the members of a group are in the course of a group's end.
-use Rattle.std.specs.Prelude.{◌≡◌, ℕ, ◌≤◌, List, [], ◌∷◌, None, length, map}
+use Rattle.std.specs.{Prelude.{◌≡◌, ◌≢◌, ◌⊎◌, ℕ, ◌<◌, ◌≤◌, List, [], ◌∷◌, None, Result, IfErr, length, map}, List.AllByRecursion}
 use mathlib.Core.List.{IsPrefix}
-use Rattle.iso_core.specs.declared.group_end.GroupEnd.{GroupEnd}
-use Rattle.iso_model.specs.declared.access.GroupReply.{GroupReply}
+use Rattle.iso_core.specs.declared.group_end.{GroupEnd.GroupEnd, TheConstants.MAX_GROUP}
+use Rattle.iso_model.specs.declared.{access.GroupReply.GroupReply, core_error.CoreError.CoreError}
+use Rattle.iso_model.specs.declared.core_error.CoreError.TheVariants as error
 use Rattle.tx_table.specs.Work.{AreWithin, Doing}
-use Rattle.turn_lock.specs.{Lists.{times, total}, Lock.lock_id}
-use Rattle.iso_shared.specs.{declared.entry.Entry.Entry, declared.entry.Member.Member, declared.entry.MemberEnd.MemberEnd, declared.shared.Shared.Shared, declared.tx.Tx.Tx, Ports.{IsAhead, IsOf, IsOwn, IsSameTx, IsTx}, Standing.IsOn, States.{Start, state_at}, Turns.{HasNoTurn, view}}
+use Rattle.turn_lock.specs.{declared.view.View.View, Lists.{AreDistinct, times, total}, Lock.lock_id, Numbers.AreHeld}
+use Rattle.iso_shared.specs.{declared.entry.Entry.Entry, declared.entry.Member.Member, declared.entry.MemberEnd.MemberEnd, declared.shared.{Port.Port, Shared.Shared}, declared.tx.Tx.Tx, Ports.{IsAhead, IsOf, IsOwn, IsPort, IsSameTx, IsTx}, Standing.IsOn, States.{Start, state_at}, Turns.{HasNoTurn, view}}
 
 -- two lists of the same length, item by item
 abbrev pub ArePaired : {A B : Type 0} → (A → B → Type 0) → List A → List B → Type 0
@@ -33,6 +34,13 @@ pub record IsEnd (A : Start) (seen : List Entry) (g : GroupEnd) : Type 0 where
   pub own : IsOwn (state_at A seen) g.tx g.work
   pub within : IsWithin g.work
   pub none : g.reply ≡ None
+
+-- one to as many members as a group may have, whose numbers the pass of this view holds
+pub record AreEnds (A : Start) (v : View Entry) (ends : List GroupEnd) : Type 0 where
+  pub each : AllByRecursion (IsEnd A v.seen) ends
+  pub some : 0 < length ends
+  pub most : length ends ≤ MAX_GROUP
+  pub held : AreHeld (numbers_handed ends) v.holds × AreDistinct (numbers_handed ends)
 
 module _ {D O : Type 0} where
   abbrev pub numbers_in : List (Tx D O) → List ℕ
@@ -95,3 +103,17 @@ module _ {D O : Type 0} where
     pub same : IsSameTx t u
     pub seen_is : (view u.pass).seen ≡ seen
     pub has : ((view u.pass).mine ≡ []) × ((view u.pass).holds ≡ u.number ∷ []) × ((view u.pass).units ≡ 1)
+
+  -- the same of members whose passes were joined into the port of this view
+  pub record AreJoined (s : Shared D O) (A : Start) (v : View Entry) (group : List (Tx D O)) : Type 0 where
+    pub each : AllByRecursion (IsJoined s A v.seen) group
+    pub some : 0 < length group
+    pub most : length group ≤ MAX_GROUP
+    pub held : AreHeld (numbers_in group) v.holds × AreDistinct (numbers_in group)
+
+  -- what the turn of a group leaves of the port, which holds the numbers on where the core refused them
+  pub record HasTurned {T : Type 0} (s : Shared D O) (old new : Port D O) (result : Result T CoreError) : Type 0 where
+    pub port : IsPort s new
+    pub units : (view new.pass).units ≡ (view old.pass).units
+    pub holds : IfErr result (λ e. e ≢ error.Disk → (view new.pass).holds ≡ (view old.pass).holds)
+    pub only : IfErr result (λ e. (e ≡ error.Down) ⊎ (e ≡ error.Disk) ⊎ (e ≡ error.Memory))

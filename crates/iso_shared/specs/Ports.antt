@@ -5,7 +5,7 @@ use Rattle.conflict_rule.specs.{declared.decision.Checked.Checked, Decision.{Are
 use Rattle.iso_core.specs.declared.answers.Recent.{Recent}
 use Rattle.iso_model.specs.{declared.access.Geometry.Geometry, Conflict.clash, History.last, Isolation.IsIsolated}
 use Rattle.tx_table.specs.Work.{Doing}
-use Rattle.turn_lock.specs.{declared.view.View.View, Lists.{hit, times, total}, Lock.lock_id, Numbers.held_after, Pass.PassOf}
+use Rattle.turn_lock.specs.{declared.view.View.View, Lists.{hit, longer, times, total}, Lock.lock_id, Numbers.held_after, Pass.PassOf}
 use Rattle.iso_shared.specs.{declared.entry.Entry.Entry, declared.guarded.Guarded.Guarded, declared.guarded.Stamped.Stamped, declared.shared.Port.Port, declared.shared.Shared.Shared, declared.turns.Turns.Turns, declared.tx.Tx.Tx, Legal.{IsLegal, handed, returned}, Standing.IsOn, States.{Start, State, is_live, live_of, state_at}, Turns.{HasNoTurn, moments, view}}
 
 -- a pass of the lock, at rest, with a unit
@@ -107,6 +107,13 @@ module _ {D O : Type 0} where
     pub holds : (view new).holds ≡ held_after handed returned e (view old).holds
     pub units : (view new).units ≡ (view old).units
     pub legal : IsLegal A (view new).seen
+
+  -- a port that has taken in a pass of this view
+  pub record TakesIn (s : Shared D O) (v : View Entry) (old new : Port D O) : Type 0 where
+    pub port : IsPort s new
+    pub units : (view new.pass).units ≡ (view old.pass).units + v.units
+    pub seen : (view new.pass).seen ≡ longer (view old.pass).seen v.seen
+    pub places : (p : ℕ) → times p (view new.pass).mine ≡ times p (view old.pass).mine + times p v.mine
 
 -- The pass of u, which was told what v had seen, made one entry, e, which is the last that w has seen. All of that is legal.
 pub record Made (A : Start) (v u : View Entry) (e : Entry) (w : View Entry) : Type 0 where

@@ -4,8 +4,8 @@ ghost use mathlib.Core.List.{IsPrefix};
 ghost use Rattle.iso_core.specs.{declared.group_end.TheConstants.MAX_GROUP, Planned.bare_end};
 ghost use Rattle.iso_model.specs.declared.core_error.CoreError.TheVariants.{Disk as OfDisk, Down as OfDown, Memory as OfMemory};
 ghost use Rattle.iso_shared.specs.declared.entry.Call.TheVariants as TheCall;
-ghost use Rattle.iso_shared.specs.{declared.entry.Entry.TheVariants.{EndGroup, Refused}, Groups.{ArePaired, IsBack, IsEnd, IsJoined, IsNote, IsTaken, answered, end_of, numbers_handed, numbers_in, units_of}, Ports.{IsGiven, IsPort, IsSameTx, IsTx, Made, MadeAll, port_view, tx_view}, Told.{cause_of, group_entry, members_at, members_in, wanting_entry}, Legal.{needed, returned}, Standing.StandsAt, Stamps.stamped, Turns.{moments, view}};
-ghost use Rattle.turn_lock.specs.{Lists.AreDistinct, Lock.{lock_id, turn_value}, Numbers.AreHeld, Pass.HasTurn};
+ghost use Rattle.iso_shared.specs.{declared.entry.Entry.TheVariants.{EndGroup, Refused}, Groups.{AreEnds, AreJoined, ArePaired, HasTurned, IsBack, IsNote, IsTaken, answered, end_of, units_of}, Ports.{IsGiven, IsPort, IsSameTx, IsTx, Made, MadeAll, port_view, tx_view}, Told.{cause_of, group_entry, members_at, members_in, wanting_entry}, Legal.{needed, returned}, Standing.StandsAt, Stamps.stamped, Turns.{moments, view}};
+ghost use Rattle.turn_lock.specs.{Lock.{lock_id, turn_value}, Numbers.AreHeld, Pass.HasTurn};
 
 use crate::guarded::{Guarded, Origin, Stamped};
 use crate::shared::{Port, Shared};
@@ -58,14 +58,8 @@ impl<D: Disk + Drop, O: Origin> Shared<D, O> {
         ends: &mut [GroupEnd],
     ) -> Result<(), CoreError>
         requires port { IsPort self.now port.old }
-        requires ends { AllByRecursion (IsEnd O.start (port_view port.old).seen) ends.old }
-        requires some { 0 < length ends.old }
-        requires most { length ends.old ≤ MAX_GROUP }
-        requires held { AreHeld (numbers_handed ends.old) (port_view port.old).holds × AreDistinct (numbers_handed ends.old) }
-        ensures port { IsPort self.now port.new }
-        ensures units { (port_view port.new).units ≡ (port_view port.old).units }
-        ensures holds { IfErr result (λ e. e ≢ OfDisk → (port_view port.new).holds ≡ (port_view port.old).holds) }
-        ensures only { IfErr result (λ e. (e ≡ OfDown) ⊎ (e ≡ OfDisk) ⊎ (e ≡ OfMemory)) }
+        requires group { AreEnds O.start (port_view port.old) ends.old }
+        ensures turn { HasTurned self.now port.old port.new result }
         ensures members { map bare_end ends.new ≡ map bare_end ends.old }
         ensures made { (before : ℕ) × (now : ℕ) × Made O.start (port_view port.old) (port_view port.old) (group_entry before now ends.new result) (port_view port.new) }
     {
@@ -104,10 +98,7 @@ impl<D: Disk + Drop, O: Origin> Shared<D, O> {
         group: &[Tx<D, O>],
     ) -> CoreError
         requires port { IsPort self.now port.old }
-        requires group { AllByRecursion (IsJoined self.now O.start (port_view port.old).seen) group.now }
-        requires some { 0 < length group.now }
-        requires most { length group.now ≤ MAX_GROUP }
-        requires held { AreHeld (numbers_in group.now) (port_view port.old).holds × AreDistinct (numbers_in group.now) }
+        requires group { AreJoined self.now O.start (port_view port.old) group.now }
         ensures port { IsPort self.now port.new }
         ensures units { (port_view port.new).units ≡ (port_view port.old).units }
         ensures holds { (port_view port.new).holds ≡ (port_view port.old).holds }
@@ -131,17 +122,11 @@ impl<D: Disk + Drop, O: Origin> Shared<D, O> {
         replies: &mut Vec<GroupReply>,
     ) -> Result<(), CoreError>
         requires port { IsPort self.now port.old }
-        requires ends { AllByRecursion (IsEnd O.start (port_view port.old).seen) ends.old }
-        requires some { 0 < length ends.old }
-        requires most { length ends.old ≤ MAX_GROUP }
-        requires held { AreHeld (numbers_handed ends.old) (port_view port.old).holds × AreDistinct (numbers_handed ends.old) }
+        requires group { AreEnds O.start (port_view port.old) ends.old }
         requires each { length group.old ≡ length ends.old }
         requires none { replies.old.items ≡ [] }
         requires room { vec_len replies.old + length ends.old ≤ vec_capacity replies.old }
-        ensures port { IsPort self.now port.new }
-        ensures units { (port_view port.new).units ≡ (port_view port.old).units }
-        ensures holds { IfErr result (λ e. e ≢ OfDisk → (port_view port.new).holds ≡ (port_view port.old).holds) }
-        ensures only { IfErr result (λ e. (e ≡ OfDown) ⊎ (e ≡ OfDisk) ⊎ (e ≡ OfMemory)) }
+        ensures turn { HasTurned self.now port.old port.new result }
         ensures seen { IsPrefix (port_view port.old).seen (port_view port.new).seen }
         ensures ok { OnOk result ((length replies.new.items ≡ length ends.old) × Made O.start (port_view port.old) (port_view port.old) (EndGroup (answered (members_at ends.old) replies.new.items)) (port_view port.new)) }
         ensures err { IfErr result (λ e. (before : ℕ) × (now : ℕ) × Made O.start (port_view port.old) (port_view port.old) (Refused (TheCall.EndGroup (members_at ends.old)) (cause_of before now e)) (port_view port.new)) }
@@ -168,14 +153,8 @@ impl<D: Disk + Drop, O: Origin> Shared<D, O> {
         group: &mut [Tx<D, O>],
     ) -> Result<ReplyList, CoreError>
         requires port { IsPort self.now port.old }
-        requires group { AllByRecursion (IsJoined self.now O.start (port_view port.old).seen) group.old }
-        requires some { 0 < length group.old }
-        requires most { length group.old ≤ MAX_GROUP }
-        requires held { AreHeld (numbers_in group.old) (port_view port.old).holds × AreDistinct (numbers_in group.old) }
-        ensures port { IsPort self.now port.new }
-        ensures units { (port_view port.new).units ≡ (port_view port.old).units }
-        ensures holds { IfErr result (λ e. e ≢ OfDisk → (port_view port.new).holds ≡ (port_view port.old).holds) }
-        ensures only { IfErr result (λ e. (e ≡ OfDown) ⊎ (e ≡ OfDisk) ⊎ (e ≡ OfMemory)) }
+        requires group { AreJoined self.now O.start (port_view port.old) group.old }
+        ensures turn { HasTurned self.now port.old port.new result }
         ensures ok { IfOk result (λ replies. (length replies ≡ length group.old) × Made O.start (port_view port.old) (port_view port.old) (EndGroup (answered (members_in group.old) replies)) (port_view port.new)) }
         ensures err { IfErr result (λ e. (before : ℕ) × (now : ℕ) × Made O.start (port_view port.old) (port_view port.old) (Refused (TheCall.EndGroup (members_in group.old)) (cause_of before now e)) (port_view port.new)) }
         ensures notes { AllByRecursion (IsNote self.now (port_view port.new).seen) group.new }

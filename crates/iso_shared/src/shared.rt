@@ -1,7 +1,7 @@
 // The shared device itself, and its ports.
 ghost use Rattle.std.specs.Prelude.{◌≡◌, ◌+◌, ◌<◌, ℕ, [], ◌∷◌, ◌++◌, None, length, IfOk, IfErr};
 ghost use mathlib.Core.List.{IsPrefix};
-ghost use Rattle.turn_lock.specs.{Lists.{longer, places, times}, Lock.{lock_id, turn_value}, Numbers.AreHeld, Pass.{HasTurn, IsAlike}, Views.{fresh, given_part, kept_part}};
+ghost use Rattle.turn_lock.specs.{Lists.{places, times}, Lock.{lock_id, turn_value}, Numbers.AreHeld, Pass.{HasTurn, IsAlike}, Views.{fresh, given_part, kept_part}};
 ghost use Rattle.iso_core.specs.Core.{disk_of};
 ghost use Rattle.iso_shared.specs.{Legal.{IsLegal, needed, returned}, Standing.{Came, HaveEnded, Holds, StandsAt, faults_of}, States.{opened, state_at}, Stamps.{clock_of, stamped}, Told.told_entry, Turns.{moments, view}};
 
@@ -33,7 +33,7 @@ pub struct Port<D: Disk + Drop, O: Origin> {
 }
 
 impl<D: Disk + Drop, O: Origin> Shared<D, O> {
-    ghost use Rattle.iso_shared.specs.Ports.{IsGiven, IsIsolatedAt, IsOf, IsPort, IsSameTx, IsTx, doing_of, first_geometry, port_moments, port_view, tx_view};
+    ghost use Rattle.iso_shared.specs.Ports.{IsGiven, IsIsolatedAt, IsOf, IsPort, IsSameTx, IsTx, TakesIn, doing_of, first_geometry, port_moments, port_view, tx_view};
 
     /// A device over a core that is up and has no live transaction, and its first port, which has all units. It takes
     /// all memory of the lock.
@@ -192,10 +192,7 @@ impl<D: Disk + Drop, O: Origin> Shared<D, O> {
     pub(crate) fn take_back(&self, port: &mut Port<D, O>, pass: Pass<Guarded<D, O>>)
         requires port { IsPort self.now port.old }
         requires pass { IsOf self.now.lock pass }
-        ensures port { IsPort self.now port.new }
-        ensures units { (port_view port.new).units ≡ (port_view port.old).units + (view pass).units }
-        ensures seen { (port_view port.new).seen ≡ longer (port_view port.old).seen (view pass).seen }
-        ensures places { (p : ℕ) → times p (port_view port.new).mine ≡ times p (port_view port.old).mine + times p (view pass).mine }
+        ensures { TakesIn self.now (view pass) port.old port.new }
     {
         self.lock.join(&mut port.pass, pass);
     }
@@ -204,10 +201,7 @@ impl<D: Disk + Drop, O: Origin> Shared<D, O> {
     pub(crate) fn spend(&self, port: &mut Port<D, O>, tx: Tx<D, O>)
         requires port { IsPort self.now port.old }
         requires pass { IsOf self.now.lock tx.pass }
-        ensures port { IsPort self.now port.new }
-        ensures units { (port_view port.new).units ≡ (port_view port.old).units + (tx_view tx).units }
-        ensures seen { (port_view port.new).seen ≡ longer (port_view port.old).seen (tx_view tx).seen }
-        ensures places { (p : ℕ) → times p (port_view port.new).mine ≡ times p (port_view port.old).mine + times p (tx_view tx).mine }
+        ensures { TakesIn self.now (tx_view tx) port.old port.new }
     {
         let Tx {
             pass,

@@ -1,4 +1,4 @@
-use Rattle.iso_shared.proofs.{Words.{moments, view, ap, refl, sym, ◌∙◌, subst, CoreError, List, Result, ℕ, AreHeld, numbers_handed, faults_of, group_entry, handed, held_after, returned, standing_of, State, state_at, txs_of, members_at, ends_at}, Ends.if_err_by, Giving.{Lends, entry_may, lends, refused_holds, stands_answer}, Groupings.{Groups, did_group, each_lent, group_args, group_only, held_again, moved_group}, Mades.made_by, shared.Shared.end_at_turn.Goals.After-end_group-result}
+use Rattle.iso_shared.proofs.{Words.{moments, view, ap, refl, rules, sym, ◌∙◌, subst, CoreError, List, Result, ℕ, AreHeld, numbers_handed, faults_of, group_entry, handed, held_after, returned, standing_of, State, state_at, txs_of, members_at, ends_at}, Ends.if_err_by, Giving.{Lends, entry_may, lends, refused_holds, stands_answer}, Groupings.{Groups, did_group, each_lent, group_args, group_only, held_again, moved_group}, Mades.made_by, shared.Shared.end_at_turn.Goals.After-end_group-result}
 use Rattle.iso_shared.specs.declared.entry.Call.TheVariants as call
 use Rattle.iso_shared.specs.declared.entry.Entry.TheVariants as entry
 use Rattle.iso_shared.proofs.shared.Shared.end_at_turn.Goals as goal
@@ -7,7 +7,7 @@ pub end_group-result-requires-clause-ready : goal.end_group-result-requires-clau
 end_group-result-requires-clause-ready g c =
     let S = state_at g.O.Origin.start (view c.take-turn.new.pass).seen in
     let l = lends c.value-guarded.ensures.value c.take-turn.ensures.value c.take-turn.ensures.out in
-    (S.world, standing_of S.lost, txs_of S.world (members_at c.args.ends.now), l.at.core.world, each_lent l (view c.args.port.now.pass) _ c.take-turn.ensures.seen c.take-turn.ensures.same.1 c.requires.ends c.requires.held)
+    (S.world, standing_of S.lost, txs_of S.world (members_at c.args.ends.now), l.at.core.world, each_lent l (view c.args.port.now.pass) _ c.take-turn.ensures.seen c.take-turn.ensures.same.1 c.requires.group.each c.requires.group.held)
 
 -- what the core's call says of what the turn lent
 module _ (g : Rattle.iso_shared.proofs.shared.Shared.end_at_turn.Given.Over) (c : After-end_group-result g) where
@@ -18,11 +18,11 @@ module _ (g : Rattle.iso_shared.proofs.shared.Shared.end_at_turn.Given.Over) (c 
   l = lends c.value-guarded.ensures.value c.take-turn.ensures.value c.take-turn.ensures.out
 
   held : AreHeld (numbers_handed c.args.ends.now) (view c.take-turn.new.pass).holds
-  held = subst (λ (hs : List ℕ). AreHeld (numbers_handed c.args.ends.now) hs) (sym c.take-turn.ensures.same.1) c.requires.held.0
+  held = subst (λ (hs : List ℕ). AreHeld (numbers_handed c.args.ends.now) hs) (sym c.take-turn.ensures.same.1) c.requires.group.held.0
 
   so : Groups g.D.Disk.state S c.value-guarded.result.now.core c.end_group-result.new.self c.args.ends.now c.end_group-result.new.ends c.end_group-result.result
   so =
-      let each = each_lent l (view c.args.port.now.pass) c.args.ends.now c.take-turn.ensures.seen c.take-turn.ensures.same.1 c.requires.ends c.requires.held in
+      let each = each_lent l (view c.args.port.now.pass) c.args.ends.now c.take-turn.ensures.seen c.take-turn.ensures.same.1 c.requires.group.each c.requires.group.held in
       let txs = txs_of S.world (members_at c.args.ends.now) in
       let said = c.end_group-result.ensures in
       record {
@@ -50,7 +50,7 @@ give-requires-clause-value g c =
     let new = c.end_group-result.new.self in
     let last = c.end_group-result.new.ends in
     let r = c.end_group-result.result in
-    let args = group_args g.O.Origin.start es (view c.args.port.now.pass).seen ends c.take-turn.ensures.seen c.requires.ends c.requires.some c.requires.most c.requires.held.1 in
+    let args = group_args g.O.Origin.start es (view c.args.port.now.pass).seen ends c.take-turn.ensures.seen c.requires.group.each c.requires.group.some c.requires.group.most c.requires.group.held.1 in
     let did = did_group d (S g s) lent new ends last r at.core args (so g s) in
     let again = held_again last ends (view c.take-turn.new.pass).holds c.end_group-result.ensures.members (held g s) in
     stands_answer (l g s) c.of-before.result.value new (call.EndGroup (members_at last)) (λ done. entry.EndGroup (ends_at last)) r c.of-before.ensures (λ x. (tt, again.1)) again.0 (λ x T. refl)
@@ -64,21 +64,21 @@ give-requires-clause-held g c =
     let again = held_again last c.args.ends.now holds c.end_group-result.ensures.members (held g (goal.at.give-requires-clause-held g c).After-end_group-result) in
     entry_may _ _ (call.EndGroup (members_at last)) (λ done. entry.EndGroup (ends_at last)) holds (λ x. (tt, again.1)) again.0 c.end_group-result.result
 
-pub returns-clause-holds : goal.returns-clause-holds
-returns-clause-holds g c =
+pub returns-clause-turn : goal.returns-clause-turn
+returns-clause-turn g c =
     let d = g.D.Disk.state in
+    let s = (goal.at.returns-clause-turn g c).After-end_group-result in
     let last = c.end_group-result.new.ends in
-    let holds = (view c.take-turn.new.pass).holds in
-    if_err_by _ c.end_group-result.result (λ e is other.
-    c.give.ensures.holds
-    ∙ ap (λ (r : Result (Unit {0}) CoreError). held_after handed returned (group_entry (faults_of d c.of-before.result.value) (faults_of d c.end_group-result.new.self) last r) holds) is
-    ∙ refused_holds _ _ (call.EndGroup (members_at last)) e holds (λ disk. absurd (other disk))
-    ∙ c.take-turn.ensures.same.1)
-
-pub returns-clause-only : goal.returns-clause-only
-returns-clause-only g c =
-    let s = (goal.at.returns-clause-only g c).After-end_group-result in
-    group_only g.D.Disk.state (S g s) _ _ c.args.ends.now c.end_group-result.new.ends c.end_group-result.result (l g s).at.core (so g s)
+    let holds = (view c.take-turn.new.pass).holds in record {
+      port = search rules;
+      units = search rules;
+      holds = if_err_by _ c.end_group-result.result (λ e is other.
+          c.give.ensures.holds
+          ∙ ap (λ (r : Result (Unit {0}) CoreError). held_after handed returned (group_entry (faults_of d c.of-before.result.value) (faults_of d c.end_group-result.new.self) last r) holds) is
+          ∙ refused_holds _ _ (call.EndGroup (members_at last)) e holds (λ disk. absurd (other disk))
+          ∙ c.take-turn.ensures.same.1);
+      only = group_only d (S g s) _ _ c.args.ends.now last c.end_group-result.result (l g s).at.core (so g s);
+    }
 
 pub returns-clause-made : goal.returns-clause-made
 returns-clause-made g c =

@@ -5,22 +5,19 @@ use Rattle.iso_shared.specs.declared.entry.Entry.TheVariants as entry
 use Rattle.iso_shared.proofs.shared.Shared.end_members.Goals as goal
 
 pub end_joined-requires-clause-group : goal.end_joined-requires-clause-group
-end_joined-requires-clause-group g c = joined_all c.args.self.now g.O.Origin.start _ c.args.group.now c.join_members.new.group c.join_members.ensures.group
-
-pub end_joined-requires-clause-some : goal.end_joined-requires-clause-some
-end_joined-requires-clause-some g c = let many = noted_many c.args.self.now g.O.Origin.start _ c.args.group.now c.join_members.new.group c.join_members.ensures.group in omega (arith, many, c.requires.some)
-
-pub end_joined-requires-clause-most : goal.end_joined-requires-clause-most
-end_joined-requires-clause-most g c = let many = noted_many c.args.self.now g.O.Origin.start _ c.args.group.now c.join_members.new.group c.join_members.ensures.group in omega (arith, many, c.requires.most)
-
-pub end_joined-requires-clause-held : goal.end_joined-requires-clause-held
-end_joined-requires-clause-held g c =
+end_joined-requires-clause-group g c =
     let s = c.args.self.now in
     let A = g.O.Origin.start in
     let group = c.args.group.now in
     let holds = (view c.join_members.new.port.pass).holds in
-    subst (λ (ns : List ℕ). AreHeld ns holds × AreDistinct ns) (sym (noted_numbers s A _ group c.join_members.new.group c.join_members.ensures.group))
-    (members_held s A group (view c.args.port.now.pass).holds holds c.requires.group c.requires.some c.join_members.ensures.holds c.join_members.ensures.alone)
+    let noted = c.join_members.ensures.group in
+    let many = noted_many s A _ group c.join_members.new.group noted in record {
+      each = joined_all s A _ group c.join_members.new.group noted;
+      some = omega (arith, many, c.requires.some);
+      most = omega (arith, many, c.requires.most);
+      held = subst (λ (ns : List ℕ). AreHeld ns holds × AreDistinct ns) (sym (noted_numbers s A _ group c.join_members.new.group noted))
+          (members_held s A group (view c.args.port.now.pass).holds holds c.requires.group c.requires.some c.join_members.ensures.holds c.join_members.ensures.alone);
+    }
 
 pub returns-in-Ok-clause-ok : goal.returns-in-Ok-clause-ok
 returns-in-Ok-clause-ok g c =
@@ -28,7 +25,7 @@ returns-in-Ok-clause-ok g c =
     let noted = c.join_members.ensures.group in
     let (many, made) = c.in-Ok.ensures.ok in (
       many ∙ noted_many c.args.self.now g.O.Origin.start _ group _ noted,
-      c.end_joined.ensures.units ∙ c.join_members.ensures.units,
+      c.end_joined.ensures.turn.units ∙ c.join_members.ensures.units,
       made_joined c.args.self.now g.O.Origin.start _ _ _ _ group _ (λ ms. entry.EndGroup (answered ms c.in-Ok.replies)) c.join_members.ensures.seen noted c.join_members.ensures.places made refl (λ p. refl),
     )
 
@@ -53,9 +50,9 @@ split_members-requires g c =
     let held = members_held s A group (view c.args.port.now.pass).holds holds c.requires.group c.requires.some c.join_members.ensures.holds c.join_members.ensures.alone in
     let many = noted_many s A _ group _ noted in
     let units = many_units s A group c.requires.group in record {
-      port = c.end_joined.ensures.port;
-      units = omega (arith, many, units, c.end_joined.ensures.many, c.end_joined.ensures.units, c.join_members.ensures.units, c.requires.port.2);
-      held = subst (λ (hs : List ℕ). AreHeld (numbers_in c.end_joined.new.group) hs) (sym (c.in-Err.ensures.holds c.in_default.not-Disk)) (subst (λ (ns : List ℕ). AreHeld ns holds) (sym numbers) held.0);
+      port = c.end_joined.ensures.turn.port;
+      units = omega (arith, many, units, c.end_joined.ensures.many, c.end_joined.ensures.turn.units, c.join_members.ensures.units, c.requires.port.2);
+      held = subst (λ (hs : List ℕ). AreHeld (numbers_in c.end_joined.new.group) hs) (sym (c.in-Err.ensures.turn.holds c.in_default.not-Disk)) (subst (λ (ns : List ℕ). AreHeld ns holds) (sym numbers) held.0);
       distinct = subst AreDistinct (sym numbers) held.1;
       group = c.end_joined.ensures.notes;
     }
@@ -73,7 +70,7 @@ returns-in_default g c =
     let back = back_all s A m.seen w.seen group _ _ _ (made_seen A m w _ c.in-Err.ensures.err.2) noted (c.in-Err.ensures.back c.in_default.not-Disk) parts in
     let (before, now, made) = c.in-Err.ensures.err in record {
       port = c.split_members.ensures.port;
-      only = c.in-Err.ensures.only;
+      only = c.in-Err.ensures.turn.only;
       ok = tt;
       err = (
         before,
@@ -85,7 +82,7 @@ returns-in_default g c =
       many = omega (arith, many, c.end_joined.ensures.many, parts_many s A _ _ _ parts);
       notes = λ is. absurd (c.in_default.not-Disk is);
       back = λ other. (
-        omega (arith, many, c.end_joined.ensures.many, c.end_joined.ensures.units, c.join_members.ensures.units, c.split_members.ensures.units),
+        omega (arith, many, c.end_joined.ensures.many, c.end_joined.ensures.turn.units, c.join_members.ensures.units, c.split_members.ensures.units),
         subst (λ (l : List Entry). ArePaired (IsBack s A l) group c.split_members.new.group) (sym c.split_members.ensures.seen) back,
       );
       again = λ other. back_are s A w.seen group _ back;

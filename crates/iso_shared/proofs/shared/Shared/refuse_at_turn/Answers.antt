@@ -15,8 +15,8 @@ give_wanting-requires-clause-value g c =
     let e = wanting_entry group error in
     let lent = c.value-guarded.result.now.core in
     let l = lends c.value-guarded.ensures.value c.take-turn.ensures.value c.take-turn.ensures.out in
-    let args = joined_args c.args.self.now A es (view c.args.port.now.pass).seen group c.take-turn.ensures.seen c.requires.group c.requires.some c.requires.most c.requires.held.1 in
-    let held = subst (λ (ns : List ℕ). AreHeld ns holds) (sym (numbers_member group)) (subst (λ (hs : List ℕ). AreHeld (numbers_in group) hs) (sym c.take-turn.ensures.same.1) c.requires.held.0) in
+    let args = joined_args c.args.self.now A es (view c.args.port.now.pass).seen group c.take-turn.ensures.seen c.requires.group.each c.requires.group.some c.requires.group.most c.requires.group.held.1 in
+    let held = subst (λ (ns : List ℕ). AreHeld ns holds) (sym (numbers_member group)) (subst (λ (hs : List ℕ). AreHeld (numbers_in group) hs) (sym c.take-turn.ensures.same.1) c.requires.group.held.0) in
     stands_call l lent e e
     (entry_may 0 0 (call.EndGroup members) (λ (done : Unit {0}). entry.EndGroup []) holds (λ x. (tt, tt)) held (Err error)) refl (inl refl)
     (did_wanting d S lent members error c.stat.result.down l.at.core args (λ W standing stands. ap (λ t. t.down) (c.stat.ensures W standing stands)) c.wanting-error.ensures.down c.wanting-error.ensures.up)
