@@ -1,5 +1,5 @@
 /* Devices, and all that touches a file. Nothing proves this file. In its order: the table of devices and their locks; the tape, which is
- * what the library wants done to the file; ends that wait, made as groups; files that are made and opened. */
+ * what the library wants done to the file; files that are made and opened. */
 #define _GNU_SOURCE
 #include "device.h"
 #include <errno.h>
@@ -9,29 +9,19 @@
 #include <string.h>
 #include <sys/file.h>
 #include <sys/stat.h>
-#include <time.h>
 #include <unistd.h>
 
 /* ---- Devices ---- */
 
-enum { DEVICES = ISOTOPE_MOST_DEVICES, FIRST_ROOM = 65536, MOST_KEPT = 1 << 20, MOST_PASSED = 256, RUSHED = 15, NOT_ANSWERED = -1 };
-static device devices[DEVICES] = {
-    [0 ... DEVICES - 1] = {.lock = PTHREAD_MUTEX_INITIALIZER, .fd = -1, .queue = PTHREAD_MUTEX_INITIALIZER}
-};
+enum { DEVICES = ISOTOPE_MOST_DEVICES, FIRST_ROOM = 65536, MOST_KEPT = 1 << 20 };
+/* A call is short, so who wants the lock looks for it some times before he sleeps, where the C library has a lock for that. */
+#ifdef PTHREAD_ADAPTIVE_MUTEX_INITIALIZER_NP
+#define NO_DEVICE {.lock = PTHREAD_ADAPTIVE_MUTEX_INITIALIZER_NP, .fd = -1, .queue = PTHREAD_MUTEX_INITIALIZER}
+#else
+#define NO_DEVICE {.lock = PTHREAD_MUTEX_INITIALIZER, .fd = -1, .queue = PTHREAD_MUTEX_INITIALIZER}
+#endif
+static device devices[DEVICES] = {[0 ... DEVICES - 1] = NO_DEVICE};
 static _Atomic isotope_device last_number;
-static pthread_condattr_t monotonic;
-static const uint64_t SECOND = 1000000000, MOST_WAIT = 10000000; /* in nanoseconds */
-
-/* Whether ends that wait should wait no longer: as many as a group has are there, or they let many calls go first, or nobody is on the way
- * who may end soon, neither a call that waits for the device nor who was in the last group. */
-static int is_ripe(device *d) {
-    return d->waiting >= ISOTOPE_MOST_GROUP || d->passed >= MOST_PASSED || (d->coming == 0 && d->returning <= 0);
-}
-
-/* Under the lock of the queue: lets the first end go on, where it is to. */
-static void wake_first(device *d) {
-    if (d->first && !d->has_leader && is_ripe(d)) pthread_cond_signal(&d->first->turn);
-}
 
 static void take_lock(device *d) {
     if (pthread_mutex_trylock(&d->lock) == 0) return;
@@ -40,29 +30,19 @@ static void take_lock(device *d) {
     d->coming--;
 }
 
-/* Who leaves looks after the ends that wait. An end counts itself before it looks who is coming, and who comes is counted until he has
- * the lock, after which he looks here: so one of the two sees the other. */
 int isotope_device_leave(device *d, int status) {
-    int error = errno;
     pthread_mutex_unlock(&d->lock);
-    if (d->waiting > 0) {
-        pthread_mutex_lock(&d->queue);
-        d->passed++;
-        wake_first(d);
-        pthread_mutex_unlock(&d->queue);
-    }
-    errno = error;
-    return status;
+    if (d->waiting > 0) isotope_ends_passed(d);
+    return status; /* and errno is as it was */
 }
 
-/* The place where the device of this number is open, or was a moment ago. */
-static device *find(isotope_device number) {
+device *isotope_device_find(isotope_device number) {
     device *d = &devices[number % DEVICES];
     return number != 0 && d->number == number ? d : NULL;
 }
 
 device *isotope_device_enter(isotope_device number) {
-    device *d = find(number);
+    device *d = isotope_device_find(number);
     if (!d) return NULL;
     take_lock(d);
     if (d->number == number) return d;
@@ -79,15 +59,11 @@ static void forget_all(void) {
             free(d->bytes);
         }
         if (d->fd >= 0) close(d->fd);
-        *d = (device){.lock = PTHREAD_MUTEX_INITIALIZER, .fd = -1, .queue = PTHREAD_MUTEX_INITIALIZER};
+        *d = (device)NO_DEVICE;
     }
 }
 
-static void begin_once(void) {
-    pthread_condattr_init(&monotonic);
-    pthread_condattr_setclock(&monotonic, CLOCK_MONOTONIC);
-    pthread_atfork(NULL, NULL, forget_all);
-}
+static void begin_once(void) { pthread_atfork(NULL, NULL, forget_all); }
 
 /* Room for so many bytes. */
 static int make_room(device *d, uint64_t n) {
@@ -194,7 +170,7 @@ static int do_call(device *d, uint64_t index) {
 
 /* Does what is on the tape, in order, before a call is answered. Once a call failed the library is told: its tape is empty then and stays
  * so, and it answers that it is down from then on. */
-static int settle(device *d, int status) {
+int isotope_device_settle(device *d, int status) {
     uint64_t calls = 0;
     int done = 1;
     while ((done = do_call(d, calls)) > 0) calls++;
@@ -207,156 +183,7 @@ static int settle(device *d, int status) {
     return status;
 }
 
-int isotope_device_answer(device *d, int status) { return isotope_device_leave(d, settle(d, status)); }
-
-/* ---- Ends ---- */
-
-/* What was answered to an end whose commit did not reach the file. A conflict may be with such a commit. */
-static void take_back(isotope_ended *ended) {
-    if (ended->status == ISOTOPE_OK || ended->status == ISOTOPE_CONFLICT) *ended = (isotope_ended){.status = ISOTOPE_DISK};
-}
-
-/* Under the lock of the queue: takes the first ends out of it. */
-static size_t take_group(device *d, waiter **group) {
-    size_t n = 0;
-    while (d->first && n < ISOTOPE_MOST_GROUP) {
-        group[n++] = d->first;
-        d->first = d->first->next;
-        d->waiting--;
-    }
-    if (!d->first) d->last = NULL;
-    d->passed = 0;
-    return n;
-}
-
-/* Under the device's lock: ends them, with one tape for all. */
-static void end_all(device *d, waiter **group, size_t n) {
-    waiter *members[ISOTOPE_MOST_GROUP];
-    uint64_t numbers[ISOTOPE_MOST_GROUP];
-    isotope_ended ended[ISOTOPE_MOST_GROUP];
-    size_t count = 0;
-    for (size_t i = 0; i < n; i++) {
-        group[i]->ended.status = ISOTOPE_CLOSED;
-        if (group[i]->device != d->number) continue; /* it was closed meanwhile */
-        ended[count] = (isotope_ended){.status = NOT_ANSWERED};
-        members[count] = group[i];
-        numbers[count++] = isotope_device_inside(d, group[i]->tx);
-    }
-    if (count == 0) return;
-    int status = isotope_c_end_waiting(&d->slot, numbers, count, ended, count);
-    int settled = settle(d, ISOTOPE_OK);
-    for (size_t i = 0; i < count; i++) {
-        if (ended[i].status == NOT_ANSWERED) ended[i].status = status;
-        if (settled != ISOTOPE_OK) take_back(&ended[i]);
-        members[i]->ended = ended[i];
-    }
-}
-
-static uint64_t now(void) {
-    struct timespec time;
-    clock_gettime(CLOCK_MONOTONIC, &time);
-    return (uint64_t)time.tv_sec * SECOND + (uint64_t)time.tv_nsec;
-}
-
-/* Under the lock of the queue, which is let go meanwhile: makes a group of those that wait once the device is free. Who makes it may not
- * be in it, where many were there before. */
-static void lead(device *d) {
-    waiter *group[ISOTOPE_MOST_GROUP];
-    d->has_leader = 1;
-    pthread_mutex_unlock(&d->queue);
-    pthread_mutex_lock(&d->lock);
-    pthread_mutex_lock(&d->queue);
-    size_t n = take_group(d, group);
-    pthread_mutex_unlock(&d->queue);
-    uint64_t from = now();
-    end_all(d, group, n);
-    uint64_t to = now();
-    /* before another end can have the lock */
-    d->returning = d->rushed > 0 ? 0 : (int)n;
-    d->lone = n == 1 ? group[0]->thread : NULL;
-    pthread_mutex_unlock(&d->lock);
-    pthread_mutex_lock(&d->queue);
-    for (size_t i = 0; i < n; i++) {
-        group[i]->is_answered = 1;
-        pthread_cond_signal(&group[i]->turn); /* who leaves waits for the lock of the queue, so the end is still there */
-    }
-    d->members = (int)n;
-    d->rushed -= d->rushed > 0;
-    d->until = to + ((to - from) / 2 < MOST_WAIT ? (to - from) / 2 : MOST_WAIT);
-    d->has_leader = 0;
-    if (d->first) pthread_cond_signal(&d->first->turn);
-}
-
-/* Under the lock of the queue: waits until somebody wakes the end. The first one waits for who was in the last group, so long that it would
- * pay if all of them came; where fewer than half came, the next groups wait for nobody. */
-static void wait_for_turn(device *d, waiter *own) {
-    struct timespec until = {(time_t)(d->until / SECOND), (long)(d->until % SECOND)};
-    if (d->has_leader || d->returning <= 0 || d->first != own) {
-        pthread_cond_wait(&own->turn, &d->queue);
-    } else if (pthread_cond_timedwait(&own->turn, &d->queue, &until) == ETIMEDOUT && !d->has_leader) {
-        if (2 * d->returning > d->members) d->rushed = RUSHED;
-        d->returning = 0;
-    }
-}
-
-/* Stands in the queue until the end is answered, and leads where nobody does. */
-static void wait_for_end(device *d, waiter *own) {
-    pthread_mutex_lock(&d->queue);
-    if (d->last) d->last->next = own; else d->first = own;
-    d->last = own;
-    d->waiting++;
-    if (d->returning > 0) d->returning--;
-    while (!own->is_answered) {
-        if (!d->has_leader && is_ripe(d)) lead(d);
-        else wait_for_turn(d, own);
-    }
-    pthread_mutex_unlock(&d->queue);
-}
-
-/* An end that comes while nobody waits, neither in the queue nor for the lock, and nobody else is waited for has no need of the queue.
- * Whether it was so. */
-static int end_alone(device *d, waiter *own) {
-    if (d->waiting > 0 || d->coming > 0 || pthread_mutex_trylock(&d->lock) != 0) return 0;
-    if (d->returning > (d->lone == own->thread)) {
-        isotope_device_leave(d, 0);
-        return 0;
-    }
-    d->returning = 0;
-    if (d->number == own->device) {
-        isotope_c_end(&d->slot, isotope_device_inside(d, own->tx), &own->ended);
-        if (settle(d, ISOTOPE_OK) != ISOTOPE_OK) take_back(&own->ended);
-    }
-    isotope_device_leave(d, 0);
-    return 1;
-}
-
-int isotope_end(isotope_device number, isotope_transaction tx, isotope_ended *ended) {
-    static _Thread_local char here;
-    waiter own = {.thread = &here, .device = number, .tx = tx, .ended = {.status = ISOTOPE_CLOSED}};
-    device *d = find(number);
-    if (d && !end_alone(d, &own)) {
-        pthread_cond_init(&own.turn, &monotonic);
-        wait_for_end(d, &own);
-        pthread_cond_destroy(&own.turn);
-    }
-    if (ended) *ended = own.ended;
-    return own.ended.status;
-}
-
-int isotope_end_group(isotope_device number, const isotope_transaction *txs, size_t n, isotope_ended *ended) {
-    uint64_t numbers[ISOTOPE_MOST_GROUP];
-    if (n > ISOTOPE_MOST_GROUP) return find(number) ? ISOTOPE_TOO_MANY_TRANSACTIONS : ISOTOPE_CLOSED;
-    device *d = isotope_device_enter(number);
-    if (!d) return ISOTOPE_CLOSED;
-    for (size_t i = 0; i < n; i++) numbers[i] = isotope_device_inside(d, txs[i]);
-    int status = n == 0 ? ISOTOPE_OK : isotope_c_end_group(&d->slot, numbers, n, ended, n);
-    int settled = settle(d, status);
-    for (size_t i = 0; i < n && settled != ISOTOPE_OK; i++) {
-        if (status == ISOTOPE_OK) take_back(&ended[i]);
-        else ended[i] = (isotope_ended){.status = settled};
-    }
-    return isotope_device_leave(d, settled);
-}
+int isotope_device_answer(device *d, int status) { return isotope_device_leave(d, isotope_device_settle(d, status)); }
 
 /* ---- Files ---- */
 
@@ -405,7 +232,7 @@ static int make_image(device *d, uint64_t size, const isotope_geometry *geometry
         if (!write_all(d->fd, d->bytes, size - at < d->room ? size - at : d->room, at)) return ISOTOPE_FILE;
     if (fsync(d->fd) != 0) return ISOTOPE_FILE;
     int status = isotope_c_create(&d->slot, geometry);
-    return status == ISOTOPE_OK && settle(d, status) != ISOTOPE_OK ? ISOTOPE_FILE : status;
+    return status == ISOTOPE_OK && isotope_device_settle(d, status) != ISOTOPE_OK ? ISOTOPE_FILE : status;
 }
 
 /* Gives it its name, for good, or takes it away. */
@@ -473,7 +300,7 @@ static int open_image(device *d, const char *path, isotope_refusal *why) {
     if (status == ISOTOPE_OK) status = read_file(d, size <= most ? size : SUPERBLOCK);
     if (status == ISOTOPE_OK) status = isotope_c_open(&d->slot, why);
     if (why->why == 3) why->have = size;
-    return status == ISOTOPE_OK && settle(d, status) != ISOTOPE_OK ? ISOTOPE_FILE : status;
+    return status == ISOTOPE_OK && isotope_device_settle(d, status) != ISOTOPE_OK ? ISOTOPE_FILE : status;
 }
 
 int isotope_open(const char *path, isotope_device *number, isotope_refusal *refusal) {

@@ -1,4 +1,4 @@
-/* What device.c has for isotope.c. No program includes this file. */
+/* What device.c and ends.c have for each other and for isotope.c. No program includes this file. */
 #ifndef ISOTOPE_DEVICE_H
 #define ISOTOPE_DEVICE_H
 #include "isotope_c.h"
@@ -6,16 +6,15 @@
 #include <stdatomic.h>
 #pragma GCC visibility push(hidden)
 
-/* An end that waits, on the stack of its caller, who leaves once it is answered. All but the answer is under the lock of the queue; the
- * answer is written by who took it out of the queue, and read once it is said to be there. */
+/* An end that waits, on the stack of its caller, who leaves once its group is answered. All is under the lock of the queue but the answer,
+ * which is written by who took it out of the queue, and read once the group counts as answered. */
 typedef struct waiter {
     struct waiter *next;
-    pthread_cond_t turn;
-    const char *thread;                 /* a place of the thread's own */
     isotope_device device;
     isotope_transaction tx;
     isotope_ended ended;
-    int is_answered;
+    uint32_t group;                     /* the number of its group */
+    int is_first;                       /* it is the first one of that */
 } waiter;
 
 /* A place for a device. `lock` is held during a call of the library and all that comes of it at the file; what is under it is looked at
@@ -36,18 +35,26 @@ typedef struct {
     int has_leader;                     /* one of them makes a group */
     int passed;                         /* calls that were made since the last group */
     int members;                        /* of the last group */
-    const char *lone;                   /* the thread of its only member, under `lock` */
     atomic_int returning;               /* how many of them have not come with an end again */
-    int rushed;                         /* how many groups more wait for nobody */
+    int rush, rushed;                   /* how many groups wait for nobody once few came, and how many more of these there are */
     uint64_t until;                     /* when the next group waits for them no longer, in nanoseconds */
+    uint32_t taken;                     /* how many groups were taken out of the queue; the number of the last one */
+    _Atomic uint32_t answered;          /* how many of them are answered */
+    _Atomic uint32_t told;              /* how often those who sleep were told something: the word that they sleep on */
 } device;
 
+/* The place where the device of this number is open, or was a moment ago; or NULL. */
+device *isotope_device_find(isotope_device number);
 /* The device of this number, locked, or NULL where none is open. */
 device *isotope_device_enter(isotope_device number);
+/* Under its lock: does what is on the tape, in order, and answers the status, or ISOTOPE_DISK where the file failed. */
+int isotope_device_settle(device *d, int status);
 /* Unlocks the device, and answers the status: after a call that puts nothing onto the tape, since it ends nothing. */
 int isotope_device_leave(device *d, int status);
-/* Does what the call has put onto the tape, unlocks the device, and answers the status, or ISOTOPE_DISK where the file failed. */
+/* Does both. */
 int isotope_device_answer(device *d, int status);
+/* A call was made while ends wait. */
+void isotope_ends_passed(device *d);
 /* The upper bits of the numbers of its transactions, and what the library calls this one: 0 where it is another device's. */
 uint64_t isotope_device_above(device *d);
 uint64_t isotope_device_inside(device *d, isotope_transaction tx);

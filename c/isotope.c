@@ -1,6 +1,6 @@
 /* The calls of isotope.h that are one call of the proved library (isotope_c.h): each looks its numbers up, has the device for itself, hands
- * on what it was given, and answers; where something may be on the tape, once that is done. Nothing proves this file. device.c has the
- * others. */
+ * on what it was given, and answers; where something may be on the tape, once that is done. Nothing proves this file. device.c and
+ * ends.c have the others. */
 #include "device.h"
 #include <stdio.h>
 #include <string.h>
