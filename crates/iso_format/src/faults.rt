@@ -142,6 +142,7 @@ pub fn body_of(input: &[u8]) -> &[u8]
 }
 
 /// The first test that the bytes fail as the record with this number.
+#[inline(always)]
 #[tactic(auto, unfolding(crate::specs::Records::fault_of))]
 pub fn fault_of(geometry: &Geometry, number: u64, input: &[u8]) -> Option<FormatError>
     ensures same { result ≡ fault_of geometry.now number input.now }

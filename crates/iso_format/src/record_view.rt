@@ -134,6 +134,7 @@ pub fn view_record(input: &[u8]) -> RecordView<'_>
 }
 
 /// The body of `read_record`, apart so that the clauses on what is spelled follow from the exact ones, at one exit.
+#[inline(always)]
 fn record_of<'a>(
     geometry: &Geometry,
     number: u64,
@@ -153,6 +154,7 @@ fn record_of<'a>(
 /// # Errors
 ///
 /// The first test that the bytes fail.
+#[inline(always)]
 pub fn read_record<'a>(
     input: &'a [u8],
     geometry: &Geometry,

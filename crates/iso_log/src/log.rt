@@ -191,6 +191,7 @@ impl Log {
     /// - `Damaged`: where in the image the record is wrong, and the first test that it fails.
     /// - `Disk`: a call of the disk failed.
     /// - `Memory`: want of memory for what is read ahead.
+    #[inline(always)]
     pub fn find_ahead<D: Disk>(
         &self,
         disk: &mut D,

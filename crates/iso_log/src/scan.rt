@@ -27,6 +27,7 @@ fn damaged(gate: u64, fault: FormatError) -> LogError
 }
 
 // Tests the record that these bytes begin with, which has `size` of them.
+#[inline(always)]
 fn test_front(
     ahead: &ReadAhead,
     size: u32,
@@ -59,6 +60,7 @@ fn test_front(
 /// - `Damaged`: where in the image the record is wrong, and the first test that it fails.
 /// - `Disk`: a call of the disk failed.
 /// - `Memory`: want of memory for what is read ahead.
+#[inline(always)]
 pub fn find_record<D: Disk>(
     disk: &mut D,
     gate: u64,

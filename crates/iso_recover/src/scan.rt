@@ -28,6 +28,7 @@ fn opening(error: LogError) -> OpenError
 /// - `Disk`: a call of the disk failed.
 /// - `Memory`: want of memory.
 /// - `Damaged`: where in the image the record is wrong, and the test that it fails.
+#[inline(always)]
 pub fn find_on<D: Disk>(
     disk: &mut D,
     geometry: &Geometry,

@@ -101,6 +101,7 @@ impl MvIndex {
     }
 
     /// Adds a version to the block. There is room for it, and its number is not below the last one.
+    #[inline(always)]
     pub fn add(&mut self, block: u32, version: Version)
         requires block { block < length self.old }
         requires room { 0 < room_of self.old block }

@@ -226,6 +226,7 @@ fn is_over(pieces: &[Version], first: usize, last: usize, version: &Version) -> 
 }
 
 /// Puts a later version over the pieces. There is room for two more.
+#[inline(always)]
 pub(crate) fn lay(pieces: &mut Vec<Version>, version: &Version)
     requires order { Follow 0 pieces.old.items }
     requires placed { ArePlaced pieces.old.items }

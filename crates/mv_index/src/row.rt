@@ -82,6 +82,7 @@ impl Row {
     }
 
     /// Adds a version. There is room for it.
+    #[inline(always)]
     pub fn add(&mut self, version: Version)
         requires room { 0 < self.old.room }
         requires rising { AreAtMost version.number self.old.versions }

@@ -14,6 +14,7 @@ use mv_index::{MvIndex, Version};
 /// # Errors
 ///
 /// Want of memory. The index has the versions of the first parts.
+#[inline(always)]
 pub fn take_parts(
     index: &mut MvIndex,
     number: u64,
