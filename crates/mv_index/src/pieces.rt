@@ -41,6 +41,28 @@ fn begin_before(pieces: &[Version], byte: u16) -> usize
     pieces.partition_point(|piece| piece.off < byte)
 }
 
+/// A place of the list where a piece from a byte on is likely to be, as it is where the pieces lie evenly: a guess, to be looked at.
+fn likely_place(pieces: &[Version], byte: u16) -> usize {
+    let Some(last) = pieces.last() else {
+        return 0;
+    };
+    usize::from(byte).wrapping_mul(pieces.len()) / end(*last).max(1) as usize
+}
+
+/// How many pieces begin before a byte of the block, without a search where a piece begins there and is where it is likely to be.
+fn begin_near(pieces: &[Version], byte: u16) -> usize
+    requires { Follow 0 pieces.now }
+    ensures within { result ≤ length pieces.now }
+    ensures below { (k : ℕ) → k < result → (slice_index_or pieces.now k no_version).off < byte }
+    ensures above { (k : ℕ) → result ≤ k → k < length pieces.now → byte ≤ (slice_index_or pieces.now k no_version).off }
+{
+    let near = likely_place(pieces, byte);
+    if near < pieces.len() && pieces[near].off == byte {
+        return near;
+    }
+    begin_before(pieces, byte)
+}
+
 /// How many pieces have no byte from one of the block on.
 fn end_before(pieces: &[Version], byte: u16) -> usize
     requires { Follow 0 pieces.now }
@@ -98,7 +120,7 @@ fn find(pieces: &[Version], from: u16, to: u16) -> (usize, usize)
     ensures front { fronts from pieces.now ≡ ended from (take result.0 pieces.now) }
     ensures back { backs to pieces.now ≡ begun to (drop result.1 pieces.now) }
 {
-    let first = begin_before(pieces, from);
+    let first = begin_near(pieces, from);
     (first, end_near(pieces, first, to))
 }
 
