@@ -157,11 +157,16 @@ impl<P: Protocol> Desk<P> {
         unreachable!()
     }
 
+    /// Whether there is a request without a response. Others may put or take one meanwhile. It waits for nobody.
+    pub fn is_requested(&self) -> bool {
+        self.table.shared.peek(0) == REQUESTED
+    }
+
     /// The request, where there is one and nobody else serves, and the duty to answer it. It waits for nobody.
     pub fn accept(&self) -> Option<(Job<P>, P::Request)>
         ensures { IfSome result (λ r. IsJob self.now r.0 r.1 × P.allows r.1) }
     {
-        if self.table.shared.peek(0) != REQUESTED {
+        if !self.is_requested() {
             return None;
         }
         let (_, Some(mut seat)) = self.server.take(ABSENT) else {

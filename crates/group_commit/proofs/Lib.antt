@@ -3,3 +3,4 @@ pub mod EachTold
 pub mod Grouping
 pub mod Lasts
 pub mod Rejoined
+pub mod SessionEnds

@@ -15,15 +15,15 @@ use std::marker::{Brand, PhantomData};
 use std::sync::Wait;
 use std::sync::ledger::{Blank, Ledger};
 
-/// The device whose transactions are handed in, for contracts alone. A call picks it.
-pub trait OfDevice<D: Disk + Drop, O: Origin> {
+/// The device whose transactions are handed in, for contracts alone. A call picks it, by `Brand`.
+pub trait OfDevice<D, O> {
     ghost use Rattle.std.specs.Prelude.{Option};
     ghost use Rattle.iso_shared.specs.declared.shared.Shared.{Shared};
 
     ghost device: { Option (Shared D O) };
 }
 
-impl<D: Disk + Drop, O: Origin> OfDevice<D, O> for Brand {
+impl<D, O> OfDevice<D, O> for Brand {
     ghost use Rattle.std.specs.Prelude.{None};
 
     ghost device = { None };

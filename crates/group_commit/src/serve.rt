@@ -16,8 +16,38 @@ use iso_shared::{Origin, Port, Shared, Tx};
 use std::alloc::Global;
 use std::sync::Wait;
 
-// Ends each transaction that was handed in at these desks by itself, in their order, and answers it. It takes no memory but that
-// of the ends.
+/// Whether something is handed in at one of these desks.
+pub(crate) fn is_requested<D: Disk + Drop, O: Origin, P: OfDevice<D, O>>(
+    desks: &[Desk<Ends<D, O, P>>],
+) -> bool {
+    for desk in desks {
+        if desk.is_requested() {
+            return true;
+        }
+    }
+    false
+}
+
+// Ends the transaction that was handed in at a desk, where there is one, by itself, and answers it. It takes no memory but that of
+// the end.
+fn serve_desk<D: Disk + Drop, O: Origin, P: OfDevice<D, O>, R: Wait>(
+    rt: &R,
+    shared: &Shared<D, O>,
+    port: &mut Port<D, O>,
+    desk: &Desk<Ends<D, O, P>>,
+)
+    requires device { P.device ≡ Some shared.now }
+    requires port { IsPort shared.now port.old }
+    ensures port { IsPort shared.now port.new }
+    ensures units { (port_view port.new).units ≡ (port_view port.old).units }
+{
+    if let Some((job, tx)) = take_tx(shared, desk) {
+        let outcome = end_alone(rt, shared, port, tx);
+        answer_tx(shared, desk, job, outcome);
+    }
+}
+
+// The same at each of these desks, in their order.
 fn serve_singly<D: Disk + Drop, O: Origin, P: OfDevice<D, O>, R: Wait>(
     rt: &R,
     shared: &Shared<D, O>,
@@ -32,10 +62,7 @@ fn serve_singly<D: Disk + Drop, O: Origin, P: OfDevice<D, O>, R: Wait>(
     let Some((desk, rest)) = desks.split_first() else {
         return;
     };
-    if let Some((job, tx)) = take_tx(shared, desk) {
-        let outcome = end_alone(rt, shared, port, tx);
-        answer_tx(shared, desk, job, outcome);
-    }
+    serve_desk(rt, shared, port, desk);
     serve_singly(rt, shared, port, rest);
 }
 
@@ -92,8 +119,8 @@ fn room<D: Disk + Drop, O: Origin>(
     }
 }
 
-/// Ends all transactions that were handed in at these desks, up to the most of a group, as one group, and answers each; where there
-/// is one alone, or no memory for a group, each by itself. The port keeps its units.
+/// Ends all transactions that were handed in at these desks, up to the most of a group, as one group, and answers each; without memory
+/// for a group each by itself, and one alone too, which takes no such memory. The port keeps its units.
 pub(crate) fn serve_all<D: Disk + Drop, O: Origin, P: OfDevice<D, O>, R: Wait>(
     rt: &R,
     alloc: Global,
@@ -106,6 +133,15 @@ pub(crate) fn serve_all<D: Disk + Drop, O: Origin, P: OfDevice<D, O>, R: Wait>(
     ensures port { IsPort shared.now port.new }
     ensures units { (port_view port.new).units ≡ (port_view port.old).units }
 {
+    let Some((desk, rest)) = desks.split_first() else {
+        return;
+    };
+    if !desk.is_requested() {
+        return serve_all(rt, alloc, shared, port, rest);
+    }
+    if !is_requested(rest) {
+        return serve_desk(rt, shared, port, desk);
+    }
     match room(alloc) {
         Ok((group, ended)) => {
             finish(serve_taken(rt, shared, port, desks, group, ended));

@@ -6,7 +6,7 @@ ghost use Rattle.group_commit.specs.{Outcomes.MayEnd, Together.{HasEndedWith, Is
 
 use crate::committer::Committer;
 use crate::each::Ended;
-use crate::ends::{Ends, OfDevice, Outcome, hand_in};
+use crate::ends::{Ends, OfDevice, Outcome};
 use ask_desk::{Client, Desk};
 use handle_pass::{EndError, Handle, Session};
 use iso_disk::Disk;
@@ -14,8 +14,9 @@ use iso_model::{CoreError, GroupReply};
 use iso_shared::{Origin, Shared, Tx};
 use std::sync::Wait;
 
-/// Ends the transaction of a session together with those that other threads hand in at these desks at the same time. The session
-/// keeps its places and its units, and knows the entry of the end, which another caller made.
+/// Ends the transaction of a session together with those that other threads end at this committer at the same time. The session
+/// keeps its places and its units, and knows the entry of the end, which the committer's port made. Who comes alone pays what a plain end
+/// costs.
 ///
 /// # Errors
 ///
@@ -43,8 +44,7 @@ pub fn end_with<'a, D: Disk + Drop, O: Origin, P: OfDevice<D, O>, R: Wait>(
         return Err(EndError::NotInTx);
     }
     let tx = hand_out(shared, session);
-    hand_in(shared, desk, client, tx);
-    match committer.outcome(rt, shared, desks, desk, client) {
+    match committer.end(rt, shared, desks, desk, client, tx) {
         Outcome::Ended(ended) => {
             let Ended { reply, port } = ended;
             session.join_port(port);
