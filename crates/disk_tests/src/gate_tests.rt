@@ -3,11 +3,12 @@ ghost use Rattle.std.{specs.Prelude.None, proofs.Common.lit<};
 ghost use Rattle.counts.specs.Count.{HasCause};
 ghost use Rattle.iso_disk.specs.Untold.{untold, untold_is_lawful};
 
-use crate::count_tests::same;
+use crate::steps::Outcome::{self, Count, Done, Failed, Is};
+use crate::steps::{MOST, Row, Steps, outcome_of, play, show};
 use commit_gate::{open_gate, put_body, shut_gate, stands_closed};
 use counts::raise;
 use iso_disk::{Disk, DiskFault};
-use std::test::Fail;
+use std::alloc::Global;
 
 // The letters of the calls made so far: read, write, sync. The call with the number `failing` fails, from 1.
 #[derive(Drop)]
@@ -20,9 +21,9 @@ struct Counting {
 }
 
 impl Counting {
-    fn new(failing: usize) -> Self {
+    fn new(bytes: [u8; 8], failing: usize) -> Self {
         Counting {
-            bytes: [7; 8],
+            bytes,
             made: [b'-'; 4],
             count: 0,
             failing,
@@ -75,51 +76,130 @@ impl Disk for Counting {
     }
 }
 
-#[test]
-fn a_body_is_one_write_and_one_sync(rt: HostRuntime) -> Result<(), Fail> {
-    let mut disk = Counting::new(0);
-    put_body(&mut disk, 2, &[4, 5])?;
-    same(&rt, disk.made, *b"ws--");
-    same(&rt, disk.bytes, [7, 7, 7, 4, 5, 7, 7, 7]);
-    Ok(())
+/// One thing that is done, at a gate.
+#[derive(Clone, Copy)]
+enum Step {
+    /// Puts 4 and 5 behind a gate.
+    Body(u64),
+    Open(u64),
+    Shut(u64),
+    IsClosed(u64),
+    /// How many calls were made, and the letters of the first four.
+    Made,
+    Bytes,
 }
 
-#[test]
-fn a_gate_is_opened_and_shut_by_one_byte_and_one_sync(rt: HostRuntime) -> Result<(), Fail> {
-    let mut disk = Counting::new(0);
-    open_gate(&mut disk, 7)?;
-    same(&rt, disk.made, *b"ws--");
-    same(&rt, disk.bytes, [7, 7, 7, 7, 7, 7, 7, 1]);
-    shut_gate(&mut disk, 7)?;
-    same(&rt, disk.made, *b"wsws");
-    same(&rt, disk.bytes, [7, 7, 7, 7, 7, 7, 7, 0]);
-    Ok(())
-}
+use Step::{Body, Bytes, IsClosed, Made, Open, Shut};
 
-#[test]
-fn one_alone_is_open(rt: HostRuntime) {
-    for (byte, closed) in [(0, true), (1, false), (2, true), (255, true)] {
-        let mut disk = Counting::new(0);
-        disk.bytes[3] = byte;
-        let found = stands_closed(&mut disk, 3);
-        same(&rt, (byte, found, disk.made), (byte, Ok(closed), *b"r---"));
+impl Steps for Counting {
+    type Step = Step;
+
+    fn step(&mut self, _alloc: Global, step: &Step, shown: &mut [u8; MOST]) -> (Outcome, usize) {
+        match *step {
+            Body(gate) if gate < 6 => (outcome_of(put_body(self, gate, &[4, 5]).is_ok()), 0),
+            Open(gate) if gate < 8 => (outcome_of(open_gate(self, gate).is_ok()), 0),
+            Shut(gate) if gate < 8 => (outcome_of(shut_gate(self, gate).is_ok()), 0),
+            IsClosed(gate) if gate < 8 => match stands_closed(self, gate) {
+                Ok(closed) => (Is(closed), 0),
+                Err(_) => (Failed, 0),
+            },
+            Made => (Count(self.count as u64), show(&self.made, shown)),
+            Bytes => (Done, show(&self.bytes, shown)),
+            _ => (Outcome::Refused, 0),
+        }
     }
 }
 
+/// The name of a table, the bytes of the disk, the call that fails, and what is done.
+const TABLES: &[(&str, [u8; 8], usize, &[Row<'static, Step>])] = &[
+    (
+        "a_body_is_one_write_and_one_sync",
+        [7; 8],
+        0,
+        &[
+            (Body(2), Done, &[]),
+            (Made, Count(2), b"ws--"),
+            (Bytes, Done, &[7, 7, 7, 4, 5, 7, 7, 7]),
+        ],
+    ),
+    (
+        "a_gate_is_opened_and_shut_by_one_byte_and_one_sync",
+        [7; 8],
+        0,
+        &[
+            (Open(7), Done, &[]),
+            (Made, Count(2), b"ws--"),
+            (Bytes, Done, &[7, 7, 7, 7, 7, 7, 7, 1]),
+            (Shut(7), Done, &[]),
+            (Made, Count(4), b"wsws"),
+            (Bytes, Done, &[7, 7, 7, 7, 7, 7, 7, 0]),
+        ],
+    ),
+    // one alone is open
+    (
+        "gates of four bytes",
+        [0, 1, 2, 255, 7, 7, 7, 7],
+        0,
+        &[
+            (IsClosed(0), Is(true), &[]),
+            (Made, Count(1), b"r---"),
+            (IsClosed(1), Is(false), &[]),
+            (Made, Count(2), b"rr--"),
+            (IsClosed(2), Is(true), &[]),
+            (Made, Count(3), b"rrr-"),
+            (IsClosed(3), Is(true), &[]),
+            (Made, Count(4), b"rrrr"),
+        ],
+    ),
+    // after a failed call no other is made
+    (
+        "the write of a body fails",
+        [7; 8],
+        1,
+        &[(Body(2), Failed, &[]), (Made, Count(1), b"w---")],
+    ),
+    (
+        "the sync of a body fails",
+        [7; 8],
+        2,
+        &[(Body(2), Failed, &[]), (Made, Count(2), b"ws--")],
+    ),
+    (
+        "the write of an open gate fails",
+        [7; 8],
+        1,
+        &[(Open(2), Failed, &[]), (Made, Count(1), b"w---")],
+    ),
+    (
+        "the sync of an open gate fails",
+        [7; 8],
+        2,
+        &[(Open(2), Failed, &[]), (Made, Count(2), b"ws--")],
+    ),
+    (
+        "the write of a closed gate fails",
+        [7; 8],
+        1,
+        &[(Shut(2), Failed, &[]), (Made, Count(1), b"w---")],
+    ),
+    (
+        "the sync of a closed gate fails",
+        [7; 8],
+        2,
+        &[(Shut(2), Failed, &[]), (Made, Count(2), b"ws--")],
+    ),
+    (
+        "the read of a gate fails",
+        [7; 8],
+        1,
+        &[(IsClosed(2), Failed, &[]), (Made, Count(1), b"r---")],
+    ),
+];
+
 #[test]
-fn after_a_failed_call_no_other_is_made(rt: HostRuntime) -> Result<(), Fail> {
-    for failing in 1..3 {
-        let mut disk = Counting::new(failing);
-        same(&rt, put_body(&mut disk, 2, &[4, 5]), Err(DiskFault));
-        same(&rt, disk.count, failing);
-        let mut disk = Counting::new(failing);
-        same(&rt, open_gate(&mut disk, 2), Err(DiskFault));
-        same(&rt, disk.count, failing);
-        let mut disk = Counting::new(failing);
-        same(&rt, shut_gate(&mut disk, 2), Err(DiskFault));
-        same(&rt, disk.count, failing);
+fn the_calls_of_a_gate(rt: HostRuntime) {
+    for (name, bytes, failing, rows) in TABLES {
+        let mut disk = Counting::new(*bytes, *failing);
+        play(&rt, rt.alloc(), name, &mut disk, rows);
     }
-    let mut disk = Counting::new(1);
-    same(&rt, stands_closed(&mut disk, 2), Err(DiskFault));
-    Ok(())
 }

@@ -6,8 +6,6 @@ mod count_tests;
 #[cfg(test)]
 mod draw_tests;
 #[cfg(test)]
-mod file_fault_tests;
-#[cfg(test)]
 mod file_tests;
 #[cfg(test)]
 mod gate_tests;

@@ -1,13 +1,13 @@
 // Each form once: calls that fail, pieces, refusals, and the real streams' forms over fakes.
 use crate::count_tests::same;
+use crate::steps::Outcome::{self, Count, Done, Failed, Refused};
+use crate::steps::{MOST, Row, Steps, play, show};
 use iso_io::{
-    MemSink, MemSource, PutError, Sink, SinkFault, Source, SourceFault, StdSink, StdSource,
-    TakeError, put_all, take_all,
+    MemSink, MemSource, PutError, Sink, Source, StdSink, StdSource, TakeError, put_all, take_all,
 };
 use std::alloc::Global;
 use std::io;
 use std::io::{BufWriter, Read, Write};
-use std::process::Abort;
 use std::test::Fail;
 
 // A stream whose every call fails.
@@ -53,105 +53,239 @@ impl Write for Narrow {
     }
 }
 
-/// A source of five bytes in pieces of two, whose third call fails.
-fn failing_source(alloc: Global) -> Result<MemSource, Fail> {
-    let failing = [3].to_vec(alloc)?;
-    Ok(MemSource::in_pieces(b"abcde".to_vec(alloc)?, failing, 2))
+/// One call of a source.
+#[derive(Clone, Copy)]
+enum Take {
+    /// At most so many bytes.
+    Piece(usize),
+    /// All that is left, up to a limit.
+    All(u64),
 }
 
-#[test]
-fn a_call_that_fails_leaves_the_bytes(rt: HostRuntime) -> Result<(), Fail> {
-    let alloc = rt.alloc();
-    let mut source = MemSource::new(b"abcde".to_vec(alloc)?, [2].to_vec(alloc)?);
-    let mut piece = [0u8; 3];
-    same(&rt, source.take(&mut piece), Ok(3));
-    same(&rt, piece.as_slice(), b"abc".as_slice());
-    same(&rt, source.take(&mut piece), Err(SourceFault));
-    same(&rt, source.take(&mut piece), Ok(2));
-    assert_eq!(rt; piece[..2], b"de"[..]);
-    same(&rt, source.take(&mut piece), Ok(0));
-    Ok(())
+/// A source that is called.
+#[derive(Drop)]
+struct OfSource<'a, S> {
+    source: &'a mut S,
 }
 
+/// Takes all that is left.
+fn all_of<S: Source>(
+    alloc: Global,
+    source: &mut S,
+    limit: u64,
+    shown: &mut [u8; MOST],
+) -> (Outcome, usize) {
+    match take_all(alloc, source, limit) {
+        Ok(bytes) => (Count(bytes.len() as u64), show(bytes.as_slice(), shown)),
+        Err(TakeError::Failed) => (Failed, 0),
+        Err(TakeError::Memory) => (Refused, 0),
+    }
+}
+
+impl<S: Source> Steps for OfSource<'_, S> {
+    type Step = Take;
+
+    fn step(&mut self, alloc: Global, step: &Take, shown: &mut [u8; MOST]) -> (Outcome, usize) {
+        match *step {
+            Take::Piece(len) if len <= MOST => match self.source.take(&mut shown[..len]) {
+                Ok(count) => (Count(count as u64), count),
+                Err(_) => (Failed, 0),
+            },
+            Take::Piece(_) => (Refused, 0),
+            Take::All(limit) => all_of(alloc, self.source, limit, shown),
+        }
+    }
+}
+
+/// The name of a table, the bytes of the source, its calls that fail, the most bytes at a time, and the calls.
+const SOURCES: &[(&str, &[u8], &[u64], usize, &[Row<'static, Take>])] = &[
+    (
+        "a_call_that_fails_leaves_the_bytes",
+        b"abcde",
+        &[2],
+        100,
+        &[
+            (Take::Piece(3), Count(3), b"abc"),
+            (Take::Piece(3), Failed, &[]),
+            (Take::Piece(3), Count(2), b"de"),
+            (Take::Piece(3), Count(0), &[]),
+        ],
+    ),
+    // all bytes are taken, whatever the pieces
+    (
+        "pieces of 1",
+        b"abcde",
+        &[],
+        1,
+        &[(Take::All(100), Count(5), b"abcde")],
+    ),
+    (
+        "pieces of 2",
+        b"abcde",
+        &[],
+        2,
+        &[(Take::All(100), Count(5), b"abcde")],
+    ),
+    (
+        "pieces of 5",
+        b"abcde",
+        &[],
+        5,
+        &[(Take::All(100), Count(5), b"abcde")],
+    ),
+    (
+        "pieces of 100",
+        b"abcde",
+        &[],
+        100,
+        &[(Take::All(100), Count(5), b"abcde")],
+    ),
+    (
+        "taking_reports_a_fault",
+        b"abcde",
+        &[3],
+        2,
+        &[(Take::All(100), Failed, &[])],
+    ),
+];
+
 #[test]
-fn all_bytes_are_taken_whatever_the_pieces(rt: HostRuntime) -> Result<(), Fail> {
+fn a_source_in_memory(rt: HostRuntime) -> Result<(), Fail> {
     let alloc = rt.alloc();
-    for piece in [1, 2, 5, 100] {
-        let bytes = b"abcde".to_vec(alloc)?;
-        let mut source = MemSource::in_pieces(bytes, Vec::new(alloc), piece);
-        let taken = take_all(alloc, &mut source, 100).ok().ok_or("a fault")?;
-        assert_eq!(rt;
-            taken.as_slice(),
-            b"abcde".as_slice(),
-            "in pieces of {piece}"
-        );
+    for (name, bytes, failing, piece, rows) in SOURCES {
+        let (bytes, failing) = (bytes.to_vec(alloc)?, failing.to_vec(alloc)?);
+        let mut source = MemSource::in_pieces(bytes, failing, (*piece).max(1));
+        let mut on = OfSource {
+            source: &mut source,
+        };
+        play(&rt, alloc, name, &mut on, rows);
     }
     Ok(())
 }
 
+/// The calls of a source of 70,000 bytes that are 7.
+const LONG: &[Row<'static, Take>] = &[
+    (Take::All(69_999), Count(69_999), &[7; MOST]),
+    (Take::All(69_999), Count(1), &[7]),
+];
+
 #[test]
 fn taking_stops_at_the_limit(rt: HostRuntime) -> Result<(), Fail> {
     let alloc = rt.alloc();
-    let mut source = MemSource::new([7u8; 70_000].to_vec(alloc)?, Vec::new(alloc));
-    let taken = take_all(alloc, &mut source, 69_999).ok().ok_or("a fault")?;
-    same(&rt, taken.len(), 69_999);
-    let rest = take_all(alloc, &mut source, 69_999).ok().ok_or("a fault")?;
-    same(&rt, rest.as_slice(), [7u8].as_slice());
-    Ok(())
-}
-
-#[test]
-fn taking_reports_a_fault(rt: HostRuntime) -> Result<(), Fail> {
-    let alloc = rt.alloc();
-    let mut source = failing_source(alloc)?;
-    let refused = match take_all(alloc, &mut source, 100) {
-        Ok(_taken) => None,
-        Err(error) => Some(error),
+    let bytes = vec![in alloc; 7; 70_000]?;
+    let mut source = MemSource::new(bytes, Vec::new(alloc));
+    let mut on = OfSource {
+        source: &mut source,
     };
-    same(&rt, refused, Some(TakeError::Failed));
+    play(&rt, alloc, "70,000 bytes", &mut on, LONG);
     Ok(())
 }
 
 #[test]
-fn a_whole_piece_is_put_one_byte_at_a_time(rt: HostRuntime) -> Result<(), Fail> {
-    let alloc = rt.alloc();
-    let mut sink = MemSink::in_pieces(alloc, Vec::new(alloc), 1);
-    same(&rt, put_all(&mut sink, b"abc"), Ok(()));
-    same(&rt, put_all(&mut sink, b""), Ok(()));
-    same(&rt, put_all(&mut sink, b"de"), Ok(()));
-    same(&rt, sink.bytes(), b"abcde".as_slice());
-    same(&rt, sink.starved(), 0);
-    Ok(())
-}
-
-#[test]
-fn a_put_that_fails_keeps_the_front(rt: HostRuntime) -> Result<(), Fail> {
-    let alloc = rt.alloc();
-    let mut sink = MemSink::in_pieces(alloc, [3].to_vec(alloc)?, 2);
-    same(&rt, put_all(&mut sink, b"abcdef"), Err(PutError::Failed));
-    same(&rt, sink.bytes(), b"abcd".as_slice());
-    same(&rt, sink.starved(), 0);
-    Ok(())
-}
-
-#[test]
-fn a_sink_may_take_nothing(rt: HostRuntime) {
-    let alloc = rt.alloc();
-    let mut sink = MemSink::in_pieces(alloc, Vec::new(alloc), 0);
-    same(&rt, sink.put(b"a"), Ok(0));
-    same(&rt, put_all(&mut sink, b"a"), Err(PutError::TookNothing));
-    same(&rt, put_all(&mut sink, b""), Ok(()));
-    same(&rt, sink.bytes().len(), 0);
-}
-
-#[test]
-fn a_reader_is_a_source(rt: HostRuntime) -> Result<(), Fail> {
-    let alloc = rt.alloc();
+fn a_reader_is_a_source(rt: HostRuntime) {
     let mut source = StdSource::new(b"abc".as_slice());
-    let taken = take_all(alloc, &mut source, 100).ok().ok_or("a fault")?;
-    same(&rt, taken.as_slice(), b"abc".as_slice());
-    let mut broken = StdSource::new(Broken);
-    same(&rt, broken.take(&mut [0]), Err(SourceFault));
+    let mut on = OfSource {
+        source: &mut source,
+    };
+    let all: &[Row<'static, Take>] = &[(Take::All(100), Count(3), b"abc")];
+    play(&rt, rt.alloc(), "a reader", &mut on, all);
+    let mut source = StdSource::new(Broken);
+    let mut on = OfSource {
+        source: &mut source,
+    };
+    let failed: &[Row<'static, Take>] = &[(Take::Piece(1), Failed, &[])];
+    play(&rt, rt.alloc(), "a broken reader", &mut on, failed);
+}
+
+/// One call of a sink.
+#[derive(Clone, Copy)]
+enum Put<'a> {
+    Piece(&'a [u8]),
+    All(&'a [u8]),
+    HandOn,
+}
+
+use Put::HandOn;
+
+/// A sink that is called.
+#[derive(Drop)]
+struct OfSink<'a, S> {
+    sink: &'a mut S,
+}
+
+impl<S: Sink> Steps for OfSink<'_, S> {
+    type Step = Put<'static>;
+
+    fn step(
+        &mut self,
+        _alloc: Global,
+        step: &Put<'static>,
+        _shown: &mut [u8; MOST],
+    ) -> (Outcome, usize) {
+        let found = match *step {
+            Put::Piece(bytes) => match self.sink.put(bytes) {
+                Ok(count) => Count(count as u64),
+                Err(_) => Failed,
+            },
+            Put::All(bytes) => match put_all(self.sink, bytes) {
+                Ok(()) => Done,
+                Err(PutError::Failed) => Failed,
+                Err(PutError::TookNothing) => Refused,
+            },
+            HandOn => match self.sink.hand_on() {
+                Ok(()) => Done,
+                Err(_) => Failed,
+            },
+        };
+        (found, 0)
+    }
+}
+
+/// The name of a table, the calls of the sink that fail, the most bytes at a time, the calls, and the bytes that it has then.
+const SINKS: &[(&str, &[u64], usize, &[Row<'static, Put<'static>>], &[u8])] = &[
+    (
+        "a_whole_piece_is_put_one_byte_at_a_time",
+        &[],
+        1,
+        &[
+            (Put::All(b"abc"), Done, &[]),
+            (Put::All(b""), Done, &[]),
+            (Put::All(b"de"), Done, &[]),
+        ],
+        b"abcde",
+    ),
+    (
+        "a_put_that_fails_keeps_the_front",
+        &[3],
+        2,
+        &[(Put::All(b"abcdef"), Failed, &[])],
+        b"abcd",
+    ),
+    (
+        "a_sink_may_take_nothing",
+        &[],
+        0,
+        &[
+            (Put::Piece(b"a"), Count(0), &[]),
+            (Put::All(b"a"), Refused, &[]),
+            (Put::All(b""), Done, &[]),
+        ],
+        b"",
+    ),
+];
+
+#[test]
+fn a_sink_in_memory(rt: HostRuntime) -> Result<(), Fail> {
+    let alloc = rt.alloc();
+    for (name, failing, piece, rows, bytes) in SINKS {
+        let mut sink = MemSink::in_pieces(alloc, failing.to_vec(alloc)?, *piece);
+        play(&rt, alloc, name, &mut OfSink { sink: &mut sink }, rows);
+        same(
+            &rt,
+            (*name, sink.bytes(), sink.starved()),
+            (*name, *bytes, 0),
+        );
+    }
     Ok(())
 }
 
@@ -161,11 +295,19 @@ fn a_writer_is_a_sink(rt: HostRuntime) {
     let mut bytes = Vec::new(alloc);
     {
         let mut sink = StdSink::new(&mut bytes);
-        same(&rt, put_all(&mut sink, b"abc"), Ok(()));
+        let put: &[Row<'static, Put<'static>>] = &[(Put::All(b"abc"), Done, &[])];
+        play(&rt, alloc, "a writer", &mut OfSink { sink: &mut sink }, put);
     }
     same(&rt, bytes.as_slice(), b"abc".as_slice());
-    let mut broken = StdSink::new(Broken);
-    same(&rt, broken.put(b"a"), Err(SinkFault));
+    let mut sink = StdSink::new(Broken);
+    let failed: &[Row<'static, Put<'static>>] = &[(Put::Piece(b"a"), Failed, &[])];
+    play(
+        &rt,
+        alloc,
+        "a broken writer",
+        &mut OfSink { sink: &mut sink },
+        failed,
+    );
 }
 
 #[test]
@@ -175,16 +317,19 @@ fn a_writer_that_takes_little_gets_all_in_order(rt: HostRuntime) {
     let mut narrow = Narrow { bytes, calls: 0 };
     {
         let mut sink = StdSink::new(&mut narrow);
-        same(&rt, put_all(&mut sink, b"abc"), Err(PutError::Failed));
-        same(&rt, put_all(&mut sink, b"cdefg"), Ok(()));
+        let put: &[Row<'static, Put<'static>>] = &[
+            (Put::All(b"abc"), Failed, &[]),
+            (Put::All(b"cdefg"), Done, &[]),
+        ];
+        play(
+            &rt,
+            alloc,
+            "a narrow writer",
+            &mut OfSink { sink: &mut sink },
+            put,
+        );
     }
     same(&rt, narrow.bytes.as_slice(), b"abcdefg".as_slice());
-}
-
-// Bytes are put whole, and handed on.
-fn hands_on<S: Sink>(rt: &impl Abort, sink: &mut S, bytes: &[u8]) {
-    same(rt, put_all(sink, bytes), Ok(()));
-    same(rt, sink.hand_on(), Ok(()));
 }
 
 #[test]
@@ -193,28 +338,40 @@ fn what_a_writer_holds_back_comes_out_where_the_sink_hands_on(rt: HostRuntime) -
     let mut bytes = Vec::new(alloc);
     {
         let mut sink = StdSink::new(BufWriter::new(alloc, &mut bytes)?);
-        hands_on(&rt, &mut sink, b"abc");
-        hands_on(&rt, &mut sink, b"de");
+        let put: &[Row<'static, Put<'static>>] = &[
+            (Put::All(b"abc"), Done, &[]),
+            (HandOn, Done, &[]),
+            (Put::All(b"de"), Done, &[]),
+            (HandOn, Done, &[]),
+        ];
+        play(
+            &rt,
+            alloc,
+            "a writer that holds back",
+            &mut OfSink { sink: &mut sink },
+            put,
+        );
     }
     same(&rt, bytes.as_slice(), b"abcde".as_slice());
     Ok(())
 }
 
-// A put is answered so, and the sink fails to hand on.
-fn fails_to_hand_on<S: Sink>(
-    rt: &impl Abort,
-    sink: &mut S,
-    bytes: &[u8],
-    answer: Result<usize, SinkFault>,
-) {
-    same(rt, sink.put(bytes), answer);
-    same(rt, sink.hand_on(), Err(SinkFault));
-}
-
 #[test]
 fn nothing_is_taken_behind_a_failure_to_hand_on(rt: HostRuntime) -> Result<(), Fail> {
-    let mut sink = StdSink::new(BufWriter::new(rt.alloc(), Broken)?);
-    fails_to_hand_on(&rt, &mut sink, b"abc", Ok(3));
-    fails_to_hand_on(&rt, &mut sink, b"de", Err(SinkFault));
+    let alloc = rt.alloc();
+    let mut sink = StdSink::new(BufWriter::new(alloc, Broken)?);
+    let put: &[Row<'static, Put<'static>>] = &[
+        (Put::Piece(b"abc"), Count(3), &[]),
+        (HandOn, Failed, &[]),
+        (Put::Piece(b"de"), Failed, &[]),
+        (HandOn, Failed, &[]),
+    ];
+    play(
+        &rt,
+        alloc,
+        "a broken writer",
+        &mut OfSink { sink: &mut sink },
+        put,
+    );
     Ok(())
 }

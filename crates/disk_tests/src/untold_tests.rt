@@ -4,13 +4,12 @@ ghost use Rattle.counts.specs.Count.{HasCause};
 ghost use Rattle.iso_disk.specs.Untold.{untold, untold_is_lawful};
 
 use crate::count_tests::same;
-use crate::steps::Outcome::{Count, Done, Failed};
+use crate::steps::Outcome::{self, Count, Done, Failed};
 use crate::steps::Step::{Bind, Read, Size, Sync, Write};
-use crate::steps::{Row, on_image};
+use crate::steps::{MOST, Row, Step, Steps, image_call, play};
 use counts::raise;
 use iso_disk::{Disk, DiskFault, Image};
 use std::alloc::Global;
-use std::test::Fail;
 
 // Each call fails and is counted, but for the first `working`.
 #[derive(Drop)]
@@ -81,8 +80,30 @@ impl Image for Silent {
     }
 }
 
+impl Steps for Silent {
+    type Step = Step<'static>;
+
+    fn step(
+        &mut self,
+        _alloc: Global,
+        step: &Step<'static>,
+        shown: &mut [u8; MOST],
+    ) -> (Outcome, usize) {
+        image_call(self, "t.img", *step, shown)
+    }
+}
+
+const ROWS: &[Row<'static, Step<'static>>] = &[
+    (Bind(Some(8)), Done, &[]),
+    (Size, Count(8), &[]),
+    (Write(7, &[1]), Done, &[]),
+    (Sync, Done, &[]),
+    (Read(0, 8), Done, &[9; 8]),
+    (Sync, Failed, &[]),
+];
+
 #[test]
-fn a_disk_that_tells_nothing_counts_its_faults(rt: HostRuntime) -> Result<(), Fail> {
+fn a_disk_that_tells_nothing_counts_its_faults(rt: HostRuntime) {
     let mut disk = Silent {
         alloc: rt.alloc(),
         name: None,
@@ -91,15 +112,6 @@ fn a_disk_that_tells_nothing_counts_its_faults(rt: HostRuntime) -> Result<(), Fa
         faults: 0,
         binds: 0,
     };
-    let rows: [Row<'_>; 6] = [
-        (Bind(Some(8)), Done, &[]),
-        (Size, Count(8), &[]),
-        (Write(7, &[1]), Done, &[]),
-        (Sync, Done, &[]),
-        (Read(0, 8), Done, &[9; 8]),
-        (Sync, Failed, &[]),
-    ];
-    on_image(&rt, rt.alloc(), &mut disk, &rows)?;
+    play(&rt, rt.alloc(), "silent", &mut disk, ROWS);
     same(&rt, (disk.faults, disk.binds), (1, 1));
-    Ok(())
 }
