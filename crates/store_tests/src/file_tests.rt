@@ -3,8 +3,7 @@ ghost use Rattle.std.specs.Prelude.{◌≡◌, IfOk};
 ghost use Rattle.plain_tx.specs.Plain.{state_of};
 ghost use Rattle.store_tests.specs.Ready.{IsReady};
 
-use iso_fs::{create, read, remove, rename, write};
-use iso_model::Bytes;
+use iso_fs::{create, write};
 use plain_tx::PlainTx;
 use std::alloc::Global;
 use std::fmt::Debug;
@@ -27,24 +26,24 @@ fn place() -> FsRegion
     }
 }
 
-/// Sixty-four blocks of zeros.
-pub fn blank(alloc: Global) -> Result<PlainTx, Fail>
+// Sixty-four blocks of zeros.
+fn blank(alloc: Global) -> Result<PlainTx, Fail>
     ensures { IfOk result (λ t. IsReady 64 (state_of t)) }
 {
     let bytes = vec![in alloc; 0u8; 16384]?;
     Ok(PlainTx::new(alloc, bytes, 256))
 }
 
-/// `create` in the files of those blocks.
-pub fn create_in(alloc: Global, tx: &mut PlainTx, name: &[u8]) -> Result<(), FsError>
+// `create` in the files of those blocks.
+fn create_in(alloc: Global, tx: &mut PlainTx, name: &[u8]) -> Result<(), FsError>
     requires { IsReady 64 (state_of tx.old) }
     ensures { IsReady 64 (state_of tx.new) }
 {
     create(alloc, tx, place(), name)
 }
 
-/// `write` in the files of those blocks.
-pub fn write_in(
+// `write` in the files of those blocks.
+fn write_in(
     alloc: Global,
     tx: &mut PlainTx,
     name: &[u8],
@@ -55,36 +54,6 @@ pub fn write_in(
     ensures { IsReady 64 (state_of tx.new) }
 {
     write(alloc, tx, place(), name, off, bytes)
-}
-
-/// `read` in the files of those blocks.
-pub fn read_in(
-    alloc: Global,
-    tx: &mut PlainTx,
-    name: &[u8],
-    off: u32,
-    len: u32,
-) -> Result<Option<Bytes>, FsError>
-    requires { IsReady 64 (state_of tx.old) }
-    ensures { IsReady 64 (state_of tx.new) }
-{
-    read(alloc, tx, place(), name, off, len)
-}
-
-/// `rename` in the files of those blocks.
-pub fn rename_in(alloc: Global, tx: &mut PlainTx, old: &[u8], new: &[u8]) -> Result<bool, FsError>
-    requires { IsReady 64 (state_of tx.old) }
-    ensures { IsReady 64 (state_of tx.new) }
-{
-    rename(alloc, tx, place(), old, new)
-}
-
-/// `remove` in the files of those blocks.
-pub fn remove_in(alloc: Global, tx: &mut PlainTx, name: &[u8]) -> Result<bool, FsError>
-    requires { IsReady 64 (state_of tx.old) }
-    ensures { IsReady 64 (state_of tx.new) }
-{
-    remove(alloc, tx, place(), name)
 }
 
 // A script has no line for such a write.

@@ -1,16 +1,13 @@
-//! The tests of `iso_alloc`, `plain_tx` and `store_laws`, and calls of `iso_hash`, `iso_tree` and `iso_fs` that no script shows,
-//! drawn ones against a plain map, over an array in memory.
+//! The tests of `iso_alloc`, `plain_tx` and `store_laws`, and a call of `iso_fs` that no script shows, over an array in memory.
+//!
+//! Drawn calls on files, trees and hash stores are cases: `checks/drawn_cases.py` has the plain map.
 #![tactic(auto)]
 
 #[cfg(test)]
 mod alloc_tests;
-#[cfg(test)]
-mod drawn_file_tests;
 #[cfg(test)]
 mod file_tests;
 #[cfg(test)]
 mod law_tests;
 #[cfg(test)]
 mod plain_tests;
-#[cfg(test)]
-mod tree_tests;

@@ -11,15 +11,11 @@ mod plain_files;
 #[cfg(test)]
 mod tests_cut;
 #[cfg(test)]
-mod tests_drawn;
-#[cfg(test)]
 mod tests_drawn_clients;
 #[cfg(test)]
 mod tests_drawn_files;
 #[cfg(test)]
 mod tests_gate;
-#[cfg(test)]
-mod tests_hand_on;
 #[cfg(test)]
 mod tests_kept;
 #[cfg(test)]
