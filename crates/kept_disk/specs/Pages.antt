@@ -1,5 +1,7 @@
 -- When pages stand for the bytes of a disk.
-use Rattle.std.specs.Prelude.{◌≡◌, ℕ, ◌+◌, ◌-◌, ◌*◌, ◌/◌, ◌%◌, ◌<◌, ◌≤◌, ◌==◌, List, Option, count_by, length, take, drop, Some, None, slice_get, slice_index}
+use Rattle.std.specs.{Prelude.{◌≡◌, ℕ, ◌+◌, ◌-◌, ◌*◌, ◌/◌, ◌%◌, ◌<◌, ◌≤◌, ◌==◌, List, Option, count_by, length, take, drop, Some, None, Result, OnOk, slice_get, slice_index}, Option.ForSome}
+use Rattle.counts.specs.Count.{HasCause}
+use Rattle.iso_disk.specs.Disk.{DiskState, Elapses}
 
 -- the bytes of a page; those of the last one may be fewer
 abbrev pub page_of : List ℕ → ℕ → List ℕ
@@ -39,3 +41,17 @@ HoldsNone numbers = (k : ℕ) (number : Option ℕ) → slice_get numbers k ≡ 
 -- the page of each byte in the range is held
 abbrev pub HoldsRange : List (Option ℕ) → ℕ → ℕ → Type 0
 HoldsRange numbers at len = (place : ℕ) → at ≤ place → place < at + len → IsHeld numbers (place / 4096)
+
+-- a call that only reads of the disk: it tells what it told, and nothing else is left of it by a crash
+pub record HasLooked {T E : Type 0} (old new : DiskState) (result : Result T E) : Type 0 where
+  pub contents : new.contents ≡ old.contents
+  pub crash : Elapses old new old.now
+  pub cause : HasCause old.faults new.faults result
+
+-- one that reads the page of this number into its place, or leaves nothing there: no other place changes
+pub record HasFilled {T E : Type 0} (numbers : List (Option ℕ)) (ends bytes : List ℕ) (numbers' : List (Option ℕ)) (ends' bytes' : List ℕ) (number : ℕ) (old new : DiskState) (result : Result T E) : Type 0 where
+  pub stand : ForSome old.contents (λ c. Stand numbers ends bytes c → Stand numbers' ends' bytes' c)
+  pub held : OnOk result (IsHeld numbers' number)
+  pub others : (k : ℕ) → (k ≡ number % 2048 → ⊥) → slice_get numbers' k ≡ slice_get numbers k
+  pub places : length numbers' ≡ length numbers
+  pub looked : HasLooked old new result

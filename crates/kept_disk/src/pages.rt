@@ -1,8 +1,7 @@
 // Pages: bytes of a disk that are kept in memory, and which of its pages these are.
 ghost use Rattle.std.specs.{Prelude.{◌≡◌, ◌+◌, ◌*◌, ◌/◌, ◌%◌, ◌<◌, ◌≤◌, ◌++◌, ◌↔◌, ℕ, List, Some, None, length, set, take, drop, IsTrue, IfOk, IsOk, OnOk, slice_get, slice_index, vec_capacity}, Option.ForSome};
-ghost use Rattle.iso_disk.specs.Disk.{Elapses, Torn, spliced};
-ghost use Rattle.counts.specs.Count.{HasCause};
-ghost use Rattle.kept_disk.specs.Pages.{AreLaid, Covers, HoldsNone, IsHeld, Stand, from_of};
+ghost use Rattle.iso_disk.specs.Disk.{Torn, spliced};
+ghost use Rattle.kept_disk.specs.Pages.{AreLaid, Covers, HasFilled, HasLooked, HoldsNone, IsHeld, Stand, from_of};
 
 use iso_disk::{Disk, DiskFault};
 use std::alloc::{AllocError, Global};
@@ -95,14 +94,8 @@ impl Pages {
     pub(crate) fn hold<D: Disk>(&mut self, disk: &mut D, number: u64) -> Result<(), DiskFault>
         requires inside { number * 4096 < (D.state disk.old).size }
         requires place { number % 2048 < length self.old.numbers.items }
-        ensures stand { ForSome (D.state disk.old).contents (λ c. Stand self.old.numbers.items self.old.ends.items self.old.bytes.items c → Stand self.new.numbers.items self.new.ends.items self.new.bytes.items c) }
-        ensures held { OnOk result (IsHeld self.new.numbers.items number) }
-        ensures others { (k : ℕ) → (k ≡ number % 2048 → ⊥) → slice_get self.new.numbers.items k ≡ slice_get self.old.numbers.items k }
-        ensures places { length self.new.numbers.items ≡ length self.old.numbers.items }
+        ensures filled { HasFilled self.old.numbers.items self.old.ends.items self.old.bytes.items self.new.numbers.items self.new.ends.items self.new.bytes.items number (D.state disk.old) (D.state disk.new) result }
         ensures stays { IsHeld self.old.numbers.items number → (IsOk result) × (disk.new ≡ disk.old) × (self.new ≡ self.old) }
-        ensures contents { (D.state disk.new).contents ≡ (D.state disk.old).contents }
-        ensures crash { Elapses (D.state disk.old) (D.state disk.new) (D.state disk.old).now }
-        ensures cause { HasCause (D.state disk.old).faults (D.state disk.new).faults result }
     {
         if self.holds(number) {
             return Ok(());
@@ -198,16 +191,10 @@ fn fill<D: Disk>(
     requires places { length ends.old.items ≡ length numbers.old.items }
     requires covers { Covers numbers.old.items ends.old.items }
     requires laid { AreLaid ends.old.items bytes.old.items (vec_capacity bytes.old) }
-    ensures stand { ForSome (D.state disk.old).contents (λ c. Stand numbers.old.items ends.old.items bytes.old.items c → Stand numbers.new.items ends.new.items bytes.new.items c) }
+    ensures filled { HasFilled numbers.old.items ends.old.items bytes.old.items numbers.new.items ends.new.items bytes.new.items number (D.state disk.old) (D.state disk.new) result }
     ensures ends { length ends.new.items ≡ length numbers.new.items }
     ensures covers { Covers numbers.new.items ends.new.items }
     ensures laid { AreLaid ends.new.items bytes.new.items (vec_capacity bytes.new) }
-    ensures held { OnOk result (IsHeld numbers.new.items number) }
-    ensures others { (k : ℕ) → (k ≡ number % 2048 → ⊥) → slice_get numbers.new.items k ≡ slice_get numbers.old.items k }
-    ensures places { length numbers.new.items ≡ length numbers.old.items }
-    ensures contents { (D.state disk.new).contents ≡ (D.state disk.old).contents }
-    ensures crash { Elapses (D.state disk.old) (D.state disk.new) (D.state disk.old).now }
-    ensures cause { HasCause (D.state disk.old).faults (D.state disk.new).faults result }
 {
     let place = place_of(number);
     numbers[place] = None;
@@ -274,9 +261,7 @@ fn read_into<D: Disk>(
     ensures read { OnOk result (ForSome (D.state disk.old).contents (λ c. take len (drop from bytes.new.items) ≡ take len (drop at c))) }
     ensures others { Torn from len bytes.old.items bytes.new.items }
     ensures room { vec_capacity bytes.new ≡ vec_capacity bytes.old }
-    ensures contents { (D.state disk.new).contents ≡ (D.state disk.old).contents }
-    ensures crash { Elapses (D.state disk.old) (D.state disk.new) (D.state disk.old).now }
-    ensures cause { HasCause (D.state disk.old).faults (D.state disk.new).faults result }
+    ensures looked { HasLooked (D.state disk.old) (D.state disk.new) result }
 {
     disk.read(at, &mut bytes.as_mut_slice()[from..from + len])
 }

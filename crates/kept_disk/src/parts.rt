@@ -1,8 +1,7 @@
 // Reads and writes, one page at a time.
 ghost use Rattle.std.specs.{Prelude.{◌≡◌, ◌+◌, ◌/◌, ◌%◌, ◌^◌, ◌<◌, ◌≤◌, ℕ, List, length, take, drop, OnOk, IsOk, slice_get, true}, Option.ForSome};
-ghost use Rattle.iso_disk.specs.Disk.{Elapses, spliced};
-ghost use Rattle.counts.specs.Count.{HasCause};
-ghost use Rattle.kept_disk.specs.Pages.{HoldsRange, IsHeld, Stand};
+ghost use Rattle.iso_disk.specs.Disk.{spliced};
+ghost use Rattle.kept_disk.specs.Pages.{HasLooked, HoldsRange, IsHeld, Stand};
 
 use crate::pages::{PAGE, Pages};
 use iso_disk::{Disk, DiskFault};
@@ -17,9 +16,7 @@ pub(crate) fn read_parts<D: Disk>(
     requires fits { at + length into.old ≤ (D.state disk.old).size }
     requires stand { ForSome (D.state disk.old).contents (Stand pages.old.numbers.items pages.old.ends.items pages.old.bytes.items) }
     ensures bytes { OnOk result (ForSome (D.state disk.old).contents (λ c. into.new ≡ take (length into.old) (drop at c))) }
-    ensures contents { (D.state disk.new).contents ≡ (D.state disk.old).contents }
-    ensures crash { Elapses (D.state disk.old) (D.state disk.new) (D.state disk.old).now }
-    ensures cause { HasCause (D.state disk.old).faults (D.state disk.new).faults result }
+    ensures looked { HasLooked (D.state disk.old) (D.state disk.new) result }
     ensures stand { ForSome (D.state disk.old).contents (Stand pages.new.numbers.items pages.new.ends.items pages.new.bytes.items) }
     ensures held { HoldsRange pages.old.numbers.items at (length into.old) → (IsOk result) × (disk.new ≡ disk.old) }
     ensures holds { OnOk result (2048 ≤ length pages.old.numbers.items → length into.old ≤ 65536 → HoldsRange pages.new.numbers.items at (length into.old)) }
@@ -68,9 +65,7 @@ fn read_part<D: Disk>(
     requires some { 0 < length into.old }
     requires stand { ForSome (D.state disk.old).contents (Stand pages.old.numbers.items pages.old.ends.items pages.old.bytes.items) }
     ensures bytes { OnOk result (ForSome (D.state disk.old).contents (λ c. into.new ≡ take (length into.old) (drop at c))) }
-    ensures contents { (D.state disk.new).contents ≡ (D.state disk.old).contents }
-    ensures crash { Elapses (D.state disk.old) (D.state disk.new) (D.state disk.old).now }
-    ensures cause { HasCause (D.state disk.old).faults (D.state disk.new).faults result }
+    ensures looked { HasLooked (D.state disk.old) (D.state disk.new) result }
     ensures stand { ForSome (D.state disk.old).contents (Stand pages.new.numbers.items pages.new.ends.items pages.new.bytes.items) }
     ensures held { IsHeld pages.old.numbers.items (at / 4096) → (IsOk result) × (disk.new ≡ disk.old) × (pages.new ≡ pages.old) }
     ensures holds { OnOk result (at / 4096 % 2048 < length pages.old.numbers.items → IsHeld pages.new.numbers.items (at / 4096)) }

@@ -22,7 +22,5 @@ returns g c =
       others = subst (λ (l : List ℕ). Torn from len bytes.items l) (sym part)
           (subst (λ (k : ℕ). Torn from k bytes.items (spliced bytes.items from into)) count (spliced_torn bytes.items from into (omega (arith, count, c.requires.within))));
       room = search rules;
-      contents = c.read.ensures.contents;
-      crash = c.read.ensures.crash;
-      cause = c.read.ensures.cause;
+      looked = record { contents = c.read.ensures.contents; crash = c.read.ensures.crash; cause = c.read.ensures.cause };
     }

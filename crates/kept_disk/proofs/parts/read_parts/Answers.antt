@@ -37,9 +37,9 @@ loop-done-preserved g c =
           (let back : count ≡ length part = sym size in λ i. take (done + back i) (is i))
           ∙ read_further into part l c.args.at done lies (so_far.bytes l told) read
           ∙ ap (λ (k : ℕ). take (done + k) (drop c.args.at l)) size;
-      contents = c.read_part-in-loop-done.ensures.contents ∙ so_far.contents;
-      crash = further so_far.crash c.read_part-in-loop-done.ensures.crash;
-      faults = c.in_default.ensures.cause.passed ∙ so_far.faults;
+      contents = c.read_part-in-loop-done.ensures.looked.contents ∙ so_far.contents;
+      crash = further so_far.crash c.read_part-in-loop-done.ensures.looked.crash;
+      faults = c.in_default.ensures.looked.cause.passed ∙ so_far.faults;
       stand = λ l told. c.read_part-in-loop-done.ensures.stand l (so_far.contents ∙ told);
       places = c.read_part-in-loop-done.ensures.places ∙ so_far.places;
       held = λ range.
@@ -55,38 +55,24 @@ loop-done-preserved g c =
 pub returns-then-is_in_one_page-clause-bytes : goal.returns-then-is_in_one_page-clause-bytes
 returns-then-is_in_one_page-clause-bytes g c = c.read_part.ensures.bytes
 
-pub returns-then-is_in_one_page-clause-contents : goal.returns-then-is_in_one_page-clause-contents
-returns-then-is_in_one_page-clause-contents g c = c.read_part.ensures.contents
-
-pub returns-then-is_in_one_page-clause-crash : goal.returns-then-is_in_one_page-clause-crash
-returns-then-is_in_one_page-clause-crash g c = c.read_part.ensures.crash
-
-pub returns-then-is_in_one_page-clause-cause : goal.returns-then-is_in_one_page-clause-cause
-returns-then-is_in_one_page-clause-cause g c = c.read_part.ensures.cause
-
 pub returns-then-is_in_one_page-clause-stand : goal.returns-then-is_in_one_page-clause-stand
 returns-then-is_in_one_page-clause-stand g c = c.read_part.ensures.stand
-
-pub returns-in-Err-clause-contents : goal.returns-in-Err-clause-contents
-returns-in-Err-clause-contents g c = c.read_part-in-loop-done.ensures.contents ∙ c.loop-done.invariant.contents
-
-pub returns-in-Err-clause-crash : goal.returns-in-Err-clause-crash
-returns-in-Err-clause-crash g c = further c.loop-done.invariant.crash c.read_part-in-loop-done.ensures.crash
-
-pub returns-in-Err-clause-cause : goal.returns-in-Err-clause-cause
-returns-in-Err-clause-cause g c = failed_behind c.loop-done.invariant.faults c.in-Err.ensures.cause
 
 pub returns-in-Err-clause-stand : goal.returns-in-Err-clause-stand
 returns-in-Err-clause-stand g c l told = c.read_part-in-loop-done.ensures.stand l (c.loop-done.invariant.contents ∙ told)
 
-pub returns-clause-contents : goal.returns-clause-contents
-returns-clause-contents g c = c.loop-done.invariant.contents
-
-pub returns-clause-crash : goal.returns-clause-crash
-returns-clause-crash g c = c.loop-done.invariant.crash
-
-pub returns-clause-cause : goal.returns-clause-cause
-returns-clause-cause g c = all_passed c.loop-done.invariant.faults
-
 pub returns-clause-stand : goal.returns-clause-stand
 returns-clause-stand g c = c.loop-done.invariant.stand
+
+pub returns-then-is_in_one_page-clause-looked : goal.returns-then-is_in_one_page-clause-looked
+returns-then-is_in_one_page-clause-looked g c = c.read_part.ensures.looked
+
+pub returns-in-Err-clause-looked : goal.returns-in-Err-clause-looked
+returns-in-Err-clause-looked g c = record {
+  contents = c.read_part-in-loop-done.ensures.looked.contents ∙ c.loop-done.invariant.contents;
+  crash = further c.loop-done.invariant.crash c.read_part-in-loop-done.ensures.looked.crash;
+  cause = failed_behind c.loop-done.invariant.faults c.in-Err.ensures.looked.cause;
+}
+
+pub returns-clause-looked : goal.returns-clause-looked
+returns-clause-looked g c = record { contents = c.loop-done.invariant.contents; crash = c.loop-done.invariant.crash; cause = all_passed c.loop-done.invariant.faults }
