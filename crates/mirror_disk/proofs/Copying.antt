@@ -40,6 +40,10 @@ piece_laid c at bytes y inside is =
 pub read_torn : {old new : DiskState} (at n : ℕ) → new.contents ≡ old.contents → TellsTorn at n old new
 read_torn at n same = record { told = λ c is. (c, same ∙ is, torn_same at n c); untold = λ is. same ∙ is }
 
+-- and a call after it that changes nothing
+pub torn_stays : {old mid new : DiskState} {at n : ℕ} → TellsTorn at n old mid → new.contents ≡ mid.contents → TellsTorn at n old new
+torn_stays torn same = record { told = λ c is. let d = torn.told c is in (d.0, same ∙ d.1, d.2); untold = λ is. same ∙ torn.untold is }
+
 -- and a write after the read is one from before it
 pub torn_behind : {old mid new : DiskState} (at n : ℕ) → mid.contents ≡ old.contents → TellsTorn at n mid new → TellsTorn at n old new
 torn_behind at n same tells = record { told = λ c is. tells.told c (same ∙ is); untold = λ is. tells.untold (same ∙ is) }

@@ -1,5 +1,12 @@
 -- The other side while it is made as the one that was chosen.
-use Rattle.mirror_disk.proofs.{Words.{◌≡◌, inl, inr, ⊎_elim, ℕ, ◌+◌, ◌≤◌, List, Some, None, sym, ◌∙◌, ap, arith, same_Some, DiskState, IsLawful, IsSettled, LeavesOnly, TellsTorn, TornFrom, WritesNothing, at_end, joined, weakened, Slot, AreAlike, OfChosen, OfOther, body, epoch, HasEpoch, IsMarked, KeepsBody, Raising}, Ended.{marked_on, tells_on}, Epochs.epoch-torn, Headers.header_behind, Raises.told_before}
+use Rattle.mirror_disk.proofs.{Words.{◌≡◌, inl, inr, ⊎_elim, ℕ, ◌+◌, ◌≤◌, List, Some, None, sym, ◌∙◌, ap, arith, same_Some, DiskState, IsLawful, IsSettled, LeavesOnly, TellsTorn, TornFrom, WritesNothing, at_end, joined, weakened, Slot, AreAlike, OfChosen, OfOther, body, epoch, HasEpoch, IsMarked, KeepsBody, Raising, TellsOn}, Ended.{keeps_on, marked_on, tells_on}, Epochs.epoch-torn, Headers.header_behind, Raises.told_before}
+
+-- the other side goes on telling its bytes while they are copied, and while its epoch is raised
+pub tells_copied : {old new : DiskState} {k n : ℕ} → TellsTorn k n old new → TellsOn old new
+tells_copied torn = record { told = tells_on torn; untold = torn.untold }
+
+pub tells_raised : {old mid new : DiskState} {k n : ℕ} → TellsTorn k n old mid → KeepsBody mid new → TellsOn old new
+tells_raised torn keeps = record { told = λ some. keeps_on keeps (tells_on torn some); untold = λ none. keeps.untold (torn.untold none) }
 
 -- a settled side whose images have this epoch is marked
 pub marked_settled : {d : DiskState} (slot : Slot) (e : ℕ) → IsSettled d → ((x : List ℕ) → d.now x → HasEpoch slot e x) → IsMarked slot e d

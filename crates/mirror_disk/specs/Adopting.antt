@@ -1,8 +1,8 @@
 -- What an adopt makes of the side that it chose, and of the other one.
-use Rattle.std.specs.{Prelude.{◌≡◌, ◌≢◌, ◌⊎◌, ℕ, ◌<◌, ◌≤◌, List, [], Some, None}, Option.ForSome}
-use Rattle.counts.specs.Count.{Rose}
-use Rattle.iso_disk.specs.Disk.{DiskState, IsSettled, WritesNothing}
-use Rattle.mirror_disk.specs.{declared.marks.Marks.Marks, declared.slot.Slot.Slot, declared.used.Used.TheVariants.{Broken, OnlyFirst, OnlySecond}, Header.{IsHeader, body, chosen, epoch, last_epoch}, Pairs.{ChosenOf, chosen_told, mirrored}, Raised.HasEpoch, Standing.{IsPair, StandsBy}}
+use Rattle.std.specs.{Prelude.{◌≡◌, ◌≢◌, ◌⊎◌, ℕ, ◌+◌, ◌<◌, ◌≤◌, List, [], Bool, false, Option, Some, None, Result, IfOk, IfSome}, Option.ForSome}
+use Rattle.counts.specs.Count.{HasCause, Rose}
+use Rattle.iso_disk.specs.Disk.{DiskState, IsSettled, LeavesOnly, TellsTorn, TornFrom, WritesNothing}
+use Rattle.mirror_disk.specs.{declared.marks.Marks.Marks, declared.slot.{Mark.Mark, Slot.Slot}, declared.used.Used.TheVariants.{Broken, OnlyFirst, OnlySecond}, Header.{IsHeader, body, chosen, epoch, last_epoch}, Pairs.{ChosenOf, chosen_told, mirrored}, Raised.{EachNow, HasEpoch}, Standing.{IsPair, StandsBy}}
 
 -- an image of the side that was chosen: its epoch or a larger one, and the mirrored bytes that it told at the start
 pub record OfChosen (e : ℕ) (start : DiskState) (image : List ℕ) : Type 0 where
@@ -28,6 +28,36 @@ pub record AreAlike (a b : DiskState) (e : ℕ) (one two : Slot) : Type 0 where
 pub record TellsOn (old new : DiskState) : Type 0 where
   pub told : old.contents ≢ None → new.contents ≢ None
   pub untold : old.contents ≡ None → new.contents ≡ None
+
+-- two stable sides with as many mirrored bytes, of which the one with this mark was chosen, as no epoch of the other is larger
+pub record AreChosen (a b : DiskState) (count : ℕ) (one two : Mark) : Type 0 where
+  pub from : a.size ≡ 64 + count
+  pub to : b.size ≡ 64 + count
+  pub settled : IsSettled a × IsSettled b
+  pub chosen : EachNow a (HasEpoch one.slot one.epoch)
+  pub behind : EachNow b (HasEpoch two.slot two.epoch)
+  pub most : (two.epoch ≤ one.epoch) × (one.epoch ≤ last_epoch)
+
+-- what becomes of the other side while it is made as the chosen one, which is so where a slot is answered; else it failed
+pub record MakesOther {E : Type 0} (from to new_from new_to : DiskState) (chosen behind : Mark) (result : Result (Option Slot) E) : Type 0 where
+  pub moments : LeavesOnly to new_to (OfOther behind.epoch chosen.epoch from to)
+  pub tells : TellsOn to new_to
+  pub alike : IfOk result (λ slot. IfSome slot (λ s. AreAlike new_from new_to chosen.epoch chosen.slot s))
+  pub left : IfOk result (λ slot. slot ≡ None → Rose to.faults new_to.faults)
+
+-- where two disks tell the same mirrored bytes
+abbrev pub WhereSame : DiskState → DiskState → Type 0 → Type 0
+WhereSame a b P = (x y : List ℕ) → a.contents ≡ Some x → b.contents ≡ Some y → body x ≡ body y → P
+
+-- what a copy of n bytes from `at` on makes of the other side, where it writes what differs: false where that side failed
+pub record Copies {E : Type 0} (from to new_from new_to : DiskState) (at n : ℕ) (result : Result Bool E) : Type 0 where
+  pub unwritten : WritesNothing from new_from
+  pub moments : LeavesOnly to new_to (TornFrom at n to.now)
+  pub torn : TellsTorn at n to new_to
+  pub still : WhereSame from to (WritesNothing to new_to)
+  pub cause : HasCause from.faults new_from.faults result
+  pub later : to.faults ≤ new_to.faults
+  pub failed : IfOk result (λ done. done ≡ false → Rose to.faults new_to.faults)
 
 -- Sides that were given, that were made stable and read, and that were adopted. What is chosen at each moment is chosen of a
 -- pair of images of the stable sides, which were among those that the sides might leave as they were given.
@@ -69,10 +99,6 @@ TellsHeader d = ForSome d.contents (λ c. IsHeader c)
 
 abbrev pub TellsNoHeader : DiskState → Type 0
 TellsNoHeader d = ForSome d.contents (λ c. IsHeader c → ⊥)
-
--- where two disks tell the same mirrored bytes
-abbrev pub WhereSame : DiskState → DiskState → Type 0 → Type 0
-WhereSame a b P = (x y : List ℕ) → a.contents ≡ Some x → b.contents ≡ Some y → body x ≡ body y → P
 
 -- What becomes of two stable sides, whichever was chosen and whether the other one could be made as it.
 pub record Settles (a b new_a new_b : DiskState) : Type 0 where

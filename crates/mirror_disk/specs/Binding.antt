@@ -1,8 +1,8 @@
 -- Why a mirror is not bound under a name of two sides, and what an Ok and a refusal have seen of the two names.
-use Rattle.std.specs.Prelude.{◌≡◌, ◌⊎◌, ◌-◌, ◌^◌, ◌<◌, ℕ, Bool, true, false, List, Option, None, IfSome, IsSome, IsSomeAnd, length}
-use Rattle.iso_disk.specs.Disk.{DiskState}
+use Rattle.std.specs.{Prelude.{◌≡◌, ◌≢◌, ◌⊎◌, ◌-◌, ◌^◌, ◌<◌, ◌≤◌, ℕ, Bool, true, false, List, Option, Some, None, Result, IfNone, IfOk, IfSome, IsSome, IsSomeAnd, OnOk, OnErr, length, replicate}, Option.ForSome}
+use Rattle.iso_disk.specs.Disk.{DiskState, IsSettled}
 use Rattle.counts.specs.Count.{Rose}
-use Rattle.mirror_disk.specs.{Adopting.{AdoptRefuses, WasBound}, Pairs.{first_name, second_name}}
+use Rattle.mirror_disk.specs.{declared.marks.Marks.Marks, declared.used.Used.Used, declared.used.Used.TheVariants.{Both, Broken, OnlyFirst, OnlySecond, Plain, Unbound}, Adopting.{AdoptRefuses, AreAdopted, WasBound}, Pairs.{first_name, names_mirror, second_name}, Standing.IsPair}
 
 -- the name has no room for a byte more, or the size none for a header
 abbrev pub IsTooLarge : List ℕ → Option ℕ → Type 0
@@ -29,3 +29,32 @@ RefusesBound {A = A} {B = B} first second old name = (x : A) × (y : B) × WasBo
 abbrev pub BindFails : {A B : Type 0} → (A → DiskState) → (B → DiskState) → (A → List ℕ → Bool → Type 0) → (B → List ℕ → Bool → Type 0) → Option ℕ → (old new : A × B) → List ℕ → Type 0
 BindFails first second sees sees' want old new name =
     EitherFailed first second old new ⊎ ((IsTooLarge name want ⊎ IsTaken sees sees' want old.0 old.1 name) ⊎ ((want ≡ None) × RefusesBound first second old name))
+
+-- what a bind that is done makes of a disk, or of a mirror: zeros with a size, and what had the name with none
+pub record BindsTo {T E : Type 0} (old new : DiskState) (name : List ℕ) (want : Option ℕ) (result : Result T E) : Type 0 where
+  pub size : OnOk result (IfSome want (λ w. new.size ≡ w))
+  pub blank : OnOk result (IfSome want (λ w. ForSome new.contents (λ c. c ≡ replicate w 0)))
+  pub blank_after_crash : OnOk result (IfSome want (λ w. (c : List ℕ) → new.now c → c ≡ replicate w 0))
+  pub existing : OnOk result (IfNone want (ForSome (old.named name) (λ c. new.contents ≡ Some c)))
+  pub settled : OnOk result (IfNone want (IsSettled new))
+  pub told : OnOk result (IsSome (old.named name) → IsSome new.contents)
+  pub bound : OnOk result (new.bound ≡ Some (new.clock, name))
+
+-- What a bind of a mirror makes of its sides, and which of them are in use then.
+pub record BindsSides {T E A B : Type 0} (first : A → DiskState) (second : B → DiskState) (sees : A → List ℕ → Bool → Type 0) (sees' : B → List ℕ → Bool → Type 0) (want : Option ℕ) (old new : A × B) (name : List ℕ) (used : Used) (result : Result T E) : Type 0 where
+  pub plain : names_mirror name ≡ false → used ≡ Plain
+  pub alone : names_mirror name ≡ false → new.1 ≡ old.1
+  pub goes_on : OnOk result (names_mirror name ≡ true → IsPair used × (used ≢ Broken))
+  pub released : OnErr result (names_mirror name ≡ true → used ≡ Unbound)
+  pub left_first : OnOk result (names_mirror name ≡ true → used ≡ OnlySecond → Rose (first old.0).faults (first new.0).faults)
+  pub left_second : OnOk result (names_mirror name ≡ true → used ≡ OnlyFirst → Rose (second old.1).faults (second new.1).faults)
+  pub made : OnOk result (names_mirror name ≡ true → IfSome want (λ w. used ≡ Both))
+  pub made_free : names_mirror name ≡ true → MakesOnFreeNames sees sees' want old.0 new.0 old.1 new.1 name
+  pub first_fails : OnErr result (names_mirror name ≡ false → Rose (first old.0).faults (first new.0).faults)
+  pub fails : OnErr result (names_mirror name ≡ true → BindFails first second sees sees' want old new name)
+
+-- what becomes of two sides that are bound to be a mirror
+pub record BecomePair {E : Type 0} (a b new_a new_b : DiskState) (name : List ℕ) (result : Result Marks E) : Type 0 where
+  pub adopted : IfOk result (AreAdopted a b new_a new_b)
+  pub bound : OnOk result ((t : ℕ) × (new_a.bound ≡ Some (t, first_name name)))
+  pub later : (a.faults ≤ new_a.faults) × (b.faults ≤ new_b.faults)

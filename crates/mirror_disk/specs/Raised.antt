@@ -1,7 +1,8 @@
 -- What a crash may leave of a side while its epoch is raised.
-use Rattle.std.specs.Prelude.{◌≡◌, ◌⊎◌, ℕ, ◌+◌, ◌≤◌, List, take, drop, replicate, Some, None}
-use Rattle.iso_disk.specs.Disk.{DiskState}
-use Rattle.mirror_disk.specs.{declared.slot.{Mark.Mark, Slot.Slot}, Header.{IsHeader, slot_epoch, epoch, body, last_epoch, number_at}, Slots.place}
+use Rattle.std.specs.Prelude.{◌≡◌, ◌⊎◌, ℕ, ◌+◌, ◌≤◌, List, take, drop, replicate, Some, None, Result, OnOk}
+use Rattle.counts.specs.Count.{HasCause}
+use Rattle.iso_disk.specs.Disk.{DiskState, IsSettled, LeavesOnly}
+use Rattle.mirror_disk.specs.{declared.slot.{Mark.Mark, Slot.Slot}, Header.{IsHeader, slot_epoch, epoch, body, last_epoch, number_at}, Slots.{other, place}}
 
 -- the image has a header with this epoch, and this slot holds it
 pub record HasEpoch (slot : Slot) (e : ℕ) (image : List ℕ) : Type 0 where
@@ -45,3 +46,18 @@ pub record Still (slot : Slot) (e : ℕ) (old : DiskState) (image : List ℕ) : 
   pub was : List ℕ
   pub is_old : old.now was
   pub same : body image ≡ body was
+
+-- Of a call that puts the next epoch into the slot that does not hold the one so far, of which `Was` is known: each image has the one
+-- or the other, and what is told of the mirrored bytes stays.
+pub record RaisesTo {T E : Type 0} (Was : ℕ → Type 0) (slot : Slot) (next : ℕ) (old new : DiskState) (result : Result T E) : Type 0 where
+  pub moments : (e : ℕ) → Was e → e ≤ next → LeavesOnly old new (Raising e next old)
+  pub raised : OnOk result (EachNow new (HasEpoch (other slot) next))
+  pub settled : OnOk result (IsSettled new)
+  pub body : KeepsBody old new
+  pub cause : HasCause old.faults new.faults result
+
+-- and of one that leaves the epoch as it is
+pub record KeepsEpoch {T E : Type 0} (Was : ℕ → Type 0) (slot : Slot) (old new : DiskState) (result : Result T E) : Type 0 where
+  pub moments : (e : ℕ) → Was e → LeavesOnly old new (Still slot e old)
+  pub body : KeepsBody old new
+  pub cause : HasCause old.faults new.faults result

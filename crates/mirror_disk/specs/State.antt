@@ -1,7 +1,7 @@
 -- The state of a mirror by its fields.
-use Rattle.std.{specs.Prelude.{ℕ, ◌<◌, ◌^◌, List, Option, None}, proofs.Common.{arith, lit<}}
+use Rattle.std.{specs.Prelude.{◌≡◌, ◌≢◌, ◌⊎◌, ℕ, ◌<◌, ◌^◌, false, List, Option, None, Result, OnOk, OnErr}, proofs.Common.{arith, lit<}}
 use Rattle.iso_disk.specs.{Disk.{DiskState, IsLawful}, declared.disk.Disk.Ghosts, Untold.{untold, untold_is_lawful}}
-use Rattle.mirror_disk.specs.{declared.slot.Slot.Slot, declared.used.Used.Used, declared.used.Used.TheVariants.{Plain, Both, OnlyFirst, OnlySecond, Broken, Unbound}, Failing.{AllFailed, CannotLeave, LeavesFailed}, Laws.lawful, declared.mirror.Mirror.Mirror, Pairs.named_by, Standing.{Stands, state_in}}
+use Rattle.mirror_disk.specs.{declared.slot.Slot.Slot, declared.used.Used.Used, declared.used.Used.TheVariants.{Plain, Both, OnlyFirst, OnlySecond, Broken, Unbound}, Failing.{AllFailed, CannotLeave, LeavesFailed}, Laws.lawful, declared.mirror.Mirror.Mirror, Pairs.named_by, Standing.{Stands, sides_in, state_in}}
 
 abbrev pub state_of : {A B : Type 0} {g : Ghosts A} {h : Ghosts B} → Mirror A B g h → DiskState
 state_of {g = g} {h = h} m = state_in m.marks.used (g.state m.first) (h.state m.second) m.past m.faults m.binds
@@ -16,6 +16,20 @@ CannotBeLeft {g = g} {h = h} old new = CannotLeave old.marks.used old.marks.epoc
 
 abbrev pub LeavesFailedOut : {A B : Type 0} {g : Ghosts A} {h : Ghosts B} → Mirror A B g h → Mirror A B g h → Type 0
 LeavesFailedOut {g = g} {h = h} old new = LeavesFailed old.marks.used new.marks.used (g.state old.first).faults (g.state new.first).faults (h.state old.second).faults (h.state new.second).faults
+
+-- What every call on a mirror leaves: where it is done a side is in use, and one that is not in use is not called.
+pub record HasCalled {T E A B : Type 0} {g : Ghosts A} {h : Ghosts B} (old new : Mirror A B g h) (result : Result T E) : Type 0 where
+  pub unbound : OnOk result (old.marks.used ≢ Unbound)
+  pub goes_on : OnOk result (new.marks.used ≢ Broken)
+  pub first_idle : (sides_in old.marks.used).0 ≡ false → new.first ≡ old.first
+  pub second_idle : (sides_in old.marks.used).1 ≡ false → new.second ≡ old.second
+
+-- and a write or a sync: a side that fails is left out, or the mirror breaks
+pub record HasChanged {T E A B : Type 0} {g : Ghosts A} {h : Ghosts B} (old new : Mirror A B g h) (result : Result T E) : Type 0 where
+  pub breaks : OnErr result (old.marks.used ≡ Both → new.marks.used ≡ Broken)
+  pub same : new.marks ≡ record old.marks { used = new.marks.used }
+  pub left : LeavesFailedOut old new
+  pub counted : OnErr result (HasAllFailed old new ⊎ CannotBeLeft old new)
 
 size_in : (used : Used) (a b : DiskState) (past : List (ℕ × ℕ)) (faults binds : ℕ) → a.size < 2 ^ 64 → (state_in used a b past faults binds).size < 2 ^ 64
 size_in Plain a b past faults binds fits = fits

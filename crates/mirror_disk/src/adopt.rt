@@ -2,7 +2,7 @@
 ghost use Rattle.std.specs.Prelude.{◌≡◌, ◌≢◌, ◌↔◌, ◌⊎◌, ◌+◌, ◌<◌, ◌≤◌, ℕ, List, None, Err, Some, IfErr, IfOk, IfSome, OnOk, OnErr};
 ghost use Rattle.iso_disk.specs.Disk.{IsSettled, WritesNothing};
 ghost use Rattle.counts.specs.Count.{Rose};
-ghost use Rattle.mirror_disk.specs.{Adopting.{AreAdopted, AdoptFails, AdoptRefuses, AdoptsFrom, LeavesAlike, Settles, TellsHeader, TellsNoHeader}, Binding.EitherFailed, declared.adopt.MirrorError.TheVariants.{Disk, NotMirror, SizesDiffer}, Header.{body, last_epoch}, Pairs.chosen_told, declared.used.Used.TheVariants.{Both, Broken, OnlyFirst, OnlySecond}, Raised.HasMark, Standing.IsPair};
+ghost use Rattle.mirror_disk.specs.{Adopting.{AreAdopted, AdoptFails, AdoptRefuses, AdoptsFrom, LeavesAlike, Settles, TellsHeader, TellsNoHeader}, Binding.EitherFailed, declared.adopt.MirrorError.TheVariants.{Disk, NotMirror, SizesDiffer}, Header.{body, last_epoch}, Pairs.chosen_told, declared.used.Used.TheVariants.Both, Raised.HasMark};
 
 use crate::header::read_header;
 use crate::marks::Marks;
@@ -46,10 +46,7 @@ impl<A: Image, B: Image> Mirror<A, B> {
         ensures refused { IfErr result (λ e. (x : A) × (y : B) × AdoptsFrom (A.state first) (B.state second) (A.state x) (B.state y) (A.state e.1) (B.state e.2)) }
         ensures contents { IfOk result (λ m. (state_of m).contents ≡ chosen_told (A.state first).contents (B.state second).contents) }
         ensures settled { IfOk result (λ m. IsSettled (state_of m)) }
-        ensures in_use { IfOk result (λ m. IsPair m.marks.used) }
-        ensures goes_on { IfOk result (λ m. m.marks.used ≢ Broken) }
-        ensures left_first { IfOk result (λ m. m.marks.used ≡ OnlySecond → Rose (A.state first).faults (A.state m.first).faults) }
-        ensures left_second { IfOk result (λ m. m.marks.used ≡ OnlyFirst → Rose (B.state second).faults (B.state m.second).faults) }
+        ensures adopted { IfOk result (λ m. AreAdopted (A.state first) (B.state second) (A.state m.first) (B.state m.second) m.marks) }
         ensures alike { IfOk result (λ m. m.marks.used ≡ Both → (x y : List ℕ) → (A.state m.first).contents ≡ Some x → (B.state m.second).contents ≡ Some y → body x ≡ body y) }
         ensures headers { OnOk result (TellsHeader (A.state first) × TellsHeader (B.state second)) }
         ensures still { IfOk result (λ m. LeavesAlike (A.state first) (B.state second) (A.state m.first) (B.state m.second)) }

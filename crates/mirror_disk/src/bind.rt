@@ -1,8 +1,8 @@
 // Binding a mirror to a name.
-ghost use Rattle.std.specs.{Prelude.{◌≡◌, ◌≢◌, ◌⊎◌, ◌+◌, ◌^◌, ◌<◌, ◌≤◌, [], ℕ, List, Some, None, true, false, length, replicate, IfOk, OnOk, OnErr, IfNone, IfSome, IsSome}, Option.ForSome};
+ghost use Rattle.std.specs.{Prelude.{◌≡◌, ◌⊎◌, ◌+◌, ◌^◌, ◌<◌, ◌≤◌, [], ℕ, List, Some, None, true, false, length, replicate, IfOk, OnOk, OnErr, IfNone, IfSome, IsSome}, Option.ForSome};
 ghost use Rattle.iso_disk.specs.Disk.{IsSettled};
-ghost use Rattle.counts.specs.Count.{HasCause, Rose, faults_after, one_more};
-ghost use Rattle.mirror_disk.specs.{Adopting.AreAdopted, Binding.{BindFails, EitherFailed, MakesOnFreeNames, RefusesBound}, declared.used.Used.TheVariants.{Both, Broken, OnlyFirst, OnlySecond, Plain, Unbound}, Pairs.{chosen_told, first_name, mirrored, names_mirror, second_name}, Standing.{IsPair, StandsBy, state_by}};
+ghost use Rattle.counts.specs.Count.{HasCause, faults_after, one_more};
+ghost use Rattle.mirror_disk.specs.{Binding.{BecomePair, BindFails, BindsSides, BindsTo, EitherFailed, MakesOnFreeNames, RefusesBound}, declared.used.Used.TheVariants.Both, Pairs.{chosen_told, first_name, mirrored, second_name}, Standing.{StandsBy, state_by}};
 
 use crate::adopt::adopt_sides;
 use crate::disk::count;
@@ -54,16 +54,7 @@ impl<A: Lookup, B: Lookup> Image for Mirror<A, B> {
         ensures counted { (state_of self.new).binds ≡ one_more (state_of self.old).binds }
         ensures cause { HasCause (state_of self.old).faults (state_of self.new).faults result }
         ensures exact { (state_of self.new).faults ≡ faults_after (state_of self.old).faults result }
-        ensures plain { names_mirror name.now ≡ false → self.new.marks.used ≡ Plain }
-        ensures alone { names_mirror name.now ≡ false → self.new.second ≡ self.old.second }
-        ensures goes_on { OnOk result (names_mirror name.now ≡ true → IsPair self.new.marks.used × (self.new.marks.used ≢ Broken)) }
-        ensures released { OnErr result (names_mirror name.now ≡ true → self.new.marks.used ≡ Unbound) }
-        ensures left_first { OnOk result (names_mirror name.now ≡ true → self.new.marks.used ≡ OnlySecond → Rose (A.state self.old.first).faults (A.state self.new.first).faults) }
-        ensures left_second { OnOk result (names_mirror name.now ≡ true → self.new.marks.used ≡ OnlyFirst → Rose (B.state self.old.second).faults (B.state self.new.second).faults) }
-        ensures made { OnOk result (names_mirror name.now ≡ true → IfSome want (λ w. self.new.marks.used ≡ Both)) }
-        ensures made_free { names_mirror name.now ≡ true → MakesOnFreeNames A.seen B.seen want self.old.first self.new.first self.old.second self.new.second name.now }
-        ensures first_fails { OnErr result (names_mirror name.now ≡ false → Rose (A.state self.old.first).faults (A.state self.new.first).faults) }
-        ensures fails { OnErr result (names_mirror name.now ≡ true → BindFails A.state B.state A.seen B.seen want (self.old.first, self.old.second) (self.new.first, self.new.second) name.now) }
+        ensures sides { BindsSides A.state B.state A.seen B.seen want (self.old.first, self.old.second) (self.new.first, self.new.second) name.now self.new.marks.used result }
     {
         raise(&mut self.binds);
         bind_parts(
@@ -87,15 +78,13 @@ fn make_sides<A: Image, B: Image>(
 ) -> Result<Marks, DiskFault>
     requires short { length name.now ≤ 4095 }
     requires room { size + 64 < 2 ^ 64 }
-    ensures adopted { IfOk result (AreAdopted (A.state first.old) (B.state second.old) (A.state first.new) (B.state second.new)) }
+    ensures pair { BecomePair (A.state first.old) (B.state second.old) (A.state first.new) (B.state second.new) name.now result }
     ensures both { IfOk result (λ m. m.used ≡ Both) }
     ensures size { OnOk result ((A.state first.new).size ≡ size + 64) }
     ensures blank { OnOk result (ForSome (chosen_told (A.state first.new).contents (B.state second.new).contents) (λ c. c ≡ replicate size 0)) }
     ensures blank_after_crash { OnOk result ((c : List ℕ) → (mirrored (A.state first.new) (B.state second.new) [] 0 0).now c → c ≡ replicate size 0) }
     ensures told { OnOk result (IsSome (chosen_told ((A.state first.old).named (first_name name.now)) ((B.state second.old).named (second_name name.now))) → IsSome (chosen_told (A.state first.new).contents (B.state second.new).contents)) }
-    ensures bound { OnOk result ((t : ℕ) × ((A.state first.new).bound ≡ Some (t, first_name name.now))) }
     ensures cause { OnErr result (EitherFailed A.state B.state (first.old, second.old) (first.new, second.new)) }
-    ensures later { ((A.state first.old).faults ≤ (A.state first.new).faults) × ((B.state second.old).faults ≤ (B.state second.new).faults) }
 {
     bind_side(first, name, FIRST, Some(size + HEADER))?;
     bind_side(second, name, SECOND, Some(size + HEADER))?;
@@ -111,11 +100,9 @@ fn take_sides<A: Image, B: Image>(
     name: &str,
 ) -> Result<Marks, DiskFault>
     requires { length name.now ≤ 4095 }
-    ensures adopted { IfOk result (AreAdopted (A.state first.old) (B.state second.old) (A.state first.new) (B.state second.new)) }
+    ensures pair { BecomePair (A.state first.old) (B.state second.old) (A.state first.new) (B.state second.new) name.now result }
     ensures existing { OnOk result (ForSome (chosen_told ((A.state first.old).named (first_name name.now)) ((B.state second.old).named (second_name name.now))) (λ c. (chosen_told (A.state first.new).contents (B.state second.new).contents) ≡ Some c)) }
-    ensures bound { OnOk result ((t : ℕ) × ((A.state first.new).bound ≡ Some (t, first_name name.now))) }
     ensures cause { OnErr result (EitherFailed A.state B.state (first.old, second.old) (first.new, second.new) ⊎ RefusesBound A.state B.state (first.old, second.old) name.now) }
-    ensures later { ((A.state first.old).faults ≤ (A.state first.new).faults) × ((B.state second.old).faults ≤ (B.state second.new).faults) }
 {
     bind_side(first, name, FIRST, None)?;
     bind_side(second, name, SECOND, None)?;
@@ -141,7 +128,7 @@ fn bind_sides<A: Lookup, B: Lookup>(
     name: &str,
     want: Option<u64>,
 ) -> Result<Marks, DiskFault>
-    ensures adopted { IfOk result (AreAdopted (A.state first.old) (B.state second.old) (A.state first.new) (B.state second.new)) }
+    ensures pair { BecomePair (A.state first.old) (B.state second.old) (A.state first.new) (B.state second.new) name.now result }
     ensures made { IfOk result (λ m. IfSome want (λ w. m.used ≡ Both)) }
     ensures made_free { MakesOnFreeNames A.seen B.seen want first.old first.new second.old second.new name.now }
     ensures size { OnOk result (IfSome want (λ w. (A.state first.new).size ≡ w + 64)) }
@@ -149,9 +136,7 @@ fn bind_sides<A: Lookup, B: Lookup>(
     ensures blank_after_crash { OnOk result (IfSome want (λ w. (c : List ℕ) → (mirrored (A.state first.new) (B.state second.new) [] 0 0).now c → c ≡ replicate w 0)) }
     ensures existing { OnOk result (IfNone want (ForSome (chosen_told ((A.state first.old).named (first_name name.now)) ((B.state second.old).named (second_name name.now))) (λ c. (chosen_told (A.state first.new).contents (B.state second.new).contents) ≡ Some c))) }
     ensures told { OnOk result (IsSome (chosen_told ((A.state first.old).named (first_name name.now)) ((B.state second.old).named (second_name name.now))) → IsSome (chosen_told (A.state first.new).contents (B.state second.new).contents)) }
-    ensures bound { OnOk result ((t : ℕ) × ((A.state first.new).bound ≡ Some (t, first_name name.now))) }
     ensures cause { OnErr result (BindFails A.state B.state A.seen B.seen want (first.old, second.old) (first.new, second.new) name.now) }
-    ensures later { ((A.state first.old).faults ≤ (A.state first.new).faults) × ((B.state second.old).faults ≤ (B.state second.new).faults) }
 {
     if name.len() > LONGEST {
         return Err(DiskFault);
@@ -181,26 +166,11 @@ fn bind_parts<A: Lookup, B: Lookup>(
     want: Option<u64>,
 ) -> Result<(), DiskFault>
     ensures stands { StandsBy (A.state first.new) (B.state second.new) marks.new past.new }
-    ensures size { (binds : ℕ) → OnOk result (IfSome want (λ w. (state_by marks.new (A.state first.new) (B.state second.new) past.new faults.new binds).size ≡ w)) }
-    ensures blank { (binds : ℕ) → OnOk result (IfSome want (λ w. ForSome (state_by marks.new (A.state first.new) (B.state second.new) past.new faults.new binds).contents (λ c. c ≡ replicate w 0))) }
-    ensures blank_after_crash { (binds : ℕ) → OnOk result (IfSome want (λ w. (c : List ℕ) → (state_by marks.new (A.state first.new) (B.state second.new) past.new faults.new binds).now c → c ≡ replicate w 0)) }
-    ensures existing { (was binds : ℕ) → OnOk result (IfNone want (ForSome ((state_by marks.old (A.state first.old) (B.state second.old) past.old faults.old was).named name.now) (λ c. (state_by marks.new (A.state first.new) (B.state second.new) past.new faults.new binds).contents ≡ Some c))) }
-    ensures settled { (binds : ℕ) → OnOk result (IfNone want (IsSettled (state_by marks.new (A.state first.new) (B.state second.new) past.new faults.new binds))) }
-    ensures told { (was binds : ℕ) → OnOk result (IsSome ((state_by marks.old (A.state first.old) (B.state second.old) past.old faults.old was).named name.now) → IsSome (state_by marks.new (A.state first.new) (B.state second.new) past.new faults.new binds).contents) }
-    ensures bound { (binds : ℕ) → OnOk result ((state_by marks.new (A.state first.new) (B.state second.new) past.new faults.new binds).bound ≡ Some ((state_by marks.new (A.state first.new) (B.state second.new) past.new faults.new binds).clock, name.now)) }
+    ensures state { (was binds : ℕ) → BindsTo (state_by marks.old (A.state first.old) (B.state second.old) past.old faults.old was) (state_by marks.new (A.state first.new) (B.state second.new) past.new faults.new binds) name.now want result }
     ensures unbound { (binds : ℕ) → OnErr result ((state_by marks.new (A.state first.new) (B.state second.new) past.new faults.new binds).bound ≡ None) }
     ensures cause { HasCause faults.old faults.new result }
     ensures exact { faults.new ≡ faults_after faults.old result }
-    ensures plain { names_mirror name.now ≡ false → marks.new.used ≡ Plain }
-    ensures alone { names_mirror name.now ≡ false → second.new ≡ second.old }
-    ensures goes_on { OnOk result (names_mirror name.now ≡ true → IsPair marks.new.used × (marks.new.used ≢ Broken)) }
-    ensures released { OnErr result (names_mirror name.now ≡ true → marks.new.used ≡ Unbound) }
-    ensures left_first { OnOk result (names_mirror name.now ≡ true → marks.new.used ≡ OnlySecond → Rose (A.state first.old).faults (A.state first.new).faults) }
-    ensures left_second { OnOk result (names_mirror name.now ≡ true → marks.new.used ≡ OnlyFirst → Rose (B.state second.old).faults (B.state second.new).faults) }
-    ensures made { OnOk result (names_mirror name.now ≡ true → IfSome want (λ w. marks.new.used ≡ Both)) }
-    ensures made_free { names_mirror name.now ≡ true → MakesOnFreeNames A.seen B.seen want first.old first.new second.old second.new name.now }
-    ensures first_fails { OnErr result (names_mirror name.now ≡ false → Rose (A.state first.old).faults (A.state first.new).faults) }
-    ensures fails { OnErr result (names_mirror name.now ≡ true → BindFails A.state B.state A.seen B.seen want (first.old, second.old) (first.new, second.new) name.now) }
+    ensures sides { BindsSides A.state B.state A.seen B.seen want (first.old, second.old) (first.new, second.new) name.now marks.new.used result }
 {
     if !is_mirror(name.as_bytes()) {
         marks.used = Used::Plain;

@@ -1,8 +1,8 @@
 // Copying the mirrored bytes of one side to the other.
 ghost use Rattle.std.specs.Prelude.{◌≡◌, ◌≢◌, ◌+◌, ◌≤◌, ℕ, List, Some, length, take, drop, true, false, IfOk};
 ghost use Rattle.iso_disk.specs.Disk.{IsSettled, LeavesOnly, TellsTorn, TornFrom, WritesNothing};
-ghost use Rattle.counts.specs.Count.{HasCause, Rose};
-ghost use Rattle.mirror_disk.specs.{Adopting.WhereSame, Header.body};
+ghost use Rattle.counts.specs.Count.{Rose};
+ghost use Rattle.mirror_disk.specs.{Adopting.Copies, Header.body};
 
 use crate::sides::HEADER;
 use iso_disk::{Disk, DiskFault};
@@ -19,15 +19,9 @@ pub(crate) fn copy_body<C: Disk, O: Disk>(
 ) -> Result<bool, DiskFault>
     requires from { (C.state from.old).size ≡ 64 + count }
     requires to { (O.state to.old).size ≡ 64 + count }
-    ensures unwritten { WritesNothing (C.state from.old) (C.state from.new) }
-    ensures moments { LeavesOnly (O.state to.old) (O.state to.new) (TornFrom 64 count (O.state to.old).now) }
-    ensures torn { TellsTorn 64 count (O.state to.old) (O.state to.new) }
+    ensures copies { Copies (C.state from.old) (O.state to.old) (C.state from.new) (O.state to.new) 64 count result }
     ensures settled { IfOk result (λ done. done ≡ true → IsSettled (O.state to.new)) }
     ensures alike { IfOk result (λ done. done ≡ true → (x y : List ℕ) → (C.state from.old).contents ≡ Some x → (O.state to.new).contents ≡ Some y → body y ≡ body x) }
-    ensures still { WhereSame (C.state from.old) (O.state to.old) (WritesNothing (O.state to.old) (O.state to.new)) }
-    ensures cause { HasCause (C.state from.old).faults (C.state from.new).faults result }
-    ensures later { (O.state to.old).faults ≤ (O.state to.new).faults }
-    ensures failed { IfOk result (λ done. done ≡ false → Rose (O.state to.old).faults (O.state to.new).faults) }
 {
     let mut piece = [0; PIECE];
     let mut there = [0; PIECE];
@@ -59,15 +53,9 @@ fn copy_piece<C: Disk, O: Disk>(
     requires from { 64 + at + length piece.old ≤ (C.state from.old).size }
     requires to { 64 + at + length piece.old ≤ (O.state to.old).size }
     requires there { length there.old ≡ length piece.old }
-    ensures unwritten { WritesNothing (C.state from.old) (C.state from.new) }
-    ensures moments { LeavesOnly (O.state to.old) (O.state to.new) (TornFrom (64 + at) (length piece.old) (O.state to.old).now) }
-    ensures torn { TellsTorn (64 + at) (length piece.old) (O.state to.old) (O.state to.new) }
+    ensures copies { Copies (C.state from.old) (O.state to.old) (C.state from.new) (O.state to.new) (64 + at) (length piece.old) result }
     ensures copied { IfOk result (λ done. done ≡ true → (x y : List ℕ) → (C.state from.old).contents ≡ Some x → (O.state to.new).contents ≡ Some y
         → (z : List ℕ) × ((O.state to.old).contents ≡ Some z) × (take at (body y) ≡ take at (body z)) × (take (length piece.old) (drop at (body y)) ≡ take (length piece.old) (drop at (body x)))) }
-    ensures still { WhereSame (C.state from.old) (O.state to.old) (WritesNothing (O.state to.old) (O.state to.new)) }
-    ensures cause { HasCause (C.state from.old).faults (C.state from.new).faults result }
-    ensures later { (O.state to.old).faults ≤ (O.state to.new).faults }
-    ensures failed { IfOk result (λ done. done ≡ false → Rose (O.state to.old).faults (O.state to.new).faults) }
 {
     from.read(HEADER + at, piece)?;
     Ok(lay_piece(to, at, piece, there))

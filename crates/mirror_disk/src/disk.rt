@@ -1,8 +1,8 @@
 // A mirror as a disk.
-ghost use Rattle.std.specs.{Prelude.{◌≡◌, ◌≢◌, ◌⊎◌, ◌+◌, ◌≤◌, true, false, length, OnOk, OnErr}, List.slice_range, Option.ForSome};
+ghost use Rattle.std.specs.{Prelude.{◌≡◌, ◌⊎◌, ◌+◌, ◌≤◌, true, false, length, OnOk, OnErr}, List.slice_range, Option.ForSome};
 ghost use Rattle.iso_disk.specs.Disk.{Elapses, IsSettled, Splices, TellsTorn, TornFrom};
 ghost use Rattle.counts.specs.Count.{HasCause, Rose, faults_after};
-ghost use Rattle.mirror_disk.specs.{declared.used.Used.TheVariants.{Both, Broken, Unbound}, Standing.sides_in};
+ghost use Rattle.mirror_disk.specs.{declared.used.Used.TheVariants.Both};
 
 use crate::mirror::Mirror;
 use crate::sides::{HEADER, read_sides, sync_sides, write_sides};
@@ -11,7 +11,7 @@ use counts::raise;
 use iso_disk::{Disk, DiskFault, Image};
 
 impl<A: Image, B: Image> Disk for Mirror<A, B> {
-    ghost use Rattle.mirror_disk.specs.State.{CannotBeLeft, HasAllFailed, LeavesFailedOut, mirror_lawful, mirror_size, state_of};
+    ghost use Rattle.mirror_disk.specs.State.{HasAllFailed, HasCalled, HasChanged, mirror_lawful, mirror_size, state_of};
 
     ghost state = { state_of };
 
@@ -39,13 +39,10 @@ impl<A: Image, B: Image> Disk for Mirror<A, B> {
         ensures bytes { OnOk result (ForSome (state_of self.old).contents (λ c. into.new ≡ slice_range c at (at + length into.old))) }
         ensures contents { (state_of self.new).contents ≡ (state_of self.old).contents }
         ensures crash { Elapses (state_of self.old) (state_of self.new) (state_of self.old).now }
-        ensures unbound { OnOk result (self.old.marks.used ≢ Unbound) }
-        ensures goes_on { OnOk result (self.new.marks.used ≢ Broken) }
+        ensures called { HasCalled self.old self.new result }
         ensures same { self.new.marks ≡ self.old.marks }
         ensures cause { HasCause (state_of self.old).faults (state_of self.new).faults result }
         ensures exact { (state_of self.new).faults ≡ faults_after (state_of self.old).faults result }
-        ensures first_idle { (sides_in self.old.marks.used).0 ≡ false → self.new.first ≡ self.old.first }
-        ensures second_idle { (sides_in self.old.marks.used).1 ≡ false → self.new.second ≡ self.old.second }
         ensures second_last { self.old.marks.used ≡ Both → Rose (A.state self.old.first).faults (A.state self.new.first).faults ⊎ (self.new.second ≡ self.old.second) }
         ensures counted { OnErr result (HasAllFailed self.old self.new) }
     {
@@ -71,16 +68,10 @@ impl<A: Image, B: Image> Disk for Mirror<A, B> {
         ensures written { OnOk result (Splices at bytes.now (state_of self.old) (state_of self.new)) }
         ensures failed { OnErr result (TellsTorn at (length bytes.now) (state_of self.old) (state_of self.new)) }
         ensures crash { Elapses (state_of self.old) (state_of self.new) (TornFrom at (length bytes.now) (state_of self.old).now) }
-        ensures unbound { OnOk result (self.old.marks.used ≢ Unbound) }
+        ensures called { HasCalled self.old self.new result }
+        ensures changed { HasChanged self.old self.new result }
         ensures cause { HasCause (state_of self.old).faults (state_of self.new).faults result }
         ensures exact { (state_of self.new).faults ≡ faults_after (state_of self.old).faults result }
-        ensures goes_on { OnOk result (self.new.marks.used ≢ Broken) }
-        ensures breaks { OnErr result (self.old.marks.used ≡ Both → self.new.marks.used ≡ Broken) }
-        ensures same { self.new.marks ≡ record self.old.marks { used = self.new.marks.used } }
-        ensures left { LeavesFailedOut self.old self.new }
-        ensures first_idle { (sides_in self.old.marks.used).0 ≡ false → self.new.first ≡ self.old.first }
-        ensures second_idle { (sides_in self.old.marks.used).1 ≡ false → self.new.second ≡ self.old.second }
-        ensures counted { OnErr result (HasAllFailed self.old self.new ⊎ CannotBeLeft self.old self.new) }
     {
         let (used, done) = write_sides(
             &mut self.first,
@@ -103,16 +94,10 @@ impl<A: Image, B: Image> Disk for Mirror<A, B> {
         ensures settled { OnOk result (IsSettled (state_of self.new)) }
         ensures contents { (state_of self.new).contents ≡ (state_of self.old).contents }
         ensures crash { Elapses (state_of self.old) (state_of self.new) (state_of self.old).now }
-        ensures unbound { OnOk result (self.old.marks.used ≢ Unbound) }
+        ensures called { HasCalled self.old self.new result }
+        ensures changed { HasChanged self.old self.new result }
         ensures cause { HasCause (state_of self.old).faults (state_of self.new).faults result }
         ensures exact { (state_of self.new).faults ≡ faults_after (state_of self.old).faults result }
-        ensures goes_on { OnOk result (self.new.marks.used ≢ Broken) }
-        ensures breaks { OnErr result (self.old.marks.used ≡ Both → self.new.marks.used ≡ Broken) }
-        ensures same { self.new.marks ≡ record self.old.marks { used = self.new.marks.used } }
-        ensures left { LeavesFailedOut self.old self.new }
-        ensures first_idle { (sides_in self.old.marks.used).0 ≡ false → self.new.first ≡ self.old.first }
-        ensures second_idle { (sides_in self.old.marks.used).1 ≡ false → self.new.second ≡ self.old.second }
-        ensures counted { OnErr result (HasAllFailed self.old self.new ⊎ CannotBeLeft self.old self.new) }
     {
         let (used, done) = sync_sides(
             &mut self.first,

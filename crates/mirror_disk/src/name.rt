@@ -1,8 +1,7 @@
 // The names of a mirror and of its sides.
-ghost use Rattle.std.specs.{Prelude.{◌≡◌, ◌+◌, ◌<◌, ◌≤◌, [], ◌∷◌, ◌++◌, ℕ, List, Some, None, length, take, replicate, OnOk, IfNone, IfSome, IsSome}, Option.ForSome, Str.IsUtf8};
-ghost use Rattle.iso_disk.specs.Disk.{IsSettled};
+ghost use Rattle.std.specs.{Prelude.{◌≡◌, ◌+◌, ◌<◌, ◌≤◌, [], ◌∷◌, ◌++◌, length, take}, Str.IsUtf8};
 ghost use Rattle.counts.specs.Count.{HasCause};
-ghost use Rattle.mirror_disk.specs.Pairs.{names_mirror};
+ghost use Rattle.mirror_disk.specs.{Binding.BindsTo, Pairs.names_mirror};
 
 use iso_disk::{DiskFault, Image, Lookup};
 use std::str;
@@ -32,13 +31,7 @@ pub(crate) fn bind_side<I: Image>(
 ) -> Result<(), DiskFault>
     requires short { length name.now ≤ 4095 }
     requires digit { digit < 128 }
-    ensures size { OnOk result (IfSome want (λ w. (I.state side.new).size ≡ w)) }
-    ensures blank { OnOk result (IfSome want (λ w. ForSome (I.state side.new).contents (λ c. c ≡ replicate w 0))) }
-    ensures blank_after_crash { OnOk result (IfSome want (λ w. (c : List ℕ) → (I.state side.new).now c → c ≡ replicate w 0)) }
-    ensures existing { OnOk result (IfNone want (ForSome ((I.state side.old).named (name.now ++ digit ∷ [])) (λ c. (I.state side.new).contents ≡ Some c))) }
-    ensures settled { OnOk result (IfNone want (IsSettled (I.state side.new))) }
-    ensures told { OnOk result (IsSome ((I.state side.old).named (name.now ++ digit ∷ [])) → IsSome (I.state side.new).contents) }
-    ensures bound { OnOk result ((I.state side.new).bound ≡ Some ((I.state side.new).clock, name.now ++ digit ∷ [])) }
+    ensures binds { BindsTo (I.state side.old) (I.state side.new) (name.now ++ digit ∷ []) want result }
     ensures cause { HasCause (I.state side.old).faults (I.state side.new).faults result }
 {
     let mut buffer = [0; LONGEST + 1];

@@ -1,9 +1,8 @@
 // Raising the epoch of a side.
 ghost use Rattle.std.specs.Prelude.{◌≡◌, ◌<◌, ◌≤◌, ℕ, OnOk};
-ghost use Rattle.iso_disk.specs.Disk.{IsSettled, LeavesOnly};
+ghost use Rattle.iso_disk.specs.Disk.{IsSettled};
 ghost use Rattle.commit_gate.specs.Gate.{IsClosed};
-ghost use Rattle.counts.specs.Count.{HasCause};
-ghost use Rattle.mirror_disk.specs.{Slots.{other, place}, Header.{last_epoch, slot_body}, Raised.{EachNow, HasEpoch, HoldsEpoch, IsMarked, KeepsBody, Raising, Still}};
+ghost use Rattle.mirror_disk.specs.{Slots.{other, place}, Header.{last_epoch, slot_body}, Raised.{EachNow, HasEpoch, HoldsEpoch, IsMarked, KeepsEpoch, RaisesTo}};
 
 use crate::slot::Slot;
 use commit_gate::{open_gate, put_body, shut_gate, stands_closed};
@@ -20,11 +19,7 @@ pub(crate) fn raise_epoch<D: Disk>(disk: &mut D, slot: Slot, next: u64) -> Resul
     requires size { 64 ≤ (D.state disk.old).size }
     requires last { next ≤ last_epoch }
     requires marked { (e : ℕ) × IsMarked slot e (D.state disk.old) × (e ≤ next) }
-    ensures moments { (e : ℕ) → IsMarked slot e (D.state disk.old) → e ≤ next → LeavesOnly (D.state disk.old) (D.state disk.new) (Raising e next (D.state disk.old)) }
-    ensures raised { OnOk result (EachNow (D.state disk.new) (HasEpoch (other slot) next)) }
-    ensures settled { OnOk result (IsSettled (D.state disk.new)) }
-    ensures body { KeepsBody (D.state disk.old) (D.state disk.new) }
-    ensures cause { HasCause (D.state disk.old).faults (D.state disk.new).faults result }
+    ensures { RaisesTo (λ e. IsMarked slot e (D.state disk.old)) slot next (D.state disk.old) (D.state disk.new) result }
 {
     let gate = slot.other().place();
     shut_slot(disk, slot, gate)?;
@@ -36,10 +31,8 @@ pub(crate) fn raise_epoch<D: Disk>(disk: &mut D, slot: Slot, next: u64) -> Resul
 fn shut_slot<D: Disk>(disk: &mut D, slot: Slot, gate: u64) -> Result<(), DiskFault>
     requires size { 64 ≤ (D.state disk.old).size }
     requires gate { gate ≡ place (other slot) }
-    ensures moments { (e : ℕ) → IsMarked slot e (D.state disk.old) → LeavesOnly (D.state disk.old) (D.state disk.new) (Still slot e (D.state disk.old)) }
+    ensures kept { KeepsEpoch (λ e. IsMarked slot e (D.state disk.old)) slot (D.state disk.old) (D.state disk.new) result }
     ensures shut { (e : ℕ) → IsMarked slot e (D.state disk.old) → OnOk result (EachNow (D.state disk.new) (IsClosed gate)) }
-    ensures body { KeepsBody (D.state disk.old) (D.state disk.new) }
-    ensures cause { HasCause (D.state disk.old).faults (D.state disk.new).faults result }
 {
     if stands_closed(disk, gate)? {
         return Ok(());
@@ -52,12 +45,10 @@ fn put_epoch<D: Disk>(disk: &mut D, slot: Slot, gate: u64, next: u64) -> Result<
     requires size { 64 ≤ (D.state disk.old).size }
     requires gate { gate ≡ place (other slot) }
     requires closed { EachNow (D.state disk.old) (IsClosed gate) }
-    ensures moments { (e : ℕ) → EachNow (D.state disk.old) (HasEpoch slot e) → LeavesOnly (D.state disk.old) (D.state disk.new) (Still slot e (D.state disk.old)) }
+    ensures kept { KeepsEpoch (λ e. EachNow (D.state disk.old) (HasEpoch slot e)) slot (D.state disk.old) (D.state disk.new) result }
     ensures closed { OnOk result (EachNow (D.state disk.new) (IsClosed gate)) }
     ensures holds { OnOk result (EachNow (D.state disk.new) (HoldsEpoch gate next)) }
     ensures settled { OnOk result (IsSettled (D.state disk.new)) }
-    ensures body { KeepsBody (D.state disk.old) (D.state disk.new) }
-    ensures cause { HasCause (D.state disk.old).faults (D.state disk.new).faults result }
 {
     put_body(disk, gate, &spell(next))
 }
@@ -80,11 +71,7 @@ fn open_slot<D: Disk>(disk: &mut D, slot: Slot, gate: u64, next: u64) -> Result<
     requires holds { EachNow (D.state disk.old) (HoldsEpoch gate next) }
     requires settled { IsSettled (D.state disk.old) }
     requires marked { (e : ℕ) × EachNow (D.state disk.old) (HasEpoch slot e) × (e ≤ next) }
-    ensures moments { (e : ℕ) → EachNow (D.state disk.old) (HasEpoch slot e) → e ≤ next → LeavesOnly (D.state disk.old) (D.state disk.new) (Raising e next (D.state disk.old)) }
-    ensures raised { OnOk result (EachNow (D.state disk.new) (HasEpoch (other slot) next)) }
-    ensures settled { OnOk result (IsSettled (D.state disk.new)) }
-    ensures body { KeepsBody (D.state disk.old) (D.state disk.new) }
-    ensures cause { HasCause (D.state disk.old).faults (D.state disk.new).faults result }
+    ensures { RaisesTo (λ e. EachNow (D.state disk.old) (HasEpoch slot e)) slot next (D.state disk.old) (D.state disk.new) result }
 {
     open_gate(disk, gate)
 }

@@ -1,8 +1,8 @@
 // Making the other side as the one that was chosen.
-ghost use Rattle.std.specs.Prelude.{◌≡◌, ◌⊎◌, ◌+◌, ◌≤◌, None, IfOk, IfSome, OnOk, OnErr};
+ghost use Rattle.std.specs.Prelude.{◌≡◌, ◌⊎◌, ◌+◌, ◌≤◌, None, IfOk, OnOk, OnErr};
 ghost use Rattle.iso_disk.specs.Disk.{IsSettled, LeavesOnly, WritesNothing};
 ghost use Rattle.counts.specs.Count.{HasCause, Rose};
-ghost use Rattle.mirror_disk.specs.{Adopting.{AreAlike, OfChosen, OfOther, TellsOn, WhereSame}, Header.last_epoch, Raised.{EachNow, HasEpoch, KeepsBody}, Slots.other};
+ghost use Rattle.mirror_disk.specs.{Adopting.{AreChosen, MakesOther, OfChosen, WhereSame}, Header.last_epoch, Raised.{EachNow, HasEpoch, KeepsBody}, Slots.other};
 
 use crate::copy::copy_body;
 use crate::raise::raise_epoch;
@@ -19,20 +19,12 @@ pub(crate) fn take_over<C: Disk, O: Disk>(
     chosen: Mark,
     behind: Mark,
 ) -> Result<Option<Slot>, DiskFault>
-    requires from { (C.state from.old).size ≡ 64 + count }
-    requires to { (O.state to.old).size ≡ 64 + count }
-    requires settled { IsSettled (C.state from.old) × IsSettled (O.state to.old) }
-    requires chosen { EachNow (C.state from.old) (HasEpoch chosen.slot chosen.epoch) }
-    requires behind { EachNow (O.state to.old) (HasEpoch behind.slot behind.epoch) }
-    requires most { (behind.epoch ≤ chosen.epoch) × (chosen.epoch ≤ last_epoch) }
-    ensures from_moments { LeavesOnly (C.state from.old) (C.state from.new) (OfChosen chosen.epoch (C.state from.old)) }
-    ensures to_moments { LeavesOnly (O.state to.old) (O.state to.new) (OfOther behind.epoch chosen.epoch (C.state from.old) (O.state to.old)) }
+    requires { AreChosen (C.state from.old) (O.state to.old) count chosen behind }
+    ensures made { MakesOther (C.state from.old) (O.state to.old) (C.state from.new) (O.state to.new) chosen behind result }
+    ensures moments { LeavesOnly (C.state from.old) (C.state from.new) (OfChosen chosen.epoch (C.state from.old)) }
     ensures body { KeepsBody (C.state from.old) (C.state from.new) }
-    ensures tells { TellsOn (O.state to.old) (O.state to.new) }
     ensures settled { OnOk result (IsSettled (C.state from.new)) }
-    ensures alike { IfOk result (λ slot. IfSome slot (λ s. AreAlike (C.state from.new) (O.state to.new) chosen.epoch chosen.slot s)) }
     ensures alone { IfOk result (λ slot. slot ≡ None → EachNow (C.state from.new) (HasEpoch (other chosen.slot) (chosen.epoch + 1))) }
-    ensures left { IfOk result (λ slot. slot ≡ None → Rose (O.state to.old).faults (O.state to.new).faults) }
     ensures still { behind.epoch ≡ chosen.epoch → WhereSame (C.state from.old) (O.state to.old) (Rose (O.state to.old).faults (O.state to.new).faults ⊎ (WritesNothing (C.state from.old) (C.state from.new) × WritesNothing (O.state to.old) (O.state to.new))) }
     ensures cause { OnErr result (Rose (C.state from.old).faults (C.state from.new).faults ⊎ ((last_epoch ≤ chosen.epoch) × Rose (O.state to.old).faults (O.state to.new).faults)) }
     ensures later { ((C.state from.old).faults ≤ (C.state from.new).faults) × ((O.state to.old).faults ≤ (O.state to.new).faults) }
@@ -54,20 +46,12 @@ fn make_alike<C: Disk, O: Disk>(
     chosen: Mark,
     behind: Mark,
 ) -> Result<Option<Slot>, DiskFault>
-    requires from { (C.state from.old).size ≡ 64 + count }
-    requires to { (O.state to.old).size ≡ 64 + count }
-    requires settled { IsSettled (C.state from.old) × IsSettled (O.state to.old) }
-    requires chosen { EachNow (C.state from.old) (HasEpoch chosen.slot chosen.epoch) }
-    requires behind { EachNow (O.state to.old) (HasEpoch behind.slot behind.epoch) }
-    requires most { (behind.epoch ≤ chosen.epoch) × (chosen.epoch ≤ last_epoch) }
+    requires { AreChosen (C.state from.old) (O.state to.old) count chosen behind }
+    ensures made { MakesOther (C.state from.old) (O.state to.old) (C.state from.new) (O.state to.new) chosen behind result }
     ensures unwritten { WritesNothing (C.state from.old) (C.state from.new) }
-    ensures moments { LeavesOnly (O.state to.old) (O.state to.new) (OfOther behind.epoch chosen.epoch (C.state from.old) (O.state to.old)) }
-    ensures tells { TellsOn (O.state to.old) (O.state to.new) }
-    ensures alike { IfOk result (λ slot. IfSome slot (λ s. AreAlike (C.state from.new) (O.state to.new) chosen.epoch chosen.slot s)) }
     ensures still { behind.epoch ≡ chosen.epoch → WhereSame (C.state from.old) (O.state to.old) (WritesNothing (O.state to.old) (O.state to.new)) }
     ensures cause { HasCause (C.state from.old).faults (C.state from.new).faults result }
     ensures later { (O.state to.old).faults ≤ (O.state to.new).faults }
-    ensures failed { IfOk result (λ slot. slot ≡ None → Rose (O.state to.old).faults (O.state to.new).faults) }
 {
     if !copy_body(from, to, count)? {
         return Ok(None);

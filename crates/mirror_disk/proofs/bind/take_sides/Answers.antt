@@ -1,4 +1,4 @@
-use Rattle.mirror_disk.proofs.{Words.{inl, inr, ⊎_elim, first_name, second_name}, Blank.named_taken, Done.rose_behind, Settled.adopted_behind}
+use Rattle.mirror_disk.proofs.{Words.{◌∙◌, arith, inl, inr, ⊎_elim, first_name, second_name}, Blank.named_taken, Done.rose_behind, Settled.adopted_behind}
 
 -- the sides that are not taken for a mirror are those that were bound
 pub returns-in-Err-clause-cause : Rattle.mirror_disk.proofs.bind.take_sides.Goals.returns-in-Err-clause-cause
@@ -7,8 +7,8 @@ returns-in-Err-clause-cause g c =
     (λ refuses. inr (
       c.bind_side.new.side,
       c.bind_side-2.new.side,
-      record { bound = (_, c.in_ok-bind_side.ensures.bound); reads = c.in_ok-bind_side.ensures.existing },
-      record { bound = (_, c.in_ok-bind_side-2.ensures.bound); reads = c.in_ok-bind_side-2.ensures.existing },
+      record { bound = (_, c.in_ok-bind_side.ensures.binds.bound); reads = c.in_ok-bind_side.ensures.binds.existing },
+      record { bound = (_, c.in_ok-bind_side-2.ensures.binds.bound); reads = c.in_ok-bind_side-2.ensures.binds.existing },
       refuses,
     )) c.in-Err.ensures.cause
 
@@ -18,7 +18,11 @@ returns-in-Ok-clause-existing g c =
     let b = g.B.Disk.state c.args.second.now in
     let name = c.args.name.now in
     named_taken (a.named (first_name name)) (b.named (second_name name)) (g.A.Disk.state c.bind_side.new.side).contents (g.B.Disk.state c.bind_side-2.new.side).contents (g.A.Disk.state c.adopt_sides.new.first).contents (g.B.Disk.state c.adopt_sides.new.second).contents
-    c.in_ok-bind_side.ensures.existing c.in_ok-bind_side-2.ensures.existing c.adopt_sides.ensures.contents
+    c.in_ok-bind_side.ensures.binds.existing c.in_ok-bind_side-2.ensures.binds.existing c.adopt_sides.ensures.contents
 
-pub returns-in-Ok-clause-adopted : Rattle.mirror_disk.proofs.bind.take_sides.Goals.returns-in-Ok-clause-adopted
-returns-in-Ok-clause-adopted g c = adopted_behind c.bind_side.ensures.cause.later c.bind_side-2.ensures.cause.later c.in-Ok.ensures.adopted
+pub returns-in-Ok-clause-pair : Rattle.mirror_disk.proofs.bind.take_sides.Goals.returns-in-Ok-clause-pair
+returns-in-Ok-clause-pair g c = record {
+  adopted = adopted_behind c.bind_side.ensures.cause.later c.bind_side-2.ensures.cause.later c.in-Ok.ensures.adopted;
+  bound = (_, c.adopt_sides.ensures.bound ∙ c.in_ok-bind_side.ensures.binds.bound);
+  later = (omega (arith, c.bind_side.ensures.cause.later, c.adopt_sides.ensures.later), omega (arith, c.bind_side-2.ensures.cause.later, c.adopt_sides.ensures.later));
+}

@@ -1,23 +1,23 @@
 use Rattle.mirror_disk.proofs.{Words.{◌≡◌, ◌≤◌, ◌+◌, ◌-◌, ℕ, length, take, drop, ap, subst, sym, ◌∙◌, arith, TornFrom, weakened, IsClosed, place, other}, Epochs.inside, Raises.{body_image, both_hold, by_result, keeps_spliced, keeps_torn, holds_body, ok_weaker}}
+use Rattle.std.proofs.Common.{rules}
 
-pub returns-clause-moments : Rattle.mirror_disk.proofs.raise.put_epoch.Goals.returns-clause-moments
-returns-clause-moments g c e each =
+pub returns-clause-kept : Rattle.mirror_disk.proofs.raise.put_epoch.Goals.returns-clause-kept
+returns-clause-kept g c =
     let old = g.D.Disk.state c.args.disk.now in
     let slot = c.args.slot in
     let len : length c.spell.result ≡ 15 = ap length c.spell.ensures in
-    weakened (both_hold c.put_body.ensures.moments c.put_body.ensures.closed) (λ x p. body_image {old = old} slot e each x (subst (λ (m : ℕ). IsClosed m x) c.requires.gate p.1)
-    (subst (λ (n : ℕ). TornFrom (place (other slot) + 1) n old.now x) len (subst (λ (m : ℕ). TornFrom (m + 1) (length c.spell.result) old.now x) c.requires.gate p.0)))
+    let within : c.args.gate + 1 + length c.spell.result ≤ 64 = omega (arith, len, c.requires.gate, inside c.args.slot) in
+    record {
+      moments = λ e each. weakened (both_hold c.put_body.ensures.moments c.put_body.ensures.closed) (λ x p. body_image {old = old} slot e each x (subst (λ (m : ℕ). IsClosed m x) c.requires.gate p.1)
+          (subst (λ (n : ℕ). TornFrom (place (other slot) + 1) n old.now x) len (subst (λ (m : ℕ). TornFrom (m + 1) (length c.spell.result) old.now x) c.requires.gate p.0)));
+      body = by_result c.put_body.result c.put_body.ensures.written c.put_body.ensures.failed
+          (λ written. keeps_spliced (c.args.gate + 1) c.spell.result (g.met.D.Disk.lawful c.args.disk.now) c.requires.size within written)
+          (λ failed. keeps_torn (c.args.gate + 1) (length c.spell.result) within failed);
+      cause = search rules;
+    }
 
 pub returns-clause-holds : Rattle.mirror_disk.proofs.raise.put_epoch.Goals.returns-clause-holds
 returns-clause-holds g c =
     let len : length c.spell.result ≡ 15 = ap length c.spell.ensures in
     let count : c.args.gate + 1 + length c.spell.result - (c.args.gate + 1) ≡ 15 = omega (arith, len) in
     ok_weaker c.put_body.result (λ has x now. holds_body c.args.gate c.args.next x c.ranges.next.fits (ap (λ (n : ℕ). take n (drop (c.args.gate + 1) x)) (sym count) ∙ has x now ∙ c.spell.ensures)) c.put_body.ensures.body
-
-pub returns-clause-body : Rattle.mirror_disk.proofs.raise.put_epoch.Goals.returns-clause-body
-returns-clause-body g c =
-    let len : length c.spell.result ≡ 15 = ap length c.spell.ensures in
-    let within : c.args.gate + 1 + length c.spell.result ≤ 64 = omega (arith, len, c.requires.gate, inside c.args.slot) in
-    by_result c.put_body.result c.put_body.ensures.written c.put_body.ensures.failed
-    (λ written. keeps_spliced (c.args.gate + 1) c.spell.result (g.met.D.Disk.lawful c.args.disk.now) c.requires.size within written)
-    (λ failed. keeps_torn (c.args.gate + 1) (length c.spell.result) within failed)

@@ -1,4 +1,5 @@
 use Rattle.mirror_disk.proofs.{Words.{◌≡◌, ◌≤◌, ◌<◌, ◌+◌, ℕ, List, subst, sym, ◌∙◌, arith, TornFrom, LeavesOnly, at_end, weakened, joined, IsOpen, HasEpoch, Still, place, other}, Epochs.inside, Raises.{by_result, keeps_same, keeps_spliced, keeps_torn, keeps_twice, shut_image, still_here, still_on, gate_of_front}}
+use Rattle.std.proofs.Common.{rules}
 
 at : {g : ℕ} (k : ℕ) → g ≡ k → {n : ℕ} {images : List ℕ → Type 0} (x : List ℕ) → TornFrom g n images x → TornFrom k n images x
 at k is {n = n} {images = images} x t = subst (λ (m : ℕ). TornFrom m n images x) is t
@@ -10,26 +11,27 @@ returns-then-branch-clause-shut g c e marked x now is_open =
     let within : c.args.gate < 64 = omega (arith, c.requires.gate, inside c.args.slot) in
     (c.in_ok-stands_closed.ensures.closed told.0 told.1).0 c.if-branch.true (sym (gate_of_front x told.0 c.args.gate (marked.fronts x told.0 now_old told.1) within) ∙ is_open)
 
-pub returns-clause-moments : Rattle.mirror_disk.proofs.raise.shut_slot.Goals.returns-clause-moments
-returns-clause-moments g c e marked =
+pub returns-clause-kept : Rattle.mirror_disk.proofs.raise.shut_slot.Goals.returns-clause-kept
+returns-clause-kept g c =
     let old = g.D.Disk.state c.args.disk.now in
     let mid = g.D.Disk.state c.stands_closed.new.disk in
     let laws = g.met.D.Disk.lawful c.stands_closed.new.disk in
     let slot = c.args.slot in
     let unwritten = c.in_ok-stands_closed.ensures.unwritten.moments in
-    let within : c.args.gate < 64 = omega (arith, c.requires.gate, inside slot) in
-    let still : LeavesOnly old mid (Still slot e old) = weakened unwritten (still_here {d = old} slot e marked.each) in
-    let each : (x : List ℕ) → mid.now x → HasEpoch slot e x = λ x now. marked.each x (at_end laws unwritten x now) in
-    let opened : (x : List ℕ) → mid.now x → IsOpen (place (other slot)) x = λ x now.
-    let was = at_end laws unwritten x now in
-    let told = marked.told x was in
-    subst (λ (m : ℕ). IsOpen m x) c.requires.gate (gate_of_front x told.0 c.args.gate (marked.fronts x told.0 was told.1) within ∙ (c.in_ok-stands_closed.ensures.open told.0 told.1).0 c.if-branch.false) in
-    joined still (weakened c.shut_gate.ensures.moments (λ x t. still_on slot e laws still x (shut_image {old = mid} slot e each opened x (at (place (other slot)) c.requires.gate x t))))
-
-pub returns-clause-body : Rattle.mirror_disk.proofs.raise.shut_slot.Goals.returns-clause-body
-returns-clause-body g c =
-    let within : c.args.gate + 1 ≤ 64 = omega (arith, c.requires.gate, inside c.args.slot) in
-    let room : 64 ≤ (g.D.Disk.state c.stands_closed.new.disk).size = omega (arith, c.requires.size, c.in_ok-stands_closed.ensures.unwritten.moments.same_size) in
-    keeps_twice (keeps_same c.in_ok-stands_closed.ensures.unwritten.same_contents) (by_result c.shut_gate.result c.shut_gate.ensures.written c.shut_gate.ensures.failed
-    (λ written. keeps_spliced c.args.gate _ (g.met.D.Disk.lawful c.stands_closed.new.disk) room within written)
-    (λ failed. keeps_torn c.args.gate 1 within failed))
+    let front : c.args.gate < 64 = omega (arith, c.requires.gate, inside slot) in
+    let within : c.args.gate + 1 ≤ 64 = omega (arith, c.requires.gate, inside slot) in
+    let room : 64 ≤ mid.size = omega (arith, c.requires.size, unwritten.same_size) in
+    record {
+      moments = λ e marked.
+          let still : LeavesOnly old mid (Still slot e old) = weakened unwritten (still_here {d = old} slot e marked.each) in
+          let each : (x : List ℕ) → mid.now x → HasEpoch slot e x = λ x now. marked.each x (at_end laws unwritten x now) in
+          let opened : (x : List ℕ) → mid.now x → IsOpen (place (other slot)) x = λ x now.
+          let was = at_end laws unwritten x now in
+          let told = marked.told x was in
+          subst (λ (m : ℕ). IsOpen m x) c.requires.gate (gate_of_front x told.0 c.args.gate (marked.fronts x told.0 was told.1) front ∙ (c.in_ok-stands_closed.ensures.open told.0 told.1).0 c.if-branch.false) in
+          joined still (weakened c.shut_gate.ensures.moments (λ x t. still_on slot e laws still x (shut_image {old = mid} slot e each opened x (at (place (other slot)) c.requires.gate x t))));
+      body = keeps_twice (keeps_same c.in_ok-stands_closed.ensures.unwritten.same_contents) (by_result c.shut_gate.result c.shut_gate.ensures.written c.shut_gate.ensures.failed
+          (λ written. keeps_spliced c.args.gate _ (g.met.D.Disk.lawful c.stands_closed.new.disk) room within written)
+          (λ failed. keeps_torn c.args.gate 1 within failed));
+      cause = search rules;
+    }

@@ -10,20 +10,18 @@ returns-clause-contents g c = torn_nowhere (c.read_sides-done.ensures.called.tor
 pub returns-clause-crash : goal.returns-clause-crash
 returns-clause-crash g c = elapses_more (c.read_sides-done.ensures.called.crash c.args.self.now.faults c.count.new.faults c.args.self.now.binds) none_torn
 
-pub returns-clause-unbound : goal.returns-clause-unbound
-returns-clause-unbound g c = on_ok_weaker c.count.result c.read_sides-done.ensures.called.bound c.count.ensures.done
-
-pub returns-clause-goes_on : goal.returns-clause-goes_on
-returns-clause-goes_on g c = on_ok_weaker c.count.result c.read_sides-done.ensures.called.goes_on c.count.ensures.done
-
-pub returns-clause-first_idle : goal.returns-clause-first_idle
-returns-clause-first_idle g c = c.read_sides-done.ensures.called.first_idle
-
-pub returns-clause-second_idle : goal.returns-clause-second_idle
-returns-clause-second_idle g c = c.read_sides-done.ensures.called.second_idle
-
 pub returns-clause-second_last : goal.returns-clause-second_last
 returns-clause-second_last g c = c.read_sides-done.ensures.second_last
 
 pub returns-clause-counted : goal.returns-clause-counted
 returns-clause-counted g c = on_err c.count.result c.read_sides-done.ensures.counted c.count.ensures.failed
+
+pub returns-clause-called : goal.returns-clause-called
+returns-clause-called g c =
+    let called = c.read_sides-done.ensures.called in
+    record {
+      unbound = on_ok_weaker c.count.result called.bound c.count.ensures.done;
+      goes_on = on_ok_weaker c.count.result called.goes_on c.count.ensures.done;
+      first_idle = called.first_idle;
+      second_idle = called.second_idle;
+    }

@@ -19,17 +19,8 @@ returns-in-Ok-clause-still g c = c.adopt_sides.ensures.still
 pub returns-in-Err-clause-still_refused : Rattle.mirror_disk.proofs.mirror.Mirror.adopt.Goals.returns-in-Err-clause-still_refused
 returns-in-Err-clause-still_refused g c = c.adopt_sides.ensures.still
 
-pub returns-in-Ok-clause-in_use : Rattle.mirror_disk.proofs.mirror.Mirror.adopt.Goals.returns-in-Ok-clause-in_use
-returns-in-Ok-clause-in_use g c = c.in-Ok.ensures.adopted.in_use
-
-pub returns-in-Ok-clause-goes_on : Rattle.mirror_disk.proofs.mirror.Mirror.adopt.Goals.returns-in-Ok-clause-goes_on
-returns-in-Ok-clause-goes_on g c = c.in-Ok.ensures.adopted.goes_on
-
-pub returns-in-Ok-clause-left_first : Rattle.mirror_disk.proofs.mirror.Mirror.adopt.Goals.returns-in-Ok-clause-left_first
-returns-in-Ok-clause-left_first g c = c.in-Ok.ensures.adopted.left_first
-
-pub returns-in-Ok-clause-left_second : Rattle.mirror_disk.proofs.mirror.Mirror.adopt.Goals.returns-in-Ok-clause-left_second
-returns-in-Ok-clause-left_second g c = c.in-Ok.ensures.adopted.left_second
+pub returns-in-Ok-clause-adopted : Rattle.mirror_disk.proofs.mirror.Mirror.adopt.Goals.returns-in-Ok-clause-adopted
+returns-in-Ok-clause-adopted g c = c.in-Ok.ensures.adopted
 
 pub returns-in-Ok-clause-contents : Rattle.mirror_disk.proofs.mirror.Mirror.adopt.Goals.returns-in-Ok-clause-contents
 returns-in-Ok-clause-contents g c =
