@@ -1,20 +1,24 @@
-// What no clause says of cores: which calls of the disk they make, and that they succeed with ample memory. And the images of
-// a stop after each call, opened again. An image has four blocks of 64 bytes and logs of 256 bytes.
+// What no clause says of cores: which calls of the disk they make, and that they succeed with ample memory; and what is left where a call
+// fails alone, or where the disk stops there. An image has four blocks of 64 bytes and logs of 256 bytes. Only what borrows a disk or a
+// core may return early: one that owns it drops it at each of its exits, and each of these drops is proved.
 ghost use Rattle.std.specs.Prelude.{IsErrOf};
 ghost use Rattle.iso_memdisk.specs.MemDisk.{state_of};
 ghost use Rattle.recover_tests.specs.Cores.{IsDown, IsUp};
 ghost use Rattle.test_cores.specs.Cores.{IsIdle};
 
-use crate::tests::same;
+use crate::form_tests::same;
 use iso_core::Core;
-use iso_memdisk::{CallKind, MemDisk};
-use iso_model::{CoreError, EndReply};
+use iso_memdisk::CallKind::{self, Read, Sync, Write};
+use iso_memdisk::MemDisk;
+use iso_model::{CoreError, EndReply, Memory};
+use iso_recover::{OpenError, open_image};
 use std::alloc::Global;
+use std::process::Abort;
 use std::test::Fail;
-use test_cores::{change, ended_on, formatted, opened, small};
+use test_cores::{change, ended_on, formatted, opened, small, zeros};
 
 /// The answer to a compaction, or to one with an upgrade. The core is down where it is a fault of the disk.
-pub(crate) fn switch(core: &mut Core<MemDisk>, upgrade: bool) -> Result<u64, CoreError>
+fn switch(core: &mut Core<MemDisk>, upgrade: bool) -> Result<u64, CoreError>
     requires up { IsUp state_of core.old }
     ensures lost { IsErrOf result CoreError.Disk → IsDown state_of core.new }
 {
@@ -25,15 +29,35 @@ pub(crate) fn switch(core: &mut Core<MemDisk>, upgrade: bool) -> Result<u64, Cor
     }
 }
 
-/// The answer to such a one of a disk that is opened, and the disk.
-pub(crate) fn switched_on(
-    alloc: Global,
-    disk: MemDisk,
-    upgrade: bool,
-) -> (Result<u64, CoreError>, MemDisk) {
+/// Whether a core that is down says so, and refuses each call that takes no transaction.
+fn refuses_each_call(core: &mut Core<MemDisk>) -> bool
+    requires down { IsDown state_of core.old }
+{
+    let said = core.stat().down;
+    let begin = core.begin(None) == Err(CoreError::Down);
+    let trim = core.trim() == Err(CoreError::Down);
+    let compact = core.compact() == Err(CoreError::Down);
+    let upgrade = core.upgrade() == Err(CoreError::Down);
+    said && begin && trim && compact && upgrade
+}
+
+/// A fault, where what follows it is right.
+fn fault_if(right: bool) -> Result<u64, CoreError> {
+    if right {
+        Err(CoreError::Disk)
+    } else {
+        Ok(u64::MAX)
+    }
+}
+
+/// The answer to a switch of a disk that is opened, and the disk. A fault is an answer only where the core then refuses each call.
+fn switched_on(alloc: Global, disk: MemDisk, upgrade: bool) -> (Result<u64, CoreError>, MemDisk) {
     match opened(alloc, disk) {
         Ok(mut core) => {
-            let answer = switch(&mut core, upgrade);
+            let answer = match switch(&mut core, upgrade) {
+                Err(CoreError::Disk) => fault_if(refuses_each_call(&mut core)),
+                other => other,
+            };
             (answer, core.into_disk())
         }
         Err(disk) => (Err(CoreError::Down), disk),
@@ -58,7 +82,7 @@ fn block_of(core: &mut Core<MemDisk>, block: u32) -> Option<[u8; 64]>
 }
 
 /// The last number, the base number, the form and a block of a disk that is opened, and the disk.
-pub(crate) fn seen_on(
+fn seen_on(
     alloc: Global,
     disk: MemDisk,
     block: u32,
@@ -77,206 +101,337 @@ pub(crate) fn seen_on(
     }
 }
 
-/// What `seen_on` finds on a disk with this image.
-fn seen(alloc: Global, image: Vec<u8>, block: u32) -> Option<(u64, u64, u8, [u8; 64])> {
-    seen_on(alloc, MemDisk::new(alloc, image), block).0
+/// The last number, the base number and the form of an image, and the byte that fills each of its blocks.
+pub(crate) type Shown = (u64, u64, u8, [u8; 4]);
+
+/// Whether a disk is opened to this.
+pub(crate) fn shows(alloc: Global, disk: MemDisk, (last, base, form, blocks): Shown) -> bool {
+    let mut disk = disk;
+    let mut all = true;
+    for (block, byte) in blocks.iter().enumerate() {
+        let (found, back) = seen_on(alloc, disk, block as u32);
+        disk = back;
+        all = all && found == Some((last, base, form, [*byte; 64]));
+    }
+    all
 }
 
-/// An image in which commit 1 fills block 2 with sevens.
-fn with_a_commit(alloc: Global) -> Result<Vec<u8>, Fail> {
-    let (_reply, disk) = ended_on(alloc, formatted(alloc, &small())?, 2, 7)?;
-    Ok(disk.crash(alloc, 0)?)
+/// Whether the image that a crash leaves with this pick is opened to this.
+fn leaves(alloc: Global, disk: &MemDisk, pick: u64, shown: Shown) -> bool {
+    match disk.crash(alloc, pick) {
+        Ok(image) => shows(alloc, MemDisk::new(alloc, image), shown),
+        Err(_) => false,
+    }
 }
 
-/// And commit 2 fills block 1 with nines.
-pub(crate) fn with_two_commits(alloc: Global) -> Result<Vec<u8>, Fail> {
-    let first = MemDisk::new(alloc, with_a_commit(alloc)?);
-    let (_reply, disk) = ended_on(alloc, first, 1, 9)?;
-    Ok(disk.crash(alloc, 0)?)
+/// What is done with a disk that is opened.
+#[derive(Clone, Copy)]
+enum Act {
+    /// A transaction that fills a block with one byte.
+    Fill(u32, u8),
+    Compact,
+    Upgrade,
 }
 
-#[test]
-fn an_end_makes_four_calls(rt: HostRuntime) -> Result<(), Fail> {
-    let alloc = rt.alloc();
-    let disk = MemDisk::new(alloc, with_a_commit(alloc)?);
-    let (reply, disk) = ended_on(alloc, disk, 1, 9)?;
-    same(&rt, reply, Ok(EndReply::Committed(2)));
-    same(&rt, disk.calls(), 9);
-    same(
-        &rt,
-        seen(alloc, disk.crash(alloc, 1)?, 1),
-        Some((2, 0, 1, [9; 64])),
-    );
-    Ok(())
+/// The number of a commit.
+fn number_of(reply: Result<EndReply, CoreError>) -> Result<u64, CoreError> {
+    match reply {
+        Ok(EndReply::Committed(number)) => Ok(number),
+        Ok(_) => Ok(u64::MAX),
+        Err(error) => Err(error),
+    }
 }
 
-/// Whether an end passed of which these calls pass, how many of the images of the first six picks have its commit whole, how
-/// many have nothing of it, and how many have what the commit before it left.
-fn stopped_behind(alloc: Global, calls: u64) -> Result<(bool, u32, u32, u32), Fail> {
-    let mut disk = MemDisk::new(alloc, with_a_commit(alloc)?);
-    disk.fuse(calls);
-    let (reply, disk) = ended_on(alloc, disk, 1, 9)?;
-    let (mut whole, mut none, mut kept) = (0u32, 0u32, 0u32);
-    for pick in 0..6 {
-        let found = seen(alloc, disk.crash(alloc, pick)?, 1);
-        if found == Some((2, 0, 1, [9; 64])) {
-            whole = whole.saturating_add(1);
+/// The answer, and the disk. None where memory is wanting.
+fn acted_on(alloc: Global, disk: MemDisk, act: Act) -> Option<(Result<u64, CoreError>, MemDisk)> {
+    match act {
+        Act::Fill(block, byte) => match ended_on(alloc, disk, block, byte) {
+            Ok((reply, disk)) => Some((number_of(reply), disk)),
+            Err(_) => None,
+        },
+        Act::Compact => Some(switched_on(alloc, disk, false)),
+        Act::Upgrade => Some(switched_on(alloc, disk, true)),
+    }
+}
+
+/// Which calls of a disk fail.
+#[derive(Clone, Copy)]
+enum Failing {
+    Never,
+    /// The one of this number of a kind, alone.
+    Alone(CallKind, u64),
+    /// All behind so many.
+    Behind(u64),
+}
+
+/// The answer on a disk with this image whose calls fail so, and the disk.
+fn tried(
+    alloc: Global,
+    image: &[u8],
+    failing: Failing,
+    act: Act,
+) -> Option<(Result<u64, CoreError>, MemDisk)> {
+    match image.to_vec(alloc) {
+        Ok(bytes) => {
+            let mut disk = MemDisk::new(alloc, bytes);
+            match failing {
+                Failing::Never => {}
+                Failing::Alone(kind, number) => disk.fail_kind(kind, number),
+                Failing::Behind(calls) => disk.fuse(calls),
+            }
+            acted_on(alloc, disk, act)
         }
-        if found == Some((1, 0, 1, [0; 64])) {
-            none = none.saturating_add(1);
+        Err(_) => None,
+    }
+}
+
+/// The image that it leaves where nothing fails.
+fn image_after(alloc: Global, image: &[u8], act: Act) -> Result<Vec<u8>, Memory> {
+    match tried(alloc, image, Failing::Never, act) {
+        Some((_answer, disk)) => disk.crash(alloc, 0),
+        None => Err(Memory),
+    }
+}
+
+/// A new image.
+pub(crate) fn new_image(alloc: Global) -> Result<Vec<u8>, Memory> {
+    match formatted(alloc, &small()) {
+        Ok(disk) => disk.crash(alloc, 0),
+        Err(memory) => Err(memory),
+    }
+}
+
+/// One thing that is done with an image, the calls of the disk, each with its number among those of its kind, what is answered, and what
+/// the image shows before and after.
+struct Row {
+    name: &'static str,
+    act: Act,
+    calls: &'static [(CallKind, u64)],
+    number: u64,
+    before: Shown,
+    after: Shown,
+}
+
+/// How many of the calls open the image: it is made stable, and read as far as its records.
+const OPENING: usize = 5;
+
+/// A commit behind the opening: the record, behind a closed gate, and then its gate.
+const COMMIT: &[(CallKind, u64)] = &[
+    (Sync, 1),
+    (Read, 1),
+    (Read, 2),
+    (Read, 3),
+    (Read, 4),
+    (Write, 1),
+    (Sync, 2),
+    (Write, 2),
+    (Sync, 3),
+];
+
+/// A switch to a closed half: its gate, the base and the log of the other half are read; its base, header and records are written; then
+/// its gate.
+const SWITCH: &[(CallKind, u64)] = &[
+    (Sync, 1),
+    (Read, 1),
+    (Read, 2),
+    (Read, 3),
+    (Read, 4),
+    (Read, 5),
+    (Read, 6),
+    (Read, 7),
+    (Write, 1),
+    (Write, 2),
+    (Write, 3),
+    (Sync, 2),
+    (Write, 4),
+    (Sync, 3),
+];
+
+/// And to an open one, whose gate is closed first.
+const SWITCH_WITH_A_CLOSE: &[(CallKind, u64)] = &[
+    (Sync, 1),
+    (Read, 1),
+    (Read, 2),
+    (Read, 3),
+    (Read, 4),
+    (Read, 5),
+    (Write, 1),
+    (Sync, 2),
+    (Read, 6),
+    (Read, 7),
+    (Write, 2),
+    (Write, 3),
+    (Write, 4),
+    (Sync, 3),
+    (Write, 5),
+    (Sync, 4),
+];
+
+/// On an image whose commit 1 filled block 2 with sevens.
+const ON_ONE: &[Row] = &[Row {
+    name: "a commit",
+    act: Act::Fill(1, 9),
+    calls: COMMIT,
+    number: 2,
+    before: (1, 0, 1, [0, 0, 7, 0]),
+    after: (2, 0, 1, [0, 9, 7, 0]),
+}];
+
+/// On one that has this commit too.
+const ON_TWO: &[Row] = &[
+    Row {
+        name: "a compaction",
+        act: Act::Compact,
+        calls: SWITCH,
+        number: 2,
+        before: (2, 0, 1, [0, 9, 7, 0]),
+        after: (2, 2, 1, [0, 9, 7, 0]),
+    },
+    Row {
+        name: "an upgrade",
+        act: Act::Upgrade,
+        calls: SWITCH,
+        number: 2,
+        before: (2, 0, 1, [0, 9, 7, 0]),
+        after: (2, 2, 2, [0, 9, 7, 0]),
+    },
+];
+
+/// On one whose other half is open: after a compaction.
+const ON_COMPACTED: &[Row] = &[
+    Row {
+        name: "a compaction to an open half",
+        act: Act::Compact,
+        calls: SWITCH_WITH_A_CLOSE,
+        number: 2,
+        before: (2, 2, 1, [0, 9, 7, 0]),
+        after: (2, 2, 1, [0, 9, 7, 0]),
+    },
+    Row {
+        name: "an upgrade to an open half",
+        act: Act::Upgrade,
+        calls: SWITCH_WITH_A_CLOSE,
+        number: 2,
+        before: (2, 2, 1, [0, 9, 7, 0]),
+        after: (2, 2, 2, [0, 9, 7, 0]),
+    },
+];
+
+/// Whether it is answered with its number and makes its calls where nothing fails, and is stable then.
+fn is_done(alloc: Global, image: &[u8], row: &Row) -> bool {
+    match tried(alloc, image, Failing::Never, row.act) {
+        Some((answer, disk)) => {
+            let made = disk.calls() == row.calls.len() as u64;
+            let stable = leaves(alloc, &disk, 0, row.after);
+            answer == Ok(row.number) && made && stable && shows(alloc, disk, row.after)
         }
-        let other = seen(alloc, disk.crash(alloc, pick)?, 2);
-        if other.is_some_and(|o| o.3 == [7; 64]) {
-            kept = kept.saturating_add(1);
+        None => false,
+    }
+}
+
+/// Whether each image of a crash shows what was before, or what comes after where its gate was written.
+fn loses_nothing(alloc: Global, disk: &MemDisk, row: &Row, written: bool) -> bool {
+    let left = if written { row.after } else { row.before };
+    let mut all = leaves(alloc, disk, 0, row.before) && leaves(alloc, disk, 1, left);
+    for pick in 2..6 {
+        let old = leaves(alloc, disk, pick, row.before);
+        all = all && (old || (written && leaves(alloc, disk, pick, row.after)));
+    }
+    all
+}
+
+/// Whether a failure of the call behind `before` others is answered, is the last call, and loses nothing: neither for those who open an
+/// image of a crash, nor for those who go on with the disk.
+fn is_harmless(alloc: Global, image: &[u8], row: &Row, before: usize, failing: Failing) -> bool {
+    let written = before.saturating_add(1) == row.calls.len();
+    let left = if written { row.after } else { row.before };
+    // The image is not opened, or the fault is told.
+    let wanted = if before < OPENING {
+        CoreError::Down
+    } else {
+        CoreError::Disk
+    };
+    match tried(alloc, image, failing, row.act) {
+        Some((answer, disk)) => {
+            let mut disk = disk;
+            let made = disk.calls() == (before as u64).saturating_add(1);
+            let kept = loses_nothing(alloc, &disk, row, written);
+            disk.fuse(u64::MAX);
+            answer == Err(wanted) && made && kept && shows(alloc, disk, left)
+        }
+        None => false,
+    }
+}
+
+/// How many of the calls fail to no harm, each alone, before the first one that does harm; and the same of stops there.
+fn harmless(alloc: Global, image: &[u8], row: &Row) -> (usize, usize) {
+    let (mut alone, mut stopped) = (0, 0);
+    for (before, (kind, number)) in row.calls.iter().enumerate() {
+        let at = Failing::Alone(*kind, *number);
+        if alone == before && is_harmless(alloc, image, row, before, at) {
+            alone = before.saturating_add(1);
+        }
+        let behind = Failing::Behind(before as u64);
+        if stopped == before && is_harmless(alloc, image, row, before, behind) {
+            stopped = before.saturating_add(1);
         }
     }
-    Ok((reply.is_ok(), whole, none, kept))
+    (alone, stopped)
 }
 
-#[test]
-fn a_stop_in_an_end_leaves_its_commit_whole_or_not_at_all(rt: HostRuntime) -> Result<(), Fail> {
-    for calls in 0..5 {
-        let (done, whole, none, kept) = stopped_behind(rt.alloc(), 5 + calls)?;
-        let all = whole.saturating_add(none);
-        same(&rt, (done, all, kept), (calls == 4, 6, 6));
-        assert!(rt; none == 0 || !done, "{calls}");
+/// What is done with an image makes its calls, and loses nothing where one of them fails.
+fn holds(rt: &impl Abort, alloc: Global, image: &[u8], rows: &[Row]) {
+    for row in rows {
+        let calls = row.calls.len();
+        let found = (is_done(alloc, image, row), harmless(alloc, image, row));
+        same(rt, (row.name, found), (row.name, (true, (calls, calls))));
     }
-    Ok(())
 }
 
 #[test]
-fn a_switch_makes_nine_calls(rt: HostRuntime) -> Result<(), Fail> {
+fn no_failure_in_a_commit_or_a_switch_loses_anything(rt: HostRuntime) -> Result<(), Fail> {
     let alloc = rt.alloc();
-    let disk = MemDisk::new(alloc, with_two_commits(alloc)?);
-    let (answer, disk) = switched_on(alloc, disk, true);
-    same(&rt, answer, Ok(2));
-    same(&rt, disk.calls(), 14);
-    same(
-        &rt,
-        seen(alloc, disk.crash(alloc, 1)?, 1),
-        Some((2, 2, 2, [9; 64])),
-    );
-    Ok(())
-}
-
-/// Whether a stop after `calls` calls, of which the opening makes five and a switch nine, leaves what the two commits
-/// left, in the form that it has or gets.
-fn keeps_the_commits(alloc: Global, calls: u64, upgrade: bool) -> Result<bool, Fail> {
-    let mut disk = MemDisk::new(alloc, with_two_commits(alloc)?);
-    disk.fuse(calls);
-    let (answer, disk) = switched_on(alloc, disk, upgrade);
-    let done = answer == Ok(2);
-    let form = if upgrade { 2 } else { 1 };
-    let mut all = done == (calls == 14);
-    for pick in 0..6 {
-        let first = seen(alloc, disk.crash(alloc, pick)?, 1);
-        let second = seen(alloc, disk.crash(alloc, pick)?, 2);
-        let after = first == Some((2, 2, form, [9; 64])) && second == Some((2, 2, form, [7; 64]));
-        let before = first == Some((2, 0, 1, [9; 64])) && second == Some((2, 0, 1, [7; 64]));
-        all = all && (after || (before && !done));
-    }
-    Ok(all)
-}
-
-#[test]
-fn a_stop_in_a_compaction_keeps_the_last_commit(rt: HostRuntime) -> Result<(), Fail> {
-    let alloc = rt.alloc();
-    for calls in 5..15 {
-        assert!(rt; keeps_the_commits(alloc, calls, false)?, "{calls}");
-    }
-    Ok(())
-}
-
-#[test]
-fn a_stop_in_an_upgrade_keeps_the_last_commit(rt: HostRuntime) -> Result<(), Fail> {
-    let alloc = rt.alloc();
-    for calls in 5..15 {
-        assert!(rt; keeps_the_commits(alloc, calls, true)?, "{calls}");
-    }
-    Ok(())
-}
-
-/// How many of the first calls of a kind, up to eight, are missed where each fails alone in an opening and an end after it,
-/// none of which leaves half a commit.
-fn missed(alloc: Global, kind: CallKind) -> Result<u64, Fail> {
-    let mut count = 0u64;
-    for number in 1..9 {
-        let mut disk = MemDisk::new(alloc, with_a_commit(alloc)?);
-        disk.fail_kind(kind, number);
-        let (reply, disk) = ended_on(alloc, disk, 1, 9)?;
-        let found = seen(alloc, disk.crash(alloc, number)?, 1);
-        let whole = found == Some((2, 0, 1, [9; 64]));
-        if reply.is_err() && (whole || found == Some((1, 0, 1, [0; 64]))) {
-            count = count.saturating_add(1);
-        } else if !whole {
-            count = count.saturating_add(100);
-        }
-    }
-    Ok(count)
-}
-
-#[test]
-fn each_call_of_an_opening_and_an_end_is_missed(rt: HostRuntime) -> Result<(), Fail> {
-    let alloc = rt.alloc();
-    same(&rt, missed(alloc, CallKind::Read)?, 4);
-    same(&rt, missed(alloc, CallKind::Write)?, 2);
-    same(&rt, missed(alloc, CallKind::Sync)?, 3);
-    same(&rt, missed(alloc, CallKind::Bind)?, 0);
+    let image = image_after(alloc, &new_image(alloc)?, Act::Fill(2, 7))?;
+    holds(&rt, alloc, &image, ON_ONE);
+    let image = image_after(alloc, &image, Act::Fill(1, 9))?;
+    holds(&rt, alloc, &image, ON_TWO);
+    let image = image_after(alloc, &image, Act::Compact)?;
+    holds(&rt, alloc, &image, ON_COMPACTED);
     Ok(())
 }
 
 #[test]
 fn an_image_at_the_last_number_is_worn(rt: HostRuntime) -> Result<(), Fail> {
     let alloc = rt.alloc();
-    let mut image = formatted(alloc, &small())?.crash(alloc, 0)?;
-    change(&mut image, 80, &9_223_372_036_854_775_807u64.to_be_bytes());
-    let (reply, _disk) = ended_on(alloc, MemDisk::new(alloc, image), 1, 9)?;
-    same(
-        &rt,
-        reply,
-        Err(CoreError::Worn {
-            at: 9_223_372_036_854_775_807,
-        }),
-    );
-    Ok(())
-}
-
-#[test]
-fn a_full_log_has_room_after_a_compaction(rt: HostRuntime) -> Result<(), Fail> {
-    let alloc = rt.alloc();
-    let disk = MemDisk::new(alloc, with_two_commits(alloc)?);
-    let (reply, disk) = ended_on(alloc, disk, 1, 3)?;
-    same(&rt, reply, Err(CoreError::LogFull { need: 93, free: 72 }));
-    let (_, disk) = switched_on(alloc, disk, false);
-    same(
-        &rt,
-        ended_on(alloc, disk, 1, 3)?.0,
-        Ok(EndReply::Committed(3)),
-    );
-    Ok(())
-}
-
-/// How often the core begins a transaction until it refuses to, at most `times` times, and what it refuses it for.
-fn begun_of(core: &mut Core<MemDisk>, times: u32) -> (u32, Option<CoreError>)
-    requires up { IsUp state_of core.old }
-{
-    let mut count = 0;
-    while count < times {
-        match core.begin(None) {
-            Ok(_) => count += 1,
-            Err(error) => return (count, Some(error)),
-        }
-    }
-    (count, None)
-}
-
-#[test]
-fn as_many_transactions_begin_as_may_be_live(rt: HostRuntime) -> Result<(), Fail> {
-    let alloc = rt.alloc();
-    let begun = match opened(alloc, formatted(alloc, &small())?) {
-        Ok(mut core) => begun_of(&mut core, 1025),
-        Err(_disk) => (0, None),
+    let mut image = new_image(alloc)?;
+    change(&mut image, 80, &[0x7f, 255, 255, 255, 255, 255, 255, 255]);
+    let worn = CoreError::Worn {
+        at: 9_223_372_036_854_775_807,
     };
-    same(&rt, begun, (1024, Some(CoreError::TooManyTx)));
+    let found = match tried(alloc, &image, Failing::Never, Act::Fill(1, 9)) {
+        Some((answer, _disk)) => answer,
+        None => Ok(0),
+    };
+    same(&rt, found, Err(worn));
+    Ok(())
+}
+
+/// Why a disk is not opened, if it is not, and how many calls of it were made by then.
+fn calls_to_open(alloc: Global, disk: MemDisk) -> (Option<OpenError>, u64) {
+    match open_image(alloc, disk) {
+        Ok(core) => {
+            let disk = core.into_disk();
+            (None, disk.calls())
+        }
+        Err((error, disk)) => (Some(error), disk.calls()),
+    }
+}
+
+#[test]
+fn a_refusal_hands_the_disk_back(rt: HostRuntime) -> Result<(), Fail> {
+    let alloc = rt.alloc();
+    let disk = MemDisk::new(alloc, zeros(alloc, 1152)?);
+    let refused = (Some(OpenError::NotIsotope), 2);
+    same(&rt, calls_to_open(alloc, disk), refused);
     Ok(())
 }

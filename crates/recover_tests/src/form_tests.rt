@@ -18,6 +18,13 @@ pub(crate) fn same<T: PartialEq + Debug + Drop>(rt: &impl Abort, found: T, wante
     assert_eq!(rt; found, wanted);
 }
 
+/// Changes a byte.
+fn put(bytes: &mut [u8], place: usize, value: u8) {
+    if let Some(byte) = bytes.get_mut(place) {
+        *byte = value;
+    }
+}
+
 /// The parts of the commit of a transaction that put two bytes at byte 5 of block 2.
 fn one_put(alloc: Global) -> Result<PartList, Memory>
     ensures { IfOk result LieInAnImage }
@@ -27,16 +34,26 @@ fn one_put(alloc: Global) -> Result<PartList, Memory>
     Ok(parts)
 }
 
-fn small_superblock() -> [u8; 64] {
-    let mut bytes = [0; 64];
-    bytes[..8].copy_from_slice(b"ISOTOPE1");
-    bytes[11] = 1;
-    bytes[15] = 0x40;
-    bytes[19] = 4;
-    bytes[22] = 1;
-    bytes[63] = 1;
-    bytes
-}
+/// The superblock of a small image.
+const SUPERBLOCK: [u8; 64] = [
+    b'I', b'S', b'O', b'T', b'O', b'P', b'E', b'1', 0, 0, 0, 1, 0, 0, 0, 0x40, 0, 0, 0, 4, 0, 0, 1,
+    0, 0, 0, 0, 0, 0, 0, 0, 0, 0, 0, 0, 0, 0, 0, 0, 0, 0, 0, 0, 0, 0, 0, 0, 0, 0, 0, 0, 0, 0, 0, 0,
+    0, 0, 0, 0, 0, 0, 0, 0, 1,
+];
+
+/// A byte of it that is changed, its value, and what the superblock is refused for.
+const REFUSED_SUPERBLOCKS: &[(usize, u8, SuperError)] = &[
+    (7, b'2', SuperError::NotIsotope),
+    (63, 0, SuperError::NotIsotope),
+    (11, 2, SuperError::BadGeometry { field: 1 }),
+    (15, 0x41, SuperError::BadGeometry { field: 2 }),
+    (19, 0, SuperError::BadGeometry { field: 3 }),
+    (22, 0, SuperError::BadGeometry { field: 4 }),
+    (24, 2, SuperError::BadGeometry { field: 5 }),
+    (27, 1, SuperError::BadGeometry { field: 6 }),
+    (62, 1, SuperError::BadGeometry { field: 6 }),
+    (31, 3, SuperError::BadGeometry { field: 7 }),
+];
 
 /// The record of `one_put` as commit 1, and the closed gate after it.
 const RECORD: [u8; 31] = [
@@ -45,34 +62,29 @@ const RECORD: [u8; 31] = [
 ];
 
 #[test]
-fn superblock_of_a_small_image(rt: HostRuntime) {
+fn superblocks_of_a_small_image(rt: HostRuntime) {
     let mut bytes = [9; 64];
     write_super(&small(), &mut bytes);
-    same(&rt, bytes, small_superblock());
+    same(&rt, bytes, SUPERBLOCK);
     same(&rt, read_super(&bytes), Ok(small()));
-}
-
-#[test]
-fn superblocks_that_are_refused(rt: HostRuntime) {
-    for (place, value, error) in [
-        (7, b'2', SuperError::NotIsotope),
-        (63, 0, SuperError::NotIsotope),
-        (11, 2, SuperError::BadGeometry { field: 1 }),
-        (15, 0x41, SuperError::BadGeometry { field: 2 }),
-        (19, 0, SuperError::BadGeometry { field: 3 }),
-        (22, 0, SuperError::BadGeometry { field: 4 }),
-        (24, 2, SuperError::BadGeometry { field: 5 }),
-        (27, 1, SuperError::BadGeometry { field: 6 }),
-        (62, 1, SuperError::BadGeometry { field: 6 }),
-        (31, 3, SuperError::BadGeometry { field: 7 }),
-    ] {
-        let mut bytes = small_superblock();
-        if let Some(byte) = bytes.get_mut(place) {
-            *byte = value;
-        }
-        same(&rt, read_super(&bytes), Err(error));
+    for (place, value, error) in REFUSED_SUPERBLOCKS {
+        let mut bytes = SUPERBLOCK;
+        put(&mut bytes, *place, *value);
+        same(&rt, (*place, read_super(&bytes)), (*place, Err(*error)));
     }
 }
+
+/// The header of the first half of a new image.
+const HEADER: [u8; 32] = [
+    1, 1, 0, 0, 0, 0, 0, 0, 0, 0, 0, 0, 0, 0, 0, 1, 0, 0, 0, 0, 0, 0, 0, 0, 0, 0, 0, 0, 0, 0, 0, 0,
+];
+
+/// Bytes of it that are changed, and where the first byte is then that is to be zero and is not.
+const UNCLEAN: &[(usize, usize, Option<u64>)] = &[
+    (0, 0, None),
+    (31, 31, Some(31)),
+    (7, 31, Some(7)),
+];
 
 #[test]
 fn first_half_of_a_new_image(rt: HostRuntime) {
@@ -85,25 +97,15 @@ fn first_half_of_a_new_image(rt: HostRuntime) {
         clean: true,
     };
     write_half(&first, &mut bytes);
-    let mut expected = [0; 32];
-    expected[0] = 1;
-    expected[1] = 1;
-    expected[15] = 1;
-    same(&rt, bytes, expected);
-    same(&rt, read_half(&bytes), first);
-    same(&rt, unclean_place(&bytes), None);
-    bytes[31] = 1;
-    same(
-        &rt,
-        read_half(&bytes),
-        HalfHeader {
-            clean: false,
-            ..first
-        },
-    );
-    same(&rt, unclean_place(&bytes), Some(31));
-    bytes[7] = 9;
-    same(&rt, unclean_place(&bytes), Some(7));
+    same(&rt, bytes, HEADER);
+    for (one, other, unclean) in UNCLEAN {
+        let mut bytes = HEADER;
+        put(&mut bytes, *one, 1);
+        put(&mut bytes, *other, 1);
+        let clean = unclean.is_none();
+        let found = (read_half(&bytes), unclean_place(&bytes));
+        same(&rt, found, (HalfHeader { clean, ..first }, *unclean));
+    }
 }
 
 /// Adds the record of `one_put` as commit 1.
@@ -139,24 +141,32 @@ fn five_parts(alloc: Global) -> Result<PartList, Memory>
     Ok(parts)
 }
 
-// Compares the parts of a record, which stands before a closed gate.
-fn has_five_parts(rt: &impl Abort, record: &[u8]) -> Result<(), Fail> {
-    let view = read_record(record, &small(), 9)?;
-    same(rt, view.number(), 9);
-    let expected: [(u32, u16, &[u8]); 5] = [
-        (0, 0, &[1]),
-        (0, 2, &[2, 3]),
-        (1, 60, &[4, 5, 6, 7]),
-        (2, 0, &[8]),
-        (3, 63, &[9]),
-    ];
+/// These parts: block, offset and bytes.
+const FIVE_PARTS: &[(u32, u16, &[u8])] = &[
+    (0, 0, &[1]),
+    (0, 2, &[2, 3]),
+    (1, 60, &[4, 5, 6, 7]),
+    (2, 0, &[8]),
+    (3, 63, &[9]),
+];
+
+/// The number of a record that stands before a closed gate, how many parts it has, and how many of the first of them are these.
+fn parts_found(record: &[u8], wanted: &[(u32, u16, &[u8])]) -> Option<(u64, usize, usize)> {
+    let Ok(view) = read_record(record, &small(), 9) else {
+        return None;
+    };
     let mut read = view.parts();
-    for wanted in expected.iter() {
-        let part = read.next().ok_or("a part is missing")?;
-        same(rt, (part.block, part.off, part.bytes), *wanted);
+    let (mut count, mut right) = (0usize, 0usize);
+    for _ in 0..10 {
+        if let Some(part) = read.next() {
+            let found = (part.block, part.off, part.bytes);
+            if right == count && wanted.get(count).copied() == Some(found) {
+                right = count.saturating_add(1);
+            }
+            count = count.saturating_add(1);
+        }
     }
-    same(rt, read.next().is_none(), true);
-    Ok(())
+    Some((view.number(), count, right))
 }
 
 #[test]
@@ -166,7 +176,12 @@ fn record_of_five_parts(rt: HostRuntime) -> Result<(), Fail> {
     let mut record = write_record(rt.alloc(), 9, 1, &parts)?;
     same(&rt, record.len(), 69);
     record.push(0)?;
-    has_five_parts(&rt, record.as_slice())
+    same(
+        &rt,
+        parts_found(record.as_slice(), FIVE_PARTS),
+        Some((9, 5, 5)),
+    );
+    Ok(())
 }
 
 fn two_records_behind_one_closed_gate_in(
@@ -195,95 +210,92 @@ fn two_records_behind_one_closed_gate(rt: HostRuntime) -> Result<(), Fail> {
     two_records_behind_one_closed_gate_in(&rt, &mut buffer)
 }
 
+/// Geometries that have one number beyond the limits.
+const BEYOND: &[(u32, u32, u32, u32, u8)] = &[
+    (96, 4, 256, 0, 1),
+    (64, 0, 256, 0, 1),
+    (64, 16_385, 256, 0, 1),
+    (64, 4, 63, 0, 1),
+    (64, 4, 67_108_865, 0, 1),
+    (64, 4, 256, 3, 1),
+    (64, 4, 256, 0, 3),
+];
+
 #[test]
 fn geometries_within_the_limits(rt: HostRuntime) {
-    assert!(rt; is_valid(&small()));
-    for wrong in [
-        Geometry {
-            block: 96,
+    same(&rt, is_valid(&small()), true);
+    for (number, (block, blocks, log, hash, form)) in BEYOND.iter().enumerate() {
+        let wrong = Geometry {
+            block: *block,
+            blocks: *blocks,
+            log: *log,
+            hash: *hash,
+            form: *form,
             ..small()
-        },
-        Geometry {
-            blocks: 0,
-            ..small()
-        },
-        Geometry {
-            blocks: 16_385,
-            ..small()
-        },
-        Geometry { log: 63, ..small() },
-        Geometry {
-            log: 67_108_865,
-            ..small()
-        },
-        Geometry { hash: 3, ..small() },
-        Geometry { form: 3, ..small() },
-    ] {
-        assert!(rt; !is_valid(&wrong));
+        };
+        same(&rt, (number, is_valid(&wrong)), (number, false));
     }
 }
 
 #[test]
 fn what_a_refusal_tells(rt: HostRuntime) {
-    same(&rt, FormatError::Short(0).number(), 1);
-    same(&rt, FormatError::Length(29).number(), 7);
-    same(&rt, FormatError::Length(29).offset(), 29);
-    same(&rt, FormatError::Number(12).number(), 8);
+    let short = (
+        FormatError::Short(0).number(),
+        FormatError::Short(0).offset(),
+    );
+    let length = (
+        FormatError::Length(29).number(),
+        FormatError::Length(29).offset(),
+    );
+    let number = FormatError::Number(12).number();
+    same(&rt, (short, length, number), ((1, 0), (7, 29), 8));
 }
 
 #[test]
 fn parts_of_a_record(rt: HostRuntime) -> Result<(), Fail> {
-    same(&rt, record_window(&RECORD), 31);
     let record = read_record(&RECORD, &small(), 1)?;
-    same(&rt, record.number(), 1);
-    same(&rt, record.kind(), 1);
+    let told = (record_window(&RECORD), record.number(), record.kind());
+    same(&rt, told, (31, 1, 1));
     let mut parts = record.parts();
     let first = parts.next().ok_or("no part")?;
-    same(&rt, first.block, 2);
-    same(&rt, first.off, 5);
-    same(&rt, first.bytes, [0xab, 0xcd].as_slice());
-    assert!(rt; parts.next().is_none());
+    let found = (first.block, first.off, first.bytes);
+    same(&rt, found, (2, 5, [0xab, 0xcd].as_slice()));
+    same(&rt, parts.next().is_none(), true);
     Ok(())
 }
 
-#[test]
-fn records_that_are_refused(rt: HostRuntime) {
-    for (place, value, error) in [
-        (1, 2, FormatError::Kind(1)),
-        (2, 1, FormatError::NotZero(2)),
-        (3, 1, FormatError::NotZero(3)),
-        (7, 0, FormatError::Count(4)),
-        (7, 2, FormatError::Count(4)),
-        (11, 11, FormatError::Short(8)),
-        (19, 2, FormatError::Number(12)),
-        (23, 4, FormatError::Range(20)),
-        (25, 63, FormatError::Range(20)),
-        (27, 0, FormatError::Range(20)),
-        (27, 1, FormatError::Length(29)),
-        (27, 3, FormatError::Length(20)),
-    ] {
-        let mut bytes = RECORD;
-        if let Some(byte) = bytes.get_mut(place) {
-            *byte = value;
-        }
-        same(&rt, read_record(&bytes, &small(), 1).err(), Some(error));
-    }
-    same(
-        &rt,
-        read_record(&RECORD[..19], &small(), 1).err(),
-        Some(FormatError::Short(0)),
-    );
-}
+/// A byte of the record that is changed, its value, and what the record is refused for.
+const REFUSED_RECORDS: &[(usize, u8, FormatError)] = &[
+    (1, 2, FormatError::Kind(1)),
+    (2, 1, FormatError::NotZero(2)),
+    (3, 1, FormatError::NotZero(3)),
+    (7, 0, FormatError::Count(4)),
+    (7, 2, FormatError::Count(4)),
+    (11, 11, FormatError::Short(8)),
+    (19, 2, FormatError::Number(12)),
+    (23, 4, FormatError::Range(20)),
+    (25, 63, FormatError::Range(20)),
+    (27, 0, FormatError::Range(20)),
+    (27, 1, FormatError::Length(29)),
+    (27, 3, FormatError::Length(20)),
+];
+
+/// A record whose second part is of an earlier block.
+const FALLING: [u8; 39] = [
+    1, 1, 0, 0, 0, 0, 0, 2, 0, 0, 0, 0x12, 0, 0, 0, 0, 0, 0, 0, 1, 0, 0, 0, 2, 0, 0, 0, 1, 0xaa, 0,
+    0, 0, 1, 0, 0, 0, 1, 0xbb, 0,
+];
 
 #[test]
-fn parts_that_go_back(rt: HostRuntime) {
-    let bytes = [
-        1, 1, 0, 0, 0, 0, 0, 2, 0, 0, 0, 0x12, 0, 0, 0, 0, 0, 0, 0, 1, 0, 0, 0, 2, 0, 0, 0, 1,
-        0xaa, 0, 0, 0, 1, 0, 0, 0, 1, 0xbb, 0,
-    ];
-    same(
-        &rt,
-        read_record(&bytes, &small(), 1).err(),
-        Some(FormatError::Order(29)),
-    );
+fn records_that_are_refused(rt: HostRuntime) {
+    for (place, value, error) in REFUSED_RECORDS {
+        let mut bytes = RECORD;
+        put(&mut bytes, *place, *value);
+        let found = read_record(&bytes, &small(), 1).err();
+        same(&rt, (*place, found), (*place, Some(*error)));
+    }
+    let cut = read_record(&RECORD[..19], &small(), 1).err();
+    let falling = read_record(&FALLING, &small(), 1).err();
+    let wanted = (Some(FormatError::Short(0)), Some(FormatError::Order(29)));
+    same(&rt, (cut, falling), wanted);
 }

@@ -5,8 +5,6 @@
 #[cfg(test)]
 mod core_tests;
 #[cfg(test)]
-mod fault_tests;
-#[cfg(test)]
 mod form_tests;
 #[cfg(test)]
 mod group_tests;
@@ -16,5 +14,3 @@ mod log_tests;
 mod place_tests;
 #[cfg(test)]
 mod switch_tests;
-#[cfg(test)]
-mod tests;

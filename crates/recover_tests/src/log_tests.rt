@@ -12,7 +12,6 @@ use iso_log::{Log, LogError, ReadAhead};
 use iso_memdisk::MemDisk;
 use iso_model::{Geometry, LAST, Memory};
 use std::alloc::{AllocError, Global};
-use std::process::Abort;
 use std::test::Fail;
 use test_cores::{change, small, small_in, zeros};
 
@@ -110,95 +109,114 @@ fn count_in(alloc: Global, image: Vec<u8>, geometry: &Geometry, room: u32) -> Re
     count_told(alloc, &mut disk, geometry, room)
 }
 
-// The steps of a test stand in a function that borrows its disk: one that owns it drops it at each of its exits, and each of these
-// drops is proved.
-fn a_record_is_one_write_and_a_gate_in(
-    rt: &impl Abort,
+/// What appending one record, and another one, comes to: each place and the calls by then, the bytes of the log that are used and free and
+/// its last number behind the first, and how many records are told.
+fn appended_in(
     alloc: Global,
     disk: &mut MemDisk,
-) -> Result<(), Fail>
+) -> Option<([(u64, u64); 2], (u32, u32, u64), Result<u64, LogError>)>
     requires { IsReady small (record { place = 16; room = 100; used = 0; last = 0 }) (state_of disk.old) }
 {
     let mut log = Log::start(PLACE, 100, 0);
-    let place = append_one(alloc, &mut log, disk)?;
-    same(rt, (place, disk.calls()), (16, 4));
-    same(rt, (log.used(), log.free(), log.last()), (30, 70, 1));
-    let place = append_one(alloc, &mut log, disk)?;
-    same(rt, (place, disk.calls()), (46, 8));
-    same(rt, count_told(alloc, disk, &small(), 100), Ok(2));
-    Ok(())
+    let Ok(first) = append_one(alloc, &mut log, disk) else {
+        return None;
+    };
+    let calls = disk.calls();
+    let grown = (log.used(), log.free(), log.last());
+    let Ok(second) = append_one(alloc, &mut log, disk) else {
+        return None;
+    };
+    let places = [(first, calls), (second, disk.calls())];
+    Some((places, grown, count_told(alloc, disk, &small(), 100)))
 }
 
 #[test]
 fn a_record_is_one_write_and_a_gate(rt: HostRuntime) -> Result<(), Fail> {
     let mut disk = blank(rt.alloc(), 100)?;
-    a_record_is_one_write_and_a_gate_in(&rt, rt.alloc(), &mut disk)
+    let found = appended_in(rt.alloc(), &mut disk);
+    let wanted = ([(16, 4), (46, 8)], (30, 70, 1), Ok(2));
+    same(&rt, found, Some(wanted));
+    Ok(())
 }
 
-fn a_group_costs_what_a_record_costs_in(
-    rt: &impl Abort,
+/// What a group of two comes to: its place, the calls, the bytes that are used and the last number.
+type Grown = (u64, u64, u32, u64);
+
+/// What is found by a scan with no piece that is read ahead: the size of a first record and the closed gate behind it, and the bytes that it
+/// puts; and the calls by the first of them.
+type Found = (Result<Option<u32>, LogError>, u64, [u8; 2]);
+
+/// A group of two that fills its log but for a byte, what one more record is refused for, what a scan finds then, and how many records are
+/// told.
+fn filled_in(
     alloc: Global,
     disk: &mut MemDisk,
-) -> Result<(), Fail>
-    requires { IsReady small (record { place = 16; room = 100; used = 0; last = 0 }) (state_of disk.old) }
+) -> Option<(Grown, Result<u64, LogError>, Found, Result<u64, LogError>)>
+    requires { IsReady small (record { place = 16; room = 61; used = 0; last = 0 }) (state_of disk.old) }
 {
-    let mut log = Log::start(PLACE, 100, 0);
-    let place = append_two(alloc, &mut log, disk)?;
-    same(rt, (place, disk.calls()), (16, 4));
-    same(rt, (log.used(), log.last()), (60, 2));
-    same(rt, count_told(alloc, disk, &small(), 100), Ok(2));
-    Ok(())
+    let mut log = Log::start(PLACE, 61, 0);
+    let Ok(place) = append_two(alloc, &mut log, disk) else {
+        return None;
+    };
+    let grown = (place, disk.calls(), log.used(), log.last());
+    let full = append_one(alloc, &mut log, disk);
+    let scan = Log::start(PLACE, 61, 0);
+    let mut ahead = ReadAhead::new(alloc, 0);
+    let size = scan.find_ahead(disk, &small(), &mut ahead);
+    let calls = disk.calls();
+    let mut put = [0; 2];
+    let _ = scan.read_at(disk, 44, &mut put);
+    let told = count_told(alloc, disk, &small(), 61);
+    Some((grown, full, (size, calls, put), told))
 }
 
 #[test]
 fn a_group_costs_what_a_record_costs(rt: HostRuntime) -> Result<(), Fail> {
-    let mut disk = blank(rt.alloc(), 100)?;
-    a_group_costs_what_a_record_costs_in(&rt, rt.alloc(), &mut disk)
+    let mut disk = blank(rt.alloc(), 61)?;
+    let found = filled_in(rt.alloc(), &mut disk);
+    let full = LogError::LogFull { need: 31, free: 1 };
+    let scan = (Ok(Some(31)), 6, [0xab, 0xcd]);
+    same(&rt, found, Some(((16, 4, 60, 2), Err(full), scan, Ok(2))));
+    Ok(())
 }
 
-fn a_log_is_filled_exactly_in(
-    rt: &impl Abort,
-    alloc: Global,
-    disk: &mut MemDisk,
-    short: &mut MemDisk,
-) -> Result<(), Fail>
-    requires disk { IsReady small (record { place = 16; room = 61; used = 0; last = 0 }) (state_of disk.old) }
-    requires short { IsReady small (record { place = 16; room = 60; used = 0; last = 0 }) (state_of short.old) }
+/// What a group of two is refused for that is a byte too long, and the calls by then.
+fn refused_in(alloc: Global, disk: &mut MemDisk) -> (Result<u64, LogError>, u64)
+    requires { IsReady small (record { place = 16; room = 60; used = 0; last = 0 }) (state_of disk.old) }
 {
-    let mut log = Log::start(PLACE, 61, 0);
-    let place = append_two(alloc, &mut log, disk)?;
-    same(rt, place, 16);
-    let full = LogError::LogFull { need: 31, free: 1 };
-    same(rt, append_one(alloc, &mut log, disk), Err(full));
-    same(rt, disk.calls(), 4);
-    same(rt, count_told(alloc, disk, &small(), 61), Ok(2));
-
     let mut log = Log::start(PLACE, 60, 0);
-    let full = LogError::LogFull { need: 61, free: 60 };
-    same(rt, append_two(alloc, &mut log, short), Err(full));
-    same(rt, short.calls(), 0);
-    Ok(())
+    let answer = append_two(alloc, &mut log, disk);
+    (answer, disk.calls())
 }
 
 #[test]
 fn a_log_is_filled_exactly(rt: HostRuntime) -> Result<(), Fail> {
-    let mut disk = blank(rt.alloc(), 61)?;
-    let mut short = blank(rt.alloc(), 60)?;
-    a_log_is_filled_exactly_in(&rt, rt.alloc(), &mut disk, &mut short)
+    let mut disk = blank(rt.alloc(), 60)?;
+    let full = LogError::LogFull { need: 61, free: 60 };
+    same(&rt, refused_in(rt.alloc(), &mut disk), (Err(full), 0));
+    Ok(())
 }
 
 /// How many of the images of the first six picks tell no record, and how many tell two.
-fn told_by_images(alloc: Global, disk: &MemDisk) -> Result<(u32, u32), Memory> {
+fn told_by_images(alloc: Global, disk: &MemDisk) -> (u32, u32) {
     let mut none = 0u32;
     let mut two = 0u32;
     for pick in 0..6 {
-        match count_in(alloc, disk.crash(alloc, pick)?, &small(), 100) {
+        match image_told(alloc, disk, pick) {
             Ok(0) => none = none.saturating_add(1),
             Ok(2) => two = two.saturating_add(1),
             _ => {}
         }
     }
-    Ok((none, two))
+    (none, two)
+}
+
+/// How many records the image of a pick tells.
+fn image_told(alloc: Global, disk: &MemDisk, pick: u64) -> Result<u64, LogError> {
+    match disk.crash(alloc, pick) {
+        Ok(image) => count_in(alloc, image, &small(), 100),
+        Err(_) => Err(LogError::Memory),
+    }
 }
 
 /// The answer to a group of two where each call after `calls` calls fails, the bytes and the last number of the log, and what the
@@ -206,129 +224,126 @@ fn told_by_images(alloc: Global, disk: &MemDisk) -> Result<(u32, u32), Memory> {
 fn group_behind(
     alloc: Global,
     calls: u64,
-) -> Result<(Result<u64, LogError>, (u32, u64), (u32, u32)), Fail> {
-    let mut disk = blank(alloc, 100)?;
-    let mut log = Log::start(PLACE, 100, 0);
-    disk.fuse(calls);
-    let answer = append_two(alloc, &mut log, &mut disk);
-    let told = told_by_images(alloc, &disk)?;
-    Ok((answer, (log.used(), log.last()), told))
+) -> Option<(Result<u64, LogError>, (u32, u64), (u32, u32))> {
+    match blank(alloc, 100) {
+        Ok(mut disk) => {
+            let mut log = Log::start(PLACE, 100, 0);
+            disk.fuse(calls);
+            let answer = append_two(alloc, &mut log, &mut disk);
+            let grown = (log.used(), log.last());
+            Some((answer, grown, told_by_images(alloc, &disk)))
+        }
+        Err(_) => None,
+    }
 }
 
 #[test]
-fn a_fault_leaves_all_records_or_none(rt: HostRuntime) -> Result<(), Fail> {
+fn a_fault_leaves_all_records_or_none(rt: HostRuntime) {
     for calls in 0..4 {
-        let (answer, log, (none, two)) = group_behind(rt.alloc(), calls)?;
-        same(&rt, (answer, log), (Err(LogError::Disk), (0, 0)));
-        same(&rt, none.saturating_add(two), 6);
-        assert!(rt; two == 0 || calls == 3, "{calls}");
+        let Some((answer, log, (none, two))) = group_behind(rt.alloc(), calls) else {
+            same(&rt, calls, 4);
+            return;
+        };
+        let whole = (none.saturating_add(two), two == 0 || calls == 3);
+        let wanted = (calls, Err(LogError::Disk), (0, 0), (6, true));
+        same(&rt, (calls, answer, log, whole), wanted);
     }
-    Ok(())
+}
+
+/// How many of a thousand records were appended each behind the one before it, the bytes of the log that are free then, the calls, how many
+/// records are told, and the calls by then.
+fn thousand_in(
+    alloc: Global,
+    disk: &mut MemDisk,
+) -> Option<(u64, u32, u64, Result<u64, LogError>, u64)>
+    requires { IsReady small (record { place = 16; room = 30001; used = 0; last = 0 }) (state_of disk.old) }
+{
+    let mut log = Log::start(PLACE, 30_001, 0);
+    let mut behind = 0u64;
+    for number in 0..1000 {
+        let Ok(place) = append_one(alloc, &mut log, disk) else {
+            return None;
+        };
+        if place == 16 + 30 * number {
+            behind = behind.saturating_add(1);
+        }
+    }
+    let (free, calls) = (log.free(), disk.calls());
+    let told = count_told(alloc, disk, &small(), 30_001);
+    Some((behind, free, calls, told, disk.calls()))
 }
 
 #[test]
 fn a_thousand_records_are_one_read(rt: HostRuntime) -> Result<(), Fail> {
-    let alloc = rt.alloc();
-    let mut disk = blank(alloc, 30_001)?;
-    let mut log = Log::start(PLACE, 30_001, 0);
-    for number in 0..1000 {
-        let place = append_one(alloc, &mut log, &mut disk)?;
-        same(&rt, place, 16 + 30 * number);
-    }
-    same(&rt, log.free(), 1);
-    same(&rt, disk.calls(), 4000);
-    same(
-        &rt,
-        count_told(alloc, &mut disk, &small(), 30_001),
-        Ok(1000),
-    );
-    same(&rt, disk.calls(), 4001);
+    let mut disk = blank(rt.alloc(), 30_001)?;
+    let found = thousand_in(rt.alloc(), &mut disk);
+    same(&rt, found, Some((1000, 1, 4000, Ok(1000), 4001)));
     Ok(())
 }
 
-/// A disk with a log of `room` bytes, which has the records of a group of two.
-fn with_two(alloc: Global, room: u32) -> Result<MemDisk, Fail>
+/// The image of a log with `room` bytes, which has the records of a group of two.
+fn with_two(alloc: Global, room: u32) -> Option<Vec<u8>>
     requires { 1 ≤ room }
 {
-    let mut disk = blank(alloc, room)?;
-    let mut log = Log::start(PLACE, room, 0);
-    append_two(alloc, &mut log, &mut disk)?;
-    Ok(disk)
+    match blank(alloc, room) {
+        Ok(mut disk) => {
+            let mut log = Log::start(PLACE, room, 0);
+            let _ = append_two(alloc, &mut log, &mut disk);
+            disk.crash(alloc, 1).ok()
+        }
+        Err(_) => None,
+    }
 }
 
 /// How many records such a log tells where one byte is changed.
 fn told_with(
     alloc: Global,
-    disk: &MemDisk,
+    geometry: &Geometry,
+    room: u32,
     place: usize,
     value: u8,
-    form: u8,
-    room: u32,
-) -> Result<Result<u64, LogError>, Memory>
-    requires form { (form ≡ 1) ⊎ (form ≡ 2) }
+) -> Result<u64, LogError>
+    requires valid { IsTrue (is_valid geometry.now) }
     requires some { 1 ≤ room }
 {
-    let mut image = disk.crash(alloc, 1)?;
-    change(&mut image, place, &[value]);
-    Ok(count_in(alloc, image, &small_in(form), room))
-}
-
-#[test]
-fn a_damaged_record_is_named(rt: HostRuntime) -> Result<(), Fail> {
-    let disk = with_two(rt.alloc(), 75)?;
-    // the byte that is changed, its value, and where and how the record is damaged
-    for (place, value, at, cause) in [
-        (17, 9, 17, 2),
-        (17, 2, 17, 2),
-        (18, 1, 18, 3),
-        (49, 7, 49, 3),
-        (23, 0, 20, 4),
-        (39, 4, 36, 6),
-        (57, 200, 54, 1),
-        (65, 5, 58, 8),
-        (76, 1, 76, 1),
-    ] {
-        let told = told_with(rt.alloc(), &disk, place, value, 1, 75)?;
-        same(&rt, told, Err(LogError::Damaged { at, cause }));
+    match with_two(alloc, room) {
+        Some(mut image) => {
+            change(&mut image, place, &[value]);
+            count_in(alloc, image, geometry, room)
+        }
+        None => Err(LogError::Memory),
     }
-    Ok(())
 }
 
+/// The byte that is changed in a log of 75 bytes, its value, and where and how the record is damaged.
+const DAMAGED: &[(usize, u8, u64, u8)] = &[
+    (17, 9, 17, 2),
+    (17, 2, 17, 2),
+    (18, 1, 18, 3),
+    (49, 7, 49, 3),
+    (23, 0, 20, 4),
+    (39, 4, 36, 6),
+    (57, 200, 54, 1),
+    (65, 5, 58, 8),
+    (76, 1, 76, 1),
+];
+
+/// The gate that is closed in a log of 100 bytes, and how many records are told.
+const CLOSED: &[(usize, u64)] = &[(16, 0), (46, 1), (76, 2)];
+
 #[test]
-fn a_closed_gate_ends_the_log(rt: HostRuntime) -> Result<(), Fail> {
-    let disk = with_two(rt.alloc(), 100)?;
-    for (gate, count) in [(16, 0), (46, 1), (76, 2)] {
-        let told = told_with(rt.alloc(), &disk, gate, 255, 1, 100)?;
-        same(&rt, told, Ok(count));
+fn a_log_tells_its_records_up_to_a_closed_gate_or_a_damaged_one(rt: HostRuntime) {
+    let alloc = rt.alloc();
+    for (place, value, at, cause) in DAMAGED {
+        let told = told_with(alloc, &small(), 75, *place, *value);
+        let (at, cause) = (*at, *cause);
+        let damaged = Err(LogError::Damaged { at, cause });
+        same(&rt, (*place, told), (*place, damaged));
     }
-    Ok(())
-}
-
-#[test]
-fn form_two_has_records_of_either_kind(rt: HostRuntime) -> Result<(), Fail> {
-    let disk = with_two(rt.alloc(), 100)?;
-    same(&rt, told_with(rt.alloc(), &disk, 17, 2, 2, 100)?, Ok(2));
-    Ok(())
-}
-
-fn a_record_is_two_reads_in(rt: &impl Abort, alloc: Global, disk: &mut MemDisk) -> Result<(), Fail>
-    requires { IsReady small (record { place = 16; room = 100; used = 0; last = 0 }) (state_of disk.old) }
-{
-    let mut log = Log::start(PLACE, 100, 0);
-    append_two(alloc, &mut log, disk)?;
-    let scan = Log::start(PLACE, 100, 0);
-    let mut ahead = ReadAhead::new(alloc, 0);
-    let found = scan.find_ahead(disk, &small(), &mut ahead);
-    same(rt, found, Ok(Some(31)));
-    same(rt, disk.calls(), 6);
-    let mut put = [0; 2];
-    scan.read_at(disk, 44, &mut put)?;
-    same(rt, put, [0xab, 0xcd]);
-    Ok(())
-}
-
-#[test]
-fn a_record_is_two_reads_where_no_piece_is_read_ahead(rt: HostRuntime) -> Result<(), Fail> {
-    let mut disk = blank(rt.alloc(), 100)?;
-    a_record_is_two_reads_in(&rt, rt.alloc(), &mut disk)
+    for (gate, count) in CLOSED {
+        let told = told_with(alloc, &small(), 100, *gate, 255);
+        same(&rt, (*gate, told), (*gate, Ok(*count)));
+    }
+    // form two has records of either kind
+    same(&rt, told_with(alloc, &small_in(2), 100, 17, 2), Ok(2));
 }

@@ -20,35 +20,24 @@ fn default_geometry() -> Geometry
 }
 
 #[test]
-fn places_in_a_small_image(rt: HostRuntime) {
-    same(&rt, image_size(&small()), 1152);
-    same(
-        &rt,
-        half_place(&small(), 0),
-        HalfPlace {
-            header: 64,
-            base: 96,
-            log: 352,
-        },
+fn places_in_images(rt: HostRuntime) {
+    let first = HalfPlace {
+        header: 64,
+        base: 96,
+        log: 352,
+    };
+    let second = HalfPlace {
+        header: 608,
+        base: 640,
+        log: 896,
+    };
+    let sizes = (image_size(&small()), image_size(&default_geometry()));
+    same(&rt, sizes, (1152, 16_777_344));
+    let halves = (half_place(&small(), 0), half_place(&small(), 1));
+    same(&rt, halves, (first, second));
+    let kinds = (
+        kind_of(&small(), Mode::Serial),
+        kind_of(&small(), Mode::Snapshot),
     );
-    same(
-        &rt,
-        half_place(&small(), 1),
-        HalfPlace {
-            header: 608,
-            base: 640,
-            log: 896,
-        },
-    );
-}
-
-#[test]
-fn size_of_the_default_image(rt: HostRuntime) {
-    same(&rt, image_size(&default_geometry()), 16_777_344);
-}
-
-#[test]
-fn kinds_of_records(rt: HostRuntime) {
-    same(&rt, kind_of(&small(), Mode::Serial), 1);
-    same(&rt, kind_of(&small(), Mode::Snapshot), 2);
+    same(&rt, kinds, (1, 2));
 }

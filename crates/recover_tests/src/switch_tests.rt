@@ -1,7 +1,7 @@
 // What no clause says: that calls succeed with ample memory, and which calls of the disk they make. The image has four
 // blocks of 64 bytes and logs of 256. Its first half, at byte 64, has records of two commits; its second one, at byte 608,
 // is filled with the first of them laid over the base.
-ghost use Rattle.std.specs.Prelude.{◌≡◌, ◌⊎◌, ◌<◌, ◌≤◌, IfOk};
+ghost use Rattle.std.specs.Prelude.{◌≡◌, ◌⊎◌, ◌<◌, IfOk};
 ghost use Rattle.iso_disk.specs.Disk.{IsSettled};
 ghost use Rattle.iso_memdisk.specs.MemDisk.{state_of};
 
@@ -12,10 +12,7 @@ use half_switch::{
 use iso_disk::DiskFault;
 use iso_format::HalfHeader;
 use iso_memdisk::MemDisk;
-use iso_model::Memory;
 use std::alloc::{AllocError, Global};
-use std::process::Abort;
-use std::test::Fail;
 use test_cores::{small_in, zeros};
 
 /// Two bytes at byte 5 of block 2.
@@ -71,104 +68,136 @@ fn open(disk: &mut MemDisk) -> Result<(), DiskFault>
     open_half(disk, &half_place(&small_in(1), 1))
 }
 
-/// Thirty-two bytes of the disk from a place on.
-fn bytes_at(alloc: Global, disk: &MemDisk, at: usize) -> Result<[u8; 32], Memory>
-    requires { at ≤ 1120 }
-{
-    let all = disk.crash(alloc, 1)?;
+/// Thirty-two bytes of the image from a place on.
+fn bytes_at(image: &[u8], at: usize) -> [u8; 32] {
     let mut bytes = [0; 32];
-    if all.len() == 1152 {
-        bytes.copy_from_slice(&all[at..at + 32]);
+    if let Some(found) = image.get(at..at.saturating_add(32)) {
+        if found.len() == 32 {
+            bytes.copy_from_slice(found);
+        }
     }
-    Ok(bytes)
+    bytes
 }
 
-// The steps stand in a function that borrows the disk: one that owns it drops it at each of its exits, and each of these drops is
-// proved.
-fn the_second_half_is_filled_and_opened_in(
-    rt: &impl Abort,
-    alloc: Global,
-    disk: &mut MemDisk,
-) -> Result<(), Fail>
-    requires size { (state_of disk.old).size ≡ 1152 }
-    requires settled { IsSettled (state_of disk.old) }
-{
-    compact(alloc, disk, 1)?;
-    same(rt, disk.calls(), 7);
-    same(
-        rt,
-        bytes_at(alloc, disk, 608)?,
-        [
-            0, 1, 0, 0, 0, 0, 0, 0, 0, 0, 0, 0, 0, 0, 0, 2, 0, 0, 0, 0, 0, 0, 0, 1, 0, 0, 0, 0, 0,
-            0, 0, 0,
+/// The header of the second half, and the fronts of the rest of its base's third block and of its log.
+fn second_half(alloc: Global, disk: &MemDisk) -> [[u8; 32]; 3] {
+    match disk.crash(alloc, 1) {
+        Ok(image) => [
+            bytes_at(image.as_slice(), 608),
+            bytes_at(image.as_slice(), 768),
+            bytes_at(image.as_slice(), 896),
         ],
-    );
-    same(
-        rt,
-        bytes_at(alloc, disk, 768)?,
-        [
-            0, 0, 0, 0, 0, 171, 205, 0, 0, 0, 0, 0, 0, 0, 0, 0, 0, 0, 0, 0, 0, 0, 0, 0, 0, 0, 0, 0,
-            0, 0, 0, 0,
-        ],
-    );
-    same(
-        rt,
-        bytes_at(alloc, disk, 896)?,
-        [
-            1, 1, 0, 0, 0, 0, 0, 1, 0, 0, 0, 10, 0, 0, 0, 0, 0, 0, 0, 2, 0, 0, 0, 0, 0, 0, 0, 2,
-            17, 18, 0, 0,
-        ],
-    );
-    open(disk)?;
-    same(rt, (disk.calls(), bytes_at(alloc, disk, 608)?[0]), (9, 1));
-    Ok(())
+        Err(_) => [[0; 32]; 3],
+    }
 }
 
-#[test]
-fn the_second_half_is_filled_and_opened(rt: HostRuntime) -> Result<(), Fail> {
-    let mut disk = image(rt.alloc(), 0, 0)?;
-    the_second_half_is_filled_and_opened_in(&rt, rt.alloc(), &mut disk)
-}
-
-/// The answer to a compaction of the image in this form, the calls that it made, and the front of the second half then.
+/// What a compaction of the image in this form comes to: its answer, the calls that it made, and the second half then.
 fn compacted(
     alloc: Global,
     gate: u8,
     failing: u64,
     form: u8,
-) -> Result<(Result<(), SwitchError>, u64, [u8; 32]), Fail>
+) -> Option<(Result<(), SwitchError>, u64, [[u8; 32]; 3])>
     requires { (form ≡ 1) ⊎ (form ≡ 2) }
 {
-    let mut disk = image(alloc, gate, failing)?;
-    let answer = compact(alloc, &mut disk, form);
-    let header = bytes_at(alloc, &disk, 608)?;
-    Ok((answer, disk.calls(), header))
-}
-
-#[test]
-fn an_upgrade_writes_the_new_form(rt: HostRuntime) -> Result<(), Fail> {
-    let (answer, _calls, header) = compacted(rt.alloc(), 0, 0, 2)?;
-    same(&rt, (answer, header[0], header[1]), (Ok(()), 0, 2));
-    Ok(())
-}
-
-#[test]
-fn an_open_gate_is_shut_first(rt: HostRuntime) -> Result<(), Fail> {
-    let (answer, calls, header) = compacted(rt.alloc(), 1, 0, 1)?;
-    same(&rt, (answer, calls, header[0]), (Ok(()), 9, 0));
-    Ok(())
-}
-
-#[test]
-fn each_call_that_fails_is_told(rt: HostRuntime) -> Result<(), Fail> {
-    for failing in 1..8 {
-        let (answer, calls, header) = compacted(rt.alloc(), 0, failing, 1)?;
-        let told = (Err(SwitchError::Disk), failing, 0);
-        same(&rt, (answer, calls, header[0]), told);
+    match image(alloc, gate, failing) {
+        Ok(mut disk) => {
+            let answer = compact(alloc, &mut disk, form);
+            Some((answer, disk.calls(), second_half(alloc, &disk)))
+        }
+        Err(_) => None,
     }
-    let mut disk = image(rt.alloc(), 0, 2)?;
-    same(&rt, open(&mut disk), Err(DiskFault));
-    Ok(())
+}
+
+/// The gate and the form of a half.
+fn gate_and_form(header: &[u8; 32]) -> [u8; 2] {
+    [header[0], header[1]]
+}
+
+/// The answer to a compaction of the image, where the call of this number fails, and the calls; and the gate and the form that the second
+/// half has then.
+fn front_of(
+    alloc: Global,
+    failing: u64,
+    form: u8,
+) -> Option<(Result<(), SwitchError>, u64, [u8; 2])>
+    requires { (form ≡ 1) ⊎ (form ≡ 2) }
+{
+    match compacted(alloc, 0, failing, form) {
+        Some(told) => {
+            let half = told.2;
+            let [header, _base, _log] = half;
+            let front = gate_and_form(&header);
+            Some((told.0, told.1, front))
+        }
+        None => None,
+    }
+}
+
+/// The same of one in form 1, and whether the gate is closed.
+fn refused(alloc: Global, failing: u64) -> Option<(Result<(), SwitchError>, u64, bool)> {
+    match front_of(alloc, failing, 1) {
+        Some(told) => {
+            let front = told.2;
+            Some((told.0, told.1, front[0] == 0))
+        }
+        None => None,
+    }
+}
+
+/// The second half, filled with the base at commit 1 and the record of commit 2.
+const FILLED: [[u8; 32]; 3] = [
+    [
+        0, 1, 0, 0, 0, 0, 0, 0, 0, 0, 0, 0, 0, 0, 0, 2, 0, 0, 0, 0, 0, 0, 0, 1, 0, 0, 0, 0, 0, 0,
+        0, 0,
+    ],
+    [
+        0, 0, 0, 0, 0, 171, 205, 0, 0, 0, 0, 0, 0, 0, 0, 0, 0, 0, 0, 0, 0, 0, 0, 0, 0, 0, 0, 0, 0,
+        0, 0, 0,
+    ],
+    [
+        1, 1, 0, 0, 0, 0, 0, 1, 0, 0, 0, 10, 0, 0, 0, 0, 0, 0, 0, 2, 0, 0, 0, 0, 0, 0, 0, 2, 17,
+        18, 0, 0,
+    ],
+];
+
+/// The answers to a compaction of the image and to an opening of the second half behind it, where the call of this number fails; the calls
+/// of both; and the gate of the half then.
+fn opened(
+    alloc: Global,
+    failing: u64,
+) -> Option<(Result<(), SwitchError>, Result<(), DiskFault>, u64, u8)> {
+    match image(alloc, 0, failing) {
+        Ok(mut disk) => {
+            let filled = compact(alloc, &mut disk, 1);
+            let answer = open(&mut disk);
+            let gate = second_half(alloc, &disk)[0][0];
+            Some((filled, answer, disk.calls(), gate))
+        }
+        Err(_) => None,
+    }
+}
+
+#[test]
+fn the_second_half_is_filled_and_opened(rt: HostRuntime) {
+    let alloc = rt.alloc();
+    same(&rt, compacted(alloc, 0, 0, 1), Some((Ok(()), 7, FILLED)));
+    // an open gate is shut first
+    same(&rt, compacted(alloc, 1, 0, 1), Some((Ok(()), 9, FILLED)));
+    // and an upgrade writes the new form
+    same(&rt, front_of(alloc, 0, 2), Some((Ok(()), 7, [0, 2])));
+    same(&rt, opened(alloc, 0), Some((Ok(()), Ok(()), 9, 1)));
+}
+
+#[test]
+fn each_call_that_fails_is_told(rt: HostRuntime) {
+    for failing in 1..8 {
+        let told = Some((Err(SwitchError::Disk), failing, true));
+        same(&rt, refused(rt.alloc(), failing), told);
+    }
+    // the gate is written, and not stable
+    let opening = Some((Ok(()), Err(DiskFault), 9, 1));
+    same(&rt, opened(rt.alloc(), 9), opening);
 }
 
 fn header(gate: u8, generation: u64) -> HalfHeader {
@@ -181,12 +210,20 @@ fn header(gate: u8, generation: u64) -> HalfHeader {
     }
 }
 
+/// The gates and generations of two halves, and which one is current.
+const CHOICES: &[((u8, u64), (u8, u64), Option<u8>)] = &[
+    ((1, 3), (1, 4), Some(1)),
+    ((1, 4), (1, 3), Some(0)),
+    ((1, 3), (1, 3), Some(0)),
+    ((1, 3), (0, 4), Some(0)),
+    ((2, 3), (1, 2), Some(1)),
+    ((2, 3), (0, 4), None),
+];
+
 #[test]
 fn the_later_of_the_open_halves_is_chosen(rt: HostRuntime) {
-    same(&rt, choose_half(&header(1, 3), &header(1, 4)), Some(1));
-    same(&rt, choose_half(&header(1, 4), &header(1, 3)), Some(0));
-    same(&rt, choose_half(&header(1, 3), &header(1, 3)), Some(0));
-    same(&rt, choose_half(&header(1, 3), &header(0, 4)), Some(0));
-    same(&rt, choose_half(&header(2, 3), &header(1, 2)), Some(1));
-    same(&rt, choose_half(&header(2, 3), &header(0, 4)), None);
+    for (first, second, half) in CHOICES {
+        let found = choose_half(&header(first.0, first.1), &header(second.0, second.1));
+        same(&rt, (*first, *second, found), (*first, *second, *half));
+    }
 }

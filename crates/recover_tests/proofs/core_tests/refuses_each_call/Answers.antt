@@ -1,7 +1,7 @@
 use Rattle.std.proofs.Common.{◌≡◌, subst, [], OnErr}
 use Rattle.iso_memdisk.specs.MemDisk.{state_of}
-use Rattle.recover_tests.{specs.Cores.IsDown, proofs.Standing.{stands_down, stays_down}, proofs.fault_tests.refuses_each_call.Goals.{After-begin, After-trim, After-compact}}
-use Rattle.recover_tests.proofs.fault_tests.refuses_each_call.Goals as goal
+use Rattle.recover_tests.{specs.Cores.IsDown, proofs.Standing.{stands_down, stays_down}, proofs.core_tests.refuses_each_call.Goals.{After-begin, After-trim, After-compact}}
+use Rattle.recover_tests.proofs.core_tests.refuses_each_call.Goals as goal
 
 -- ---- after each call the core is as it was
 
