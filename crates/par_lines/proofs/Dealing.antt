@@ -1,10 +1,6 @@
 -- Lines that are taken off the end of a list, one by one, and the lines of each client.
 use Rattle.par_lines.proofs.Words.{◌≡◌, ℕ, zero, suc, ◌+◌, ◌-◌, ◌<◌, ◌≤◌, ◌==◌, ◌||◌, Bool, true, false, not, cond, List, [], ◌∷◌, ◌++◌, drop, get_or, length, map, reverse, refl, sym, ap, ◌∙◌, subst, arith, append_assoc, length-append, eqb-true, append-nil, map-append, reverse-append, filter-append, IfSome, Option, Some, None, slice_get, set, All-append, drop-cons, filter, All, list_any, range_with_len, Line, Job, has_line, lines_of}
 
--- the list in the other order, as its last element is taken off
-pub turned_more : {X : Type 0} (whole out xs ys : List X) (x : X) → xs ≡ ys ++ x ∷ [] → whole ≡ out ++ reverse xs → whole ≡ (out ++ x ∷ []) ++ reverse ys
-turned_more whole out xs ys x e was = was ∙ (ap (λ l. out ++ l) (ap reverse e ∙ reverse-append ys (x ∷ [])) ∙ sym (append_assoc out (x ∷ []) (reverse ys)))
-
 -- what holds of all elements holds of the one at a place, if there is one, and the other way round
 pub each_some : {X : Type 0} (P : X → Type 0) (xs : List X) → All P xs → (k : ℕ) → IfSome (slice_get xs k) P
 each_some P [] all k = tt

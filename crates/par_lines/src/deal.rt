@@ -8,14 +8,11 @@ use std::alloc::Global;
 use std::mem::replace;
 
 /// The lines in the other order.
-fn turned(alloc: Global, mut lines: Vec<(u64, Line)>) -> Result<Vec<(u64, Line)>, Memory>
-    ensures { IfOk result (λ r. r.items ≡ reverse lines.items) }
+fn turned(mut lines: Vec<(u64, Line)>) -> Vec<(u64, Line)>
+    ensures { result.items ≡ reverse lines.items }
 {
-    let mut out = Vec::new(alloc);
-    while let Some(line) = lines.pop() {
-        out.push(line)?;
-    }
-    Ok(out)
+    lines.reverse();
+    lines
 }
 
 /// An empty list at the place of each number.
@@ -70,7 +67,7 @@ pub(crate) fn deal(
     let mut lists = by_client(alloc, lines)?;
     for client in 1..65u8 {
         let own = replace(&mut lists[client as usize], Vec::new(alloc));
-        keep(&mut dealt, client, turned(alloc, own)?)?;
+        keep(&mut dealt, client, turned(own))?;
     }
     Ok(dealt)
 }

@@ -15,16 +15,16 @@ loop-client-preserved c =
     let lists = c.loop-client.lists.items in
     let client = c.loop-client.client in
     let within : client < length lists = omega (arith, c.loop-client.invariant.all, c.loop-client-test.true) in
-    let own : c.in_ok-turned.field-0.items ≡ lines_of client c.args.lines.items =
-    c.in_ok-turned.ensures ∙ ap (λ v. reverse v.items) (c.replace-own.ensures.value ∙ c.index_mut.ensures.value)
+    let own : c.turned.result.items ≡ lines_of client c.args.lines.items =
+    c.turned.ensures ∙ ap (λ v. reverse v.items) (c.replace-own.ensures.value ∙ c.index_mut.ensures.value)
     ∙ some_at (λ v. client ≤ client → reverse v.items ≡ lines_of client c.args.lines.items) lists client c.index_mut.result.now within (c.loop-client.invariant.own client) (omega arith) in
     record {
       all = length-set lists client c.replace-own.new.dest ∙ c.loop-client.invariant.all;
       own = after_set (λ k v. client + 1 ≤ k → reverse v.items ≡ lines_of k c.args.lines.items) lists client c.replace-own.new.dest (λ lt above. absurd (omega (arith, above)))
           (λ k apart. some_too (λ v. client ≤ k → reverse v.items ≡ lines_of k c.args.lines.items) (λ v. client + 1 ≤ k → reverse v.items ≡ lines_of k c.args.lines.items) (slice_get lists k) (λ v was above. was (omega (arith, above))) (c.loop-client.invariant.own k));
-      clients = ids_more (λ v. length v.items) c.args.lines.items client c.in_ok-turned.field-0 c.loop-client.dealt.items c.keep.new.dealt.items (omega (arith, c.loop-client.auto.client)) c.in_ok-keep.ensures (ap length own) c.loop-client.invariant.clients;
-      few = omega (arith, c.loop-client.invariant.few, length_more (length c.in_ok-turned.field-0.items == 0) c.loop-client.dealt.items c.keep.new.dealt.items (client, c.in_ok-turned.field-0) c.in_ok-keep.ensures, c.loop-client.auto.client);
-      lines = all_more (λ a. a.1.items ≡ lines_of a.0 c.args.lines.items) (length c.in_ok-turned.field-0.items == 0) c.loop-client.dealt.items c.keep.new.dealt.items (client, c.in_ok-turned.field-0) c.in_ok-keep.ensures own c.loop-client.invariant.lines;
+      clients = ids_more (λ v. length v.items) c.args.lines.items client c.turned.result c.loop-client.dealt.items c.keep.new.dealt.items (omega (arith, c.loop-client.auto.client)) c.in_ok-keep.ensures (ap length own) c.loop-client.invariant.clients;
+      few = omega (arith, c.loop-client.invariant.few, length_more (length c.turned.result.items == 0) c.loop-client.dealt.items c.keep.new.dealt.items (client, c.turned.result) c.in_ok-keep.ensures, c.loop-client.auto.client);
+      lines = all_more (λ a. a.1.items ≡ lines_of a.0 c.args.lines.items) (length c.turned.result.items == 0) c.loop-client.dealt.items c.keep.new.dealt.items (client, c.turned.result) c.in_ok-keep.ensures own c.loop-client.invariant.lines;
     }
 
 pub returns-clause-clients : Rattle.par_lines.proofs.deal.deal.Goals.returns-clause-clients
