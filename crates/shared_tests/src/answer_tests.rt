@@ -3,7 +3,8 @@ ghost use Rattle.std.specs.Prelude.{◌≡◌, ◌+◌, ◌<◌, IfSome, MatchOp
 ghost use Rattle.iso_memdisk.specs.MemDisk.{state_of};
 ghost use Rattle.iso_shared.specs.{Ports.{IsPort, IsTx, port_view, tx_view}, TestImage.{small, MayStart}};
 
-use crate::tests::{commits, device, ended, new_core, put, same};
+use crate::tests::{commits, device, ended, new_core, put};
+use crate::turn_tests::same;
 use iso_core::Core;
 use iso_memdisk::MemDisk;
 use iso_model::{CoreError, EndReply, Label, Mode};

@@ -4,7 +4,8 @@ ghost use Rattle.iso_memdisk.specs.MemDisk.{state_of};
 ghost use Rattle.iso_shared.specs.{Ports.{IsPort, IsTx, port_view}, TestImage.{small, MayStart}};
 
 use crate::answer_tests::one_at_work;
-use crate::tests::{core_failing, device, put, same};
+use crate::tests::{core_failing, device, put};
+use crate::turn_tests::same;
 use iso_core::Core;
 use iso_memdisk::{CallKind, MemDisk};
 use iso_model::{Clash, CoreError, GroupReply};

@@ -4,15 +4,11 @@
 #[cfg(test)]
 mod answer_tests;
 #[cfg(test)]
-mod crowd_tests;
-#[cfg(test)]
 mod desk_tests;
-#[cfg(test)]
-mod gate_tests;
 #[cfg(test)]
 mod group_tests;
 #[cfg(test)]
-mod long_tests;
+mod number_tests;
 #[cfg(test)]
 mod refusal_tests;
 #[cfg(test)]

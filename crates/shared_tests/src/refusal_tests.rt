@@ -4,7 +4,8 @@ ghost use Rattle.iso_memdisk.specs.MemDisk.{state_of};
 ghost use Rattle.iso_shared.specs.{Ports.{IsPort, port_view}, TestImage.MayStart};
 
 use crate::answer_tests::{Upkeep, one_at_work, upkeep};
-use crate::tests::{commits, core_failing, device, ended, new_core, put, same};
+use crate::tests::{commits, core_failing, device, ended, new_core, put};
+use crate::turn_tests::same;
 use iso_core::Core;
 use iso_memdisk::{CallKind, MemDisk};
 use iso_model::{Clash, CoreError, EndReply, Label};

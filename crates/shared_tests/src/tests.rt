@@ -7,25 +7,19 @@ ghost use Rattle.iso_memdisk.specs.MemDisk.{state_of};
 ghost use Rattle.iso_shared.specs.{Ports.{IsPort, IsTx, port_view, tx_view}, TestImage.{small, MayStart}};
 ghost use Rattle.shared_tests.specs.Starts.{IsNew};
 
+use crate::turn_tests::same;
 use counts::Steps;
 use iso_core::{Core, Stat};
 use iso_memdisk::{CallKind, MemDisk};
 use iso_model::{CoreError, EndReply};
 use iso_shared::{Origin, Port, Shared, Tx};
 use std::alloc::Global;
-use std::fmt::Debug;
 use std::marker::Brand;
-use std::process::Abort;
 use std::sync::Wait;
 use std::sync::ledger::{Blank, Ledger};
 use std::test::Fail;
 use std::thread::{Threads, join};
 use test_cores::{blank, core_on, with_long_logs};
-
-// Two values that are to be the same. Each test that compared them itself would prove what is printed where they differ.
-pub(crate) fn same<T: PartialEq + Debug + Drop>(rt: &impl Abort, found: T, wanted: T) {
-    assert_eq!(rt; found, wanted);
-}
 
 /// A core over a new image, on a disk of which the call of this kind with this number fails alone.
 pub(crate) fn core_failing(alloc: Global, kind: CallKind, number: u64) -> Option<Core<MemDisk>>

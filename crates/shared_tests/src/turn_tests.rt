@@ -1,12 +1,13 @@
-//! Small runs of the lock, over a plain list and over a desk that hands out numbers.
-ghost use Rattle.std.specs.{Prelude.{◌≡◌, ℕ, false, ◌+◌, ◌<◌, ◌≤◌, ◌++◌, [], ◌∷◌, Some, None}, List.AllByRecursion};
-ghost use Rattle.turn_lock.specs.{Lists.{times, AreDistinct}, Numbers.{is_out, AreFree, AreHeld}, Lock.{lock_id, turn_value}, Pass.{view, IsSamePass, HasNoTurn, HasTurn}, Props.pass_props};
+//! Runs of the lock by threads beside each other, over a plain list. A lock in which somebody sleeps whom nobody wakes hangs here: who fell asleep
+//! at a gate that was opened after its last look, who came too late and sleeps again, or those who still sleep when one has passed.
+ghost use Rattle.std.specs.Prelude.{◌≡◌, ◌+◌, ◌<◌, ◌≤◌, ◌++◌, [], ◌∷◌, None};
+ghost use Rattle.turn_lock.specs.{Lock.{lock_id, turn_value}, Pass.{view, IsSamePass, HasNoTurn, HasTurn}};
 ghost use mathlib.Core.List.{IsPrefix};
 ghost use denote.Param.Send.{IsSync};
 
 use iso_model::Memory;
 use std::alloc::Global;
-use std::collections::LinkedList;
+use std::fmt::Debug;
 use std::marker::Brand;
 use std::process::Abort;
 use std::sync::Wait;
@@ -15,20 +16,22 @@ use std::thread::{self, Threads, join};
 use std::time::{Clock, CpuClock, Duration, Instant};
 use turn_lock::{LAST, Names, Pass, Stands, Turn, TurnLock};
 
-// Enough to stop a lock in which a thread falls asleep at a gate that was opened after its last look.
-const TURNS: u64 = 100_000;
+/// Two values that are to be the same. Each test that compared them itself would prove what is printed where they differ.
+pub(crate) fn same<T: PartialEq + Debug + Drop>(rt: &impl Abort, found: T, wanted: T) {
+    assert_eq!(rt; found, wanted);
+}
 
 /// What a turn adds to a log: how many entries were in it.
 #[derive(Clone, Copy)]
-pub(crate) struct Entry {
-    pub(crate) number: u64,
+struct Entry {
+    number: u64,
 }
 
 /// It represents the list that it has.
 #[derive(Drop)]
-pub(crate) struct Log {
-    pub(crate) owner: u64,
-    pub(crate) entries: Vec<Entry>,
+struct Log {
+    owner: u64,
+    entries: Vec<Entry>,
 }
 
 impl Stands for Log {
@@ -47,14 +50,6 @@ impl Names<Entry> for Brand {
     ghost entry = { record { number = 0 } };
 }
 
-/// A caller of a lock, between two calls.
-#[derive(Drop)]
-pub(crate) struct Caller<'a, V: Stands + Drop> {
-    pub(crate) lock: &'a TurnLock<V>,
-    pub(crate) pass: Pass<V>,
-    ghost rests: { (pass.table_id ≡ lock_id lock.now) × HasNoTurn pass × (0 < (view pass).units) } by { Prim.hlevel pass_props },
-}
-
 // Gives the turn back with this entry.
 fn give<N: Names<Entry>>(lock: &TurnLock<Log>, pass: &mut Pass<Log>, turn: Turn<Log>, entry: Entry)
     requires named { N.entry ≡ entry }
@@ -68,7 +63,7 @@ fn give<N: Names<Entry>>(lock: &TurnLock<Log>, pass: &mut Pass<Log>, turn: Turn<
 }
 
 // Writes the number of entries after them, and gives the turn back.
-pub(crate) fn add<R: Abort>(rt: &R, lock: &TurnLock<Log>, pass: &mut Pass<Log>, turn: Turn<Log>)
+fn add<R: Abort>(rt: &R, lock: &TurnLock<Log>, pass: &mut Pass<Log>, turn: Turn<Log>)
     requires lock { (pass.old.table_id ≡ lock_id lock.now) × HasTurn pass.old turn }
     requires value { (turn_value turn).entries.items ≡ (view pass.old).seen }
     ensures rests { IsSamePass pass.old pass.new × HasNoTurn pass.new × ((view pass.new).units ≡ (view pass.old).units) }
@@ -83,6 +78,41 @@ pub(crate) fn add<R: Abort>(rt: &R, lock: &TurnLock<Log>, pass: &mut Pass<Log>, 
     give::<Brand>(lock, pass, turn, entry);
 }
 
+/// What threads beside each other do. All times are in microseconds.
+#[derive(Clone, Copy)]
+struct Run {
+    threads: u64,
+    /// The turns of each thread.
+    turns: u64,
+    /// How long each turn keeps its processor, and below how much longer the later ones.
+    busy: u64,
+    longer: u64,
+    /// How long the first turn of the first thread does.
+    first: u64,
+    /// How long each turn sleeps.
+    asleep: u64,
+    /// Below which time each pause behind a turn is. With these, looks at the gate come at nearly the same moment.
+    pause: u64,
+    /// How much later than the thread before it each thread begins.
+    late: u64,
+    /// Below which processor time each thread stays.
+    most: u64,
+}
+
+// Two threads with turns of no length. There are enough of them to stop a lock in which a thread falls asleep at a gate that was opened
+// after its last look.
+const SHORT: Run = Run {
+    threads: 2,
+    turns: 100_000,
+    busy: 0,
+    longer: 1,
+    first: 0,
+    asleep: 0,
+    pause: 1,
+    late: 0,
+    most: u64::MAX,
+};
+
 // Keeps its processor for so long.
 fn be_busy<R: Abort + Clock>(rt: &R, time: Duration) {
     let start = Instant::now(rt).expect(rt, "a clock");
@@ -93,159 +123,113 @@ fn be_busy<R: Abort + Clock>(rt: &R, time: Duration) {
     }
 }
 
-impl<'a> Caller<'a, Log> {
-    // One turn.
-    pub(crate) fn count<R: Wait + Abort>(&mut self, rt: &R)
-        ensures same { (self.new.lock.now ≡ self.old.lock.now) × ((view self.new.pass).units ≡ (view self.old.pass).units) }
-        ensures seen { IsPrefix (view self.old.pass).seen (view self.new.pass).seen }
-    {
-        let turn = self.lock.take(rt, &mut self.pass);
-        add(rt, self.lock, &mut self.pass, turn);
-    }
-
-    // One turn, which lasts so long.
-    pub(crate) fn hold<R: Wait + Abort + Clock>(&mut self, rt: &R, time: Duration)
-        ensures same { (self.new.lock.now ≡ self.old.lock.now) × ((view self.new.pass).units ≡ (view self.old.pass).units) }
-    {
-        let turn = self.lock.take(rt, &mut self.pass);
-        be_busy(rt, time);
-        add(rt, self.lock, &mut self.pass, turn);
-    }
-
-    // The same, asleep.
-    pub(crate) fn sleep<R: Wait + Abort + Clock>(&mut self, rt: &R, time: Duration)
-        ensures same { (self.new.lock.now ≡ self.old.lock.now) × ((view self.new.pass).units ≡ (view self.old.pass).units) }
-    {
-        let turn = self.lock.take(rt, &mut self.pass);
-        thread::sleep(rt, time);
-        add(rt, self.lock, &mut self.pass, turn);
+// Sleeps for so many microseconds, and makes no call where there are none.
+fn sleep<R: Clock>(rt: &R, micros: u64) {
+    if micros > 0 {
+        thread::sleep(rt, Duration::from_micros(micros));
     }
 }
 
-// Takes `turns` turns.
-fn turned<R: Wait + Abort>(rt: &R, lock: &TurnLock<Log>, pass: Pass<Log>, turns: u64) -> Pass<Log>
-    requires { (pass.table_id ≡ lock_id lock.now) × HasNoTurn pass × (0 < (view pass).units) }
-    ensures { (result.table_id ≡ lock_id lock.now) × HasNoTurn result × ((view result).units ≡ (view pass).units) }
-{
-    let mut caller = Caller { lock, pass };
-    for _ in 0..turns {
-        caller.count(rt);
+// What a turn does while it lasts.
+fn last<R: Abort + Clock>(rt: &R, run: &Run, is_first: bool, turn: u64) {
+    let more = turn.checked_rem(run.longer).unwrap_or(0);
+    let busy = if is_first {
+        run.first
+    } else {
+        run.busy.saturating_add(more)
+    };
+    if busy > 0 {
+        be_busy(rt, Duration::from_micros(busy));
     }
-    let Caller { lock: _, pass } = caller;
-    pass
+    sleep(rt, run.asleep);
 }
 
-// One turn, which lasts.
-fn long_turn<R: Wait + Abort + Clock>(rt: &R, lock: &TurnLock<Log>, pass: Pass<Log>) -> Pass<Log>
+// The pause behind a turn.
+fn pause<R: Clock>(rt: &R, run: &Run, turn: u64) {
+    sleep(
+        rt,
+        turn.wrapping_mul(193).checked_rem(run.pause).unwrap_or(0),
+    );
+}
+
+// The turns of the thread of this number, from 0.
+fn turned<R: Wait + Abort + Clock>(
+    rt: &R,
+    lock: &TurnLock<Log>,
+    pass: Pass<Log>,
+    number: u64,
+    run: &Run,
+) -> Pass<Log>
     requires { (pass.table_id ≡ lock_id lock.now) × HasNoTurn pass × (0 < (view pass).units) }
     ensures { (result.table_id ≡ lock_id lock.now) × HasNoTurn result × ((view result).units ≡ (view pass).units) }
 {
     let mut pass = pass;
-    let turn = lock.take(rt, &mut pass);
-    thread::sleep(rt, Duration::from_millis(400));
-    add(rt, lock, &mut pass, turn);
+    for turn in 0..run.turns {
+        let taken = lock.take(rt, &mut pass);
+        last(rt, run, number == 0 && turn == 0, turn);
+        add(rt, lock, &mut pass, taken);
+        pause(rt, run, turn);
+    }
     pass
 }
 
-// One turn, and the processor time that it took with the wait for it.
-fn late_turn<R: Wait + Abort + Clock + CpuClock>(
+// The same. The thread begins when its time has come, and may take no more processor time than it has.
+fn timed<R: Wait + Abort + Clock + CpuClock>(
     rt: &R,
     lock: &TurnLock<Log>,
     pass: Pass<Log>,
-) -> (Pass<Log>, Duration)
+    number: u64,
+    run: &Run,
+) -> Pass<Log>
     requires { (pass.table_id ≡ lock_id lock.now) × HasNoTurn pass × (0 < (view pass).units) }
-    ensures { (result.0.table_id ≡ lock_id lock.now) × HasNoTurn result.0 × ((view result.0).units ≡ (view pass).units) }
+    ensures { (result.table_id ≡ lock_id lock.now) × HasNoTurn result × ((view result).units ≡ (view pass).units) }
 {
-    thread::sleep(rt, Duration::from_millis(100));
+    sleep(rt, run.late.wrapping_mul(number));
     let before = rt.thread_cpu_time().expect(rt, "a clock");
-    let pass = turned(rt, lock, pass, 1);
+    let pass = turned(rt, lock, pass, number, run);
     let after = rt.thread_cpu_time().expect(rt, "a clock");
-    (pass, after.saturating_sub(before))
+    assert!(rt; after.saturating_sub(before) < Duration::from_micros(run.most));
+    pass
 }
 
-// A thread waits while another has a long turn.
-fn long_and_late<R: Threads + Wait + Abort + Sync + Clock + CpuClock>(
+// So many threads, of which the first has this number: two at once, each of half of them.
+fn crowd<R: Threads + Wait + Abort + Sync + Clock + CpuClock>(
     rt: &R,
     lock: &TurnLock<Log>,
-    first: Pass<Log>,
-    second: Pass<Log>,
-) -> (Pass<Log>, Duration)
-    requires first { (first.table_id ≡ lock_id lock.now) × HasNoTurn first × (0 < (view first).units) }
-    requires second { (second.table_id ≡ lock_id lock.now) × HasNoTurn second × (0 < (view second).units) }
-    ensures { (result.0.table_id ≡ lock_id lock.now) × HasNoTurn result.0 × ((view result.0).units ≡ (view first).units + (view second).units) }
-{
-    let (mut first, (second, used)) = join(
-        rt,
-        || -> Pass<Log>
-            requires { IsSync R.row × (first.table_id ≡ lock_id lock.now) × HasNoTurn first × (0 < (view first).units) }
-            ensures { (result.table_id ≡ lock_id lock.entry.now) × HasNoTurn result × ((view result).units ≡ (view first).units) }
-        { long_turn(rt, lock, first) },
-        || -> (Pass<Log>, Duration)
-            requires { IsSync R.row × (second.table_id ≡ lock_id lock.now) × HasNoTurn second × (0 < (view second).units) }
-            ensures { (result.0.table_id ≡ lock_id lock.entry.now) × HasNoTurn result.0 × ((view result.0).units ≡ (view second).units) }
-        { late_turn(rt, lock, second) },
-    );
-    lock.join(&mut first, second);
-    (first, used)
-}
-
-// Two threads with `turns` turns each, whose passes are joined.
-fn two_threads<R: Threads + Wait + Abort + Sync>(
-    rt: &R,
-    lock: &TurnLock<Log>,
-    first: Pass<Log>,
-    second: Pass<Log>,
-    turns: u64,
+    pass: Pass<Log>,
+    number: u64,
+    threads: u64,
+    run: &Run,
 ) -> Pass<Log>
-    requires first { (first.table_id ≡ lock_id lock.now) × HasNoTurn first × (0 < (view first).units) }
-    requires second { (second.table_id ≡ lock_id lock.now) × HasNoTurn second × (0 < (view second).units) }
-    ensures { (result.table_id ≡ lock_id lock.now) × HasNoTurn result × ((view result).units ≡ (view first).units + (view second).units) }
+    requires pass { (pass.table_id ≡ lock_id lock.now) × HasNoTurn pass × (threads ≤ (view pass).units) }
+    requires some { 0 < threads }
+    ensures { (result.table_id ≡ lock_id lock.now) × HasNoTurn result × ((view result).units ≡ (view pass).units) }
 {
-    let (mut first, second) = join(
-        rt,
-        || -> Pass<Log>
-            requires { IsSync R.row × (first.table_id ≡ lock_id lock.now) × HasNoTurn first × (0 < (view first).units) }
-            ensures { (result.table_id ≡ lock_id lock.entry.now) × HasNoTurn result × ((view result).units ≡ (view first).units) }
-        { turned(rt, lock, first, turns) },
-        || -> Pass<Log>
-            requires { IsSync R.row × (second.table_id ≡ lock_id lock.now) × HasNoTurn second × (0 < (view second).units) }
-            ensures { (result.table_id ≡ lock_id lock.entry.now) × HasNoTurn result × ((view result).units ≡ (view second).units) }
-        { turned(rt, lock, second, turns) },
-    );
-    lock.join(&mut first, second);
-    first
-}
-
-// Four threads, likewise.
-fn four_threads<R: Threads + Wait + Abort + Sync>(
-    rt: &R,
-    lock: &TurnLock<Log>,
-    mut first: Pass<Log>,
-    turns: u64,
-) -> Pass<Log>
-    requires { (first.table_id ≡ lock_id lock.now) × HasNoTurn first × ((view first).units ≡ LAST) }
-    ensures { (result.table_id ≡ lock_id lock.now) × HasNoTurn result × ((view result).units ≡ LAST) }
-{
-    let second = lock.split(&mut first, None, 1);
-    let mut third = lock.split(&mut first, None, 5);
-    let fourth = lock.split(&mut third, None, 2);
+    if threads == 1 {
+        return timed(rt, lock, pass, number, run);
+    }
+    let half = threads / 2;
+    let rest = threads - half;
+    let later = number.wrapping_add(rest);
+    let mut first = pass;
+    let second = lock.split(&mut first, None, half);
     let (mut left, right) = join(
         rt,
         || -> Pass<Log>
-            requires { IsSync R.row × (first.table_id ≡ lock_id lock.now) × HasNoTurn first × (0 < (view first).units) × (second.table_id ≡ lock_id lock.now) × HasNoTurn second × (0 < (view second).units) }
-            ensures { (result.table_id ≡ lock_id lock.entry.now) × HasNoTurn result × ((view result).units ≡ (view first).units + (view second).units) }
-        { two_threads(rt, lock, first, second, turns) },
+            requires { IsSync R.row × (first.table_id ≡ lock_id lock.now) × HasNoTurn first × (rest ≤ (view first).units) × (0 < rest) }
+            ensures { (result.table_id ≡ lock_id lock.entry.now) × HasNoTurn result × ((view result).units ≡ (view first).units) }
+        { crowd(rt, lock, first, number, rest, run) },
         || -> Pass<Log>
-            requires { IsSync R.row × (third.table_id ≡ lock_id lock.now) × HasNoTurn third × (0 < (view third).units) × (fourth.table_id ≡ lock_id lock.now) × HasNoTurn fourth × (0 < (view fourth).units) }
-            ensures { (result.table_id ≡ lock_id lock.entry.now) × HasNoTurn result × ((view result).units ≡ (view third).units + (view fourth).units) }
-        { two_threads(rt, lock, third, fourth, turns) },
+            requires { IsSync R.row × (second.table_id ≡ lock_id lock.now) × HasNoTurn second × (half ≤ (view second).units) × (0 < half) }
+            ensures { (result.table_id ≡ lock_id lock.entry.now) × HasNoTurn result × ((view result).units ≡ (view second).units) }
+        { crowd(rt, lock, second, later, half, run) },
     );
     lock.join(&mut left, right);
     left
 }
 
 // A lock over an empty log, and its first pass.
-pub(crate) fn made(rt: &impl Abort, alloc: Global) -> (TurnLock<Log>, Pass<Log>)
+fn made(rt: &impl Abort, alloc: Global) -> (TurnLock<Log>, Pass<Log>)
     ensures { (result.1.table_id ≡ lock_id result.0) × HasNoTurn result.1 × ((view result.1).units ≡ LAST) }
 {
     let log = Log {
@@ -271,53 +255,146 @@ fn tell(lock: &TurnLock<Log>, teller: &mut Pass<Log>, listener: &mut Pass<Log>)
     lock.join(listener, note);
 }
 
-pub(crate) fn counts_up(log: &Log) -> bool {
+fn counts_up(log: &Log) -> bool {
     log.entries
         .iter()
         .enumerate()
         .all(|(i, entry)| entry.number == i as u64)
 }
 
-#[test]
-fn two_threads_are_served_in_order(rt: HostRuntime) -> Result<(), Fail> {
-    let (lock, mut first) = made(&rt, rt.alloc());
-    let second = lock.split(&mut first, None, 1);
-    let all = two_threads(&rt, &lock, first, second, TURNS);
+// The threads of a run on a new lock: how many entries its list has then, and whether they count up.
+fn entries_of<R: Threads + Wait + Abort + Sync + Clock + CpuClock>(
+    rt: &R,
+    alloc: Global,
+    run: &Run,
+) -> (usize, bool) {
+    assert!(rt; run.threads > 0 && run.threads < LAST);
+    let (lock, pass) = made(rt, alloc);
+    let all = crowd(rt, &lock, pass, 0, run.threads, run);
     let log = lock.close(all);
-    assert!(rt; log.entries.len() == 2 * TURNS as usize && counts_up(&log));
-    Ok(())
+    (log.entries.len(), counts_up(&log))
+}
+
+// Runs with so many entries each.
+fn are_served<R: Threads + Wait + Abort + Sync + Clock + CpuClock>(
+    rt: &R,
+    alloc: Global,
+    rows: &[(usize, Run)],
+) {
+    for (number, row) in rows.iter().enumerate() {
+        let (entries, in_order) = entries_of(rt, alloc, &row.1);
+        same(rt, (number, entries, in_order), (number, row.0, true));
+    }
 }
 
 #[test]
-fn four_threads_are_served_in_order(rt: HostRuntime) -> Result<(), Fail> {
-    let (lock, first) = made(&rt, rt.alloc());
-    let all = four_threads(&rt, &lock, first, TURNS);
-    let log = lock.close(all);
-    assert!(rt; log.entries.len() == 4 * TURNS as usize && counts_up(&log));
+fn threads_with_short_turns_are_served_in_order(rt: HostRuntime) -> Result<(), Fail> {
+    let four = Run {
+        threads: 4,
+        ..SHORT
+    };
+    let rows = [
+        (200_000, SHORT),
+        (400_000, four),
+        (2_400, Run { turns: 600, ..four }),
+        (
+            38_400,
+            Run {
+                threads: 64,
+                turns: 600,
+                ..SHORT
+            },
+        ),
+    ];
+    are_served(&rt, rt.alloc(), &rows);
     Ok(())
 }
 
+// Nearly all threads sleep at the gate at once. In the second run the first turn lasts until all others sleep.
 #[test]
-fn a_thread_sleeps_until_its_turn(rt: HostRuntime) -> Result<(), Fail> {
-    let (lock, mut first) = made(&rt, rt.alloc());
-    let second = lock.split(&mut first, None, 1);
-    let (all, used) = long_and_late(&rt, &lock, first, second);
-    let log = lock.close(all);
-    assert!(rt; log.entries.len() == 2 && used < Duration::from_millis(50));
+fn threads_that_hold_their_turns_for_a_while_are_served(rt: HostRuntime) -> Result<(), Fail> {
+    let rows = [
+        (
+            16_000,
+            Run {
+                threads: 16,
+                turns: 1_000,
+                busy: 20,
+                longer: 31,
+                first: 20,
+                pause: 500,
+                ..SHORT
+            },
+        ),
+        (
+            6_000,
+            Run {
+                threads: 150,
+                turns: 40,
+                busy: 5,
+                first: 100_000,
+                ..SHORT
+            },
+        ),
+    ];
+    are_served(&rt, rt.alloc(), &rows);
     Ok(())
+}
+
+// Who waits for a turn that lasts longer than one looks at the gate sleeps, and who was woken and came too late sleeps again: one that
+// looks on and on takes too much of a processor.
+#[test]
+fn threads_sleep_until_their_turns(rt: HostRuntime) -> Result<(), Fail> {
+    let rows = [
+        (
+            2,
+            Run {
+                turns: 1,
+                asleep: 400_000,
+                late: 100_000,
+                most: 50_000,
+                ..SHORT
+            },
+        ),
+        (
+            160,
+            Run {
+                threads: 8,
+                turns: 20,
+                asleep: 2_000,
+                most: 40_000,
+                ..SHORT
+            },
+        ),
+    ];
+    are_served(&rt, rt.alloc(), &rows);
+    Ok(())
+}
+
+// So many turns of one thread.
+fn some<R: Wait + Abort + Clock>(
+    rt: &R,
+    lock: &TurnLock<Log>,
+    pass: Pass<Log>,
+    turns: u64,
+) -> Pass<Log>
+    requires { (pass.table_id ≡ lock_id lock.now) × HasNoTurn pass × (0 < (view pass).units) }
+    ensures { (result.table_id ≡ lock_id lock.now) × HasNoTurn result × ((view result).units ≡ (view pass).units) }
+{
+    turned(rt, lock, pass, 0, &Run { turns, ..SHORT })
 }
 
 #[test]
 fn a_note_tells_what_was_seen(rt: HostRuntime) -> Result<(), Fail> {
     let (lock, first) = made(&rt, rt.alloc());
-    let mut first = turned(&rt, &lock, first, 3);
+    let mut first = some(&rt, &lock, first, 3);
     let mut second = lock.split(&mut first, None, 1);
-    first = turned(&rt, &lock, first, 2);
+    first = some(&rt, &lock, first, 2);
     tell(&lock, &mut first, &mut second);
-    second = turned(&rt, &lock, second, 1);
+    second = some(&rt, &lock, second, 1);
     lock.join(&mut first, second);
     let log = lock.close(first);
-    assert!(rt; log.entries.len() == 6 && counts_up(&log));
+    same(&rt, (log.entries.len(), counts_up(&log)), (6, true));
     Ok(())
 }
 
@@ -331,120 +408,5 @@ fn new_hands_the_value_back_without_memory(rt: HostRuntime) -> Result<(), Fail> 
         Ok((lock, pass)) => assert!(rt; lock.close(pass).owner == 7),
         Err((Memory, log)) => assert!(rt; log.owner == 7),
     }
-    Ok(())
-}
-
-/// What a desk's turn adds: the number that it hands out, and those that it takes back.
-struct Slip {
-    out: Option<u64>,
-    back: LinkedList<u64>,
-}
-
-/// A desk that hands out numbers, each one once.
-#[derive(Drop)]
-struct Desk {
-    next: u64,
-}
-
-impl Stands for Desk {
-    type Entry = Slip;
-
-    // The numbers that come next are not out.
-    ghost stands = { λ desk list. (n : ℕ) → desk.next ≤ n → is_out (λ e. e.out) (λ e. e.back) n list ≡ false };
-
-    ghost hands = { λ e. e.out };
-
-    ghost needs = { λ e. e.back };
-
-    ghost takes = { λ e. e.back };
-}
-
-impl Names<Slip> for Brand {
-    ghost entry = { record { out = None; back = [] } };
-}
-
-// Gives the turn back with a number handed out.
-fn hand_out<N: Names<Slip>>(
-    lock: &TurnLock<Desk>,
-    pass: &mut Pass<Desk>,
-    turn: Turn<Desk>,
-    number: u64,
-)
-    requires named { N.entry ≡ record { out = Some number; back = [] } }
-    requires lock { (pass.old.table_id ≡ lock_id lock.now) × HasTurn pass.old turn }
-    requires next { (turn_value turn).next ≡ number + 1 }
-    requires value { (n : ℕ) → number ≤ n → is_out (λ e. e.out) (λ e. e.back) n (view pass.old).seen ≡ false }
-    ensures rests { IsSamePass pass.old pass.new × HasNoTurn pass.new × ((view pass.new).units ≡ (view pass.old).units) }
-    ensures holds { (view pass.new).holds ≡ number ∷ (view pass.old).holds }
-{
-    let _ = number;
-    lock.give::<N>(pass, turn);
-}
-
-// Gives the turn back with these numbers taken back.
-fn take_back<N: Names<Slip>>(
-    lock: &TurnLock<Desk>,
-    pass: &mut Pass<Desk>,
-    turn: Turn<Desk>,
-    numbers: &[u64],
-)
-    requires named { N.entry ≡ record { out = None; back = numbers.now } }
-    requires lock { (pass.old.table_id ≡ lock_id lock.now) × HasTurn pass.old turn }
-    requires value { (n : ℕ) → (turn_value turn).next ≤ n → is_out (λ e. e.out) (λ e. e.back) n (view pass.old).seen ≡ false }
-    requires held { AreHeld numbers.now (view pass.old).holds × AreDistinct numbers.now }
-    ensures rests { IsSamePass pass.old pass.new × HasNoTurn pass.new × ((view pass.new).units ≡ (view pass.old).units) }
-    ensures back { AreFree (λ e. e.out) (λ e. e.back) numbers.now (view pass.new).seen }
-    ensures holds { AllByRecursion (λ n. times n (view pass.new).holds ≡ 0) numbers.now }
-{
-    let _ = numbers;
-    lock.give::<N>(pass, turn);
-}
-
-// One turn, in which the next number is handed out.
-fn next_number<R: Wait + Abort>(rt: &R, lock: &TurnLock<Desk>, pass: &mut Pass<Desk>) -> u64
-    requires { (pass.old.table_id ≡ lock_id lock.now) × HasNoTurn pass.old × (0 < (view pass.old).units) }
-    ensures rests { IsSamePass pass.old pass.new × HasNoTurn pass.new × ((view pass.new).units ≡ (view pass.old).units) }
-    ensures holds { (view pass.new).holds ≡ result ∷ (view pass.old).holds }
-{
-    let mut turn = lock.take(rt, pass);
-    let desk = turn.value();
-    let number = desk.next;
-    assert!(rt; number < LAST);
-    desk.next = number + 1;
-    hand_out::<Brand>(lock, pass, turn, number);
-    number
-}
-
-// Hands two numbers out, moves them to a pass of their own, and takes both back there with one entry.
-fn served_numbers<R: Wait + Abort>(
-    rt: &R,
-    lock: &TurnLock<Desk>,
-    pass: &mut Pass<Desk>,
-) -> (u64, u64)
-    requires { (pass.old.table_id ≡ lock_id lock.now) × HasNoTurn pass.old × (2 < (view pass.old).units) }
-    ensures { IsSamePass pass.old pass.new × HasNoTurn pass.new × ((view pass.new).units ≡ (view pass.old).units) }
-{
-    let first = next_number(rt, lock, pass);
-    let mut holder = lock.split(pass, Some(first), 1);
-    let second = next_number(rt, lock, pass);
-    let other = lock.split(pass, Some(second), 1);
-    lock.join(&mut holder, other);
-    let turn = lock.take(rt, &mut holder);
-    take_back::<Brand>(lock, &mut holder, turn, &[second, first]);
-    lock.join(pass, holder);
-    (first, second)
-}
-
-#[test]
-fn two_numbers_move_with_their_pass_and_are_taken_back_at_once(
-    rt: HostRuntime,
-) -> Result<(), Fail> {
-    let Ok((lock, mut pass)) = TurnLock::new(rt.alloc(), Desk { next: 0 }) else {
-        panic!(rt; "memory")
-    };
-    let early = served_numbers(&rt, &lock, &mut pass);
-    let late = served_numbers(&rt, &lock, &mut pass);
-    let desk = lock.close(pass);
-    assert!(rt; early == (0, 1) && late == (2, 3) && desk.next == 4);
     Ok(())
 }

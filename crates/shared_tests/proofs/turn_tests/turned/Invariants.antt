@@ -1,6 +1,6 @@
 use Rattle.std.proofs.Common.{◌≡◌}
-use Rattle.turn_lock.specs.Pass.{view}
+use Rattle.turn_lock.specs.{Lock.lock_id, Pass.{view, HasNoTurn}}
 
--- one lock, and the same units
-abbrev pub invariant-loop : Rattle.shared_tests.proofs.turn_tests.turned.Given.invariant-loop
-invariant-loop g l = (l.caller.lock.now ≡ l.initial.caller.lock.now) × ((view l.caller.pass).units ≡ (view l.initial.caller.pass).units)
+-- a pass of the lock at rest, with the same units
+abbrev pub invariant-loop-turn : Rattle.shared_tests.proofs.turn_tests.turned.Given.invariant-loop-turn
+invariant-loop-turn g l = (l.pass.table_id ≡ lock_id l.lock) × HasNoTurn l.pass × ((view l.pass).units ≡ (view l.initial.pass).units)

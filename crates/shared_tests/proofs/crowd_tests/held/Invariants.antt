@@ -1,6 +1,0 @@
-use Rattle.std.proofs.Common.{◌≡◌}
-use Rattle.turn_lock.specs.Pass.{view}
-
--- one lock, and the same units
-abbrev pub invariant-loop-turn : Rattle.shared_tests.proofs.crowd_tests.held.Given.invariant-loop-turn
-invariant-loop-turn g l = (l.caller.lock.now ≡ l.initial.caller.lock.now) × ((view l.caller.pass).units ≡ (view l.initial.caller.pass).units)
