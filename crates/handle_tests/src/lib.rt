@@ -6,8 +6,6 @@ mod call_tests;
 #[cfg(test)]
 mod client_tests;
 #[cfg(test)]
-mod gate_tests;
-#[cfg(test)]
 mod group_tests;
 #[cfg(test)]
 mod runner_tests;
