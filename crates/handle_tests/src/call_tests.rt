@@ -1,15 +1,17 @@
 // The calls over an image in memory that has both stores: 8 blocks of 256 bytes, the first four a hash store, the others a tree store.
-ghost use Rattle.std.specs.Prelude.{◌≡◌, ◌<◌, [], IsTrue};
+ghost use Rattle.std.specs.Prelude.{◌≡◌, ◌+◌, ◌<◌, ◌≤◌, [], IsTrue};
 ghost use Rattle.iso_core.specs.Core.{disk_of};
 ghost use Rattle.iso_model.specs.{Geometry.is_valid, World.World};
 ghost use Rattle.iso_shared.specs.{Standing.{Came, Holds}, States.opened};
-ghost use Rattle.device_calls.specs.Beginnings.{BeginsAt};
+ghost use Rattle.store_model.specs.{HashRegion.IsHashArea, TreeRegion.IsTreeArea};
+ghost use Rattle.device_calls.specs.{Beginnings.BeginsAt, Regions.area_in};
 
+use crate::runner_tests::same;
 use device_calls::{
-    Beginning, Retry, beginning_of, end_now, end_or_again, hash_delete, hash_get, hash_put,
-    hash_region, tree_delete, tree_get, tree_put, tree_region, tree_scan,
+    Beginning, Retry, RetryError, beginning_of, end_now, end_or_again, hash_delete, hash_get,
+    hash_put, hash_region, tree_delete, tree_get, tree_put, tree_region, tree_scan,
 };
-use handle_pass::Session;
+use handle_pass::{EndError, Session};
 use iso_core::Core;
 use iso_disk::{Disk, Image};
 use iso_image::image_size;
@@ -21,6 +23,7 @@ use std::alloc::Global;
 use std::marker::Brand;
 use std::sync::Wait;
 use std::test::Fail;
+use store_model::{PairList, Region, StoreError};
 
 #[tactic(auto, unfolding(iso_model::specs::Geometry::is_valid))]
 fn numbers() -> Geometry
@@ -37,36 +40,88 @@ fn numbers() -> Geometry
     }
 }
 
-/// Whether a value was found, and is this one.
-fn is_value(found: &Option<Bytes>, value: &[u8]) -> bool {
+/// Whether this value was found.
+fn is_found(found: Result<Option<Bytes>, StoreError>, value: &[u8]) -> bool {
     match found {
-        Some(bytes) => bytes.as_slice() == value,
-        None => false,
+        Ok(Some(bytes)) => bytes.as_slice() == value,
+        _ => false,
     }
 }
 
-/// A transaction that puts a key in each store, and is shown both; how it ends.
+/// Whether no value was found.
+fn is_none(found: Result<Option<Bytes>, StoreError>) -> bool {
+    matches!(found, Ok(None))
+}
+
+/// How many pairs were found.
+fn count(found: Result<PairList, StoreError>) -> Option<usize> {
+    match found {
+        Ok(pairs) => Some(pairs.len()),
+        Err(_) => None,
+    }
+}
+
+/// Begins a transaction, and says whether it could.
+fn begins<D: Disk + Drop, O: Origin, R: Wait>(rt: &R, session: &mut Session<D, O>) -> bool
+    requires units { 1 < session.old.units }
+    ensures units { session.new.units ≡ session.old.units }
+{
+    match session.begin_tx(rt, None) {
+        Ok(_) => true,
+        Err(_) => false,
+    }
+}
+
+/// Ends the transaction, and gives the reply where there is one.
+fn ended<D: Disk + Drop, O: Origin, R: Wait>(
+    rt: &R,
+    session: &mut Session<D, O>,
+) -> Option<EndReply>
+    ensures units { session.new.units ≡ session.old.units }
+{
+    match end_now(rt, session) {
+        Ok(reply) => Some(reply),
+        Err(EndError::NotInTx) => None,
+        Err(EndError::Core(_)) => None,
+    }
+}
+
+/// Ends the transaction, begins again where it met a conflict, and gives which of the two it was.
+fn retried<D: Disk + Drop, O: Origin, R: Wait>(rt: &R, session: &mut Session<D, O>) -> Option<Retry>
+    requires units { 1 < session.old.units }
+    ensures units { session.new.units ≡ session.old.units }
+{
+    match end_or_again(rt, session, None) {
+        Ok(Retry::Ended(reply)) => Some(Retry::Ended(reply)),
+        Ok(Retry::Begun(at)) => Some(Retry::Begun(at)),
+        Err(RetryError::End(_)) => None,
+        Err(RetryError::Begin(_)) => None,
+    }
+}
+
+/// Which steps of a transaction went as they should, and how it ended.
+type Went = ([bool; 5], Option<EndReply>);
+
+/// A transaction that puts a key in each store, and is shown both.
 fn put_both<D: Disk + Drop, O: Origin, R: Wait>(
     rt: &R,
     alloc: Global,
     session: &mut Session<D, O>,
-    geometry: &Geometry,
-) -> Option<bool>
+    hash: Region,
+    tree: Region,
+) -> Went
     requires units { 1 < session.old.units }
-    requires image { (geometry.now ≡ O.start.world.geometry) × IsTrue (is_valid geometry.now) }
+    requires valid { IsTrue (is_valid O.start.world.geometry) }
+    requires hash { IsHashArea (area_in O.start.world.geometry hash) × (hash.start + hash.size ≤ O.start.world.geometry.blocks) }
+    requires tree { IsTreeArea (area_in O.start.world.geometry tree) × (tree.start + tree.size ≤ O.start.world.geometry.blocks) }
     ensures units { session.new.units ≡ session.old.units }
 {
-    let hash = hash_region(geometry)?;
-    let tree = tree_region(geometry)?;
-    session.begin_tx(rt, None).ok()?;
-    hash_put(rt, alloc, session, hash, b"key", b"one").ok()?;
-    tree_put(rt, alloc, session, tree, b"key", b"two").ok()?;
-    let one = hash_get(rt, alloc, session, hash, b"key").ok()?;
-    let two = tree_get(rt, alloc, session, tree, b"key").ok()?;
-    let reply = end_now(rt, session).ok()?;
-    Some(
-        is_value(&one, b"one") && is_value(&two, b"two") && matches!(reply, EndReply::Committed(1)),
-    )
+    let begun = begins(rt, session);
+    let one = hash_put(rt, alloc, session, hash, b"key", b"one").is_ok();
+    let two = tree_put(rt, alloc, session, tree, b"key", b"two").is_ok();
+    let hashed = is_found(hash_get(rt, alloc, session, hash, b"key"), b"one");
+    let sorted = is_found(tree_get(rt, alloc, session, tree, b"key"), b"two");
+    ([begun, one, two, hashed, sorted], ended(rt, session))
 }
 
 /// A later one that scans, removes both keys and ends.
@@ -74,87 +129,80 @@ fn remove_both<D: Disk + Drop, O: Origin, R: Wait>(
     rt: &R,
     alloc: Global,
     session: &mut Session<D, O>,
-    geometry: &Geometry,
-) -> Option<bool>
+    hash: Region,
+    tree: Region,
+) -> Went
     requires units { 1 < session.old.units }
-    requires image { (geometry.now ≡ O.start.world.geometry) × IsTrue (is_valid geometry.now) }
+    requires valid { IsTrue (is_valid O.start.world.geometry) }
+    requires hash { IsHashArea (area_in O.start.world.geometry hash) × (hash.start + hash.size ≤ O.start.world.geometry.blocks) }
+    requires tree { IsTreeArea (area_in O.start.world.geometry tree) × (tree.start + tree.size ≤ O.start.world.geometry.blocks) }
     ensures units { session.new.units ≡ session.old.units }
 {
-    let hash = hash_region(geometry)?;
-    let tree = tree_region(geometry)?;
-    session.begin_tx(rt, None).ok()?;
-    let found = tree_scan(rt, alloc, session, tree, b"a", b"z", 9).ok()?;
-    let there = hash_delete(rt, alloc, session, hash, b"key").ok()?;
-    let other = tree_delete(rt, alloc, session, tree, b"key").ok()?;
-    let none = hash_get(rt, alloc, session, hash, b"key").ok()?;
-    let reply = end_now(rt, session).ok()?;
-    Some(
-        found.len() == 1
-            && there
-            && other
-            && none.is_none()
-            && matches!(reply, EndReply::Committed(2)),
-    )
+    let begun = begins(rt, session);
+    let found = count(tree_scan(rt, alloc, session, tree, b"a", b"z", 9)) == Some(1);
+    let one = matches!(hash_delete(rt, alloc, session, hash, b"key"), Ok(true));
+    let two = matches!(tree_delete(rt, alloc, session, tree, b"key"), Ok(true));
+    let none = is_none(hash_get(rt, alloc, session, hash, b"key"));
+    ([begun, found, one, two, none], ended(rt, session))
 }
 
-/// Both on a device over a core.
-fn on_device<D: Disk + Drop, O: Origin, R: Wait>(
-    rt: &R,
-    alloc: Global,
-    core: Core<D>,
-    beginning: Beginning,
-) -> Option<(bool, bool)>
-    requires start { Holds D.state core (opened O.start) × (O.start.world.live ≡ []) }
-    requires came { Came O.start O.disk (D.state (disk_of core)) [] }
-    requires valid { IsTrue (is_valid O.start.world.geometry) }
-{
-    let _ = beginning;
-    match Shared::<D, O>::new(alloc, core) {
-        Err((_memory, _core)) => None,
-        Ok((shared, port)) => {
-            let geometry = shared.geometry();
-            let mut session = Session::new(&shared, port);
-            let first = put_both(rt, alloc, &mut session, &geometry);
-            let _ = session.abort_tx(rt);
-            let second = remove_both(rt, alloc, &mut session, &geometry);
-            let _ = session.finish(rt);
-            Some((first?, second?))
-        }
-    }
-}
-
-/// A transaction that read what another session then put, and is ended until it meets no conflict.
+/// A transaction that read what another session then put, and is ended until it meets no conflict: which steps went as they should, how
+/// the other session's ended, and what the two ends came to.
 fn put_again<D: Disk + Drop, O: Origin, R: Wait>(
     rt: &R,
     alloc: Global,
     first: &mut Session<D, O>,
     second: &mut Session<D, O>,
+    hash: Region,
+) -> (Went, [Option<Retry>; 2])
+    requires first { 1 < first.old.units }
+    requires second { 1 < second.old.units }
+    requires valid { IsTrue (is_valid O.start.world.geometry) }
+    requires hash { IsHashArea (area_in O.start.world.geometry hash) × (hash.start + hash.size ≤ O.start.world.geometry.blocks) }
+{
+    let begun = begins(rt, first);
+    let none = is_none(hash_get(rt, alloc, first, hash, b"key"));
+    let beside = begins(rt, second);
+    let put = hash_put(rt, alloc, second, hash, b"key", b"one").is_ok();
+    let reply = ended(rt, second);
+    let late = hash_put(rt, alloc, first, hash, b"key", b"two").is_ok();
+    let again = retried(rt, first);
+    let _ = hash_put(rt, alloc, first, hash, b"key", b"two");
+    let last = retried(rt, first);
+    (([begun, none, beside, put, late], reply), [again, last])
+}
+
+/// What becomes of all three.
+type Told = (Went, Went, (Went, [Option<Retry>; 2]));
+
+/// All three, one after the other.
+fn in_turn<D: Disk + Drop, O: Origin, R: Wait>(
+    rt: &R,
+    alloc: Global,
+    first: &mut Session<D, O>,
+    second: &mut Session<D, O>,
     geometry: &Geometry,
-) -> Option<bool>
+) -> Option<Told>
     requires first { 1 < first.old.units }
     requires second { 1 < second.old.units }
     requires image { (geometry.now ≡ O.start.world.geometry) × IsTrue (is_valid geometry.now) }
 {
     let hash = hash_region(geometry)?;
-    first.begin_tx(rt, None).ok()?;
-    hash_get(rt, alloc, first, hash, b"key").ok()?;
-    second.begin_tx(rt, None).ok()?;
-    hash_put(rt, alloc, second, hash, b"key", b"one").ok()?;
-    end_now(rt, second).ok()?;
-    hash_put(rt, alloc, first, hash, b"key", b"two").ok()?;
-    let again = end_or_again(rt, first, None).ok()?;
-    hash_put(rt, alloc, first, hash, b"key", b"two").ok()?;
-    let ended = end_or_again(rt, first, None).ok()?;
-    Some(again == Retry::Begun(1) && ended == Retry::Ended(EndReply::Committed(2)))
+    let tree = tree_region(geometry)?;
+    let put = put_both(rt, alloc, first, hash, tree);
+    let _ = first.abort_tx(rt);
+    let removed = remove_both(rt, alloc, first, hash, tree);
+    let _ = first.abort_tx(rt);
+    Some((put, removed, put_again(rt, alloc, first, second, hash)))
 }
 
-/// `put_again` with two sessions on a device over a core.
-fn again_on_device<D: Disk + Drop, O: Origin, R: Wait>(
+/// The same on a device over a core.
+fn on_device<D: Disk + Drop, O: Origin, R: Wait>(
     rt: &R,
     alloc: Global,
     core: Core<D>,
     beginning: Beginning,
-) -> Option<bool>
+) -> Option<Told>
     requires start { Holds D.state core (opened O.start) × (O.start.world.live ≡ []) }
     requires came { Came O.start O.disk (D.state (disk_of core)) [] }
     requires valid { IsTrue (is_valid O.start.world.geometry) }
@@ -167,35 +215,16 @@ fn again_on_device<D: Disk + Drop, O: Origin, R: Wait>(
             let other = shared.port(&mut port, 1 << 32);
             let mut first = Session::new(&shared, port);
             let mut second = Session::new(&shared, other);
-            let found = put_again(rt, alloc, &mut first, &mut second, &geometry);
+            let told = in_turn(rt, alloc, &mut first, &mut second, &geometry);
             let _ = first.finish(rt);
             let _ = second.finish(rt);
-            found
+            told
         }
     }
 }
 
 /// The same over a core that was just made.
-fn again_over_core<D: Disk + Drop, R: Wait>(rt: &R, alloc: Global, core: Core<D>) -> Option<bool>
-    requires { (W : World) × BeginsAt D.state core W }
-{
-    let beginning = beginning_of(&core);
-    again_on_device::<D, Brand, R>(rt, alloc, core, beginning)
-}
-
-/// The same on a new image.
-fn again_made<I: Image + Drop, R: Wait>(rt: &R, alloc: Global, image: I) -> Option<bool> {
-    let mut image = image;
-    let geometry = numbers();
-    image.bind("data.img", Some(image_size(&geometry))).ok()?;
-    match format_image(alloc, image, &geometry) {
-        Ok(core) => again_over_core(rt, alloc, core),
-        Err((_error, _image)) => None,
-    }
-}
-
-/// The same over a core that was just made.
-fn over_core<D: Disk + Drop, R: Wait>(rt: &R, alloc: Global, core: Core<D>) -> Option<(bool, bool)>
+fn over_core<D: Disk + Drop, R: Wait>(rt: &R, alloc: Global, core: Core<D>) -> Option<Told>
     requires { (W : World) × BeginsAt D.state core W }
 {
     let beginning = beginning_of(&core);
@@ -203,7 +232,7 @@ fn over_core<D: Disk + Drop, R: Wait>(rt: &R, alloc: Global, core: Core<D>) -> O
 }
 
 /// The same on a new image.
-fn made<I: Image + Drop, R: Wait>(rt: &R, alloc: Global, image: I) -> Option<(bool, bool)> {
+fn made<I: Image + Drop, R: Wait>(rt: &R, alloc: Global, image: I) -> Option<Told> {
     let mut image = image;
     let geometry = numbers();
     image.bind("data.img", Some(image_size(&geometry))).ok()?;
@@ -213,19 +242,21 @@ fn made<I: Image + Drop, R: Wait>(rt: &R, alloc: Global, image: I) -> Option<(bo
     }
 }
 
+// Both stores are called in one step each, and a conflict begins again.
 #[test]
-fn a_conflict_begins_again(rt: HostRuntime) -> Result<(), Fail> {
+fn stores_are_called_in_one_step_each(rt: HostRuntime) -> Result<(), Fail> {
     let disk = MemDisk::new(rt.alloc(), Vec::new(rt.alloc()));
-    let found = again_made(&rt, rt.alloc(), disk).expect(&rt, "three transactions");
-    assert!(rt; found);
-    Ok(())
-}
-
-#[test]
-fn both_stores_are_called_in_one_step_each(rt: HostRuntime) -> Result<(), Fail> {
-    let disk = MemDisk::new(rt.alloc(), Vec::new(rt.alloc()));
-    let (put, removed) = made(&rt, rt.alloc(), disk).expect(&rt, "two transactions");
-    assert!(rt; put);
-    assert!(rt; removed);
+    let wanted = (
+        ([true; 5], Some(EndReply::Committed(1))),
+        ([true; 5], Some(EndReply::Committed(2))),
+        (
+            ([true; 5], Some(EndReply::Committed(3))),
+            [
+                Some(Retry::Begun(3)),
+                Some(Retry::Ended(EndReply::Committed(4))),
+            ],
+        ),
+    );
+    same(&rt, made(&rt, rt.alloc(), disk), Some(wanted));
     Ok(())
 }

@@ -6,12 +6,13 @@ ghost use Rattle.iso_shared.specs.{Ports.{IsPort, port_view}, TestImage.{small, 
 ghost use Rattle.handle_pass.specs.Sessions.{device_of};
 ghost use Rattle.group_commit.specs.Groups.{AreMembers};
 
+use crate::runner_tests::same;
 use crate::small_image::core_failing;
 use group_commit::commit_group;
 use handle_pass::Session;
-use iso_core::{Core, Stat};
+use iso_core::Core;
 use iso_memdisk::MemDisk;
-use iso_model::{CoreError, GroupReply, Label, LabelReplies};
+use iso_model::{Clash, CoreError, GroupReply, Label, LabelReplies};
 use iso_shared::{Origin, Port, Shared, Tx};
 use std::alloc::Global;
 use std::marker::Brand;
@@ -86,8 +87,26 @@ fn grouped<O: Origin, R: Wait>(
     told
 }
 
-/// What a group was told, and the numbers of the image behind it.
-type Told = (Result<LabelReplies, CoreError>, Stat);
+/// How many replies there are to a group, and the first three.
+type Replies = (usize, [Option<Option<GroupReply>>; 3]);
+
+/// What a group was told; the last commit and the live transactions behind it, and whether the device is down.
+type Told = (Result<Replies, CoreError>, (u64, u32, bool));
+
+/// The replies by themselves.
+fn replies_of(told: Result<LabelReplies, CoreError>) -> Result<Replies, CoreError> {
+    match told {
+        Ok(replies) => Ok((
+            replies.len(),
+            [
+                replies.get(0).copied(),
+                replies.get(1).copied(),
+                replies.get(2).copied(),
+            ],
+        )),
+        Err(error) => Err(error),
+    }
+}
 
 /// Two transactions are put under labels in two threads; then a third session ends them as a group. The second one may read what
 /// the first one writes.
@@ -114,7 +133,7 @@ fn across<O: Origin + Send + Sync, R: Threads + Wait + Sync>(
     two
 }
 
-/// What the third session is told of the group, and the numbers of the image behind it.
+/// What the third session is told of the group, and what the device has behind it.
 fn ended<O: Origin, R: Wait>(
     rt: &R,
     alloc: Global,
@@ -124,8 +143,9 @@ fn ended<O: Origin, R: Wait>(
     requires session { (33 < session.old.units) × (session.old.device ≡ device_of shared.now) }
 {
     let labels = [Label::new(b"a")?, Label::new(b"zz")?, Label::new(b"b")?];
-    let told = grouped(rt, alloc, shared, session, &labels);
-    Some((told, session.stat(rt)))
+    let told = replies_of(grouped(rt, alloc, shared, session, &labels));
+    let stat = session.stat(rt);
+    Some((told, (stat.last, stat.live, stat.down)))
 }
 
 /// Both of three sessions over a core.
@@ -168,44 +188,33 @@ fn across_threads<R: Threads + Wait + Sync>(
     run_across::<Brand, R>(rt, alloc, core, reads)
 }
 
+// What was posted in other threads is committed as a group; a member that read what an earlier one wrote conflicts; and a fault of the disk,
+// which makes five calls for a new image, ends all members.
 #[test]
-fn what_was_posted_in_another_thread_is_committed_as_a_group(rt: HostRuntime) -> Result<(), Fail> {
-    let (told, stat) = across_threads(&rt, rt.alloc(), 1_000, false).expect(&rt, "a group");
-    assert_eq!(rt; stat.last, 2);
-    assert_eq!(rt; stat.live, 0);
-    match &told {
-        Ok(replies) => {
-            assert_eq!(rt; replies.len(), 3);
-            assert!(rt; matches!(replies.get(0), Some(Some(GroupReply::Committed(1)))));
-            assert!(rt; matches!(replies.get(1), Some(None)));
-            assert!(rt; matches!(replies.get(2), Some(Some(GroupReply::Committed(2)))));
-        }
-        Err(_) => assert!(rt; false),
+fn what_was_posted_in_other_threads_ends_as_a_group(rt: HostRuntime) -> Result<(), Fail> {
+    let first = Some(Some(GroupReply::Committed(1)));
+    let second = Some(Some(GroupReply::Committed(2)));
+    let clash = Some(Some(GroupReply::Conflict(Clash {
+        commit: 1,
+        block: 0,
+        at: 0,
+    })));
+    let rows: [(u64, bool, Told); 3] = [
+        (
+            1_000,
+            false,
+            (Ok((3, [first, Some(None), second])), (2, 0, false)),
+        ),
+        (
+            1_000,
+            true,
+            (Ok((3, [first, Some(None), clash])), (1, 0, false)),
+        ),
+        (5, false, (Err(CoreError::Disk), (0, 0, true))),
+    ];
+    for (number, (calls, reads, wanted)) in rows.iter().enumerate() {
+        let found = across_threads(&rt, rt.alloc(), *calls, *reads);
+        same(&rt, (number, found), (number, Some(*wanted)));
     }
-    Ok(())
-}
-
-#[test]
-fn a_member_that_read_what_an_earlier_one_wrote_conflicts(rt: HostRuntime) -> Result<(), Fail> {
-    let (told, stat) = across_threads(&rt, rt.alloc(), 1_000, true).expect(&rt, "a group");
-    assert_eq!(rt; stat.last, 1);
-    assert_eq!(rt; stat.live, 0);
-    match &told {
-        Ok(replies) => {
-            assert!(rt; matches!(replies.get(0), Some(Some(GroupReply::Committed(1)))));
-            assert!(rt; matches!(replies.get(2), Some(Some(GroupReply::Conflict(_)))));
-        }
-        Err(_) => assert!(rt; false),
-    }
-    Ok(())
-}
-
-#[test]
-fn a_fault_of_the_disk_ends_all_members(rt: HostRuntime) -> Result<(), Fail> {
-    // the disk makes the five calls of a formatting
-    let (told, stat) = across_threads(&rt, rt.alloc(), 5, false).expect(&rt, "a group");
-    assert!(rt; matches!(told, Err(CoreError::Disk)));
-    assert_eq!(rt; stat.live, 0);
-    assert!(rt; stat.down);
     Ok(())
 }

@@ -1,10 +1,8 @@
-//! The tests of `handle_pass`, `device_calls`, `group_commit` and `par_lines`, over new images in memory, and of `par_runner`.
+//! The tests of `handle_pass`, `device_calls` and `group_commit`, over new images in memory, and of `par_runner`.
 #![tactic(auto)]
 
 #[cfg(test)]
 mod call_tests;
-#[cfg(test)]
-mod client_tests;
 #[cfg(test)]
 mod group_tests;
 #[cfg(test)]

@@ -1,17 +1,18 @@
 // Sessions over a device in memory, in two threads and in one. The image has four blocks of 64 bytes and logs of 4,096 bytes.
-ghost use Rattle.std.specs.Prelude.{◌≡◌, ◌<◌, None, Some, IfSome, IsTrue};
+ghost use Rattle.std.specs.Prelude.{◌≡◌, ◌+◌, ◌<◌, None, Some, IfSome, IsTrue};
 ghost use denote.Param.Send.{IsSync};
 ghost use Rattle.iso_memdisk.specs.MemDisk.{state_of};
 ghost use Rattle.iso_model.specs.Geometry.{is_valid};
-ghost use Rattle.iso_shared.specs.TestImage.{small, MayStart};
+ghost use Rattle.iso_shared.specs.{Ports.{IsPort, first_geometry, port_view}, TestImage.{small, MayStart}};
 
+use crate::runner_tests::same;
 use crate::small_image::new_core;
 use device_calls::end_now;
 use handle_pass::{Handle, Left, PostTxError, Session, Visit};
 use iso_core::{Core, Stat};
 use iso_memdisk::MemDisk;
 use iso_model::{EndReply, InTx, Label, NotInTx};
-use iso_shared::{Origin, Shared};
+use iso_shared::{Origin, Port, Shared};
 use std::alloc::Global;
 use std::marker::Brand;
 use std::sync::Wait;
@@ -116,40 +117,22 @@ fn across<O: Origin + Send + Sync, R: Threads + Wait + Sync>(
     seen
 }
 
-/// `across` with two sessions over a core.
-fn run_across<O: Origin + Send + Sync, R: Threads + Wait + Sync>(
+/// `across` with two sessions of a device.
+fn handed_over<O: Origin + Send + Sync, R: Threads + Wait + Sync>(
     rt: &R,
-    alloc: Global,
-    core: Core<MemDisk>,
+    shared: &Shared<MemDisk, O>,
+    port: &mut Port<MemDisk, O>,
 ) -> Option<(u8, EndReply)>
-    requires start { MayStart state_of O.start O.disk core }
+    requires port { IsPort shared.now port.old × (128 < (port_view port.old).units) }
+    requires image { (first_geometry shared.now ≡ O.start.world.geometry) × (O.start.world.geometry ≡ small) }
+    ensures port { IsPort shared.now port.new × ((port_view port.new).units + 128 ≡ (port_view port.old).units) }
 {
-    match Shared::<MemDisk, O>::new(alloc, core) {
-        Err((_memory, _core)) => None,
-        Ok((shared, mut port)) => {
-            let other = shared.port(&mut port, 1 << 32);
-            let mut first = Session::new(&shared, port);
-            let mut second = Session::new(&shared, other);
-            let seen = across(rt, &mut first, &mut second);
-            let _ = first.finish(rt);
-            let _ = second.finish(rt);
-            seen
-        }
-    }
-}
-
-/// The same over a new core.
-fn across_threads<R: Threads + Wait + Sync>(rt: &R, alloc: Global) -> Option<(u8, EndReply)> {
-    let core = new_core(alloc).ok()?;
-    run_across::<Brand, R>(rt, alloc, core)
-}
-
-#[test]
-fn a_handle_goes_to_another_thread(rt: HostRuntime) -> Result<(), Fail> {
-    let (shown, reply) = across_threads(&rt, rt.alloc()).expect(&rt, "a transaction");
-    assert_eq!(rt; shown, 7);
-    assert!(rt; matches!(reply, EndReply::Committed(1)));
-    Ok(())
+    let mut first = Session::new(shared, shared.port(port, 64));
+    let mut second = Session::new(shared, shared.port(port, 64));
+    let seen = across(rt, &mut first, &mut second);
+    let _ = first.finish(rt);
+    let _ = second.finish(rt);
+    seen
 }
 
 /// A session in a transaction hands a handle back, which the session that released it then takes.
@@ -200,45 +183,25 @@ fn label_taken<O: Origin, R: Wait>(
     Some((refused, none, first.stat(rt).live.into()))
 }
 
-/// Both of two sessions over a core.
-fn run_refusals<O: Origin, R: Wait>(
+/// Both with two sessions of a device.
+fn refused<O: Origin, R: Wait>(
     rt: &R,
-    alloc: Global,
-    core: Core<MemDisk>,
+    shared: &Shared<MemDisk, O>,
+    port: &mut Port<MemDisk, O>,
 ) -> Option<(bool, bool, u64)>
-    requires start { MayStart state_of O.start O.disk core }
+    requires port { IsPort shared.now port.old × (128 < (port_view port.old).units) }
+    requires image { first_geometry shared.now ≡ O.start.world.geometry }
+    ensures port { IsPort shared.now port.new × ((port_view port.new).units + 128 ≡ (port_view port.old).units) }
 {
-    match Shared::<MemDisk, O>::new(alloc, core) {
-        Err((_memory, _core)) => None,
-        Ok((shared, mut port)) => {
-            let other = shared.port(&mut port, 1 << 32);
-            let mut first = Session::new(&shared, port);
-            let mut second = Session::new(&shared, other);
-            let passed = passed_back(rt, &mut first, &mut second);
-            let said = match passed {
-                Some(true) => label_taken(rt, &mut first, &mut second),
-                _ => None,
-            };
-            let _ = first.finish(rt);
-            let _ = second.finish(rt);
-            said
-        }
-    }
-}
-
-/// The same over a new core.
-fn refusals<R: Wait>(rt: &R, alloc: Global) -> Option<(bool, bool, u64)> {
-    let core = new_core(alloc).ok()?;
-    run_refusals::<Brand, R>(rt, alloc, core)
-}
-
-#[test]
-fn a_session_in_a_transaction_hands_a_handle_back(rt: HostRuntime) -> Result<(), Fail> {
-    let (refused, none, live) = refusals(&rt, rt.alloc()).expect(&rt, "two transactions");
-    assert!(rt; refused);
-    assert!(rt; none);
-    assert_eq!(rt; live, 2);
-    Ok(())
+    let mut first = Session::new(shared, shared.port(port, 64));
+    let mut second = Session::new(shared, shared.port(port, 64));
+    let said = match passed_back(rt, &mut first, &mut second) {
+        Some(true) => label_taken(rt, &mut first, &mut second),
+        _ => None,
+    };
+    let _ = first.finish(rt);
+    let _ = second.finish(rt);
+    said
 }
 
 /// Writes a block through the transaction as stores see it, and reads it and another one.
@@ -284,34 +247,65 @@ fn shown_through<'s, 'a, O: Origin, R: Wait>(
     Some(shown)
 }
 
-/// The same over a core.
-fn run_through<O: Origin, R: Wait>(rt: &R, alloc: Global, core: Core<MemDisk>) -> Option<(u8, u8)>
+/// The same with a session of a device.
+fn shown<O: Origin, R: Wait>(
+    rt: &R,
+    shared: &Shared<MemDisk, O>,
+    port: &mut Port<MemDisk, O>,
+) -> Option<(u8, u8)>
+    requires port { IsPort shared.now port.old × (64 < (port_view port.old).units) }
+    requires image { (first_geometry shared.now ≡ O.start.world.geometry) × (O.start.world.geometry ≡ small) }
+    requires valid { IsTrue (is_valid O.start.world.geometry) }
+    ensures port { IsPort shared.now port.new × ((port_view port.new).units + 64 ≡ (port_view port.old).units) }
+{
+    let mut session = Session::new(shared, shared.port(port, 64));
+    let shown = shown_through(rt, &mut session);
+    let _ = session.finish(rt);
+    shown
+}
+
+/// What sessions are shown and told: by a handle that goes to another thread, by a transaction as stores see it, and by what is refused.
+type Told = (
+    Option<(u8, EndReply)>,
+    Option<(u8, u8)>,
+    Option<(bool, bool, u64)>,
+);
+
+/// All of that on a device over a core.
+fn run<O: Origin + Send + Sync, R: Threads + Wait + Sync>(
+    rt: &R,
+    alloc: Global,
+    core: Core<MemDisk>,
+) -> Option<Told>
     requires start { MayStart state_of O.start O.disk core }
     requires valid { IsTrue (is_valid O.start.world.geometry) }
 {
     match Shared::<MemDisk, O>::new(alloc, core) {
         Err((_memory, _core)) => None,
-        Ok((shared, port)) => {
-            let mut session = Session::new(&shared, port);
-            let shown = shown_through(rt, &mut session);
-            let _ = session.finish(rt);
-            shown
+        Ok((shared, mut port)) => {
+            let handed = handed_over(rt, &shared, &mut port);
+            let own = shown(rt, &shared, &mut port);
+            Some((handed, own, refused(rt, &shared, &mut port)))
         }
     }
 }
 
 /// The same over a new core.
 #[tactic(auto, unfolding(iso_model::specs::Geometry::is_valid))]
-fn through_blocks<R: Wait>(rt: &R, alloc: Global) -> Option<(u8, u8)> {
+fn told<R: Threads + Wait + Sync>(rt: &R, alloc: Global) -> Option<Told> {
     let _ = with_long_logs();
     let core = new_core(alloc).ok()?;
-    run_through::<Brand, R>(rt, alloc, core)
+    run::<Brand, R>(rt, alloc, core)
 }
 
+// A handle goes to another thread, stores see the transaction of a session, and a session in a transaction hands a handle back.
 #[test]
-fn stores_see_the_transaction_of_a_session(rt: HostRuntime) -> Result<(), Fail> {
-    let (own, other) = through_blocks(&rt, rt.alloc()).expect(&rt, "a transaction");
-    assert_eq!(rt; own, 5);
-    assert_eq!(rt; other, 0);
+fn sessions_are_shown_and_told_this(rt: HostRuntime) -> Result<(), Fail> {
+    let wanted = (
+        Some((7, EndReply::Committed(1))),
+        Some((5, 0)),
+        Some((true, true, 2)),
+    );
+    same(&rt, told(&rt, rt.alloc()), Some(wanted));
     Ok(())
 }

@@ -2,16 +2,16 @@
 #![tactic(auto)]
 
 #[cfg(test)]
-mod answer_tests;
+mod clients;
 #[cfg(test)]
 mod desk_tests;
 #[cfg(test)]
-mod group_tests;
+mod device_tests;
+#[cfg(test)]
+mod groups;
 #[cfg(test)]
 mod number_tests;
 #[cfg(test)]
-mod refusal_tests;
-#[cfg(test)]
-mod tests;
+mod steps;
 #[cfg(test)]
 mod turn_tests;

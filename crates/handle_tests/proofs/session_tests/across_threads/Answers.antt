@@ -1,4 +1,0 @@
-use Rattle.handle_tests.proofs.Starts.{starts}
-
-pub run_across-requires-clause-start : Rattle.handle_tests.proofs.session_tests.across_threads.Goals.run_across-requires-clause-start
-run_across-requires-clause-start g c κs within = starts c.new_core.result c.in_ok-core.core c.in_ok-core.ensures.value c.new_core.ensures

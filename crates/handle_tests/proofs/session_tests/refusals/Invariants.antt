@@ -1,7 +1,0 @@
--- The list begins where the core does.
-use Rattle.iso_core.specs.Core.{disk_of}
-use Rattle.iso_memdisk.specs.MemDisk.{state_of}
-use Rattle.handle_tests.proofs.Starts.{start_of}
-
-abbrev pub ghosts-run_refusals : Rattle.handle_tests.proofs.session_tests.refusals.Given.ghosts-run_refusals
-ghosts-run_refusals g a = record { start = start_of a.core; disk = state_of (disk_of a.core) }

@@ -1,4 +1,0 @@
--- The ledger is the new one.
-
-abbrev pub ghosts-ended : Rattle.shared_tests.proofs.answer_tests.run_ahead.Given.ghosts-ended
-ghosts-ended g a = record { name = a.blank.name; parts = a.blank.parts }

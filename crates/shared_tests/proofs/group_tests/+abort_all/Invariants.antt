@@ -1,4 +1,0 @@
-use Rattle.std.proofs.Common.{length}
-
-abbrev pub decreases-abort_all : Rattle.shared_tests.proofs.group_tests.+abort_all.Given.decreases-abort_all
-decreases-abort_all g l = length l.group.items
