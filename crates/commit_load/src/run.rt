@@ -17,7 +17,6 @@ use iso_image::image_size;
 use iso_model::{Geometry, LAST, Mode};
 use iso_recover::format_image;
 use iso_shared::{Origin, Port, Shared};
-use picked_device::{Device, Picked};
 use std::alloc::Global;
 use std::marker::Brand;
 use std::sync::Wait;
@@ -89,7 +88,7 @@ fn run_at_desks<
 fn run_on<
     D: Disk + Drop + Send,
     O: Origin + Send + Sync,
-    K: Device<D, O> + Send + Sync,
+    P: OfDevice<D, O> + Send + Sync,
     R: Threads + Wait + Sync,
 >(
     rt: &R,
@@ -98,14 +97,14 @@ fn run_on<
     port: Port<D, O>,
     load: &Load,
 ) -> (Option<u64>, Port<D, O>)
-    requires device { K.device ≡ Some shared.now }
+    requires device { P.device ≡ Some shared.now }
     requires image { (first_geometry shared.now ≡ O.start.world.geometry) × (O.start.world.geometry.block ≡ 256) }
     requires port { IsPort shared.now port × ((port_view port).units ≡ LAST) }
     ensures port { IsPort shared.now result.1 × ((port_view result.1).units ≡ LAST) }
 {
     let mut port = port;
     let leader = shared.port(&mut port, 1);
-    let committer = Committer::<D, O, Picked<K>>::new(alloc, shared, leader);
+    let committer = Committer::<D, O, P>::new(alloc, shared, leader);
     let commits = run_at_desks(rt, alloc, shared, &committer, &mut port, load);
     shared.join(&mut port, committer.close(shared));
     (commits, port)

@@ -14,7 +14,6 @@ use iso_core::Core;
 use iso_memdisk::MemDisk;
 use iso_model::{Geometry, LAST};
 use iso_shared::{Origin, Port, Shared};
-use picked_device::{Device, Picked};
 use std::alloc::Global;
 use std::fmt::Debug;
 use std::marker::Brand;
@@ -94,7 +93,7 @@ fn made<Q: Protocol, R: Abort>(rt: &R, alloc: Global) -> (Desk<Q>, Client<Q>)
 // The play at three desks of a device.
 fn played_at<
     O: Origin + Send + Sync,
-    K: Device<MemDisk, O> + Send + Sync,
+    P: OfDevice<MemDisk, O> + Send + Sync,
     S: Play,
     R: Threads + Wait + Abort + Sync,
 >(
@@ -104,14 +103,14 @@ fn played_at<
     port: &mut Port<MemDisk, O>,
     play: &S,
 ) -> S::Told
-    requires device { K.device ≡ Some shared.now }
+    requires device { P.device ≡ Some shared.now }
     requires image { first_geometry shared.now ≡ O.start.world.geometry }
     requires size { O.start.world.geometry.block ≡ 64 }
     requires port { IsPort shared.now port.old × ((port_view port.old).units ≡ LAST) }
     ensures port { IsPort shared.now port.new × ((port_view port.new).units ≡ LAST) }
 {
     let leader = shared.port(port, 1);
-    let committer = Committer::<MemDisk, O, Picked<K>>::new(alloc, shared, leader);
+    let committer = Committer::<MemDisk, O, P>::new(alloc, shared, leader);
     let (a, first) = made(rt, alloc);
     let (b, second) = made(rt, alloc);
     let (c, third) = made(rt, alloc);
