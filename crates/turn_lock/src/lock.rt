@@ -59,7 +59,8 @@ const STAYS_OPEN: u64 = 8;
 // near its processor, which costs as much as ten short turns. With one's own these are 96: whole transactions of three, four, six or eight.
 const SOME_PAST: u64 = 95;
 
-// How many turns in a row may go past those who wait. The gate is then kept for one of them.
+// How many turns in a row may go past those who wait. The gate is then kept for one of them. Where the count is larger, it is kept for as
+// many more, one after the other: for all who waited at a turn that took long.
 const MOST_PAST: u64 = 119;
 
 /// The rule of the table.
@@ -165,7 +166,9 @@ impl<V: Stands + Drop> TurnLock<V> {
         self.table.shared.fetch_add::<AtGate>(pass, WAITING, 1);
         self.wait(rt, pass, found);
         self.table.shared.fetch_sub::<AtGate>(pass, WAITING, 1);
-        self.table.shared.store::<AtGate>(pass, PAST, 0);
+        let past = self.table.shared.peek(PAST);
+        let left = if past > MOST_PAST { past - 1 } else { 0 };
+        self.table.shared.store::<AtGate>(pass, PAST, left);
     }
 
     // Passes the gate if it is open, or stays open while one looks, and answers else how it was found last. It waits for nobody.
@@ -256,7 +259,8 @@ impl<V: Stands + Drop> TurnLock<V> {
         has_passed
     }
 
-    // Passes the gate if it is kept, or stays open, while one looks. Otherwise turns take long, and the gate is to be kept at the next.
+    // Passes the gate if it is kept, or stays open, while one looks. Otherwise turns take long, and it is to be kept for each of those who
+    // wait, one after the other.
     fn passes(&self, pass: &mut Pass<V>) -> bool
         requires { pass.old.table_id ≡ lock_id self.now }
         ensures lock { IsSamePass pass.old pass.new }
@@ -275,7 +279,10 @@ impl<V: Stands + Drop> TurnLock<V> {
             }
             self.pause();
         }
-        self.table.shared.store::<AtGate>(pass, PAST, MOST_PAST);
+        let waiting = self.table.shared.peek(WAITING);
+        self.table
+            .shared
+            .store::<AtGate>(pass, PAST, MOST_PAST.saturating_add(waiting));
         false
     }
 
