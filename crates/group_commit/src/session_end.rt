@@ -15,8 +15,8 @@ use iso_shared::{Origin, Shared, Tx};
 use std::sync::Wait;
 
 /// Ends the transaction of a session together with those that other threads end at this committer at the same time. The session
-/// keeps its places and its units, and knows the entry of the end, which the committer's port made. Who comes alone pays what a plain end
-/// costs.
+/// keeps its places and its units, and knows the entry of the end, which the committer's port made. Who comes alone waits for nobody who
+/// would join it, and takes no memory for a group.
 ///
 /// # Errors
 ///
