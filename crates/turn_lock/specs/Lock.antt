@@ -13,7 +13,7 @@ module _ {V E : Type 0} where
   turn_lock_id t = t.pass.value.table_id
 
   abbrev pub turn_value : Turn V E → V
-  turn_value t = t.value
+  turn_value t = t.value.value
 
   abbrev pub turn_number : Turn V E → ℕ
   turn_number t = t.number

@@ -1,11 +1,12 @@
 -- What clauses say of a pass.
 use Rattle.std.specs.Prelude.{◌≡◌, Option}
+use Rattle.std.specs.Global.{Box}
 use Rattle.atomic_table.specs.declared.shared.Seat.{Seat}
 use Rattle.turn_lock.specs.{declared.turn.Turn.Turn, declared.view.View.View, Lock.{turn_lock_id, turn_number}, Steps.{IsAtRest, IsAtTurn}}
 
 -- a pass of a lock over a value of type X, whose entries are of type E
 abbrev pub PassOf : (X E : Type 0) → Type 0
-PassOf X E = Seat (Option X) (View E)
+PassOf X E = Seat (Option (Box X)) (View E)
 
 module _ {X E : Type 0} where
   -- what the pass knows

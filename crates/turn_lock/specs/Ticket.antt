@@ -3,6 +3,7 @@ use Rattle.std.specs.Prelude.{◌≡◌, ◌⊎◌, ℕ, ◌+◌, ◌<◌, ◌�
 use mathlib.Core.{List.IsPrefix, Option.{none, some}}
 use mathlib.Core.Option as maybe
 use lib.ListN.{get_elem?}
+use Rattle.std.specs.Global.{Box}
 use Rattle.atomic_table.specs.Table.{State}
 use Rattle.turn_lock.specs.{declared.view.TheConstants.LAST, declared.view.View.View, declared.view.Stage.Stage, declared.view.Stage.TheVariants.{Idle, Waits, Turns}, Lists.{total, hit, times, RisesFrom, AllBelow}, Numbers.IsOut}
 
@@ -77,6 +78,10 @@ module _ {E : Type 0} where
     pub alone : (n : ℕ) → held_by n views ≤ 1
     pub out : (n : ℕ) → 0 < held_by n views → IsOut hands takes n list
     pub each : (id : ℕ) (v : View E) → get_elem? views id ≡ some v → Knows list v
+
+-- what is said of a value, of the box that it is in
+abbrev pub boxed : {X E : Type 0} → (X → List E → Type 0) → Box X → List E → Type 0
+boxed stands b = stands b.value
 
 module _ {X E : Type 0} (stands : X → List E → Type 0) where
   -- the value is at home and represents the list while no pass has the turn, and else it is out

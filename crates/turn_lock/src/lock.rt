@@ -66,22 +66,22 @@ const MOST_PAST: u64 = 119;
 /// The rule of the table.
 pub struct Ticketed;
 
-impl<V: Stands> TableRule<Option<V>, View<V::Entry>, ()> for Ticketed {
-    ghost use Rattle.turn_lock.specs.Ticket.{Fair};
+impl<V: Stands> TableRule<Option<Box<V>>, View<V::Entry>, ()> for Ticketed {
+    ghost use Rattle.turn_lock.specs.Ticket.{Fair, boxed};
 
-    ghost holds = { λ _. Fair V.stands V.hands V.takes };
+    ghost holds = { λ _. Fair (boxed V.stands) V.hands V.takes };
 
     ghost first = { λ _. fresh };
 }
 
 /// A caller's place at a lock: what it has seen of the list, and what it alone may do. It has no bytes.
-pub type Pass<V> = Seat<Option<V>, View<<V as Stands>::Entry>>;
+pub type Pass<V> = Seat<Option<Box<V>>, View<<V as Stands>::Entry>>;
 
 /// A lock that serves its callers in the order of their tickets. Before these is a gate, at which who runs comes before those who
-/// sleep, but for a few turns in a row.
+/// sleep, but for a few turns in a row. The value stays at one place in memory: a turn moves a pointer, however large the value is.
 #[derive(Drop)]
 pub struct TurnLock<V: Stands + Drop> {
-    table: Table<Option<V>, View<V::Entry>, (), Ticketed, Global>,
+    table: Table<Option<Box<V>>, View<V::Entry>, (), Ticketed, Global>,
     ghost sized: { (table.shared.table_id.words ≡ 24) × (table.shared.table_id.slots ≡ 1) },
 }
 
@@ -98,17 +98,21 @@ impl<V: Stands + Drop> TurnLock<V> {
         ensures ok { IfOk result (λ r. (r.1.table_id ≡ lock_id r.0) × HasNoTurn r.1 × (view r.1 ≡ fresh)) }
         ensures err { IfErr result (λ e. e.1 ≡ value) }
     {
+        let boxed = match Box::new(alloc, value) {
+            Ok(boxed) => boxed,
+            Err(failed) => return Err((Memory, failed.value)),
+        };
         let mut slots = Vec::new(alloc);
-        if let Err(failed) = slots.push(Some(value)) {
+        if let Err(failed) = slots.push(Some(boxed)) {
             slots.destroy_empty();
-            return Err((Memory, failed.value.unwrap()));
+            return Err((Memory, Box::into_inner(failed.value.unwrap())));
         }
         match Table::new(alloc, &[0; 24], slots, &()) {
             Ok((table, pass)) => Ok((TurnLock { table }, pass)),
             Err(Refused { mut slots }) => {
                 let value = slots.pop().unwrap();
                 slots.destroy_empty();
-                Err((Memory, value.unwrap()))
+                Err((Memory, Box::into_inner(value.unwrap())))
             }
         }
     }
@@ -472,7 +476,7 @@ impl<V: Stands + Drop> TurnLock<V> {
         let mut closed = table.close_with(pass);
         let value = closed.take(VALUE);
         closed.free();
-        value.unwrap()
+        Box::into_inner(value.unwrap())
     }
 }
 

@@ -7,7 +7,7 @@ use std::snapshot::Snapshot;
 
 /// The value, for as long as a turn lasts. It must be spent by `give` of the same lock.
 pub struct Turn<V: Stands> {
-    pub(crate) value: V,
+    pub(crate) value: Box<V>,
     pub(crate) number: u64,
     // The pass that has it, by which contracts know the lock.
     pub(crate) pass: Snapshot<Pass<V>>,
@@ -21,6 +21,6 @@ impl<V: Stands> Turn<V> {
         ensures* lends { sem 𝓛 (LendsValue V.row V.Entry.row self.entry result) }
         ensures value { result.now ≡ turn_value self.old }
     {
-        &mut self.value
+        &mut *self.value
     }
 }
