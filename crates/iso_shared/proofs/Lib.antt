@@ -19,3 +19,4 @@ pub mod Racked
 pub mod Rows
 pub mod Traps
 pub mod PostsBefore
+pub mod NoClash

@@ -1,9 +1,9 @@
 -- What ports and transactions are between two calls, and what a call does to their views.
-use Rattle.std.specs.{Prelude.{◌≡◌, ℕ, ◌+◌, ◌-◌, ◌<◌, ◌≤◌, true, List, [], ◌∷◌, ◌++◌, length}, List.AllByRecursion}
+use Rattle.std.specs.{Prelude.{◌≡◌, ℕ, ◌+◌, ◌-◌, ◌<◌, ◌≤◌, true, None, List, [], ◌∷◌, ◌++◌, length}, List.AllByRecursion}
 use mathlib.Core.List.{IsPrefix}
 use Rattle.conflict_rule.specs.{declared.decision.Checked.Checked, Decision.{AreNotesAfter, up_to}}
 use Rattle.iso_core.specs.declared.answers.Recent.{Recent}
-use Rattle.iso_model.specs.{declared.access.Geometry.Geometry, Conflict.clash, History.last, Isolation.IsIsolated}
+use Rattle.iso_model.specs.{declared.access.Geometry.Geometry, Conflict.clash, History.{History, last}, Isolation.IsIsolated}
 use Rattle.tx_table.specs.Work.{Doing}
 use Rattle.turn_lock.specs.{declared.view.View.View, Lists.{hit, longer, times, total}, Lock.lock_id, Numbers.held_after, Pass.PassOf}
 use Rattle.iso_shared.specs.{declared.entry.Entry.Entry, declared.guarded.Guarded.Guarded, declared.guarded.Stamped.Stamped, declared.shared.Port.Port, declared.shared.Shared.Shared, declared.turns.Turns.Turns, declared.tx.Tx.Tx, Legal.{IsLegal, handed, returned}, Standing.IsOn, States.{Start, State, is_live, live_of, state_at}, Turns.{HasNoTurn, moments, view}}
@@ -25,6 +25,10 @@ pub record IsAhead (S : State) (work : Doing) (checked : Checked) : Type 0 where
   pub from : work.begin ≤ checked.upto
   pub to : checked.upto ≤ last S.world.history
   pub clash_is : checked.clash ≡ clash S.world.geometry (up_to S.world.history checked.upto) work.mode work.begin work.accesses
+
+-- no commit of any history clashes with what the work did
+abbrev pub CannotClash : Doing → Type 0
+CannotClash work = (g : Geometry) (H : History) → g.block ≡ work.size → g.blocks ≡ work.blocks → clash g H work.mode work.begin work.accesses ≡ None
 
 -- the commits above what was checked, up to a number
 pub record IsRecent (S : State) (checked : Checked) (recent : Recent) : Type 0 where

@@ -1,9 +1,9 @@
 // A transaction's pass, with what it does.
-ghost use Rattle.std.specs.Prelude.{◌≡◌, ℕ, ◌+◌, ◌<◌, [], ◌∷◌, ◌++◌, Some, None, Ok, Err, OnErr, OnOk, false, length};
+ghost use Rattle.std.specs.{Prelude.{◌≡◌, ℕ, ◌+◌, ◌<◌, [], ◌∷◌, ◌++◌, Some, None, Ok, Err, OnErr, OnOk, false, length}, Bool.OnTrue};
 ghost use Rattle.iso_model.specs.{Array.Array, Effect.own, Marks.{mark_fault, marked}, Premises.block_at, Step.{read_access, write_access}};
 ghost use Rattle.tx_table.specs.Work.{span_at};
 
-use crate::ahead::meeting;
+use crate::ahead::{clashes_never, meeting};
 use crate::guarded::{Guarded, Origin};
 use conflict_rule::Checked;
 use iso_core::Recent;
@@ -21,7 +21,7 @@ pub struct Tx<D: Disk + Drop, O: Origin> {
 }
 
 impl<D: Disk + Drop, O: Origin> Tx<D, O> {
-    ghost use Rattle.iso_shared.specs.Ports.{IsRecent, IsTxOf, check_of, doing, doing_of, number_of, pass_of, state_of};
+    ghost use Rattle.iso_shared.specs.Ports.{CannotClash, IsRecent, IsTxOf, check_of, doing, doing_of, number_of, pass_of, state_of};
 
     /// Its begin.
     pub fn at(&self) -> u64
@@ -156,5 +156,18 @@ impl<D: Disk + Drop, O: Origin> Tx<D, O> {
             clash,
         };
         Ok(recent.upto)
+    }
+
+    // Whether it can clash with no commit. Where memory is wanting to see that, it is not said.
+    pub(crate) fn is_free(&mut self) -> bool
+        requires tx { IsTxOf O.start self.old }
+        ensures tx { IsTxOf O.start self.new }
+        ensures same { (pass_of self.new ≡ pass_of self.old) × (number_of self.new ≡ number_of self.old) × (check_of self.new ≡ check_of self.old) × (doing_of self.new ≡ record (doing_of self.old) { settled = (doing_of self.new).settled }) }
+        ensures free { OnTrue result (CannotClash (doing_of self.new)) }
+    {
+        if let Err(_) = self.work.settle() {
+            return false;
+        }
+        clashes_never(&self.work)
     }
 }
