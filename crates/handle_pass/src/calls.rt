@@ -6,7 +6,7 @@ use crate::errors::{BeginError, EndError};
 use crate::session::{Session, attach};
 use counts::{Ledger, Steps};
 use iso_disk::Disk;
-use iso_model::{CoreError, EndReply, Mode, NotInTx};
+use iso_model::{EndReply, Mode, NotInTx};
 use iso_shared::Origin;
 use std::sync::Wait;
 
@@ -50,13 +50,10 @@ impl<'a, D: Disk + Drop, O: Origin> Session<'a, D, O> {
             None => Err(EndError::NotInTx),
             Some(tx) => {
                 self.shared.tell_tx(&mut self.port, tx);
-                let recent = self.shared.recent(rt, tx);
+                let checked = self.shared.check(rt, tx);
                 self.shared.tell_port(tx, &mut self.port);
-                match recent {
-                    Ok(recent) => match tx.check(recent) {
-                        Ok(upto) => Ok(upto),
-                        Err(_) => Err(EndError::Core(CoreError::Memory)),
-                    },
+                match checked {
+                    Ok(upto) => Ok(upto),
                     Err(error) => Err(EndError::Core(error)),
                 }
             }
