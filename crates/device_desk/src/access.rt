@@ -14,6 +14,7 @@ impl<D: Disk> Table<D> {
     ghost use Rattle.device_desk.specs.{Seats.IsTableOf, Sizes.StandsBeside};
 
     /// An access or a mark of the transaction of this number.
+    #[inline(always)]
     pub(crate) fn access(&mut self, number: u64, op: &Op) -> Result<Reply, Stop>
         requires { (W : World) × IsTableOf D.state self.old W }
         ensures { (W : World) → IsTableOf D.state self.old W → IsOp op.now

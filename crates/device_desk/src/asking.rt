@@ -14,6 +14,7 @@ impl<D: Disk> Table<D> {
     ghost use Rattle.device_desk.specs.Seats.{IsTableOf};
 
     /// Does what is asked for of the transaction of this number, or of the image, and answers it.
+    #[inline(always)]
     pub(crate) fn ask(&mut self, number: u64, op: &Op) -> Result<Reply, Stop>
         requires stands { (W : World) × IsTableOf D.state self.old W }
         requires op { IsOp op.now }

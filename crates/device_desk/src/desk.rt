@@ -119,6 +119,7 @@ impl<D: Disk> Desk<D> {
     }
 
     /// Does what is asked for of the transaction of this number, or of the image, and answers it.
+    #[inline(always)]
     pub(crate) fn ask(&mut self, number: u64, op: &Op) -> Result<Reply, Stop>
         requires op { IsOp op.now }
         requires asked { IsAsked op.now }
@@ -138,6 +139,7 @@ impl<D: Disk> Desk<D> {
     }
 
     /// The same, where nothing else has a use for the operation.
+    #[inline(always)]
     pub(crate) fn perform(&mut self, number: u64, op: Op) -> Result<Reply, Stop>
         requires op { IsOp op }
         requires asked { IsAsked op }
