@@ -1,5 +1,5 @@
 -- What an access or a mark of one transaction is answered, and what its work is then.
-use Rattle.std.specs.Prelude.{◌≡◌, ℕ, Result, Some, Ok, Err}
+use Rattle.std.specs.Prelude.{◌≡◌, ℕ, List, Result, Some, Ok, Err, length}
 use Rattle.iso_disk.specs.Disk.{DiskState}
 use Rattle.script_model.specs.{declared.script.Op.Op, declared.script.Op.TheVariants.{Put, Read, Get, Write, Fill, Mark}, declared.script.Reply.Reply, Step.{fill_step, get_step, mark_step, put_step, read_step, write_step}, declared.stop.Stop.Stop}
 use Rattle.script_model.specs.declared.script.Reply.TheVariants as reply
@@ -51,3 +51,25 @@ pub record IsShown (d : DiskState) (W : World) (t : Live) (given : Reply × Worl
 abbrev pub or_stop : Result Reply Memory → Result Reply Stop
 or_stop (Ok r) = Ok r
 or_stop (Err e) = Err stop.Memory
+
+-- why an access is refused
+abbrev pub IsRefusal : Reply → Type 0
+IsRefusal reply.BadBlock = Unit {0}
+IsRefusal reply.BadRange = Unit {0}
+IsRefusal reply.TooManyAccesses = Unit {0}
+IsRefusal r = ⊥
+
+-- The answer of a read into a slice: where it is done the slice has what is shown.
+abbrev pub bytes_shown : Reply → (into : List ℕ) → Reply
+bytes_shown reply.Done into = reply.Shown into
+bytes_shown r into = r
+
+abbrev pub with_bytes : Result Reply Stop → (into : List ℕ) → Result Reply Stop
+with_bytes (Ok r) into = Ok (bytes_shown r into)
+with_bytes (Err why) into = Err why
+
+-- the slice stays as it was else
+abbrev pub IsFilled : Result Reply Stop → (old new : List ℕ) → Type 0
+IsFilled (Ok reply.Done) old new = length new ≡ length old
+IsFilled (Ok (reply.Shown bytes)) old new = ⊥
+IsFilled answer old new = new ≡ old

@@ -4,7 +4,7 @@ ghost use Rattle.iso_model.specs.{declared.access.Access.Access, Marks.{mark_fau
 ghost use Rattle.script_model.specs.{declared.script.Reply.Reply, Step.{access_step, fill_step, mark_refused, mark_step, put_step, write_step}};
 ghost use Rattle.iso_core.specs.Calls.{IsWorkOf};
 ghost use Rattle.tx_table.specs.Work.{span_at};
-ghost use Rattle.iso_machine.specs.Accessing.{IsActive, IsGiven};
+ghost use Rattle.iso_machine.specs.Accessing.{IsActive, IsGiven, IsRefusal};
 
 use iso_model::{MarkError, Memory};
 use script_model::{Reply, fill_up, is_outside, lay_out};
@@ -13,6 +13,7 @@ use tx_table::Work;
 /// Why an access is refused, if it is: its block is outside, its bytes are wrong, or there are as many accesses as there may be.
 pub(crate) fn refusal(work: &Work, block: u32, is_wrong: bool) -> Option<Reply>
     ensures allowed { result ≡ None → (block < work.now.blocks) × (is_wrong ≡ false) × (length work.now.accesses < 4096) }
+    ensures plain { IfSome result IsRefusal }
     ensures refused { (W : World) (t : Live) → IsWorkOf W t work.now → IfSome result (λ r. (answer : Reply) (a : Access) → access_step W t block is_wrong answer a ≡ (r, W)) }
 {
     if block >= work.blocks() {
@@ -28,7 +29,11 @@ pub(crate) fn refusal(work: &Work, block: u32, is_wrong: bool) -> Option<Reply>
 }
 
 /// A write of these bytes at `off`, with one mark over them.
-pub(crate) fn put(
+///
+/// # Errors
+///
+/// Want of memory. There is no reply, and the accesses stay as they are.
+pub fn put(
     work: &mut Work,
     buffer: &mut Vec<u8>,
     block: u32,

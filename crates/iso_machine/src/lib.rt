@@ -23,6 +23,7 @@ mod reading;
 mod storing;
 mod switching;
 
+pub use accessing::put;
 pub use acting::act;
 pub use begin::take_work;
 pub use core_blocks::{CoreBlocks, Lent};
@@ -31,4 +32,5 @@ pub use grouping::{fill_answers, make_places};
 pub use guest::Guest;
 pub use machine::Machine;
 pub use origin::Origin;
+pub use reading::get_into;
 pub use storing::store;
