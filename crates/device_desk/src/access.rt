@@ -1,16 +1,16 @@
 // Accesses of a transaction, and its calls of the stores.
-ghost use Rattle.std.specs.Prelude.{OnOk};
+ghost use Rattle.std.specs.Prelude.{OnOk, length};
 ghost use Rattle.iso_model.specs.World.{World, attached};
-ghost use Rattle.script_model.specs.{Operations.IsOp, Step.in_transaction};
+ghost use Rattle.script_model.specs.{declared.script.Op.TheVariants.{Get, Put}, Operations.IsOp, Step.{in_transaction, step}};
 
 use crate::table::Table;
 use iso_disk::Disk;
-use iso_machine::{act, store};
+use iso_machine::{act, get_into, put, store};
 use script_model::{Op, Reply, Stop};
 
 impl<D: Disk> Table<D> {
     ghost use Rattle.iso_core.specs.Core.{disk_of};
-    ghost use Rattle.iso_machine.specs.{Accessing.act_step, Answering.{Always, Answers, AnswersTold}, Storing.store_act};
+    ghost use Rattle.iso_machine.specs.{Accessing.{IsFilled, act_step, with_bytes}, Answering.{Always, Answers, AnswersTold}, Storing.store_act};
     ghost use Rattle.device_desk.specs.{Seats.IsTableOf, Sizes.StandsBeside};
 
     /// An access or a mark of the transaction of this number.
@@ -31,6 +31,57 @@ impl<D: Disk> Table<D> {
             &mut *seat.work,
             &mut self.buffer,
             op,
+        )
+    }
+
+    /// A write of these bytes by the transaction of this number.
+    pub(crate) fn put(
+        &mut self,
+        number: u64,
+        block: u32,
+        off: u32,
+        bytes: &[u8],
+    ) -> Result<Reply, Stop>
+        requires stands { (W : World) × IsTableOf D.state self.old W }
+        requires op { IsOp (Put block off bytes.now) }
+        ensures { (W : World) → IsTableOf D.state self.old W
+            → Answers Always (IsTableOf D.state self.new) (D.state (disk_of self.old.core)) (D.state (disk_of self.new.core)) W (step W number (Put block off bytes.now)) result }
+    {
+        let Some(i) = self.place_at(number) else {
+            return Ok(Reply::NotInTx);
+        };
+        let seat = &mut self.live[i];
+        match put(&mut *seat.work, &mut self.buffer, block, off, bytes) {
+            Ok(reply) => Ok(reply),
+            Err(_) => Err(Stop::Memory),
+        }
+    }
+
+    /// A read by the transaction of this number, of as many bytes as the slice has.
+    pub(crate) fn get_into(
+        &mut self,
+        number: u64,
+        block: u32,
+        off: u32,
+        into: &mut [u8],
+    ) -> Result<Reply, Stop>
+        requires { (W : World) × IsTableOf D.state self.old W }
+        ensures answer { (W : World) → IsTableOf D.state self.old W
+            → Answers Always (IsTableOf D.state self.new) (D.state (disk_of self.old.core)) (D.state (disk_of self.new.core)) W (step W number (Get block off (length into.old))) (with_bytes result into.new) }
+        ensures filled { IsFilled result into.old into.new }
+    {
+        let Some(i) = self.place_at(number) else {
+            return Ok(Reply::NotInTx);
+        };
+        let seat = &mut self.live[i];
+        get_into(
+            &mut self.core,
+            seat.tx,
+            &mut *seat.work,
+            &mut self.buffer,
+            block,
+            off,
+            into,
         )
     }
 

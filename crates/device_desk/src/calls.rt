@@ -1,5 +1,6 @@
 // Accesses, ends and upkeep. An access is answered as that of the model's client with the transaction's number.
-ghost use Rattle.std.specs.Prelude.{◌≡◌, false};
+ghost use Rattle.std.specs.Prelude.{◌≡◌, false, length};
+ghost use Rattle.iso_machine.specs.Accessing.{IsFilled, with_bytes};
 ghost use Rattle.iso_model.specs.World.{World};
 ghost use Rattle.script_model.specs.declared.script.Op.TheVariants.{Abort, Compact, End, Fill, Get, Mark, Put, Read, Stat, Trim, Upgrade, Write};
 ghost use Rattle.device_desk.specs.Device.{Answered, IsRefusedDown, StandsAt};
@@ -39,6 +40,29 @@ impl<D: Disk> Desk<D> {
         self.perform(number, Op::Get { block, off, len })
     }
 
+    /// Reads as many bytes of a block as the slice has, from `off` on, with one mark over them. The reply is `Done` where the slice
+    /// has them; it stays as it was else.
+    ///
+    /// # Errors
+    ///
+    /// As those of `get`.
+    pub fn get_into(
+        &mut self,
+        number: u64,
+        block: u32,
+        off: u32,
+        into: &mut [u8],
+    ) -> Result<Reply, Stop>
+        ensures did { (W : World) → StandsAt D.state self.old W → Answered D.state self.old self.new W number (Get block off (length into.old)) (with_bytes result into.new) }
+        ensures down { self.old.up ≡ false → IsRefusedDown self.old self.new (with_bytes result into.new) }
+        ensures filled { IsFilled result into.old into.new }
+    {
+        if !self.up {
+            return Err(Stop::Down);
+        }
+        self.table.get_into(number, block, off, into)
+    }
+
     /// Writes a whole block.
     ///
     /// # Errors
@@ -67,10 +91,10 @@ impl<D: Disk> Desk<D> {
         ensures did { (W : World) → StandsAt D.state self.old W → Answered D.state self.old self.new W number (Put block off bytes.now) result }
         ensures down { self.old.up ≡ false → IsRefusedDown self.old self.new result }
     {
-        let Ok(bytes) = self.copied(bytes) else {
-            return self.unmade();
-        };
-        self.perform(number, Op::Put { block, off, bytes })
+        if !self.up {
+            return Err(Stop::Down);
+        }
+        self.table.put(number, block, off, bytes)
     }
 
     /// Writes a block full of one byte.
