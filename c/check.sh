@@ -128,7 +128,7 @@ END
 # With memory watched: the C files are compiled for it, the archive is as it is.
 watched() {
   local name=$1 flags=$2 wrap=$3 file able=
-  local sources=("$here/device.c" "$here/ends.c" "$here/isotope.c" "$archive" "$heap")
+  local sources=("$here/lock.c" "$here/device.c" "$here/ends.c" "$here/isotope.c" "$archive" "$heap")
   echo 'int main(void) { return 0; }' > "$name-empty.c"
   # shellcheck disable=SC2086
   "$cc" $flags -pthread "$name-empty.c" -o "$name-empty" 2> /dev/null && "./$name-empty" && able=1

@@ -4,6 +4,7 @@
 #include "device.h"
 #include <errno.h>
 #include <fcntl.h>
+#include <pthread.h>
 #include <stdio.h>
 #include <stdlib.h>
 #include <string.h>
@@ -13,48 +14,22 @@
 
 /* ---- Devices ---- */
 
-enum { DEVICES = ISOTOPE_MOST_DEVICES, FIRST_ROOM = 65536, MOST_KEPT = 1 << 20 };
-/* A call is short, so who wants the lock looks for it some times before he sleeps, where the C library has a lock for that. */
-#ifdef PTHREAD_ADAPTIVE_MUTEX_INITIALIZER_NP
-#define NO_DEVICE {.lock = PTHREAD_ADAPTIVE_MUTEX_INITIALIZER_NP, .fd = -1, .queue = PTHREAD_MUTEX_INITIALIZER}
-#else
-#define NO_DEVICE {.lock = PTHREAD_MUTEX_INITIALIZER, .fd = -1, .queue = PTHREAD_MUTEX_INITIALIZER}
-#endif
-static device devices[DEVICES] = {[0 ... DEVICES - 1] = NO_DEVICE};
+enum { FIRST_ROOM = 65536, MOST_KEPT = 1 << 20, MOST_SHOWN = 6 };
+#define NO_DEVICE {.fd = -1}
+device isotope_devices[DEVICES] = {[0 ... DEVICES - 1] = NO_DEVICE};
 static _Atomic isotope_device last_number;
 
-static void take_lock(device *d) {
-    if (pthread_mutex_trylock(&d->lock) == 0) return;
+void isotope_device_wait(device *d) {
     d->coming++;
-    pthread_mutex_lock(&d->lock);
+    isotope_lock_wait(&d->lock);
     d->coming--;
-}
-
-int isotope_device_leave(device *d, int status) {
-    pthread_mutex_unlock(&d->lock);
-    if (d->waiting > 0) isotope_ends_passed(d);
-    return status; /* and errno is as it was */
-}
-
-device *isotope_device_find(isotope_device number) {
-    device *d = &devices[number % DEVICES];
-    return number != 0 && d->number == number ? d : NULL;
-}
-
-device *isotope_device_enter(isotope_device number) {
-    device *d = isotope_device_find(number);
-    if (!d) return NULL;
-    take_lock(d);
-    if (d->number == number) return d;
-    isotope_device_leave(d, 0);
-    return NULL;
 }
 
 /* In a child of fork(): it has none of the devices. A lock may be held by a thread that it has not, so all begin anew; what is in memory
  * of a device is let go where nobody was in a call. The file's lock stays, which is the parent's. */
 static void forget_all(void) {
-    for (device *d = devices; d < devices + DEVICES; d++) {
-        if (pthread_mutex_trylock(&d->lock) == 0) {
+    for (device *d = isotope_devices; d < isotope_devices + DEVICES; d++) {
+        if (try_lock(&d->lock)) {
             isotope_c_close(&d->slot);
             free(d->bytes);
         }
@@ -107,9 +82,9 @@ static int take_place(device **place) {
     pthread_once(&once, begin_once);
     for (int tries = 0; tries < DEVICES; tries++) {
         isotope_device next = ++last_number;
-        device *d = &devices[next % DEVICES];
+        device *d = &isotope_devices[next % DEVICES];
         if (d->is_taken) continue;
-        take_lock(d);
+        if (!try_lock(&d->lock)) isotope_device_wait(d);
         if (d->is_taken) {
             isotope_device_leave(d, 0);
             continue;
@@ -130,14 +105,6 @@ static int show(device *d, isotope_device *number) {
     return isotope_device_leave(d, ISOTOPE_OK);
 }
 
-/* A transaction's number has 24 bits of the device's above those that the library gives, so that another opening's is none here. */
-uint64_t isotope_device_above(device *d) { return (d->number & 0xffffff) << INSIDE; }
-
-uint64_t isotope_device_inside(device *d, isotope_transaction tx) {
-    uint64_t own = tx & ((UINT64_C(1) << INSIDE) - 1);
-    return tx == (isotope_device_above(d) | own) ? own : 0;
-}
-
 /* ---- The tape ---- */
 
 static int write_all(int fd, const uint8_t *bytes, uint64_t n, uint64_t at) {
@@ -152,29 +119,40 @@ static int write_all(int fd, const uint8_t *bytes, uint64_t n, uint64_t at) {
     return 1;
 }
 
-/* Does one call of the tape. 1: it is done; 0: it was the end; -1: it failed. */
-static int do_call(device *d, uint64_t index) {
-    uint64_t at = 0, n = 0;
-    int what = isotope_c_call(&d->slot, index, &at, d->bytes, d->room, &n);
-    if (what == ISOTOPE_TOO_SMALL) {
-        if (!make_room(d, n)) return -1;
-        what = isotope_c_call(&d->slot, index, &at, d->bytes, d->room, &n);
+/* Does calls that are shown, in order, up to the first that is none. How many were done; -1: one failed. */
+static int do_calls(device *d, const isotope_tape_call *calls) {
+    const uint8_t *bytes = d->bytes;
+    int i = 0;
+    for (; i < MOST_SHOWN && calls[i].what <= TAPE_SYNC; i++) {
+        if (calls[i].what == TAPE_SYNC) {
+            if (fdatasync(d->fd) != 0) return -1;
+            continue;
+        }
+        if (!write_all(d->fd, bytes, calls[i].n, calls[i].at)) return -1;
+        bytes += calls[i].n;
     }
-    switch (what) {
-    case TAPE_WRITE: return write_all(d->fd, d->bytes, n, at) ? 1 : -1;
-    case TAPE_SYNC: return fdatasync(d->fd) == 0 ? 1 : -1;
-    case TAPE_END: return 0;
-    default: return -1;
+    return i;
+}
+
+/* Does what is on the tape. How many calls, or -1: one failed. */
+static int64_t do_tape(device *d) {
+    isotope_tape_call calls[MOST_SHOWN];
+    for (int64_t all = 0;;) {
+        if (isotope_c_calls(&d->slot, (uint64_t)all, calls, MOST_SHOWN, d->bytes, d->room) != ISOTOPE_OK) return -1;
+        int n = do_calls(d, calls);
+        if (n < 0) return -1;
+        all += n;
+        if (n == MOST_SHOWN) continue;
+        if (calls[n].what == TAPE_END) return all;
+        if (calls[n].what != TAPE_NO_ROOM || (n == 0 && !make_room(d, calls[0].n))) return -1;
     }
 }
 
 /* Does what is on the tape, in order, before a call is answered. Once a call failed the library is told: its tape is empty then and stays
  * so, and it answers that it is down from then on. */
 int isotope_device_settle(device *d, int status) {
-    uint64_t calls = 0;
-    int done = 1;
-    while ((done = do_call(d, calls)) > 0) calls++;
-    if (done < 0) {
+    int64_t calls = do_tape(d);
+    if (calls < 0) {
         isotope_c_fail(&d->slot);
         return ISOTOPE_DISK;
     }
@@ -182,8 +160,6 @@ int isotope_device_settle(device *d, int status) {
     if (d->room > MOST_KEPT) shrink(d);
     return status;
 }
-
-int isotope_device_answer(device *d, int status) { return isotope_device_leave(d, isotope_device_settle(d, status)); }
 
 /* ---- Files ---- */
 

@@ -8,7 +8,7 @@
 #include <time.h>
 #include <unistd.h>
 
-enum { MOST_PASSED = 256, MOST_RUSH = 15, NOT_ANSWERED = -1 };
+enum { MOST_PASSED = 256, MOST_RUSH = 15, NOT_ANSWERED = -1, WOKEN_BY_ONE = 3 };
 static const uint64_t SECOND = 1000000000, MOST_WAIT = 10000000; /* in nanoseconds */
 
 /* ---- Who waits, and who is woken ---- */
@@ -19,7 +19,7 @@ static int is_ripe(device *d) {
     return d->waiting >= ISOTOPE_MOST_GROUP || d->passed >= MOST_PASSED || (d->coming == 0 && d->returning <= 0);
 }
 
-/* Ends sleep on one word of the device, each with bits of its own, so that one call wakes a whole group, or the first end of one. */
+/* Ends sleep on one word of the device, each with bits of its own, so that ends of one group can be woken, or the first end of one. */
 enum { FIRST_BIT = 1, GROUP_BITS = 31 };
 static uint32_t group_bit(uint32_t group) { return UINT32_C(2) << group % GROUP_BITS; }
 
@@ -30,18 +30,28 @@ static int on_word(device *d, int call, uint32_t value, const struct timespec *u
     return failed;
 }
 
-static void wake(device *d, uint32_t bits) {
+static void wake(device *d, uint32_t most, uint32_t bits) { on_word(d, FUTEX_WAKE_BITSET, most, NULL, bits); }
+
+static void wake_first(device *d) {
     d->told++;
-    on_word(d, FUTEX_WAKE_BITSET, INT_MAX, NULL, bits);
+    wake(d, INT_MAX, FIRST_BIT);
+}
+
+/* The ends of a group that is answered wake one another, so that no processor waits for one that wakes all: each that was woken wakes some
+ * more, until nobody of the group sleeps. Where so many wait that one of another group may have the same bit, one call wakes all. */
+static void wake_group(device *d, uint32_t group) {
+    wake(d, d->waiting < (GROUP_BITS - 1) * ISOTOPE_MOST_GROUP ? WOKEN_BY_ONE : INT_MAX, group_bit(group));
 }
 
 /* Who leaves the device looks after the ends that wait. An end counts itself before it looks who is coming, and who comes is counted until
- * he has the lock, after which he looks here: so one of the two sees the other. */
+ * he has the lock, after which he looks here: so one of the two sees the other. Who finds a leader leaves it to him, who lets go of that
+ * and then wakes the next one. */
 void isotope_ends_passed(device *d) {
-    pthread_mutex_lock(&d->queue);
     d->passed++;
-    if (d->first && !d->has_leader && is_ripe(d)) wake(d, FIRST_BIT);
-    pthread_mutex_unlock(&d->queue);
+    if (d->has_leader || !is_ripe(d)) return;
+    take_lock(&d->queue);
+    if (d->first && !d->has_leader && is_ripe(d)) wake_first(d);
+    free_lock(&d->queue);
 }
 
 /* ---- Groups ---- */
@@ -99,26 +109,29 @@ static uint64_t now(void) {
 static void lead(device *d) {
     waiter *group[ISOTOPE_MOST_GROUP];
     d->has_leader = 1;
-    pthread_mutex_unlock(&d->queue);
-    pthread_mutex_lock(&d->lock);
-    pthread_mutex_lock(&d->queue);
+    free_lock(&d->queue);
+    take_lock(&d->lock);
+    take_lock(&d->queue);
     size_t n = take_group(d, group);
-    pthread_mutex_unlock(&d->queue);
+    free_lock(&d->queue);
     uint64_t from = now();
     end_all(d, group, n);
     uint64_t to = now();
     /* before another end can have the lock */
     d->returning = d->rushed > 0 ? 0 : (int)n;
-    pthread_mutex_unlock(&d->lock);
-    pthread_mutex_lock(&d->queue);
+    free_lock(&d->lock);
+    take_lock(&d->queue);
     d->members = (int)n;
     d->rushed -= d->rushed > 0;
     d->until = to + ((to - from) / 2 < MOST_WAIT ? (to - from) / 2 : MOST_WAIT);
     d->has_leader = 0;
-    uint32_t bits = group_bit(d->taken) | (d->first ? FIRST_BIT : 0);
+    int has_next = d->first != NULL;
+    uint32_t taken = d->taken;
     d->answered++;
-    pthread_mutex_unlock(&d->queue);
-    wake(d, bits);
+    d->told++;
+    free_lock(&d->queue);
+    if (has_next) wake(d, INT_MAX, FIRST_BIT);
+    wake_group(d, taken);
 }
 
 /* The last group in which an end of this thread was. */
@@ -147,55 +160,62 @@ static void wait_for_turn(device *d, waiter *own) {
     struct timespec until = {(time_t)(d->until / SECOND), (long)(d->until % SECOND)};
     int is_timed = !d->has_leader && d->returning > 0 && d->first == own;
     uint32_t told = d->told, bits = group_bit(own->group) | (own->is_first ? FIRST_BIT : 0);
-    pthread_mutex_unlock(&d->queue);
+    free_lock(&d->queue);
     if (is_answered(d, own)) return;
-    if (on_word(d, FUTEX_WAIT_BITSET, told, is_timed ? &until : NULL, bits) != ETIMEDOUT) return;
-    pthread_mutex_lock(&d->queue);
+    int failed = on_word(d, FUTEX_WAIT_BITSET, told, is_timed ? &until : NULL, bits);
+    if (failed == 0 && is_answered(d, own)) wake_group(d, own->group);
+    if (failed != ETIMEDOUT) return;
+    take_lock(&d->queue);
     if (d->first == own && !d->has_leader) {
         int few = 2 * d->returning > d->members;
         d->rushed = d->rush = !few ? 0 : d->rush < MOST_RUSH ? 2 * d->rush + 1 : MOST_RUSH;
         d->returning = 0;
     }
-    pthread_mutex_unlock(&d->queue);
+    free_lock(&d->queue);
 }
 
 /* Waits until the end is answered, and leads where nobody does. */
-static void wait_for_end(device *d, waiter *own) {
-    pthread_mutex_lock(&d->queue);
-    join(d, own);
+static void __attribute__((noinline)) wait_for_end(device *d, isotope_device number, isotope_transaction tx, isotope_ended *ended) {
+    waiter own = {.device = number, .tx = tx, .ended = {.status = ISOTOPE_CLOSED}};
+    take_lock(&d->queue);
+    join(d, &own);
     for (;;) {
         if (!d->has_leader && is_ripe(d)) lead(d);
-        else wait_for_turn(d, own);
-        if (is_answered(d, own)) break;
-        pthread_mutex_lock(&d->queue);
+        else wait_for_turn(d, &own);
+        if (is_answered(d, &own)) break;
+        take_lock(&d->queue);
     }
-    last.device = own->device;
-    last.group = own->group;
+    last.device = number;
+    last.group = own.group;
+    *ended = own.ended;
 }
 
 /* An end that comes while nobody waits, neither in the queue nor for the lock, and nobody else is waited for has no need of the queue.
  * Whether it was so. */
-static int end_alone(device *d, waiter *own) {
-    if (d->waiting > 0 || d->coming > 0 || pthread_mutex_trylock(&d->lock) != 0) return 0;
-    if (d->returning > is_back(d, own->device)) {
+static int end_alone(device *d, isotope_device number, isotope_transaction tx, isotope_ended *ended) {
+    if (d->waiting > 0 || d->coming > 0 || !try_lock(&d->lock)) return 0;
+    if (d->returning > 0 && d->returning > is_back(d, number)) {
         isotope_device_leave(d, 0);
         return 0;
     }
-    d->returning = 0;
-    if (d->number == own->device) {
-        isotope_c_end(&d->slot, isotope_device_inside(d, own->tx), &own->ended);
-        if (isotope_device_settle(d, ISOTOPE_OK) != ISOTOPE_OK) take_back(&own->ended);
+    if (d->returning != 0) d->returning = 0;
+    if (d->number == number) {
+        isotope_c_end(&d->slot, isotope_device_inside(d, tx), ended);
+        if (isotope_device_settle(d, ISOTOPE_OK) != ISOTOPE_OK) take_back(ended);
+    } else {
+        *ended = (isotope_ended){.status = ISOTOPE_CLOSED};
     }
     isotope_device_leave(d, 0);
     return 1;
 }
 
 int isotope_end(isotope_device number, isotope_transaction tx, isotope_ended *ended) {
-    waiter own = {.device = number, .tx = tx, .ended = {.status = ISOTOPE_CLOSED}};
+    isotope_ended told;
     device *d = isotope_device_find(number);
-    if (d && !end_alone(d, &own)) wait_for_end(d, &own);
-    if (ended) *ended = own.ended;
-    return own.ended.status;
+    if (!ended) ended = &told;
+    if (!d) *ended = (isotope_ended){.status = ISOTOPE_CLOSED};
+    else if (!end_alone(d, number, tx, ended)) wait_for_end(d, number, tx, ended);
+    return ended->status;
 }
 
 int isotope_end_group(isotope_device number, const isotope_transaction *txs, size_t n, isotope_ended *ended) {

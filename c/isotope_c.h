@@ -8,8 +8,10 @@
 /* What the library keeps for a device. It is made of zeros, which is none, and C writes no more to it. */
 typedef struct { uint64_t holds; void *at; } isotope_slot;
 
-/* What isotope_c_call() says of a call of the tape. */
-enum { TAPE_WRITE = 0, TAPE_SYNC = 1, TAPE_END = 2 };
+/* What isotope_c_calls() shows of a call of the tape: a write of n bytes at `at` of the file, a sync, the end of the tape, a write whose
+ * bytes have no room. */
+enum { TAPE_WRITE = 0, TAPE_SYNC = 1, TAPE_END = 2, TAPE_NO_ROOM = 28 };
+typedef struct { uint64_t what, at, n; } isotope_tape_call;
 
 int32_t isotope_c_size(const isotope_geometry *, uint64_t *size);
 int32_t isotope_c_create(isotope_slot *, const isotope_geometry *);
@@ -18,7 +20,7 @@ int32_t isotope_c_lay(isotope_slot *, uint64_t at, const uint8_t *bytes, size_t 
 int32_t isotope_c_open(isotope_slot *, isotope_refusal *);
 int32_t isotope_c_close(isotope_slot *);
 
-int32_t isotope_c_call(isotope_slot *, uint64_t index, uint64_t *at, uint8_t *into, size_t room, uint64_t *n);
+int32_t isotope_c_calls(isotope_slot *, uint64_t index, isotope_tape_call *, size_t places, uint8_t *into, size_t room);
 int32_t isotope_c_handed_on(isotope_slot *);
 int32_t isotope_c_fail(isotope_slot *);
 

@@ -1,12 +1,14 @@
 -- What is told of answers.
-use Rattle.std.proofs.Common.{◌≡◌, ◌∙◌, ◌-◌, sym, ap, arith, refl, subst, ℕ, ℤ, pos, Option, None, Some, Result, Ok, Err, IfOk, length, option_map, SFits, w32, to_z, of_z, to_z-of_z}
+use Rattle.std.proofs.Math.Nat.{min-eq_left}
+use Rattle.std.proofs.Common.{List, ◌≤◌, eq-eqb, ◌≡◌, ◌∙◌, ◌-◌, sym, ap, arith, refl, subst, ℕ, ℤ, pos, Option, None, Some, Result, Ok, Err, IfOk, length, option_map, SFits, w32, to_z, of_z, to_z-of_z}
 use Rattle.iso_model.specs.{declared.access.Geometry.Geometry, declared.limits.TheConstants.MAX_ACCESSES, History.last, Versions.versions, World.{Live, World}}
 use Rattle.iso_model.specs.World.{used as bytes_used}
 use Rattle.script_model.specs.{Step.numbers, declared.script.Reply.Reply, declared.stop.Stop.Stop}
 use Rattle.script_model.specs.declared.script.Reply.TheVariants as reply
 use Rattle.script_model.specs.declared.stop.Stop.TheVariants as stop
 use Rattle.device_desk.specs.Oldest.{oldest_of}
-use Rattle.isotope_c.specs.Told.{begun, code, counts, number_in, room_told}
+use Rattle.isotope_c.specs.Told.{begun, code, counts, length_asked, number_in, room_told, shown}
+use Rattle.iso_machine.specs.Accessing.{IsFilled, with_bytes}
 
 -- the transaction's number is told where one has begun alone
 pub begun_same : (a b tx at : ℕ) (answer : Result Reply Stop) → ((n : ℕ) → answer ≡ Ok (reply.Began n) → a ≡ b) → begun a tx at answer ≡ begun b tx at answer
@@ -49,3 +51,14 @@ counts_told W {n = n} {base = base} {trim = trim} {live = live} {used = used} {v
     let e : used ≡ bytes_used W = cc told in
     let f : kept ≡ versions W = cc told in
     λ i. record { last = a i; base = b i; trim = c i; versions = f i; oldest = number_in (oldest i); live = d i; used = e i; log = (sizes i).log; form = (sizes i).form }
+
+-- all is asked for where the slice is no longer than a number
+pub all_asked : (into : List ℕ) → length into ≤ 4294967295 → length into ≡ length_asked into
+all_asked into most = sym (min-eq_left most)
+
+-- what is told of a read into a slice is what is told of an answer that shows its bytes
+pub told_into : (answer : Result Reply Stop) (old new : List ℕ) → IsFilled answer old new → (code answer, new) ≡ shown old (with_bytes answer new)
+told_into (Ok reply.Done) old new filled = rw (eq-eqb (length new) (length old) filled) refl
+told_into (Ok (reply.Shown bytes)) old new filled = absurd filled
+told_into (Ok r) old new filled = ap (λ (l : List ℕ). (code (Ok r), l)) filled
+told_into (Err why) old new filled = ap (λ (l : List ℕ). (code (Err why), l)) filled

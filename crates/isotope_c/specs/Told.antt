@@ -1,6 +1,6 @@
 -- What C is told of an answer, in the numbers and slices that it hands in.
 use Rattle.std.specs.Int.{from_be_bytes, w32}
-use Rattle.std.specs.Prelude.{◌≡◌, ◌⊎◌, ℕ, ℤ, pos, ◌-◌, ◌==◌, if◌then◌else◌, List, [], ◌∷◌, ◌++◌, Option, None, Some, Result, Ok, Err, drop, length, map, min, nat_le, option_map}
+use Rattle.std.specs.Prelude.{Bool, true, false, ◌≡◌, ◌⊎◌, ℕ, ℤ, pos, ◌-◌, ◌==◌, if◌then◌else◌, List, [], ◌∷◌, ◌++◌, Option, None, Some, Result, Ok, Err, drop, length, map, min, nat_le, option_map}
 use Rattle.iso_memdisk.specs.declared.record.Call.{Call}
 use Rattle.iso_memdisk.specs.declared.record.Call.TheVariants.{Write, Sync}
 use Rattle.iso_image.specs.declared.open_error.OpenError.{OpenError}
@@ -10,7 +10,7 @@ use Rattle.iso_model.specs.declared.access.GroupReply.TheVariants as member
 use Rattle.script_model.specs.{declared.script.Reply.Reply, declared.stop.Stop.Stop}
 use Rattle.script_model.specs.declared.script.Reply.TheVariants as reply
 use Rattle.device_desk.specs.{Oldest.oldest_of, Status.status_of}
-use Rattle.isotope_c.specs.{declared.records.Ended.Ended, declared.records.NewImage.NewImage, declared.records.Numbers.Numbers, declared.records.Refusal.Refusal, Codes.code_of}
+use Rattle.isotope_c.specs.{declared.records.Ended.Ended, declared.records.NewImage.NewImage, declared.records.Numbers.Numbers, declared.records.Refusal.Refusal, declared.records.TapeCall.TapeCall, Codes.code_of}
 
 -- the number of an answer's status
 abbrev pub code : Result Reply Stop → ℤ
@@ -120,11 +120,23 @@ abbrev pub room_told : (accesses : ℕ) → Option Live → ℤ × ℕ
 room_told accesses None = (pos 23, accesses)
 room_told accesses (Some t) = (pos 0, MAX_ACCESSES - length t.accesses)
 
--- a call of the tape: 0 a write, 1 a sync, 2 none
-abbrev pub call_told : Option Call → (at : ℕ) (into : List ℕ) (len : ℕ) → ℤ × (ℕ × (List ℕ × ℕ))
-call_told None at into len = (pos 2, (at, (into, len)))
-call_told (Some Sync) at into len = (pos 1, (at, (into, len)))
-call_told (Some (Write place bytes)) at into len = ((laid bytes.items into).0, (place, (laid bytes.items into).1))
+-- a call of the tape: 0 a write, 1 a sync, 2 the end of the tape, 28 a write whose bytes have no room
+abbrev pub call_so : (what at len : ℕ) → TapeCall
+call_so what at len = record { what = what; at = at; len = len }
+
+-- a write whose bytes have room or none, before the rest of what is told
+abbrev pub put_told : (has_room : Bool) (at : ℕ) (bytes into : List ℕ) (places : List TapeCall) (rest : List TapeCall × List ℕ) → List TapeCall × List ℕ
+put_told true at bytes into places rest = (call_so 0 at (length bytes) ∷ rest.0, bytes ++ rest.1)
+put_told false at bytes into places rest = (call_so 28 at (length bytes) ∷ places, into)
+
+-- Calls of the tape in places, in order, and the bytes of the writes in a slice, one after the other: as far as there are places, and
+-- until a write has no room. Behind the last call stands the end.
+abbrev pub calls_told : List Call → (places : List TapeCall) (into : List ℕ) → List TapeCall × List ℕ
+calls_told calls [] into = ([], into)
+calls_told [] (place ∷ places) into = (call_so 2 0 0 ∷ places, into)
+calls_told (Sync ∷ calls) (place ∷ places) into = (call_so 1 0 0 ∷ (calls_told calls places into).0, (calls_told calls places into).1)
+calls_told (Write at put ∷ calls) (place ∷ places) into =
+    put_told (nat_le (length put.items) (length into)) at put.items into places (calls_told calls places (drop (length put.items) into))
 
 -- the mode that a number represents: 0 is the image's
 abbrev pub mode_named : ℕ → Option (Option Mode)

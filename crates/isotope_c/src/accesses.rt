@@ -1,5 +1,5 @@
 // What transactions read and write.
-ghost use Rattle.std.specs.Prelude.{◌≡◌, None, pos};
+ghost use Rattle.std.specs.Prelude.{◌≡◌, None, IsSome, pos};
 ghost use Rattle.script_model.specs.declared.script.Op.TheVariants.{Fill, Get, Mark, Put, Read, Write};
 ghost use Rattle.iso_machine.specs.Answering.{Always};
 ghost use Rattle.device_desk.specs.Peeked.{peeked};
@@ -35,6 +35,22 @@ fn length_asked(into: &[u8]) -> u32
     into.len().min(u32::MAX as usize) as u32
 }
 
+// Reads so for a slice that is longer than any block.
+#[cold]
+fn get_long(slot: &mut Slot, tx: u64, block: u32, off: u32, into: &mut [u8]) -> i32
+    requires { IsSome (device_in slot.old) }
+    ensures { Serves slot.old slot.new result tx (Get block off (length_asked into.old)) (λ answer. (result, into.new) ≡ shown into.old answer) }
+{
+    let len = length_asked(into);
+    let mut instance = take_open(slot);
+    let Instance::Open(desk) = &mut *instance else {
+        unreachable!()
+    };
+    let answer = desk.get(tx, block, off, len);
+    put(slot, instance);
+    show(&answer, into)
+}
+
 /// Reads as many bytes of a block as the slice has, from `off` on.
 #[unsafe(no_mangle)]
 pub extern "C" fn isotope_c_get(
@@ -49,14 +65,16 @@ pub extern "C" fn isotope_c_get(
     if !is_open(slot) {
         return CLOSED;
     }
+    if into.len() > u32::MAX as usize {
+        return get_long(slot, tx, block, off, into);
+    }
     let mut instance = take_open(slot);
     let Instance::Open(desk) = &mut *instance else {
         unreachable!()
     };
-    let len = length_asked(into);
-    let answer = desk.get(tx, block, off, len);
+    let answer = desk.get_into(tx, block, off, into);
     put(slot, instance);
-    show(&answer, into)
+    code_of(&answer)
 }
 
 /// Reads as many bytes of a block as the slice has, from `off` on, as the transaction is shown them. It is no access: no conflict

@@ -57,3 +57,13 @@ pub struct Refusal {
     pub at: u64,
     pub have: u64,
 }
+
+/// A call of the tape: 0 a write of `len` bytes at `at` of the file, 1 a sync, 2 none, which is the end of the tape, 28 a write
+/// for whose bytes there is no room.
+#[repr(C)]
+#[derive(Clone, Copy)]
+pub struct TapeCall {
+    pub what: u64,
+    pub at: u64,
+    pub len: u64,
+}

@@ -1,46 +1,85 @@
 // What C does to the file: the writes and syncs on the tape, in order.
-ghost use Rattle.std.specs.Prelude.{◌≡◌, None, Some, pos, slice_get};
+ghost use Rattle.std.specs.Prelude.{◌≡◌, None, Some, drop, pos};
 ghost use Rattle.device_desk.specs.Device.{Device, disk_under};
 ghost use Rattle.queued_disk.specs.{declared.queued.QueuedDisk.QueuedDisk, Queued.tape_of};
-ghost use Rattle.isotope_c.specs.{Exports.{HasFailed, HasHandedOn, device_in}, Told.call_told};
+ghost use Rattle.isotope_c.specs.{Exports.{HasFailed, HasHandedOn, device_in}, Told.{call_so, calls_told}};
 
 use crate::code::CLOSED;
 use crate::instance::Instance;
+use crate::records::TapeCall;
 use crate::slot::{Slot, is_open, put, take_open};
-use crate::told::lay;
 use device_desk::{fail, hand_on, tape};
 use queued_disk::Call;
 
-const SYNC: i32 = 1;
+const WRITE: u64 = 0;
 
-const NO_CALL: i32 = 2;
+const SYNC: u64 = 1;
 
-fn show_call(tape: &[Call], index: u64, at: &mut u64, into: &mut [u8], len: &mut u64) -> i32
-    ensures { (result, (at.new, (into.new, len.new))) ≡ call_told (slice_get tape.now index) at.old into.old len.old }
+const NO_CALL: u64 = 2;
+
+const NO_ROOM: u64 = 28;
+
+fn call_so(what: u64, at: u64, len: u64) -> TapeCall
+    ensures { result ≡ call_so what at len }
 {
-    match tape.get(index as usize) {
-        Some(Call::Write { at: place, bytes }) => {
-            *at = *place as u64;
-            lay(bytes, into, len)
+    TapeCall { what, at, len }
+}
+
+// Puts the calls into the places, in order, and the bytes of the writes into the slice, one after the other.
+fn show_calls(calls: &[Call], places: &mut [TapeCall], into: &mut [u8])
+    ensures { (places.new, into.new) ≡ calls_told calls.now places.old into.old }
+{
+    let Some((place, rest)) = places.split_first_mut() else {
+        return;
+    };
+    let Some((call, others)) = calls.split_first() else {
+        *place = call_so(NO_CALL, 0, 0);
+        return;
+    };
+    match call {
+        Call::Sync => {
+            *place = call_so(SYNC, 0, 0);
+            show_calls(others, rest, into)
         }
-        Some(Call::Sync) => SYNC,
-        None => NO_CALL,
+        Call::Write { at, bytes } => {
+            let n = bytes.len();
+            if n > into.len() {
+                *place = call_so(NO_ROOM, *at as u64, n as u64);
+                return;
+            }
+            *place = call_so(WRITE, *at as u64, n as u64);
+            let (front, behind) = into.split_at_mut(n);
+            front.copy_from_slice(bytes);
+            show_calls(others, rest, behind)
+        }
     }
 }
 
-/// The call at this place of the tape: 0 a write of the slice's first `len` bytes at `at` of the file, 1 a sync, 2 none, which is
-/// the end of the tape. Where the slice is too short for a write (28), `len` tells how long it has to be.
+// The calls from this one on.
+#[tactic(auto, using(std::proofs::lemmas::List::drop_all))]
+fn calls_from(calls: &[Call], index: usize) -> &[Call]
+    ensures { result.now ≡ drop index calls.now }
+{
+    if index >= calls.len() {
+        return &[];
+    }
+    calls.split_at(index).1
+}
+
+/// Shows the calls of the tape from this one on, in order and none left out, as far as there are places: writes, their bytes one after
+/// the other in the slice, and syncs. Behind the last call of the tape stands its end. Where the slice has no room for the bytes of
+/// a write no more is shown but how many they are.
 #[unsafe(no_mangle)]
-pub extern "C" fn isotope_c_call(
+pub extern "C" fn isotope_c_calls(
     slot: &mut Slot,
     index: u64,
-    at: &mut u64,
+    places: &mut [TapeCall],
     into: &mut [u8],
-    len: &mut u64,
 ) -> i32
     ensures closed { device_in slot.old ≡ None → (result ≡ pos 24) × (slot.new ≡ slot.old) }
     ensures same { (d : Device QueuedDisk) → device_in slot.old ≡ Some d → device_in slot.new ≡ Some d }
-    ensures shown { (d : Device QueuedDisk) → device_in slot.old ≡ Some d → (result, (at.new, (into.new, len.new))) ≡ call_told (slice_get (tape_of (disk_under d)) index) at.old into.old len.old }
+    ensures shown { (d : Device QueuedDisk) → device_in slot.old ≡ Some d
+        → (result ≡ pos 0) × ((places.new, into.new) ≡ calls_told (drop index (tape_of (disk_under d))) places.old into.old) }
 {
     if !is_open(slot) {
         return CLOSED;
@@ -49,9 +88,9 @@ pub extern "C" fn isotope_c_call(
     let Instance::Open(desk) = &*instance else {
         unreachable!()
     };
-    let status = show_call(tape(desk), index, at, into, len);
+    show_calls(calls_from(tape(desk), index as usize), places, into);
     put(slot, instance);
-    status
+    0
 }
 
 /// All that is on the tape was done: nothing is on it any more.

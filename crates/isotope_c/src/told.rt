@@ -128,6 +128,7 @@ pub(crate) fn begun(answer: &Result<Reply, Stop>, number: u64, tx: &mut u64, at:
     }
 }
 
+#[inline(always)]
 fn ended_so(status: i32) -> Ended
     ensures { result ≡ ended_so status }
 {
@@ -143,6 +144,7 @@ fn ended_so(status: i32) -> Ended
     }
 }
 
+#[inline(always)]
 fn committed(commit: u64) -> Ended
     ensures { result ≡ record (ended_so (pos 0)) { commit = commit } }
 {
@@ -151,6 +153,7 @@ fn committed(commit: u64) -> Ended
     ended
 }
 
+#[inline(always)]
 fn met(clash: &Clash) -> Ended
     ensures { result ≡ record (ended_so (pos 1)) { met = clash.now.commit; block = clash.now.block; at = clash.now.at } }
 {
@@ -161,6 +164,7 @@ fn met(clash: &Clash) -> Ended
     ended
 }
 
+#[inline(always)]
 fn full(need: u64, room: u64) -> Ended
     ensures { result ≡ record (ended_so (pos 4)) { need = need; room = room } }
 {
@@ -170,6 +174,7 @@ fn full(need: u64, room: u64) -> Ended
     ended
 }
 
+#[inline(always)]
 fn reply_ended(reply: &Reply) -> Ended
     ensures { result ≡ reply_ended reply.now }
 {
@@ -182,6 +187,7 @@ fn reply_ended(reply: &Reply) -> Ended
 }
 
 /// How a transaction ended.
+#[inline(always)]
 pub(crate) fn ended_of(answer: &Result<Reply, Stop>) -> Ended
     ensures { result ≡ ended_of answer.now }
 {
