@@ -30,6 +30,7 @@ impl<D: Disk> Table<D> {
 
     /// The transaction of this number ends: it is gone, and a commit where it has a write and no conflict. Where its commit
     /// has no room or no number it stays.
+    #[inline(always)]
     pub(crate) fn end(&mut self, number: u64) -> Result<Reply, Stop>
         requires { (W : World) × IsTableOf D.state self.old W }
         ensures { (W : World) → IsTableOf D.state self.old W

@@ -33,6 +33,7 @@ pub(crate) fn refusal(work: &Work, block: u32, is_wrong: bool) -> Option<Reply>
 /// # Errors
 ///
 /// Want of memory. There is no reply, and the accesses stay as they are.
+#[inline(always)]
 pub fn put(
     work: &mut Work,
     buffer: &mut Vec<u8>,

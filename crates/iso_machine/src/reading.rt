@@ -102,6 +102,7 @@ fn copy_out(block: &[u8], off: u32, into: &mut [u8])
 }
 
 /// A read of as many bytes as the slice has, which is not refused, with one mark over them. The buffer gets the block.
+#[inline(always)]
 fn get_within<D: Disk>(
     core: &mut Core<D>,
     tx: u64,
@@ -153,6 +154,7 @@ fn get_within<D: Disk>(
 /// - `Memory`: want of memory.
 /// - `Disk`: the disk failed in this call.
 /// - `Down` never comes.
+#[inline(always)]
 pub fn get_into<D: Disk>(
     core: &mut Core<D>,
     tx: u64,
