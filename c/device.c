@@ -120,18 +120,13 @@ static int write_all(int fd, const uint8_t *bytes, uint64_t n, uint64_t at) {
 }
 
 /* Does calls that are shown, in order, up to the first that is none. How many were done; -1: one failed. */
-static int do_calls(device *d, const isotope_tape_call *calls) {
-    const uint8_t *bytes = d->bytes;
-    int i = 0;
-    for (; i < MOST_SHOWN && calls[i].what <= TAPE_SYNC; i++) {
-        if (calls[i].what == TAPE_SYNC) {
-            if (fdatasync(d->fd) != 0) return -1;
-            continue;
-        }
-        if (!write_all(d->fd, bytes, calls[i].n, calls[i].at)) return -1;
-        bytes += calls[i].n;
+static int do_calls(int fd, const isotope_tape_call *calls, const uint8_t *bytes) {
+    int n = 0;
+    for (; n < MOST_SHOWN && calls->what <= TAPE_SYNC; n++, calls++) {
+        if (calls->what == TAPE_SYNC ? fdatasync(fd) != 0 : !write_all(fd, bytes, calls->n, calls->at)) return -1;
+        bytes += calls->n;
     }
-    return i;
+    return n;
 }
 
 /* Does what is on the tape. How many calls, or -1: one failed. */
@@ -139,7 +134,7 @@ static int64_t do_tape(device *d) {
     isotope_tape_call calls[MOST_SHOWN];
     for (int64_t all = 0;;) {
         if (isotope_c_calls(&d->slot, (uint64_t)all, calls, MOST_SHOWN, d->bytes, d->room) != ISOTOPE_OK) return -1;
-        int n = do_calls(d, calls);
+        int n = do_calls(d->fd, calls, d->bytes);
         if (n < 0) return -1;
         all += n;
         if (n == MOST_SHOWN) continue;

@@ -19,7 +19,7 @@ typedef struct waiter {
 /* A place for a device. `lock` is held during a call of the library and all that comes of it at the file; what is under it is looked at
  * by who has it. `queue` is held for a moment, also by who has the lock, never the other way round. */
 typedef struct {
-    word_lock lock;
+    _Alignas(64) word_lock lock;        /* with what each call looks at in one line of the cache */
     atomic_int waiting;                 /* how many ends are in the queue */
     _Atomic isotope_device number;      /* 0 while no device is open here */
     isotope_slot slot;
