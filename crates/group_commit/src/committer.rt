@@ -6,18 +6,18 @@ ghost use Rattle.iso_shared.specs.declared.tx.Tx.{Tx};
 ghost use Rattle.group_commit.specs.Outcomes.{IsOutcome, MayEnd};
 ghost use Rattle.turn_lock.specs.Props.{pass_props};
 
-use crate::ends::{Ends, OfDevice, Outcome, end_alone, hand_in, take_outcome};
+use crate::ends::{Ends, OfDevice, Outcome, hand_in, take_outcome};
 use crate::serve::{is_requested, serve_all};
 use ask_desk::{Client, Desk};
 use iso_disk::Disk;
 use iso_shared::{Origin, Port, Shared, Tx};
 use std::alloc::Global;
 use std::marker::PhantomData;
-use std::sync::{Condvar, Mutex, Wait};
+use std::sync::{Condvar, Mutex, MutexGuard, Wait};
 
 /// The port through which whoever serves makes the entries.
 #[derive(Drop)]
-struct Leader<D: Disk + Drop, O: Origin, P: OfDevice<D, O>> {
+pub(crate) struct Leader<D: Disk + Drop, O: Origin, P: OfDevice<D, O>> {
     port: Port<D, O>,
     alloc: Global,
     device: PhantomData<P>,
@@ -30,15 +30,6 @@ impl<D: Disk + Drop, O: Origin, P: OfDevice<D, O>> Leader<D, O, P> {
         requires { P.device ≡ Some shared.now }
     {
         serve_all(rt, self.alloc, shared, &mut self.port, desks);
-    }
-
-    // Ends a transaction that was handed in at no desk.
-    fn end<R: Wait>(&mut self, rt: &R, shared: &Shared<D, O>, tx: Tx<D, O>) -> Outcome<D, O>
-        requires device { P.device ≡ Some shared.now }
-        requires tx { MayEnd shared.now O.start tx }
-        ensures { IsOutcome shared.now O.start tx result }
-    {
-        end_alone(rt, shared, &mut self.port, tx)
     }
 }
 
@@ -87,9 +78,20 @@ impl<D: Disk + Drop, O: Origin, P: OfDevice<D, O>> Committer<D, O, P> {
         port
     }
 
-    /// Ends a transaction together with those that other threads end or hand in at these desks, which the client's own is among. Who comes
-    /// alone, as nobody serves and nothing is handed in, ends it as `Shared::end` does, and takes no memory for a group. Else it is handed
-    /// in, and the outcome is waited for.
+    /// The place of who serves, where it is free and nothing is handed in at these desks. Whoever comes while it is held hands its own
+    /// in, and serves once it is let go.
+    pub(crate) fn free_place(
+        &self,
+        desks: &[Desk<Ends<D, O, P>>],
+    ) -> Option<MutexGuard<'_, Leader<D, O, P>>> {
+        if is_requested(desks) {
+            return None;
+        }
+        self.leader.try_lock()
+    }
+
+    /// Ends a transaction together with those that other threads end or hand in at these desks, which the client's own is among: it is
+    /// handed in, and the outcome is waited for.
     pub fn end<R: Wait>(
         &self,
         rt: &R,
@@ -105,9 +107,6 @@ impl<D: Disk + Drop, O: Origin, P: OfDevice<D, O>> Committer<D, O, P> {
         ensures client { IsClient desk.now client.new × Rests client.new }
         ensures outcome { IsOutcome shared.now O.start tx result }
     {
-        if self.comes_alone(rt, desks) {
-            return self.end_alone(rt, shared, tx);
-        }
         hand_in(shared, desk, client, tx);
         self.outcome(rt, shared, desks, desk, client)
     }
@@ -151,17 +150,6 @@ impl<D: Disk + Drop, O: Origin, P: OfDevice<D, O>> Committer<D, O, P> {
         true
     }
 
-    // Whether nobody serves and nothing is handed in at these desks, so that the caller is to end its own by itself. Who comes meanwhile
-    // hands its own in, and waits until the caller leaves.
-    fn comes_alone<R: Wait>(&self, rt: &R, desks: &[Desk<Ends<D, O, P>>]) -> bool {
-        let mut busy = self.busy.lock(rt);
-        if *busy || is_requested(desks) {
-            return false;
-        }
-        *busy = true;
-        true
-    }
-
     // Serves these desks once, and leaves.
     fn serve<R: Wait>(&self, rt: &R, shared: &Shared<D, O>, desks: &[Desk<Ends<D, O, P>>])
         requires { P.device ≡ Some shared.now }
@@ -170,19 +158,6 @@ impl<D: Disk + Drop, O: Origin, P: OfDevice<D, O>> Committer<D, O, P> {
         leader.serve(rt, shared, desks);
         drop(leader);
         self.leave(rt);
-    }
-
-    // Ends a transaction that was handed in at no desk, and leaves.
-    fn end_alone<R: Wait>(&self, rt: &R, shared: &Shared<D, O>, tx: Tx<D, O>) -> Outcome<D, O>
-        requires device { P.device ≡ Some shared.now }
-        requires tx { MayEnd shared.now O.start tx }
-        ensures { IsOutcome shared.now O.start tx result }
-    {
-        let mut leader = self.leader.lock(rt);
-        let outcome = leader.end(rt, shared, tx);
-        drop(leader);
-        self.leave(rt);
-        outcome
     }
 
     // Whoever waits then looks for its outcome, and one of those that have none serves next.

@@ -119,8 +119,8 @@ pub(crate) fn take_outcome<D: Disk + Drop, O: Origin, P: OfDevice<D, O>>(
     }
 }
 
-// A reply as members of a group are told it.
-fn member_reply(reply: EndReply) -> GroupReply
+/// A reply as members of a group are told it.
+pub(crate) fn member_reply(reply: EndReply) -> GroupReply
     ensures { result ≡ as_member reply }
 {
     match reply {

@@ -1,8 +1,8 @@
 //! Transactions that end as a group: those found under labels, those handed in to one caller, and those that threads hand in at desks.
 //!
 //! `commit_group` and `commit_each` say which entries they make and what members are answered (`did`, `told`); `commit_found` of none is never
-//! refused (`none`). `end_each` gives each a port that has seen its end. At a `Committer` one of those that wait serves all, and who is
-//! alone ends its own by itself: `end`, `outcome` and `end_with` tell each its own reply (`outcome`, `did`). Ends may wait.
+//! refused (`none`). `end_each` gives each a port that has seen its end. At a `Committer` one of those that wait serves all: `end`, `outcome`
+//! and `end_with` tell each its own reply (`outcome`, `did`); a session that comes alone ends its own itself. Ends may wait.
 #![tactic(auto)]
 
 mod aborts;

@@ -2,21 +2,24 @@
 ghost use Rattle.std.specs.Prelude.{◌≡◌, ◌<◌, ℕ, IsSome, None, Some};
 ghost use Rattle.ask_desk.specs.Sides.{IsClient, Rests};
 ghost use Rattle.handle_pass.specs.{Handles.TookOver, Held.held_state, Sessions.device_of, Splits.port_units};
-ghost use Rattle.group_commit.specs.{Outcomes.MayEnd, Together.{HasEndedWith, IsHandedOut}};
+ghost use Rattle.group_commit.specs.{Outcomes.MayEnd, Together.{HasEndedItself, HasEndedWith, IsHandedOut}};
 
 use crate::committer::Committer;
 use crate::each::Ended;
-use crate::ends::{Ends, OfDevice, Outcome};
+use crate::ends::{Ends, OfDevice, Outcome, member_reply};
 use ask_desk::{Client, Desk};
+use counts::Steps;
 use handle_pass::{EndError, Handle, Session};
 use iso_disk::Disk;
 use iso_model::{CoreError, GroupReply};
 use iso_shared::{Origin, Shared, Tx};
+use std::marker::Brand;
 use std::sync::Wait;
+use std::sync::ledger::{Blank, Ledger};
 
 /// Ends the transaction of a session together with those that other threads end at this committer at the same time. The session
-/// keeps its places and its units, and knows the entry of the end, which the committer's port made. Who comes alone waits for nobody who
-/// would join it, and takes no memory for a group.
+/// keeps its places and its units, and knows the entry of the end, which the committer's port made. Who comes alone, as nobody serves and
+/// nothing is handed in, ends its own as `Session::end_tx` does: the entry is the session's.
 ///
 /// # Errors
 ///
@@ -40,6 +43,9 @@ pub fn end_with<'a, D: Disk + Drop, O: Origin, P: OfDevice<D, O>, R: Wait>(
     ensures client { IsClient desk.now client.new × Rests client.new }
     ensures did { HasEndedWith O.start session.old result session.new }
 {
+    if let Some(_place) = committer.free_place(desks) {
+        return end_by_itself::<Brand, D, O, R>(Blank::new(1), rt, session);
+    }
     if session.mode().is_none() {
         return Err(EndError::NotInTx);
     }
@@ -58,6 +64,24 @@ pub fn end_with<'a, D: Disk + Drop, O: Origin, P: OfDevice<D, O>, R: Wait>(
             session.join_port(port);
             Err(EndError::Core(CoreError::Disk))
         }
+    }
+}
+
+// Ends the transaction of a session by itself, with the ledger of a blank.
+fn end_by_itself<'a, L: Ledger, D: Disk + Drop, O: Origin, R: Wait>(
+    blank: Blank,
+    rt: &R,
+    session: &mut Session<'a, D, O>,
+) -> Result<GroupReply, EndError>
+    requires name { blank.name ≡ L.name }
+    requires parts { blank.parts ≡ L.parts }
+    requires some { 0 < L.parts }
+    ensures { HasEndedItself O.start session.old result session.new }
+{
+    let mut steps = Steps::<L>::start(blank);
+    match session.end_tx(rt, &mut steps) {
+        Ok(reply) => Ok(member_reply(reply)),
+        Err(error) => Err(error),
     }
 }
 

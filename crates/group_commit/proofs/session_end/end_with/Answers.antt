@@ -1,4 +1,4 @@
-use Rattle.group_commit.proofs.{Words.{subst, sym, ◌∙◌}, Rejoined.{answered_in, kept_in, lost_in, rejoined, told_of}}
+use Rattle.group_commit.proofs.{Words.{inl, inr, subst, sym, ◌∙◌}, Rejoined.{answered_in, kept_in, lost_in, rejoined, told_of}}
 use Rattle.handle_pass.specs.{Inside.own_in, Sessions.IsPortAt}
 use Rattle.group_commit.proofs.session_end.end_with.Goals as goal
 
@@ -37,12 +37,12 @@ returns-in-Ended-clause-did g c =
     let told = told_of A c.args.shared.now u c.in-Ended.ended c.in-Ended.ensures.outcome in
     let j = c.join_port.ensures.did in
     let back = rejoined A c.args.shared.now s m u out t q told.1 told.2 j in
-    (own_in u, out.was, back.0, back.1, back.2, told.3, told.4, answered_in A c.args.shared.now s m u out t q told.3 j told.5)
+    inr (own_in u, out.was, back.0, back.1, back.2, told.3, told.4, answered_in A c.args.shared.now s m u out t q told.3 j told.5)
 
 pub returns-in-Refused-clause-did : goal.returns-in-Refused-clause-did
 returns-in-Refused-clause-did g c =
     let u = c.hand_out-tx.result in
-    let over = c.take_back.ensures in (
+    let over = c.take_back.ensures in inr (
       own_in u,
       kept_in g.O.Origin.start c.args.shared.now c.args.session.now c.hand_out-tx.new.session u c.hand_out-tx.ensures.out c.take_back.new.session c.in-Refused.error c.in-Refused.tx over.0
           c.in-Refused.ensures.outcome over.1,
@@ -50,7 +50,7 @@ returns-in-Refused-clause-did g c =
 
 pub returns-in-Lost-clause-did : goal.returns-in-Lost-clause-did
 returns-in-Lost-clause-did g c =
-    let u = c.hand_out-tx.result in (
+    let u = c.hand_out-tx.result in inr (
       own_in u,
       lost_in g.O.Origin.start c.args.shared.now c.args.session.now c.hand_out-tx.new.session u c.hand_out-tx.ensures.out c.join_port-in-Lost.new.self c.in-Lost.port
           c.in-Lost.ensures.outcome c.join_port-in-Lost.ensures.did,
