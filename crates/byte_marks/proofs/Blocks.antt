@@ -1,5 +1,5 @@
 -- Entries whose blocks rise.
-use Rattle.byte_marks.proofs.{Words.{◌≡◌, ◌≢◌, refl, sym, ap, subst, ℕ, zero, suc, ◌+◌, ◌<◌, ◌≤◌, Bool, true, false, ◌&&◌, ◌||◌, ◌==◌, List, [], ◌∷◌, ◌++◌, length, get_or, set, take, drop, arith, ne_eqb, or_assoc, or_comm, Extent, has, entry_has, touches, RisesFrom}, Apart.leave_out}
+use Rattle.byte_marks.proofs.{Words.{◌∙◌, or-false, list_any-append, ◌≡◌, ◌≢◌, refl, sym, ap, subst, ℕ, zero, suc, ◌+◌, ◌<◌, ◌≤◌, Bool, true, false, ◌&&◌, ◌||◌, ◌==◌, List, [], ◌∷◌, ◌++◌, length, get_or, set, take, drop, arith, ne_eqb, or_assoc, or_comm, Extent, has, entry_has, touches, RisesFrom}, Apart.leave_out}
 
 -- they rise from any earlier block on too
 pub rises_earlier : (f g : ℕ) (es : List (ℕ × List Extent)) → f ≤ g → RisesFrom g es → RisesFrom f es
@@ -129,3 +129,14 @@ touches_insert b p (suc i) [] e within = absurd (omega arith)
 touches_insert b p (suc i) (x ∷ xs) e within =
     let rest = touches_insert b p i xs e (omega arith) in
     rw rest (sym (or_assoc (entry_has b p x) (touches xs b p) (entry_has b p e)))
+
+-- a new entry behind all others
+pub rises_push : (f : ℕ) (es : List (ℕ × List Extent)) (e : ℕ × List Extent) → RisesFrom f es → f ≤ e.0 → ((k : ℕ) → k < length es → (get_or es k e).0 < e.0)
+    → RisesFrom f (es ++ e ∷ [])
+rises_push f [] e rises le before = (le, tt)
+rises_push f (x ∷ xs) e rises le before =
+    let first : x.0 < e.0 = before 0 (omega arith) in
+    (rises.0, rises_push (x.0 + 1) xs e rises.1 (omega arith) (λ k lt. before (suc k) (omega arith)))
+
+pub touches_push : (b p : ℕ) (es : List (ℕ × List Extent)) (e : ℕ × List Extent) → touches (es ++ e ∷ []) b p ≡ (touches es b p || entry_has b p e)
+touches_push b p es e = list_any-append (entry_has b p) es (e ∷ []) ∙ ap (λ t. touches es b p || t) (or-false (entry_has b p e))

@@ -56,6 +56,14 @@ impl Marks {
         }
     }
 
+    /// Whether no byte is in the set.
+    pub fn is_empty(&self) -> bool
+        ensures none { OnTrue result ((p : ℕ) → has self.now p ≡ false) }
+        ensures some { OnFalse result ((p : ℕ) × IsTrue (has self.now p)) }
+    {
+        self.extents.is_empty()
+    }
+
     /// Adds the bytes of a span. It takes no memory up to eight runs.
     ///
     /// # Errors

@@ -46,9 +46,6 @@ fn place_of(entries: &[(u32, Marks)], block: u32) -> usize
     ensures before { (k : ℕ) → k < result → (d : ℕ × List Extent) → (slice_index_or entries.now k d).0 < block }
     ensures after { (k : ℕ) → result ≤ k → k < length entries.now → (d : ℕ × List Extent) → block ≤ (slice_index_or entries.now k d).0 }
 {
-    if is_behind(entries, block) {
-        return entries.len();
-    }
     entries.partition_point(|entry| entry.0 < block)
 }
 
@@ -77,6 +74,20 @@ fn least_common_byte(mut a: &[(u32, Marks)], mut b: &[(u32, Marks)]) -> Option<(
     None
 }
 
+// Whether no entry has a byte. A block may be there without one, so the list alone does not say it.
+fn touch_none(mut rest: &[(u32, Marks)]) -> bool
+    ensures none { OnTrue result ((b p : ℕ) → touches rest.entry.now b p ≡ false) }
+    ensures some { OnFalse result ((b : ℕ) × (p : ℕ) × IsTrue (touches rest.entry.now b p)) }
+{
+    while let Some((first, others)) = rest.split_first() {
+        if !first.1.is_empty() {
+            return false;
+        }
+        rest = others;
+    }
+    true
+}
+
 impl Touched {
     /// No byte of any block. It takes no memory.
     pub fn empty(alloc: Global) -> Touched
@@ -92,8 +103,7 @@ impl Touched {
         ensures none { OnTrue result ((b p : ℕ) → touches self.now b p ≡ false) }
         ensures some { OnFalse result ((b : ℕ) × (p : ℕ) × IsTrue (touches self.now b p)) }
     {
-        // A block may be there with no byte, so the list alone does not say it.
-        self.first_meet(self).is_none()
+        touch_none(self.entries.as_slice())
     }
 
     /// Touches no byte any more. The memory stays for what comes.
@@ -121,6 +131,18 @@ impl Touched {
     ///
     /// Want of memory. All stays as it is.
     pub fn put(&mut self, block: u32, marks: Marks) -> Result<(), Memory>
+        ensures set { OnOk result ((b p : ℕ) → touches self.new b p ≡ (touches self.old b p || ((block == b) && has marks p))) }
+        ensures err { OnErr result (self.new ≡ self.old) }
+    {
+        if is_behind(self.entries.as_slice(), block) {
+            self.entries.push((block, marks))?;
+            return Ok(());
+        }
+        self.put_among(block, marks)
+    }
+
+    // Adds bytes of a block that does not come after all others.
+    fn put_among(&mut self, block: u32, marks: Marks) -> Result<(), Memory>
         ensures set { OnOk result ((b p : ℕ) → touches self.new b p ≡ (touches self.old b p || ((block == b) && has marks p))) }
         ensures err { OnErr result (self.new ≡ self.old) }
     {
