@@ -18,6 +18,13 @@ in_order f zero (suc j) (x ∷ notes) d rises le lt = let later = at_least (x.0 
 in_order f (suc i) zero (x ∷ notes) d rises le lt = absurd (omega arith)
 in_order f (suc i) (suc j) (x ∷ notes) d rises le lt = in_order (x.0 + 1) i j notes d rises.1 (omega arith) (omega arith)
 
+-- and strictly
+pub in_strict_order : (f i j : ℕ) (notes : List Note) (d : Note) → RisesFrom f notes → i < j → j < length notes → (get_or notes i d).0 < (get_or notes j d).0
+in_strict_order f i j [] d rises lt within = absurd (omega arith)
+in_strict_order f i zero (x ∷ notes) d rises lt within = absurd (omega arith)
+in_strict_order f zero (suc j) (x ∷ notes) d rises lt within = let later = at_least (x.0 + 1) j notes d rises.1 (omega arith) in omega (arith, later)
+in_strict_order f (suc i) (suc j) (x ∷ notes) d rises lt within = in_strict_order (x.0 + 1) i j notes d rises.1 (omega arith) (omega arith)
+
 -- a number above all of them may follow
 pub rises-append : (f number : ℕ) (notes : List Note) (marks : List (ℕ × List Extent)) → RisesFrom f notes → f ≤ number
     → ((i : ℕ) → (d : Note) → i < length notes → (get_or notes i d).0 < number) → RisesFrom f (notes ++ (number, marks) ∷ [])

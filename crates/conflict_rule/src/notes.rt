@@ -36,6 +36,17 @@ fn place_after(notes: &[(u64, Touched)], number: u64) -> usize
     ensures before { (k : ℕ) → k < result → (d : ℕ × List (ℕ × List Extent)) → (slice_index_or notes.now k d).0 ≤ number }
     ensures after { (k : ℕ) → result ≤ k → k < length notes.now → (d : ℕ × List (ℕ × List Extent)) → number < (slice_index_or notes.now k d).0 }
 {
+    let Some((first, _)) = notes.split_first() else {
+        return 0;
+    };
+    if number < first.0 {
+        return 0;
+    }
+    // The numbers mostly have no gap. Then the note of this one stands where the distance from the first says.
+    let place = (number - first.0) as usize;
+    if place < notes.len() && notes[place].0 == number {
+        return place + 1;
+    }
     notes.partition_point(|note| note.0 <= number)
 }
 
@@ -154,8 +165,9 @@ impl Notes {
     pub fn copy_after(&self, number: u64) -> Result<Notes, Memory>
         ensures { IfOk result (λ copy. copy.notes ≡ above number self.now.notes) }
     {
-        let mut notes = Vec::new(*self.notes.allocator());
         let place = place_after(self.notes.as_slice(), number);
+        let count = self.notes.len() - place;
+        let mut notes = Vec::with_capacity(*self.notes.allocator(), count)?;
         for note in &self.notes.as_slice()[place..] {
             notes.push((note.0, note.1.copy()?))?;
         }
