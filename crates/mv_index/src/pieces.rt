@@ -73,6 +73,20 @@ fn end_before(pieces: &[Version], byte: u16) -> usize
     pieces.partition_point(|piece| u32::from(piece.off) + u32::from(piece.len) <= u32::from(byte))
 }
 
+/// The same, without a search where the piece that is likely to have the byte has it.
+fn end_likely(pieces: &[Version], byte: u16) -> usize
+    requires { Follow 0 pieces.now }
+    ensures within { result ≤ length pieces.now }
+    ensures below { (k : ℕ) → k < result → (slice_index_or pieces.now k no_version).off + (slice_index_or pieces.now k no_version).len ≤ byte }
+    ensures above { (k : ℕ) → result ≤ k → k < length pieces.now → byte < (slice_index_or pieces.now k no_version).off + (slice_index_or pieces.now k no_version).len }
+{
+    let near = likely_place(pieces, byte);
+    if near < pieces.len() && pieces[near].off <= byte && u32::from(byte) < end(pieces[near]) {
+        return near;
+    }
+    end_before(pieces, byte)
+}
+
 /// The same, without a search where the piece at a place of the list ends there: most versions have the bytes of an earlier one.
 fn end_near(pieces: &[Version], near: usize, byte: u16) -> usize
     requires { Follow 0 pieces.now }
@@ -84,6 +98,21 @@ fn end_near(pieces: &[Version], near: usize, byte: u16) -> usize
         return near + 1;
     }
     end_before(pieces, byte)
+}
+
+/// How many pieces begin before a byte of the block, without a search where the piece at a place does, and the one after it does
+/// not.
+fn begin_behind(pieces: &[Version], near: usize, byte: u16) -> usize
+    requires order { Follow 0 pieces.now }
+    requires near { near ≤ length pieces.now }
+    ensures within { result ≤ length pieces.now }
+    ensures below { (k : ℕ) → k < result → (slice_index_or pieces.now k no_version).off < byte }
+    ensures above { (k : ℕ) → result ≤ k → k < length pieces.now → byte ≤ (slice_index_or pieces.now k no_version).off }
+{
+    if pieces.len() - near > 1 && pieces[near].off < byte && byte <= pieces[near + 1].off {
+        return near + 1;
+    }
+    begin_before(pieces, byte)
 }
 
 /// The byte after a piece.
@@ -101,8 +130,8 @@ pub(crate) fn meeting(pieces: &[Version], from: u16, to: u16) -> &[Version]
     ensures meet { AllMeet from to result.now }
     ensures within { (size area : ℕ) → AllLie size area pieces.now → AllLie size area result.now }
 {
-    let first = end_before(pieces, from);
-    let last = begin_before(pieces, to);
+    let first = end_likely(pieces, from);
+    let last = begin_behind(pieces, first, to);
     prove!(first <= last);
     &pieces[first..last]
 }
