@@ -1,5 +1,5 @@
 -- Entries of which the first ones have left: what is after them, by what is known of all.
-use Rattle.tx_table.proofs.{Words.{◌≡◌, ◌∙◌, refl, sym, ap, subst, ℕ, zero, suc, ◌+◌, ◌-◌, ◌<◌, ◌≤◌, Bool, true, false, cond, List, [], ◌∷◌, ◌++◌, length, drop, slice_get, arith, inl, inr, cases_lt, Option, Some, None, option_map, nat_eq, lookup, remove_entry, Begun, AreBefore, AreInOrder, BeginFrom, RisesFrom}, Begins.{begin_earlier, other_number, rises_earlier}}
+use Rattle.tx_table.proofs.{Words.{◌≡◌, ◌∙◌, refl, sym, ap, subst, ℕ, zero, suc, ◌+◌, ◌<◌, ◌≤◌, Bool, true, false, cond, List, [], ◌∷◌, length, drop, slice_get, arith, inl, inr, cases_lt, Option, Some, None, option_map, nat_eq, lookup, remove_entry, Begun, AreBefore, BeginFrom, RisesFrom}, Begins.{begin_earlier, other_number, rises_earlier}}
 use Rattle.std.specs.Prelude.{IsSome, if◌then◌else◌}
 use Rattle.std.proofs.lemmas.Bool.{eq-eqb}
 use Rattle.tx_table.specs.Live.{begin_of}
@@ -61,14 +61,15 @@ found_behind tx f (suc p) (y ∷ live) x is rises le =
     let low = rises_at (y.0 + 1) p live x is rises.1 in
     found_behind tx (y.0 + 1) p live x is rises.1 le ∙ sym (ap (λ (b : Bool). cond b (Some y.1) (lookup (nat_eq tx) live)) (other_number tx y (λ e. omega (arith, e, low, le))))
 
-pub nothing_behind : (tx p : ℕ) (live : List (ℕ × Begun)) → lookup (nat_eq tx) live ≡ None → lookup (nat_eq tx) (drop p live) ≡ None
-nothing_behind tx zero live none = none
-nothing_behind tx (suc p) [] none = refl
-nothing_behind tx (suc p) (x ∷ live) none = nothing_behind tx p live (rest (nat_eq tx x.0) none)
-  where
-    rest : (b : Bool) → cond b (Some x.1) (lookup (nat_eq tx) live) ≡ None → lookup (nat_eq tx) live ≡ None
-    rest true is = absurd (cc is)
-    rest false is = is
+pub found_at : (tx f i : ℕ) (live : List (ℕ × Begun)) (x : ℕ × Begun) → slice_get live i ≡ Some x → RisesFrom f live → x.0 ≡ tx → lookup (nat_eq tx) live ≡ Some x.1
+found_at tx f i [] x is rises same = absurd (cc is)
+found_at tx f zero (y ∷ live) x is rises same =
+    let first : tx ≡ y.0 = grind arith in
+    let value : y.1 ≡ x.1 = grind arith in
+    ap (λ (b : Bool). cond b (Some y.1) (lookup (nat_eq tx) live)) (eq-eqb tx y.0 first) ∙ ap Some value
+found_at tx f (suc i) (y ∷ live) x is rises same =
+    let low = rises_at (y.0 + 1) i live x is rises.1 in
+    ap (λ (b : Bool). cond b (Some y.1) (lookup (nat_eq tx) live)) (other_number tx y (λ e. omega (arith, e, low, same))) ∙ found_at tx (y.0 + 1) i live x is rises.1 same
 
 pub none_past : (p : ℕ) (live : List (ℕ × Begun)) → slice_get live p ≡ None → drop p live ≡ []
 none_past zero [] is = refl

@@ -13,6 +13,7 @@ use std::alloc::Global;
 const FEW: usize = 16;
 
 // The bytes of its block that a row covers.
+#[inline(never)]
 fn covered_bytes(alloc: Global, row: &Row, size: u32) -> Result<Marks, Memory>
     requires size { IsTrue (is_block_size size) }
     requires row { IsRow size row.now }
@@ -32,6 +33,38 @@ fn covered_bytes(alloc: Global, row: &Row, size: u32) -> Result<Marks, Memory>
     Ok(marks)
 }
 
+// The bytes of its block that a row with one mark covers.
+#[inline(always)]
+fn marked_bytes(alloc: Global, row: &Row, size: u32) -> Marks
+    requires size { IsTrue (is_block_size size) }
+    requires row { IsRow size row.now }
+    requires one { row.now.count ≡ 1 }
+    ensures { (p : ℕ) → has result p ≡ (nat_lt p size && covered (take row.now.count row.now.spans) p) }
+{
+    Marks::of(alloc, row.spans[0])
+}
+
+// Adds these bytes, which a row covers, to what is read or what is written. Without memory both stay as they are.
+#[inline(always)]
+fn put_bytes(
+    row: &Row,
+    size: u32,
+    marks: Marks,
+    reads: &mut Touched,
+    writes: &mut Touched,
+) -> Result<(), Memory>
+    requires { (p : ℕ) → has marks p ≡ (nat_lt p size && covered (take row.now.count row.now.spans) p) }
+    ensures reads { OnOk result ((b p : ℕ) → touches reads.new b p ≡ (touches reads.old b p || (nat_lt p size && covers Read b p (access_of row.now)))) }
+    ensures writes { OnOk result ((b p : ℕ) → touches writes.new b p ≡ (touches writes.old b p || (nat_lt p size && covers Write b p (access_of row.now)))) }
+    ensures err { OnErr result ((reads.new ≡ reads.old) × (writes.new ≡ writes.old)) }
+{
+    match row.kind {
+        Kind::Read => reads.put(row.block, marks)?,
+        Kind::Write => writes.put(row.block, marks)?,
+    }
+    Ok(())
+}
+
 // Adds the bytes that a row covers to what is read or what is written. Without memory both stay as they are.
 fn touch(
     alloc: Global,
@@ -46,12 +79,12 @@ fn touch(
     ensures writes { OnOk result ((b p : ℕ) → touches writes.new b p ≡ (touches writes.old b p || (nat_lt p size && covers Write b p (access_of row.now)))) }
     ensures err { OnErr result ((reads.new ≡ reads.old) × (writes.new ≡ writes.old)) }
 {
-    let marks = covered_bytes(alloc, row, size)?;
-    match row.kind {
-        Kind::Read => reads.put(row.block, marks)?,
-        Kind::Write => writes.put(row.block, marks)?,
+    // The marks of most rows are made where they are handed over.
+    if row.count == 1 {
+        return put_bytes(row, size, marked_bytes(alloc, row, size), reads, writes);
     }
-    Ok(())
+    let marks = covered_bytes(alloc, row, size)?;
+    put_bytes(row, size, marks, reads, writes)
 }
 
 // Adds the bytes that the rows from a place on cover to what is read and what is written, in the order of the rows, and says

@@ -132,12 +132,20 @@ impl Live {
     fn begun(&self, tx: u64) -> Option<&Begun>
         ensures { option_map (λ begun. begun.now) result ≡ lookup (nat_eq tx) self.now }
     {
-        let begun = self.begins.get(&tx)?;
         let (first, _) = self.begins.get_index(self.past)?;
         if tx < *first {
             return None;
         }
-        Some(begun)
+        // Numbers follow each other as far as none between has left.
+        let near = (tx as usize)
+            .wrapping_sub(*first as usize)
+            .wrapping_add(self.past);
+        if let Some((number, begun)) = self.begins.get_index(near) {
+            if *number == tx {
+                return Some(begun);
+            }
+        }
+        self.begins.get(&tx)
     }
 
     /// The least begin, or `last` where no transaction is live.
