@@ -1,5 +1,5 @@
 -- A row more, and another last row.
-use Rattle.tx_table.proofs.Words.{all_push, length-map, length_push, map_push, take-append-le, take_all, ◌≡◌, ◌≢◌, ◌∙◌, refl, sym, ap, subst, ℕ, zero, suc, ◌+◌, ◌<◌, ◌≤◌, true, false, List, [], ◌∷◌, ◌++◌, length, get_or, set, map, take, arith, Option, Some, None, IsTrue, IsFalse, nat_le, common_steps, AllByRecursion, IfSome, Extent, AreTouched, Access, Kind, Read, Write, Span, is_write, TooManyMarks, is_outside, mark_fault, marked, marks_fault, AreBytes, HasBytes, IsAccess, IsSpan, Row, AreEffects, has_patch, HavePatches, access_of, AreWithin, IsRow}
+use Rattle.tx_table.proofs.Words.{all_push, length-map, replicate, length_push, map_push, take-append-le, take_all, ◌≡◌, ◌≢◌, ◌∙◌, refl, sym, ap, subst, ℕ, zero, suc, ◌+◌, ◌-◌, ◌<◌, ◌≤◌, true, false, List, [], ◌∷◌, ◌++◌, length, get_or, set, map, take, arith, Option, Some, None, IsTrue, IsFalse, nat_le, common_steps, AllByRecursion, IfSome, Extent, AreTouched, Access, Kind, Read, Write, Span, is_write, TooManyMarks, is_outside, mark_fault, marked, marks_fault, AreBytes, HasBytes, IsAccess, IsSpan, Row, AreEffects, has_patch, HavePatches, access_of, AreWithin, IsRow}
 
 have_more : (accesses : List Access) (a : Access) (entries : List (ℕ × List (Option ℕ))) → HavePatches accesses entries
     → (IsTrue (is_write a) → IsTrue (has_patch a.block entries)) → HavePatches (accesses ++ a ∷ []) entries
@@ -44,6 +44,18 @@ appended size blocks applied folded rows new row entries reads writes is done so
 pub unmarked_row : (size : ℕ) (row : Row) (a : Access) → access_of row ≡ a → row.count ≡ 0 → a.spans ≡ [] → HasBytes size a
     → (IsFalse (is_write a) → a.bytes ≡ []) → AreBytes a.bytes → IsRow size row
 unmarked_row size row a is none bare bytes empty values = grind arith
+
+-- a row with one mark
+pub once_marked_row : (size : ℕ) (row : Row) (a : Access) (span : Span) → access_of row ≡ a → row.count ≡ 1 → a.spans ≡ span ∷ [] → IsSpan size span → HasBytes size a
+    → (IsFalse (is_write a) → a.bytes ≡ []) → AreBytes a.bytes → IsRow size row
+once_marked_row size row a span is one marks here bytes empty values =
+    let P : Access → Type 0 = λ x. AllByRecursion (IsSpan size) x.spans × HasBytes size x × (IsFalse (is_write x) → x.bytes ≡ []) × AreBytes x.bytes × (length x.spans ≡ 1) in
+    let there : P (access_of row) = subst P (sym is) (subst (λ (l : List Span). AllByRecursion (IsSpan size) l) (sym marks) (here, tt), bytes, empty, values, ap (length {A = Span}) marks) in
+    record { few = omega (arith, one); marks = there.4 ∙ sym one; spans = there.0; bytes = there.1; none = there.2; values = there.3 }
+
+-- a block with bytes in it and zeros round them
+pub length_put : (size off : ℕ) (bytes : List ℕ) → off + length bytes ≤ size → length (replicate {A = ℕ} off 0 ++ bytes ++ replicate (size - (off + length bytes)) 0) ≡ size
+length_put size off bytes fits = grind (arith, common_steps)
 
 -- accesses to blocks of the image
 take_few : (n : ℕ) (spans : List Span) → length (take n spans) ≤ n

@@ -32,6 +32,20 @@ impl Row {
         }
     }
 
+    /// An access with one mark.
+    pub fn marked(kind: Kind, block: u32, span: Span, bytes: Vec<u8>) -> Row
+        ensures access { access_of result ≡ record { kind = kind; block = block; spans = span ∷ []; bytes = bytes.items } }
+        ensures one { result.count ≡ 1 }
+    {
+        Row {
+            kind,
+            block,
+            spans: [span; 8],
+            count: 1,
+            bytes,
+        }
+    }
+
     /// Adds a mark.
     pub fn add(&mut self, span: Span)
         requires { self.old.count < 8 }

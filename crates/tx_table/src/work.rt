@@ -1,9 +1,9 @@
 // What a transaction does.
-ghost use Rattle.std.specs.Prelude.{◌≡◌, ◌+◌, ◌<◌, ◌≤◌, [], ◌∷◌, ◌++◌, true, false, Some, None, Ok, Err, IsTrue, IsOk, OnOk, OnErr, length, flat_map};
+ghost use Rattle.std.specs.Prelude.{◌≡◌, ◌+◌, ◌-◌, ◌<◌, ◌≤◌, [], ◌∷◌, ◌++◌, true, false, Some, None, Ok, Err, IsTrue, IsOk, OnOk, OnErr, length, replicate, flat_map, vec_capacity};
 ghost use Rattle.byte_marks.specs.Touched.{AreTouched};
 ghost use Rattle.iso_model.specs.{declared.access.Geometry.Geometry, declared.access.Kind.TheVariants.{Read, Write}, Array.Array};
 ghost use Rattle.iso_model.specs.Effect as model;
-ghost use Rattle.iso_model.specs.{Effect.{own, runs, runs_from}, Geometry.is_block_size, Marks.{mark_fault, marked}, Premises.block_at, Step.{read_access, write_access}};
+ghost use Rattle.iso_model.specs.{Effect.{own, runs, runs_from}, Geometry.is_block_size, Marks.{mark_fault, marked}, Premises.{AreBytes, block_at}, Step.{get_access, put_access, read_access, write_access}};
 ghost use Rattle.tx_table.specs.{Patches.{has_patch, AreEffects, HavePatches, RisesFrom}, Work.{span_at, AreWithin, Doing}};
 
 use crate::PatchIter;
@@ -64,6 +64,19 @@ impl Model for Work {
         (block < a.blocks) × (length a.rows.items < vec_capacity a.rows) × (a.size ≤ vec_capacity a.bytes)
         × ((has_patch block a.patches.entries ≡ true) ⊎ (a.patches.spare ≡ true)))
         × (length a.rows.items ≤ 4096) × (a.bytes.items ≡ []) };
+}
+
+// Makes a buffer that is empty, with room for it, a block of zeros with these bytes at `off`.
+fn lay_zeros_round(kept: &mut Vec<u8>, size: u32, off: u16, bytes: &[u8])
+    requires empty { kept.old.items ≡ [] }
+    requires room { size ≤ vec_capacity kept.old }
+    requires fits { off + length bytes.now ≤ size }
+    ensures laid { kept.new.items ≡ replicate off 0 ++ bytes.now ++ replicate (size - (off + length bytes.now)) 0 }
+    ensures values { AreBytes kept.new.items }
+{
+    let _ = kept.resize(off as usize, 0);
+    let _ = kept.extend_from_slice(bytes);
+    let _ = kept.resize(size as usize, 0);
 }
 
 impl Work {
@@ -190,6 +203,48 @@ impl Work {
         let _ = kept.extend_from_slice(bytes);
         self.rows
             .push_reserved(Row::unmarked(Kind::Write, block, kept));
+    }
+
+    /// A read of `len` bytes from `off` on, with one mark over them, of a block for which room was made last; fewer than
+    /// `MAX_ACCESSES` accesses were made. The slice is as `read` takes it. It takes no memory.
+    pub fn get(&mut self, block: u32, off: u16, len: u16, into: &mut [u8])
+        requires ready { self.old.ready ≡ Some block }
+        requires room { length self.old.accesses < 4096 }
+        requires some { 0 < len }
+        requires fits { off + len ≤ self.old.size }
+        requires bytes { length into.old ≡ self.old.size }
+        ensures work { self.new ≡ record self.old { accesses = self.old.accesses ++ get_access block off len ∷ []; ready = None; settled = false } }
+        ensures shown { (A : Array) → block_at A block ≡ into.old → into.new ≡ block_at (own A self.old.accesses) block }
+    {
+        apply(self.rows.as_slice(), self.applied, &mut self.patches);
+        self.applied = self.rows.len();
+        self.patches.lay(block, into);
+        self.ready = None;
+        let bytes = Vec::new(self.alloc);
+        let span = Span { off, len };
+        self.rows
+            .push_reserved(Row::marked(Kind::Read, block, span, bytes));
+    }
+
+    /// A write of these bytes from `off` on in a block of zeros, with one mark over them, of a block for which room was made
+    /// last; fewer than `MAX_ACCESSES` accesses were made. It takes no memory.
+    pub fn put(&mut self, block: u32, off: u16, bytes: &[u8])
+        requires ready { self.old.ready ≡ Some block }
+        requires room { length self.old.accesses < 4096 }
+        requires some { 0 < length bytes.now }
+        requires fits { off + length bytes.now ≤ self.old.size }
+        ensures { self.new ≡ record self.old { accesses = self.old.accesses ++ put_access self.old.size block off bytes.now ∷ []; ready = None; settled = false } }
+    {
+        apply(self.rows.as_slice(), self.applied, &mut self.patches);
+        self.applied = self.rows.len();
+        self.patches.hold(block);
+        self.ready = None;
+        let mut kept = std::mem::replace(&mut self.bytes, Vec::new(self.alloc));
+        lay_zeros_round(&mut kept, self.size, off, bytes);
+        let len = bytes.len() as u16;
+        let span = Span { off, len };
+        self.rows
+            .push_reserved(Row::marked(Kind::Write, block, span, kept));
     }
 
     /// Marks a range of the last access: the first mark takes the place of the whole block, and further ones add to it.
