@@ -48,6 +48,7 @@ impl<'a> Iterator for PatchSpans<'a> {
 
     ghost remaining = { item_count (λ pieces. pieces) };
 
+    #[inline(always)]
     fn next(&mut self) -> Option<(Span, &'a [u8])> {
         let end = self.bytes.len();
         let from = next_place(self.masks, self.at, end, true);

@@ -179,6 +179,7 @@ impl Patches {
     }
 
     /// Sets the bytes that the spans cover, and the whole block where there are none.
+    #[inline(never)]
     pub fn set(&mut self, block: u32, bytes: &[u8], spans: &[Span])
         requires held { has_patch block self.old.entries ≡ true }
         requires bytes { length bytes.now ≡ self.old.size }

@@ -72,6 +72,7 @@ pub fn take_rows(rows: &mut Vec<Row>, spare: &mut Vec<u8>)
 }
 
 /// Sets the writes of the rows from a place on in the patches.
+#[inline(always)]
 pub fn apply(rows: &[Row], from: usize, patches: &mut Patches)
     requires within { from ≤ length rows.now }
     requires rows { AllByRecursion (IsRow patches.old.size) rows.now }

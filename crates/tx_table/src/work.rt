@@ -218,7 +218,8 @@ impl Work {
     {
         apply(self.rows.as_slice(), self.applied, &mut self.patches);
         self.applied = self.rows.len();
-        self.patches.lay(block, into);
+        let own = &self.patches;
+        own.lay(block, into);
         self.ready = None;
         let bytes = Vec::new(self.alloc);
         let span = Span { off, len };
