@@ -51,7 +51,7 @@ impl<D: Disk> Table<D> {
             return Ok(Reply::NotInTx);
         };
         let seat = &mut self.live[i];
-        match put(&mut *seat.work, &mut self.buffer, block, off, bytes) {
+        match put(&mut *seat.work, block, off, bytes) {
             Ok(reply) => Ok(reply),
             Err(_) => Err(Stop::Memory),
         }

@@ -1,20 +1,11 @@
 -- What accesses and marks of one transaction are answered, and its work after them.
-use Rattle.iso_machine.proofs.Words.{◌≡◌, ◌∙◌, sym, refl, ap, subst, ℕ, ◌+◌, ◌<◌, ◌≤◌, ◌==◌, not, IsTrue, take, drop, replicate, slice_index, Bool, true, false, List, [], ◌∷◌, ◌++◌, length, arith, Option, Some, None, nat_le, take-append_seam, nat_tests, DiskState, Access, MarkError, MAX_ACCESSES, Reply, is_block_size, is_outside, mark_fault, marked, marks_fault, access_step, fill_step, get_step, mark_refused, mark_step, marked_step, put_step, read_step, with_access, write_step, get_access, put_access, read_access, shown_to, with_accesses, with_live, write_access, World, Live, Doing, span_at, IsWorkOf, IsSameWork, IfTold, SameButShown, IsActive, IsGiven, IsShown, IsWorkedTo}
+use Rattle.iso_machine.proofs.Words.{◌≡◌, ◌∙◌, sym, refl, ap, subst, ℕ, ◌+◌, ◌<◌, ◌≤◌, ◌==◌, not, IsTrue, take, drop, replicate, slice_index, Bool, true, false, List, [], ◌∷◌, ◌++◌, length, arith, Option, Some, None, nat_le, take-append_seam, nat_tests, DiskState, Access, MarkError, MAX_ACCESSES, Reply, is_block_size, is_outside, mark_fault, marked, access_step, fill_step, get_step, mark_refused, mark_step, marked_step, put_step, read_step, with_access, write_step, get_access, put_access, read_access, shown_to, with_accesses, with_live, write_access, World, Live, Doing, span_at, IsWorkOf, IsSameWork, IfTold, SameButShown, IsActive, IsGiven, IsShown, IsWorkedTo}
 use Rattle.iso_model.specs.declared.access.MarkError.TheVariants as mark
 use Rattle.script_model.specs.declared.script.Reply.TheVariants as reply
 
 -- bytes that are not outside
 pub within : (size off len : ℕ) → is_outside size off len ≡ false → (0 < len) × (off + len ≤ size)
 within size off len is = (grind (arith, nat_tests), grind (arith, nat_tests))
-
-fresh_mark : (accesses : List Access) (a : Access) → a.spans ≡ [] → marks_fault (accesses ++ a ∷ []) ≡ None
-fresh_mark [] a none = rw none refl
-fresh_mark (b ∷ []) a none = rw none refl
-fresh_mark (b ∷ c ∷ accesses) a none = fresh_mark (c ∷ accesses) a none
-
--- an access without a mark takes one
-pub may_mark : (size off len : ℕ) (accesses : List Access) (a : Access) → a.spans ≡ [] → is_outside size off len ≡ false → mark_fault size off len (accesses ++ a ∷ []) ≡ None
-may_mark size off len accesses a none is = rw is (fresh_mark accesses a none)
 
 module _ (W : World) (t : Live) (block : ℕ) (is_wrong : Bool) (answer : Reply) (a : Access) where
   pub bad_block : W.geometry.blocks ≤ block → access_step W t block is_wrong answer a ≡ (reply.BadBlock, W)

@@ -1,5 +1,5 @@
 -- Each operation of a client, as the part that answers it says what it is.
-use Rattle.iso_machine.proofs.Words.{◌≡◌, ◌⊎◌, inl, inr, refl, ℕ, List, Op, Reply, hash_delete_step, hash_get_step, hash_put_step, in_transaction, numbers, step, store_step, tree_put_step, tree_get_step, tree_delete_step, tree_scan_step, file_new_step, file_write_step, file_read_step, file_move_step, file_delete_step, World, attached, act_step, store_act, IsPlain}
+use Rattle.iso_machine.proofs.Words.{◌≡◌, ◌⊎◌, inl, inr, refl, ℕ, List, Op, hash_delete_step, hash_get_step, hash_put_step, in_transaction, numbers, step, store_step, tree_put_step, tree_get_step, tree_delete_step, tree_scan_step, file_new_step, file_write_step, file_read_step, file_move_step, file_delete_step, World, attached, act_step, store_act, IsPlain}
 use Rattle.script_model.specs.declared.script.Op.TheVariants as op
 
 -- an access or a mark

@@ -1,5 +1,5 @@
 -- An end, by what the core answers.
-use Rattle.iso_machine.proofs.{Words.{none_behind, ◌≡◌, sym, refl, ap, subst, ℕ, ◌+◌, ◌-◌, ◌≤◌, ◌==◌, Bool, true, false, cond, List, [], drop, take, Option, Some, None, IsSome, Err, ◌⊎◌, inl, inr, nat_lt, arith, false≢true, drop-take, up_to, Access, Clash, EndReply, Geometry, Mode, CoreError, LAST, CoreReply, as_step, clash, clash_from, first_after, has_write, History, last, after_commit, after_leaving, commit_step, end_step, need, in_transaction, step, World, Live, attached, used, without, IsLive, IsWorld, all_weaker, IsAmong, IsCheckedOf, Writes, refusal_of, reply_of, among}, Refusals.{IsRefusal, KeepsRefused, keeps_either}}
+use Rattle.iso_machine.proofs.{Words.{none_behind, ◌≡◌, sym, refl, ap, subst, ℕ, ◌+◌, ◌-◌, ◌≤◌, ◌==◌, Bool, true, false, cond, Option, Some, None, IsSome, Err, ◌⊎◌, inl, inr, nat_lt, arith, false≢true, up_to, Clash, EndReply, CoreError, LAST, CoreReply, as_step, clash, has_write, last, after_commit, after_leaving, commit_step, end_step, need, in_transaction, step, World, Live, attached, used, without, IsLive, IsWorld, all_weaker, IsAmong, IsCheckedOf, Writes, refusal_of, reply_of, among}, Refusals.{IsRefusal, KeepsRefused, keeps_either}}
 use Rattle.iso_model.specs.declared.access.EndReply.TheVariants as ended
 use Rattle.iso_model.specs.declared.core_error.CoreError.TheVariants as error
 use Rattle.script_model.specs.declared.script.Op.TheVariants as op

@@ -7,7 +7,7 @@ ghost use Rattle.tx_table.specs.Work.{span_at};
 ghost use Rattle.iso_machine.specs.Accessing.{IsActive, IsGiven, IsRefusal};
 
 use iso_model::{MarkError, Memory};
-use script_model::{Reply, fill_up, is_outside, lay_out};
+use script_model::{Reply, fill_up, is_outside};
 use tx_table::Work;
 
 /// Why an access is refused, if it is: its block is outside, its bytes are wrong, or there are as many accesses as there may be.
@@ -34,13 +34,7 @@ pub(crate) fn refusal(work: &Work, block: u32, is_wrong: bool) -> Option<Reply>
 ///
 /// Want of memory. There is no reply, and the accesses stay as they are.
 #[inline(always)]
-pub fn put(
-    work: &mut Work,
-    buffer: &mut Vec<u8>,
-    block: u32,
-    off: u32,
-    bytes: &[u8],
-) -> Result<Reply, Memory>
+pub fn put(work: &mut Work, block: u32, off: u32, bytes: &[u8]) -> Result<Reply, Memory>
     ensures given { (W : World) (t : Live) → IsActive W t work.old → IfOk result (IsGiven W t (put_step W t block off bytes.now) work.new) }
     ensures kept { OnErr result (work.new ≡ record work.old { ready = work.new.ready }) }
 {
@@ -48,23 +42,9 @@ pub fn put(
     if let Some(reply) = refusal(work, block, is_outside(size, off, bytes.len())) {
         return Ok(reply);
     }
-    lay_out(buffer, size, off, bytes)?;
     work.reserve(block)?;
-    work.write(block, buffer);
-    mark_within(work, off, bytes.len() as u32);
+    work.put(block, off as u16, bytes);
     Ok(Reply::Done)
-}
-
-/// Marks a range of the last access, where it may be marked.
-pub(crate) fn mark_within(work: &mut Work, off: u32, len: u32)
-    requires small { off + len ≤ 4096 }
-    requires may { mark_fault work.old.size off len work.old.accesses ≡ None }
-    ensures { work.new ≡ record work.old { accesses = marked (span_at off len) work.old.accesses; settled = false } }
-{
-    match work.mark(off as u16, len as u16) {
-        Ok(()) => {}
-        Err(_) => unreachable!(),
-    }
 }
 
 /// A write of a whole block.

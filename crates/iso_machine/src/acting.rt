@@ -51,9 +51,7 @@ pub fn act<D: Disk>(
     ensures cause { BlamesDisk (D.state (disk_of core.old)).faults (D.state (disk_of core.new)).faults result }
 {
     match op {
-        Op::Put { block, off, bytes } => {
-            or_stop(put(work, buffer, *block, *off, bytes.as_slice()))
-        }
+        Op::Put { block, off, bytes } => { or_stop(put(work, *block, *off, bytes.as_slice())) }
         Op::Read { block } => read(alloc, core, tx, work, *block),
         Op::Get { block, off, len } => {
             let (block, off, len) = (*block, *off, *len);

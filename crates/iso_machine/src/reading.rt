@@ -8,7 +8,7 @@ ghost use Rattle.iso_core.specs.{Calls.{IsTx, IsWorkOf}, Core.{StandsFor, disk_o
 ghost use Rattle.script_runner.specs.{Counts.BlamesDisk, Told.IfTold};
 ghost use Rattle.iso_machine.specs.Accessing.{IsActive, IsFilled, IsShown, IsWorkedTo, with_bytes};
 
-use crate::accessing::{mark_within, refusal};
+use crate::accessing::refusal;
 use iso_core::Core;
 use iso_disk::{Disk, DiskFault};
 use iso_model::Bytes;
@@ -45,6 +45,43 @@ fn read_into<D: Disk>(
     match core.fetch_range(tx, block, off, len, into) {
         Ok(()) => {
             work.read(block, into);
+            Ok(())
+        }
+        Err(_) => Err(DiskFault),
+    }
+}
+
+/// Reads `len` bytes of a block from `off` on, as the transaction is shown them, into their place in a slice as long as the
+/// block, with one mark over them. On a fault any bytes may be in the slice, and all else stays.
+fn read_range<D: Disk>(
+    core: &mut Core<D>,
+    tx: u64,
+    work: &mut Work,
+    block: u32,
+    off: usize,
+    len: usize,
+    into: &mut [u8],
+) -> Result<(), DiskFault>
+    requires stands { (W : World) × (t : Live) × StandsFor D.state core.old W up × IsTx W tx t × IsWorkOf W t work.old }
+    requires ready { work.old.ready ≡ Some block }
+    requires block { block < work.old.blocks }
+    requires room { length work.old.accesses < 4096 }
+    requires bytes { length into.old ≡ work.old.size }
+    requires some { 0 < len }
+    requires small { off + len ≤ 4096 }
+    requires fits { off + len ≤ length into.old }
+    ensures shown { (W : World) (t : Live) → StandsFor D.state core.old W up → IsTx W tx t → IsWorkOf W t work.old
+        → OnOk result (IfTold (D.state (disk_of core.old)) (take len (drop off into.new) ≡ take len (drop off (shown_to W t block)))) }
+    ensures work { OnOk result (work.new ≡ record work.old { accesses = work.old.accesses ++ get_access block off len ∷ []; ready = None; settled = false }) }
+    ensures kept { OnErr result (work.new ≡ record work.old { ready = work.new.ready }) }
+    ensures same { (W : World) → StandsFor D.state core.old W up → StandsFor D.state core.new W up }
+    ensures length { length into.new ≡ length into.old }
+    ensures unwritten { WritesNothing (D.state (disk_of core.old)) (D.state (disk_of core.new)) }
+    ensures cause { HasCause (D.state (disk_of core.old)).faults (D.state (disk_of core.new)).faults result }
+{
+    match core.fetch_range(tx, block, off, len, into) {
+        Ok(()) => {
+            work.get(block, off as u16, len as u16, into);
             Ok(())
         }
         Err(_) => Err(DiskFault),
@@ -137,10 +174,9 @@ fn get_within<D: Disk>(
         return Err(Stop::Memory);
     }
     let len = into.len();
-    if let Err(_) = read_into(core, tx, work, block, off as usize, len, buffer) {
+    if let Err(_) = read_range(core, tx, work, block, off as usize, len, buffer) {
         return Err(Stop::Disk);
     }
-    mark_within(work, off, len as u32);
     copy_out(buffer, off, into);
     Ok(())
 }
