@@ -1,4 +1,5 @@
 pub mod SumWords
+pub mod SumRows
 pub mod Sums
 pub mod KeepingSums
 pub mod SoundWorlds

@@ -1,5 +1,9 @@
 -- What a run of clients says of images, of its history and of stores, from its record.
-use Rattle.iso_top.proofs.Words.{inl, inr, ℕ, ◌<◌, List, [], ◌++◌, Option, Some, None, refl, sym, subst, arith, AllByRecursion, DiskState, SinkState, SourceState, Commit, last, with_commits, Shows, ShowsBetween, World, Entry, Start, State, start_at, state_at, whole, with_lost, ShowsFrom, Grows, behind_it, between_grown, histories_grow, last_longer, told_shown, CommitsUpTo, image_opens, Part, Told, SecondStore, BeginsWell, CallsAnswer, Event, IsTrace, the_tree, the_files, HasRunClients, PrintedClients, ShowsBehind, WereRun, AnswerInOneOrder, GoesOnIsolated, HasCommitsOf, OpensFrom, PrintsClients, PrintsClientsFront, disk_fault_text, TellsNamed, shows_last, Line, IsFront, IsOutput, Printed, PrintsSomeOfClients, WasCut, memory_text, ◌≡◌, ◌⊎◌}
+use Rattle.iso_top.proofs.Words.{inl, inr, ℕ, ◌<◌, List, [], ◌∷◌, ◌++◌, length, Option, Some, None, refl, sym, subst, arith, AllByRecursion, DiskState, SinkState, SourceState, Commit, last, with_commits, Shows, ShowsBetween, World, Entry, Start, State, start_at, state_at, whole, with_lost, ShowsFrom, Grows, behind_it, between_grown, histories_grow, last_longer, told_shown, CommitsUpTo, image_opens, Part, Told, SecondStore, BeginsWell, CallsAnswer, Event, IsTrace, the_tree, the_files, HasRunClients, PrintedClients, ShowsBehind, WereRun, AnswerInOneOrder, GoesOnIsolated, HasCommitsOf, OpensFrom, PrintsClients, PrintsClientsFront, disk_fault_text, TellsNamed, shows_last, Line, IsFront, IsOutput, Printed, PrintsSomeOfClients, WasCut, memory_text, ◌≡◌, ◌⊎◌}
+use mathlib.Core.List.{IsPrefix}
+use Rattle.iso_disk.proofs.Moments.{weakened}
+use Rattle.iso_shared.{proofs.Trace.legal_append, specs.Legal.IsLegal, specs.States.opened}
+use Rattle.iso_top.specs.Plain.{CommitsStayFrom}
 use Rattle.iso_top.proofs.Results.{some_of}
 
 -- an image that shows a history at a commit opens to it there
@@ -54,6 +58,27 @@ module _ {D : Type 0} (state : D → DiskState) (name : List ℕ) (status : ℕ)
       by : WereRun A r.lines r.entries status output_old output_new → HasCommitsOf r.entries image
       by (inl (parts, told, printed)) = record { at = shown.at; opens = opens; each = told_shown A r.entries r.entries image some told.legal shown }
       by (inr (none, is, printed)) = record { at = shown.at; opens = opens; each = subst (λ (es : List Entry). AllByRecursion (λ e. CommitsUpTo shown.at e) es) (sym none) tt }
+
+  -- the list is legal: it was told to clients, or is empty
+  legal : WereRun A r.lines r.entries status output_old output_new → IsLegal A r.entries
+  legal (inl (parts, told, printed)) = told.legal
+  legal (inr (none, is, printed)) = subst (λ (es : List Entry). IsLegal A es) (sym none) tt
+
+  pub commits_stay : TellsNamed name (state old) → (before : List Entry) (e : Entry) (past : List ℕ) (moment : ℕ) → IsPrefix (before ++ e ∷ []) r.entries → IsPrefix (past ++ moment ∷ []) r.moments
+      → length past ≡ length before → CommitsStayFrom state moment (before ++ e ∷ []) new
+  commits_stay tells before e past moment (rest, whole_is) in_moments same =
+      let told = before ++ e ∷ [] in
+      let some = some_first tells in
+      let fits = (legal_append (opened A) told rest (subst (λ (es : List Entry). IsLegal A es) (sym whole_is) (legal r.ran))).0 in
+      let was = r.turns.each before e past moment (rest, whole_is) in_moments same in (
+        was.0,
+        was.1,
+        weakened was.2.since (λ image shown. record {
+          at = shown.at;
+          opens = opens_at (whole S) shown.at image shown.shows;
+          each = told_shown A told r.entries image some fits shown;
+        }),
+      )
 
   answer_so : (T : SecondStore) (parts : List Part) (order : List Event) → IsTrace A r.lines parts r.entries order → CallsAnswer T A r.entries order → TellsNamed name (state old) → BeginsWell T r.world
       → AnswerInOneOrder T A r.lines parts r.entries

@@ -1,7 +1,7 @@
 -- What the promise of a call means to a reader who knows images and texts alone.
 use Rattle.std.specs.{Prelude.{◌≡◌, ◌⊎◌, ℕ, ◌-◌, ◌*◌, ◌≤◌, List, ◌++◌, Option, None, Some}, List.AllByRecursion}
 use Rattle.bench_script.specs.Rounds.{one_places}
-use Rattle.iso_disk.specs.Disk.{DiskState, IsBoundTo, SinceBind}
+use Rattle.iso_disk.specs.Disk.{DiskState, IsBoundTo, LeavesOnly, SinceBind}
 use Rattle.iso_io.specs.{Sink.{SinkState, Wrote}, Source.{SourceState, Took}}
 use Rattle.iso_model.specs.{declared.access.Geometry.Geometry, History.{History, last}, Image.IsImage, Isolation.IsIsolated, World.{World, fresh}, Worlds.Extends}
 use Rattle.iso_image.specs.{declared.open_error.OpenError.OpenError, Refusal.{opened, refusal}}
@@ -140,6 +140,11 @@ pub record HasCommitsOf (entries : List Entry) (image : List ℕ) : Type 0 where
   pub at : ℕ
   pub opens : OpensFrom at image
   pub each : AllByRecursion (CommitsUpTo at) entries
+
+-- From this moment on, by the clock of the disk, each image that a crash might have left up to now opens to a history that has each
+-- commit that one of these entries tells of.
+abbrev pub CommitsStayFrom : {D : Type 0} → (state : D → DiskState) → (moment : ℕ) → List Entry → (now : D) → Type 0
+CommitsStayFrom {D} state moment entries now = (then : D) × ((state then).clock ≡ moment) × LeavesOnly (state then) (state now) (HasCommitsOf entries)
 
 -- the history of the one world begins with that of the other, and each of its commits is serial or snapshot at its number, by its own mode
 pub record GoesOnIsolated (W V : World) : Type 0 where

@@ -1,6 +1,7 @@
 // What `met` of the top call means in plain words: each function does nothing, and its contract is the law.
 // Where the line of a cause was put, a sink that failed as well may have a front of the text alone.
-ghost use Rattle.std.specs.Prelude.{◌≡◌, ◌⊎◌, ◌≤◌, ℕ, List, [], None, Option, Some};
+ghost use Rattle.std.specs.Prelude.{◌≡◌, ◌⊎◌, ◌≤◌, ◌++◌, ◌∷◌, ℕ, List, [], None, Option, Some, length};
+ghost use mathlib.Core.List.{IsPrefix};
 ghost use Rattle.command_line.specs.declared.task.Task.{Task};
 ghost use Rattle.command_line.specs.declared.task.Task.TheVariants.{Bench, New, Par, Run, Recover};
 ghost use Rattle.iso_disk.specs.Disk.{SinceBind};
@@ -8,10 +9,10 @@ ghost use Rattle.iso_image.specs.declared.open_error.OpenError.{OpenError};
 ghost use Rattle.iso_io.specs.{Sink.SinkState, Source.SourceState};
 ghost use Rattle.iso_model.specs.{declared.access.Geometry.Geometry, History.last, World.{empty_history, fresh}};
 ghost use Rattle.iso_recover.specs.Made.{IsUnmadeOrEmpty};
-ghost use Rattle.iso_shared.specs.{Standing.start_at, States.state_at};
+ghost use Rattle.iso_shared.specs.{declared.entry.Entry.Entry, Standing.start_at, States.state_at};
 ghost use Rattle.par_script.specs.{Told.Told, declared.part.Part.Part};
 ghost use Rattle.store_scripts.specs.{Kept.BeginsWell, Stores.{the_files, the_tree}};
-ghost use Rattle.iso_top.specs.{Clients.HasRunClients, Outcome.{HasAnswered, HasMet, HasNotBegun}, Plain.{AnswerInOneOrder, GoesOnIsolated, HasCommitsOf, NamesBadLine, NamesRefusal, OfItsWorld, OpensFrom, PrintsButShown, PrintsButShownOf, PrintsClients, PrintsClientsFront, PrintsCounts, PrintsDigestOf, PrintsFirst, PrintsFront, PrintsReplies, PrintsRepliesOf, PrintsSomeOfClients, PrintsWholeLines}, Prints.{Printed, WasCut}, Starts.{MayBeUnmade, TellsNamed}, Texts.{disk_fault_text, input_fault_text, memory_text}};
+ghost use Rattle.iso_top.specs.{Clients.HasRunClients, Outcome.{HasAnswered, HasMet, HasNotBegun}, Plain.{AnswerInOneOrder, CommitsStayFrom, GoesOnIsolated, HasCommitsOf, NamesBadLine, NamesRefusal, OfItsWorld, OpensFrom, PrintsButShown, PrintsButShownOf, PrintsClients, PrintsClientsFront, PrintsCounts, PrintsDigestOf, PrintsFirst, PrintsFront, PrintsReplies, PrintsRepliesOf, PrintsSomeOfClients, PrintsWholeLines}, Prints.{Printed, WasCut}, Starts.{MayBeUnmade, TellsNamed}, Texts.{disk_fault_text, input_fault_text, memory_text}};
 ghost use Rattle.script_runner.specs.{declared.run_end.RunEnd.RunEnd, Replies.TellsCommit, Run.Acknowledges, Told.ArePlain};
 ghost use Rattle.script_model.specs.{Bench.{bench_output, recover_output}, Script.{replies, script}};
 
@@ -217,7 +218,9 @@ pub fn the_counts_were_not_printed<I: Image>(_image: &I)
 
 /// What clients that ran concurrently have made: each image that a crash leaves when `par` has ended, where it told what its name names,
 /// opens to a history that has each commit that an entry of the list tells of (`exit`). The history of the list begins with the one of
-/// the image as given, and each of its commits is serial or snapshot at its number, by its own mode (`order`).
+/// the image as given, and each of its commits is serial or snapshot at its number, by its own mode (`order`). From the moment at which a
+/// turn of the list has ended on, each image that a crash might have left opens to a history that has each commit that was told of up
+/// to that turn (`stays`).
 pub fn commits_of_clients_are_there<I: Image>(_image: &I)
     ensures exit { (name : List ℕ) (status : ℕ) (old new : I) (input_old input_new : SourceState) (output_old output_new : SinkState)
         → (r : HasRunClients I.state name status old new input_old input_new output_old output_new) → TellsNamed name (I.state old)
@@ -225,6 +228,10 @@ pub fn commits_of_clients_are_there<I: Image>(_image: &I)
     ensures order { (name : List ℕ) (status : ℕ) (old new : I) (input_old input_new : SourceState) (output_old output_new : SinkState)
         → (r : HasRunClients I.state name status old new input_old input_new output_old output_new)
         → GoesOnIsolated r.world (state_at (start_at r.world (I.state r.start)) r.entries).world }
+    ensures stays { (name : List ℕ) (status : ℕ) (old new : I) (input_old input_new : SourceState) (output_old output_new : SinkState)
+        → (r : HasRunClients I.state name status old new input_old input_new output_old output_new) → TellsNamed name (I.state old)
+        → (before : List Entry) (e : Entry) (past : List ℕ) (moment : ℕ) → IsPrefix (before ++ e ∷ []) r.entries → IsPrefix (past ++ moment ∷ []) r.moments → length past ≡ length before
+        → CommitsStayFrom I.state moment (before ++ e ∷ []) new }
 {}
 
 /// The lines of clients that ran concurrently have one order, along which the calls of the hash store and the tree store (`tree`), or of

@@ -1,5 +1,6 @@
 -- Worked examples of the file store, by computation.
 use Rattle.store_model.{proofs.Words.{Ok, Err, map, Access, Span, Kind, Read, Write, Array, zeros, put, own, is_node, accesses_of, answer_of, BadRange, Exists, FileAreas, is_file, Call, create_program, read_program, write_program, rename_program, remove_program}, specs.TreeCalls.{get_program, put_program, del_program}}
+use Rattle.iso_model.specs.Array.{byte_at}
 use Rattle.std.specs.Prelude.{◌≡◌, ℕ, List, [], ◌∷◌, None, Some, true, refl}
 
 abbrev place : FileAreas
@@ -59,9 +60,23 @@ new_name_has_it : answer_of (read_program place (98 ∷ []) 0 2) three ≡ Ok (S
 unfolding create_program write_program read_program rename_program get_program put_program del_program put is_node is_file
 new_name_has_it = refl
 
+-- a name that another file has is not taken from it
+taken_name : answer_of (rename_program place (97 ∷ []) (98 ∷ [])) (done (create_program place (98 ∷ [])) two) ≡ Err Exists
+unfolding create_program write_program rename_program get_program put_program del_program put is_node is_file
+taken_name = refl
+
+no_byte_is_asked_for : answer_of (read_program place (97 ∷ []) 0 0) two ≡ Err BadRange
+unfolding create_program write_program read_program get_program put_program put is_node is_file
+no_byte_is_asked_for = refl
+
 removed : answer_of (remove_program place (98 ∷ [])) three ≡ Ok true
 unfolding create_program write_program remove_program rename_program get_program put_program del_program put is_node is_file
 removed = refl
+
+-- the file block and the data block are free again
+removed_blocks_are_free : (byte_at three 4 64 ≡ 6) × (byte_at (done (remove_program place (98 ∷ [])) three) 4 64 ≡ 0)
+unfolding create_program write_program remove_program rename_program get_program put_program del_program put is_node is_file
+removed_blocks_are_free = (refl, refl)
 
 remove_shape : shape (accesses_of (remove_program place (98 ∷ [])) three) ≡ ((Read, 0, record { off = 0; len = 8 } ∷ []) ∷ (Read, 1, record { off = 0; len = 157 } ∷ record { off = 157; len = 33 } ∷ []) ∷ (Read, 5, []) ∷ (Read, 4, record { off = 0; len = 66 } ∷ []) ∷ (Read, 0, record { off = 0; len = 8 } ∷ []) ∷ (Read, 1, record { off = 0; len = 157 } ∷ []) ∷ (Read, 1, []) ∷ (Write, 1, []) ∷ (Write, 4, record { off = 64; len = 1 } ∷ []) ∷ [])
 unfolding create_program write_program remove_program rename_program get_program put_program del_program put is_node is_file

@@ -72,6 +72,12 @@ and_then_it_is_gone : (answer_of (del_program area (100 ∷ [])) four ≡ Ok tru
 unfolding get_program del_program put_program walk bucket_of is_linked sha256 digest_bytes hash_after compress rounds schedule first_words put
 and_then_it_is_gone = (refl, refl, refl)
 
+-- it needs room for two writes behind its three reads
+too_little_room_to_free : (shape (outcome 4 (del_program area (100 ∷ [])) four).0 ≡ (Read, 1, span 0 157 ∷ []) ∷ (Read, 2, span 0 157 ∷ []) ∷ (Read, 0, span 0 65 ∷ []) ∷ [])
+    × ((outcome 5 (del_program area (100 ∷ [])) four).1 ≡ Some (Ok true))
+unfolding del_program put_program walk bucket_of is_linked sha256 digest_bytes hash_after compress rounds schedule first_words put
+too_little_room_to_free = (refl, refl)
+
 -- a key that was deleted leaves its cell to the next new one
 a_cell_is_used_again : shape (accesses_of (put_program area (101 ∷ []) (53 ∷ [])) (deleted 98 three)) ≡ (Read, 1, span 0 157 ∷ []) ∷ (Write, 1, span 95 31 ∷ span 190 33 ∷ []) ∷ []
 unfolding del_program put_program walk bucket_of is_linked sha256 digest_bytes hash_after compress rounds schedule first_words put
@@ -86,6 +92,19 @@ a_cell_of_the_first_block : shape (accesses_of (put_program area (104 ∷ []) (5
     ≡ (Read, 1, span 0 157 ∷ []) ∷ (Read, 2, span 0 157 ∷ []) ∷ (Read, 3, span 0 157 ∷ []) ∷ (Write, 1, span 95 31 ∷ span 190 33 ∷ []) ∷ []
 unfolding del_program put_program walk bucket_of is_linked sha256 digest_bytes hash_after compress rounds schedule first_words put
 a_cell_of_the_first_block = refl
+
+-- a block in the middle of a chain stays in it, also where its last key goes
+a_block_in_the_middle_stays : shape (accesses_of (del_program area (102 ∷ [])) (deleted 101 (deleted 100 seven))) ≡ (Read, 1, span 0 157 ∷ []) ∷ (Read, 2, span 0 157 ∷ []) ∷ (Write, 2, span 126 31 ∷ span 223 33 ∷ []) ∷ []
+unfolding del_program put_program walk bucket_of is_linked sha256 digest_bytes hash_after compress rounds schedule first_words put
+a_block_in_the_middle_stays = refl
+
+-- a head has zeros behind its three numbers
+abbrev marked_head : Array
+marked_head = own three (record { kind = Write; block = 1; spans = span 12 1 ∷ []; bytes = replicate 256 33 } ∷ [])
+
+a_head_that_is_broken : answer_of (get_program area (97 ∷ [])) marked_head ≡ Err (Broken 1)
+unfolding get_program put_program walk bucket_of is_linked sha256 digest_bytes hash_after compress rounds schedule first_words put
+a_head_that_is_broken = refl
 
 -- a value whose length is none: the get that reads it finds the block broken, and a put writes it anew
 abbrev too_long : Array

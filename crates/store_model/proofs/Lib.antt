@@ -9,3 +9,4 @@ pub mod AreaBlocks
 mod HashRows
 mod TreeRows
 mod FileRows
+pub mod StoreRows
