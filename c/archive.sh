@@ -1,6 +1,7 @@
 #!/usr/bin/env bash
 # archive.sh FILE: proves isotope_c, on which isotope.h stands, and builds its archive, over the libraries that `rt ci` has left in
-# crates/*/out, or else over those that ./isotope builds in build/. So no crate below is proved twice. Where nothing has changed since
+# crates/*/out, or else over those that ./isotope builds in build/. So no crate below is proved twice; isotope_c itself is proved once more
+# after `rt ci`, which keeps no archive. Where nothing has changed since
 # the file was built it stays. What was proved is kept beside it, so that a change is soon proved again.
 #
 #   archive.sh --ready    only says by its status whether these libraries are there, so that nothing below has to be proved

@@ -110,6 +110,20 @@ END
   return $bad
 }
 
+# The program opens the images that the tests of this folder leave, and finds the commits that the library finds.
+opens() {
+  local name bad=0 told
+  for name in example stores threads; do
+    [ "$name" != threads ] || "$out/threads" threads-2.img count 2 500 > /dev/null || bad=1
+    [ "$name" != threads ] || name=threads-2
+    told=$("$program" recover "$name.img" | cut -d ' ' -f 1-4)
+    [ -n "$told" ] && echo '1 stat' | "$out/script" run "$name.img" | grep -q "^1 ok $told " && continue
+    echo "c: $name.img: the program and the library open it otherwise: $told"
+    bad=1
+  done
+  return $bad
+}
+
 # A bench through isotope.h leaves the image of the program's, and the same sums.
 benches() {
   local bad=0 seed rounds
@@ -154,7 +168,7 @@ races() {
   watched races -fsanitize=thread -Wl,--wrap=fdatasync threads && watched races -fsanitize=thread "$wrap" misuse
   case $? in 1) return 1 ;; 2) return 0 ;; esac
   mkdir races-folder
-  passes races-count ./races-threads races.img count 2 20000 && passes races-rates ./races-threads races.img rates 200 200 \
+  passes races-count ./races-threads races.img count 2 100000 && passes races-rates ./races-threads races.img rates 200 200 \
     && passes races-misuse ./races-misuse races-folder
 }
 
@@ -187,7 +201,7 @@ sqlite() {
 
 # Each part, several side by side; the rates alone, at the end.
 parts=(sanitized races valgrinded python sqlite)
-[ -z "$program" ] || parts+=(scripts benches)
+[ -z "$program" ] || parts+=(scripts benches opens)
 declare -A part
 mkdir folder
 { prints example "$out/example" example.img && prints stores "$out/stores" stores.img && prints misuse "$out/misuse" folder; } || status=1
@@ -203,5 +217,5 @@ for pid in "${!part[@]}"; do
   wait "$pid" || { echo "c: ${part[$pid]} failed"; status=1; }
 done
 threads || status=1
-[ "$status" = 0 ] && echo 'c: all passed'
+[ "$status" = 0 ] && echo "c: all passed, $SECONDS s"
 exit $status

@@ -151,8 +151,8 @@ const char *isotope_strerror(int status);
  * linked, so that this name never has half an image; a process that is killed meanwhile may leave the file NAME.making-..
  * NAME_TAKEN; BAD_GEOMETRY, BAD_MODE; TOO_MANY_DEVICES; MEMORY; FILE with errno. After any of these there is no new file. */
 int isotope_create(const char *path, const isotope_geometry *geometry, isotope_device *device);
-/* Opens an image. ABSENT; LOCKED; NO_IMAGE and DAMAGED, with the reason in *refusal, which may be NULL; TOO_MANY_DEVICES; MEMORY; FILE
- * with errno. The file is as it was after any of these. */
+/* Opens an image, whose form, sizes and last commit isotope_about and isotope_stat tell. ABSENT; LOCKED; NO_IMAGE and DAMAGED, with the
+ * reason in *refusal, which may be NULL; TOO_MANY_DEVICES; MEMORY; FILE with errno. The file is as it was after any of these. */
 int isotope_open(const char *path, isotope_device *device, isotope_refusal *refusal);
 /* The reason in words, as "damaged at 64 cause 5", in up to n bytes with the 0 behind it; answers `into`. 64 bytes are enough. */
 const char *isotope_refusal_text(const isotope_refusal *refusal, char *into, size_t n);

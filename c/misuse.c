@@ -174,7 +174,31 @@ static void order_of_calls(void) {
     isotope_close(device);
 }
 
-/* A call of the file fails in an end, and in a compaction: down, and the file is not called any more. */
+/* Each call of the file that a compaction makes fails once: down, and the image opens to the commit that was there. */
+static void compactions_that_fail(void) {
+    long failing = 1;
+    for (;; failing++) {
+        isotope_device device = made("b.img"), closed;
+        isotope_transaction tx = begun(device);
+        isotope_numbers numbers;
+        expect_that("a put", isotope_put(device, tx, 20, 0, "x", 1) == ISOTOPE_OK && isotope_end(device, tx, NULL) == ISOTOPE_OK);
+        calls = 0;
+        fails_at = failing;
+        int status = isotope_compact(device);
+        fails_at = 0;
+        expect_that("a compaction whose file fails is told so", status == (calls < failing ? ISOTOPE_OK : ISOTOPE_DISK));
+        expect_that("and down then", status == ISOTOPE_OK || isotope_compact(device) == ISOTOPE_DOWN);
+        expect_that("nothing is called after it", calls <= failing);
+        expect_that("close", isotope_close(device) == ISOTOPE_OK);
+        expect_that("it opens to the commit", isotope_open("b.img", &closed, NULL) == ISOTOPE_OK
+                    && isotope_stat(closed, &numbers) == ISOTOPE_OK && numbers.last == 1);
+        isotope_close(closed);
+        if (status == ISOTOPE_OK) break;
+    }
+    expect_that("a compaction calls the file", failing > 4);
+}
+
+/* A call of the file fails in an end: down, and the file is not called any more. */
 static void files_that_fail(void) {
     for (long failing = 1; failing <= 4; failing++) {
         isotope_device device = made("a.img"), closed;
@@ -277,6 +301,11 @@ static void files_that_are_no_image(void) {
     expect_that("which is no refusal", refusal.why == 0 && strcmp(isotope_refusal_text(&refusal, text, 3), "no") == 0);
     expect("open of a folder", isotope_open("empty", &device, NULL), ISOTOPE_FILE);
     expect_that("the device is 0 then", device == 0);
+    expect_that("a file that nobody may read", chmod("a.img", 0) == 0 && (geteuid() != 0 || seteuid(65534) == 0));
+    int status = isotope_open("a.img", &device, NULL), error = errno;
+    expect_that("and the one who may again", (getuid() != 0 || seteuid(0) == 0) && chmod("a.img", 0644) == 0);
+    expect("open of a file that nobody may read", status, ISOTOPE_FILE);
+    expect_that("with the reason", error == EACCES);
 }
 
 static void many_devices(void) {
@@ -392,6 +421,7 @@ int main(int argc, char **argv) {
     numbers_of_transactions();
     order_of_calls();
     files_that_fail();
+    compactions_that_fail();
     creations_that_fail();
     files_that_are_no_image();
     many_devices();
