@@ -2,7 +2,8 @@
 //! half. Who hands transactions to a group learns the end of each (`learned`).
 //!
 //! Where the list began well formed on a known disk, the sum stays after each commit, and in each image that opens (`run`, `SumStays`); laws say
-//! it of legal lists (`history`, `images`). Without memory the core is handed back (`unrun`).
+//! it of legal lists (`history`, `images`). Without memory the core is handed back (`unrun`). That transfers are made is no clause: `accounts_run`
+//! prints how many.
 #![tactic(auto)]
 
 mod account;

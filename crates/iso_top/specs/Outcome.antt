@@ -71,7 +71,7 @@ abbrev pub PrintedDigest : (status : ℕ) → (tells : Type 0) → History → S
 PrintedDigest status tells H old new =
     PrintedResult status tells (recover_output H) old new ⊎ ((status ≡ 5) × Printed old new disk_fault_text) ⊎ ((status ≡ 8) × Printed old new memory_text)
 
--- The image was opened, and its last commit told. Nothing was written to it, and the input was not read.
+-- The image was opened, and its last commit told. Nothing was written to it since the bind, and the input was not read.
 pub record HasRecovered (name : List ℕ) (status : ℕ) (disk_old disk_new : DiskState) (input_old input_new : SourceState) (output_old output_new : SinkState) : Type 0 where
   pub world : World
   pub opens : OpensTo (disk_old.named name) world
