@@ -1,8 +1,8 @@
 -- Notes whose numbers rise.
-use Rattle.conflict_rule.proofs.Words.{◌≡◌, ◌≢◌, ◌∙◌, refl, sym, ap, subst, ℕ, zero, suc, ◌+◌, ◌<◌, ◌≤◌, Bool, true, false, ◌==◌, cond, nat_lt, inl, inr, List, [], ◌∷◌, ◌++◌, length, get_or, drop, arith, ne_eqb, Option, Some, None, cases_eq, cases_lt, lt-ltb, le-ltb, common_steps, Extent, Note, above, note_of, RisesFrom}
+use Rattle.conflict_rule.proofs.Words.{◌≡◌, ◌≢◌, ◌∙◌, refl, sym, ap, subst, ℕ, zero, suc, ◌+◌, ◌-◌, ◌<◌, ◌≤◌, Bool, true, false, ◌==◌, cond, nat_lt, List, [], ◌∷◌, ◌++◌, length, get_or, drop, take, take_all, length-drop, arith, ne_eqb, Some, None, lt-ltb, le-ltb, common_steps, Extent, Note, above, note_of, RisesFrom}
 
 -- they rise from any earlier number on too
-pub rises_earlier : (f g : ℕ) (notes : List Note) → f ≤ g → RisesFrom g notes → RisesFrom f notes
+rises_earlier : (f g : ℕ) (notes : List Note) → f ≤ g → RisesFrom g notes → RisesFrom f notes
 rises_earlier f g [] le rises = tt
 rises_earlier f g (x ∷ notes) le rises = let from : f ≤ x.0 = omega arith in (from, rises.1)
 
@@ -49,7 +49,7 @@ all_above f n (x ∷ notes) lt rises =
     rw here (ap (λ (l : List Note). x ∷ l) (all_above (x.0 + 1) n notes (omega (arith, rises.0)) rises.1))
 
 -- those above a number are those from a place on
-pub above_from : (f n i : ℕ) (notes : List Note) → RisesFrom f notes → i ≤ length notes
+above_from : (f n i : ℕ) (notes : List Note) → RisesFrom f notes → i ≤ length notes
     → ((k : ℕ) → k < i → (d : Note) → (get_or notes k d).0 ≤ n) → ((k : ℕ) → i ≤ k → k < length notes → (d : Note) → n < (get_or notes k d).0)
     → drop i notes ≡ above n notes
 above_from f n zero [] rises within before after = refl
@@ -62,6 +62,20 @@ above_from f n (suc i) (x ∷ notes) rises within before after =
     let first : x.0 ≤ n = before 0 (omega arith) x in
     let here : nat_lt n x.0 ≡ false = le-ltb n x.0 first in
     rw here (above_from (x.0 + 1) n i notes rises.1 (omega arith) (λ k lt d. before (suc k) (omega arith) d) (λ k le lt d. after (suc k) (omega arith) (omega arith) d))
+
+-- where the place was found in a slice of them
+pub above_at : (n i : ℕ) (notes seen : List Note) → seen ≡ notes → RisesFrom 0 notes → i ≤ length seen
+    → ((k : ℕ) → k < i → (d : Note) → (get_or seen k d).0 ≤ n) → ((k : ℕ) → i ≤ k → k < length seen → (d : Note) → n < (get_or seen k d).0)
+    → drop i notes ≡ above n notes
+above_at n i notes seen same rises within before after =
+    subst (λ (l : List Note). drop i l ≡ above n l) same (above_from 0 n i seen (subst (λ (l : List Note). RisesFrom 0 l) (sym same) rises) within before after)
+
+-- and those behind it in another slice of them
+pub above_behind : (n i : ℕ) (notes seen more : List Note) → seen ≡ notes → more ≡ notes → RisesFrom 0 notes → i ≤ length seen
+    → ((k : ℕ) → k < i → (d : Note) → (get_or seen k d).0 ≤ n) → ((k : ℕ) → i ≤ k → k < length seen → (d : Note) → n < (get_or seen k d).0)
+    → take (length more - i) (drop i more) ≡ above n notes
+above_behind n i notes seen more same also rises within before after =
+    take_all (length more - i) (drop i more) (omega (arith, length-drop i more)) ∙ ap (drop i) also ∙ above_at n i notes seen same rises within before after
 
 -- the note at a place is that of its number, and where no number is the same there is none
 pub note_at : (f number i : ℕ) (notes : List Note) (d : Note) → RisesFrom f notes → i < length notes → (get_or notes i d).0 ≡ number
@@ -80,49 +94,7 @@ no_note number (x ∷ notes) other =
     let here : (x.0 == number) ≡ false = ne_eqb x.0 number (other 0 x (omega arith)) in
     rw here (no_note number notes (λ k d lt. other (suc k) d (omega arith)))
 
--- a number that is held is not below the first
-pub note_from : (f number : ℕ) (notes : List Note) (marks : List (ℕ × List Extent)) → RisesFrom f notes → note_of number notes ≡ Some marks → f ≤ number
-note_from f number [] marks rises is = absurd (cc)
-note_from f number (x ∷ notes) marks rises is = elim (cases_eq x.0 number) [
-  | inl same ↦ omega (arith, rises.0)
-  | inr other ↦
-      (let here : (x.0 == number) ≡ false = ne_eqb x.0 number other in
-      let later = note_from (x.0 + 1) number notes marks rises.1 (rw here at is) in
-      omega (arith, later, rises.0))
-]
-
--- the note of a number above n is among those above n
-pub note_above : (n number : ℕ) (notes : List Note) → n < number → note_of number (above n notes) ≡ note_of number notes
-note_above n number [] lt = refl
-note_above n number (x ∷ notes) lt = elim (cases_lt n x.0) [
-  | inl less ↦
-      (let here : nat_lt n x.0 ≡ true = lt-ltb n x.0 less in
-      rw here (ap (λ (r : Option (List (ℕ × List Extent))). cond (x.0 == number) (Some x.1) r) (note_above n number notes lt)))
-  | inr more ↦
-      (let here : nat_lt n x.0 ≡ false = le-ltb n x.0 more in
-      let other : (x.0 == number) ≡ false = ne_eqb x.0 number (λ e. omega arith) in
-      rw (here, other) (note_above n number notes lt))
-]
-
 -- either way they rise
 pub rises_either : (t : Bool) (xs ys zs : List Note) → zs ≡ cond t xs ys → RisesFrom 0 xs → RisesFrom 0 ys → RisesFrom 0 zs
 rises_either true xs ys zs is first second = subst (λ (l : List Note). RisesFrom 0 l) (sym is) first
 rises_either false xs ys zs is first second = subst (λ (l : List Note). RisesFrom 0 l) (sym is) second
-
--- a note that is held above a number is held
-pub held_above : (n number : ℕ) (notes : List Note) (marks : List (ℕ × List Extent)) → RisesFrom 0 notes → note_of number (above n notes) ≡ Some marks → note_of number notes ≡ Some marks
-held_above n number notes marks rises is =
-    sym (note_above n number notes (note_beyond n number notes marks is)) ∙ is
-  where
-    note_beyond : (n number : ℕ) (notes : List Note) (marks : List (ℕ × List Extent)) → note_of number (above n notes) ≡ Some marks → n < number
-    note_beyond n number [] marks is = absurd (cc)
-    note_beyond n number (x ∷ notes) marks is = elim (cases_lt n x.0) [
-      | inl less ↦
-          (let here : nat_lt n x.0 ≡ true = lt-ltb n x.0 less in
-          let now = rw here at is in
-          elim (cases_eq x.0 number) [
-            | inl same ↦ omega arith
-            | inr other ↦ (let no : (x.0 == number) ≡ false = ne_eqb x.0 number other in note_beyond n number notes marks (rw no at now))
-          ])
-      | inr more ↦ (let here : nat_lt n x.0 ≡ false = le-ltb n x.0 more in note_beyond n number notes marks (rw here at is))
-    ]

@@ -27,8 +27,7 @@ fn least_meeting<L: Ledger>(
     ensures steps { steps.new ≤ steps.old + length (above upto notes.now.notes) }
 {
     let mut rest = notes.after(upto);
-    while let Some(commit) = rest.pass() {
-        let marks = notes.look_at(commit, steps)?;
+    while let Some((commit, marks)) = rest.pass(steps) {
         if let Some((block, at)) = marks.first_meet(bytes) {
             return Some(Clash { commit, block, at });
         }

@@ -1,5 +1,5 @@
 // What each commit wrote.
-ghost use Rattle.std.specs.{Prelude.{◌≡◌, ℕ, ◌+◌, ◌<◌, ◌≤◌, [], ◌∷◌, ◌++◌, OnOk, IsOk, IfOk, List, Some, length, option_copied, slice_index_or}, List.All};
+ghost use Rattle.std.specs.{Prelude.{◌≡◌, ℕ, ◌+◌, ◌-◌, ◌<◌, ◌≤◌, [], ◌∷◌, ◌++◌, OnOk, IsOk, IfOk, List, Some, drop, length, option_copied, slice_index_or, take}, List.All};
 ghost use Rattle.byte_marks.specs.declared.extent.Extent.{Extent};
 ghost use Rattle.conflict_rule.specs.Notes.{above, note_of, RisesFrom};
 
@@ -50,19 +50,40 @@ fn place_after(notes: &[(u64, Touched)], number: u64) -> usize
     notes.partition_point(|note| note.0 <= number)
 }
 
-// How many sets are kept at most when their commits are dropped.
-const MOST_SPARE: usize = 16;
+// How many sets are kept at most when their commits are dropped: as many as the commits that are made at once.
+const MOST_SPARE: usize = 64;
 
-// Takes all notes out. What they had is spare then.
-fn take_notes(notes: &mut Vec<(u64, Touched)>, spare: &mut Vec<Touched>)
-    ensures { notes.new.items ≡ [] }
+// Takes out all notes but the first ones. What they had is spare then.
+fn take_behind(notes: &mut Vec<(u64, Touched)>, spare: &mut Vec<Touched>, left: usize)
+    ensures { notes.new.items ≡ take left notes.old.items }
 {
-    while let Some((_, writes)) = notes.pop() {
+    while notes.len() > left {
+        let Some((_, writes)) = notes.pop() else {
+            return;
+        };
         if spare.len() < MOST_SPARE {
             // Without memory for the list it is let go.
             let _ = spare.push(writes);
         }
     }
+}
+
+// Puts the first notes behind the others.
+fn put_last(notes: &mut [(u64, Touched)], count: usize)
+    requires { count ≤ length notes.old }
+    ensures { take (length notes.old - count) notes.new ≡ drop count notes.old }
+{
+    notes.rotate_left(count);
+}
+
+// Takes the first notes out. What they had is spare then.
+fn take_first(notes: &mut Vec<(u64, Touched)>, spare: &mut Vec<Touched>, count: usize)
+    requires { count ≤ length notes.old.items }
+    ensures { notes.new.items ≡ drop count notes.old.items }
+{
+    let left = notes.len() - count;
+    put_last(notes.as_mut_slice(), count);
+    take_behind(notes, spare, left);
 }
 
 impl Notes {
@@ -138,13 +159,8 @@ impl Notes {
     pub fn drop_to(&mut self, floor: u64)
         ensures notes { self.new.notes ≡ above floor self.old.notes }
     {
-        // Where the first note is above the floor, all are.
         let place = place_after(self.notes.as_slice(), floor);
-        if place == self.notes.len() {
-            take_notes(&mut self.notes, &mut self.spare);
-        } else if place > 0 {
-            self.notes.retain(|note| floor < note.0);
-        }
+        take_first(&mut self.notes, &mut self.spare, place);
     }
 
     /// A set for the bytes of one more commit, whatever is in it. It takes no memory, and may have that of a commit that was dropped.
@@ -191,11 +207,9 @@ impl Notes {
         }
     }
 
-    // The numbers of the commits above a number.
+    // The commits above a number.
     pub(crate) fn after(&self, number: u64) -> Rest<'_>
         ensures notes { result ≡ above number self.now.notes }
-        ensures rising { RisesFrom 0 result }
-        ensures held { (number : ℕ) → (marks : List (ℕ × List Extent)) → note_of number result ≡ Some marks → note_of number self.now.notes ≡ Some marks }
     {
         let place = place_after(self.notes.as_slice(), number);
         Rest::of(&self.notes.as_slice()[place..])

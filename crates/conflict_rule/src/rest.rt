@@ -1,11 +1,11 @@
 // The commits that are left to look at.
-ghost use Rattle.std.specs.Prelude.{◌≡◌, ℕ, List, [], ◌∷◌, IfNone, IfSome};
-ghost use Rattle.byte_marks.specs.declared.extent.Extent.{Extent};
+ghost use Rattle.std.specs.Prelude.{◌≡◌, ◌+◌, [], ◌∷◌, IfNone, IfSome};
 
 use byte_marks::Touched;
+use counts::{Ledger, Steps};
 use std::marker::Model;
 
-// Notes, of which the numbers alone are handed out: what a commit wrote comes by a look at it, which is a step.
+// Notes that are handed out one after the other. To look at one is a step.
 #[derive(Drop)]
 pub(crate) struct Rest<'a> {
     notes: &'a [(u64, Touched)],
@@ -28,14 +28,15 @@ impl<'a> Rest<'a> {
         Rest { notes }
     }
 
-    // Passes the first, and answers its number.
-    pub(crate) fn pass(&mut self) -> Option<u64>
-        ensures none { IfNone result (self.old ≡ []) }
-        ensures some { IfSome result (λ number. (marks : List (ℕ × List Extent)) × (self.old ≡ (number, marks) ∷ self.new)) }
+    // Passes the first, and answers its number and what its commit wrote: one step.
+    #[inline(always)]
+    pub(crate) fn pass<L: Ledger>(&mut self, steps: &mut Steps<L>) -> Option<(u64, &'a Touched)>
+        ensures none { IfNone result ((self.old ≡ []) × (steps.new ≡ steps.old)) }
+        ensures some { IfSome result (λ found. (self.old ≡ (found.0, found.1.now) ∷ self.new) × (steps.new ≡ steps.old + 1)) }
     {
         let (first, others) = self.notes.split_first()?;
-        let number = first.0;
+        steps.tick();
         self.notes = others;
-        Some(number)
+        Some((first.0, &first.1))
     }
 }
