@@ -1,5 +1,5 @@
 -- A core that ends a group.
-use Rattle.iso_core.proofs.{Words.{◌≡◌, ◌≢◌, ◌∙◌, ◌⊎◌, inl, inr, sym, refl, ap, ℕ, ◌+◌, ◌<◌, ◌≤◌, true, List, [], ◌∷◌, ◌++◌, length, map, arith, subst, AllByRecursion, length-append, length-map, length_push, DiskState, IsLawful, IsSettled, LeavesOnly, at_end, Half, IsHeld, half_of_world, next_gate, with_records, extent_of, Commit, Geometry, image_size, History, last, with_commits, IsRecord, records, written, after_leaving, with_live, World, Live, used, IsWorld, length-records, sum_by-map, GroupReply, GroupEnd, Kept, Plan, AreOf, AreNextRecords, ahead, decided, group, leave_all, IsOf, AreEach, HasPlanned, HasStaged, IsAhead, IsReady, IsGrownWith, IsPlannedFor, IsReserved, ShowsWith, up, down, ShowsEither, ShowsLast, group_is, nothing_ahead}, Judging.{last_ahead, settled_ahead, staged_count, used_ahead}, Moments.shows_world, Nexts.may_follow, Numbers.{log_room, log_used}, Staging.half_ahead, Standings.stands_on}
+use Rattle.iso_core.proofs.{Words.{◌≡◌, ◌≢◌, ◌∙◌, ◌⊎◌, inl, inr, sym, refl, ap, ℕ, ◌+◌, ◌<◌, ◌≤◌, true, List, [], ◌∷◌, ◌++◌, drop, get_or, length, map, arith, subst, AllByRecursion, length-append, length-map, length_push, DiskState, IsLawful, IsSettled, LeavesOnly, at_end, Half, IsHeld, half_of_world, next_gate, with_records, extent_of, Commit, Geometry, image_size, History, last, with_commits, IsRecord, records, written, after_leaving, with_live, World, Live, used, IsWorld, length-records, sum_by-map, GroupReply, GroupEnd, Kept, Plan, AreOf, AreNextRecords, ahead, decided, group, leave_all, IsOf, AreEach, HasPlanned, HasStaged, IsAhead, IsLiveMember, IsReady, IsGrownWith, IsPlannedFor, IsReserved, IsTx, ShowsWith, up, down, ShowsEither, ShowsLast, unsettled, group_is, nothing_ahead}, Judging.{last_ahead, staged_count, used_ahead}, Moments.shows_world, Nexts.may_follow, Numbers.{log_room, log_used}, Staging.half_ahead, Standings.stands_on}
 
 -- a world that some have left differs in what is live alone
 pub leave_all_is : (members : List Live) (W : World) → leave_all members W ≡ with_live W (leave_all members W).live
@@ -115,14 +115,23 @@ lost_group old new fin W all members laws same fin_of fin_down size run = record
   images = at_end laws run;
 }
 
-pub ready_ahead : (W : World) (more : List Commit) (ms : List GroupEnd) (ts : List Live) → AreEach (IsReady W) ms ts → AreEach (IsReady (ahead W more)) ms ts
-ready_ahead W more [] [] each = tt
-ready_ahead W more [] (t ∷ ts) each = absurd each
-ready_ahead W more (m ∷ ms) [] each = absurd each
-ready_ahead W more (m ∷ ms) (t ∷ ts) each = (
-  record { here = record { number = each.0.here.number; among = each.0.here.among }; settled = settled_ahead W more t m.work each.0.settled; none = each.0.none },
+pub members_ahead : (W : World) (more : List Commit) (ms : List GroupEnd) (ts : List Live) → AreEach (IsLiveMember W) ms ts → AreEach (IsLiveMember (ahead W more)) ms ts
+members_ahead W more [] [] each = tt
+members_ahead W more [] (t ∷ ts) each = absurd each
+members_ahead W more (m ∷ ms) [] each = absurd each
+members_ahead W more (m ∷ ms) (t ∷ ts) each = (record { number = each.0.number; among = each.0.among }, each.1, members_ahead W more ms ts each.2)
+
+-- members that were ready are live, however far their works are settled
+pub live_members : (W : World) (new old : List GroupEnd) (ts : List Live) → map unsettled new ≡ map unsettled old → AreEach (IsReady W) old ts → AreEach (IsLiveMember W) new ts
+live_members W [] [] [] same each = tt
+live_members W [] [] (t ∷ ts) same each = absurd each
+live_members W [] (m ∷ old) ts same each = absurd (cc same)
+live_members W (n ∷ new) [] ts same each = absurd (cc same)
+live_members W (n ∷ new) (m ∷ old) [] same each = absurd each
+live_members W (n ∷ new) (m ∷ old) (t ∷ ts) same each = (
+  subst (λ (tx : ℕ). IsTx W tx t) (sym (ap (λ (l : List GroupEnd). (get_or l 0 m).tx) same)) each.0.here,
   each.1,
-  ready_ahead W more ms ts each.2,
+  live_members W new old ts (ap (drop 1) same) each.2,
 )
 
 -- a plan with a commit leads to another history

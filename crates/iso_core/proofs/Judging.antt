@@ -1,5 +1,5 @@
 -- A member of a group, after those before it.
-use Rattle.iso_core.proofs.{Words.{none_behind, ◌≡◌, ◌≢◌, ◌∙◌, sym, refl, ap, ℕ, suc, ◌+◌, ◌-◌, ◌<◌, ◌≤◌, true, false, List, [], ◌∷◌, ◌++◌, length, map, drop, arith, subst, None, Option, sum_by, append-nil, transport, AllByRecursion, append_assoc, length-append, take-append-le, take_all, drop-append-le, drop_all, map-append, length-map, sum_by-append, sum_by-cons, AreTouched, AreNotes, AreNotesAfter, Bytes, IsAsked, up_to, Note, above, notes_appended, notes_rise, all_above, LieInAnImage, records-append, Access, Clash, Commit, Geometry, Read, Write, Mode, Run, LAST, CoreReply, clash, first_after, has_write, record_length, runs, last, kind_of, records, spell, written, AreAccesses, commit_step, end_step, need, commit_from, World, Live, logged_commits, used, IsWorld, limits, are_runs, length-records, sum_by-map, commit_is_record, runs_where_write, Doing, PartSpan, GroupReply, GroupEnd, Kept, Plan, Staged, IsCheckedOf, IsTx, AreNextRecords, IsSettledOf, MayCommit, written_of, ahead, decided, made_by, member_reply, with_first, IsOf, AreEach, AreStaged, HasPlanned, IfCommits, IsAhead, IsNextStaged, IsReady, all_parts, is_commit, parts_of, stays_ahead}, Decides.asked, Endings.ends_by, Leaves.has_begun, Moments.{is_committed, is_full, is_worn}, Numbers.{log_last, log_used, log_room}}
+use Rattle.iso_core.proofs.{Words.{none_behind, ◌≡◌, ◌≢◌, ◌∙◌, sym, refl, ap, ℕ, suc, ◌+◌, ◌-◌, ◌<◌, ◌≤◌, true, false, List, [], ◌∷◌, ◌++◌, length, map, drop, arith, subst, None, Option, sum_by, append-nil, transport, AllByRecursion, append_assoc, length-append, take-append-le, take_all, drop-append-le, drop_all, map-append, length-map, sum_by-append, sum_by-cons, AreTouched, AreNotes, AreNotesAfter, Bytes, IsAsked, up_to, Note, above, notes_appended, notes_rise, all_above, LieInAnImage, records-append, Access, Clash, Commit, Geometry, Read, Write, Mode, Run, LAST, CoreReply, clash, first_after, has_write, record_length, runs, last, kind_of, records, spell, written, AreAccesses, commit_step, end_step, need, commit_from, World, Live, logged_commits, used, IsWorld, limits, are_runs, length-records, sum_by-map, commit_is_record, runs_where_write, Doing, PartSpan, GroupReply, GroupEnd, Kept, Plan, Staged, IsCheckedOf, IsTx, AreNextRecords, IsSettledOf, MayCommit, written_of, ahead, decided, made_by, member_reply, with_first, IsOf, AreEach, AreStaged, HasPlanned, IfCommits, IsAhead, IsNextStaged, all_parts, is_commit, parts_of, stays_ahead}, Decides.asked, Endings.ends_by, Leaves.has_begun, Moments.{is_committed, is_full, is_worn}, Numbers.{log_last, log_used, log_room}}
 use Rattle.iso_model.specs.declared.core_reply.CoreReply.TheVariants as reply
 use Rattle.iso_model.specs.declared.access.GroupReply.TheVariants as member
 
@@ -208,21 +208,22 @@ makes_one t (member.Full needs free) is = cc is
 makes_one t member.Worn is = cc is
 
 -- the first of the members, and the others
-pub record FirstReady (W : World) (m : GroupEnd) (rest : List GroupEnd) (members : List Live) : Type 0 where
+pub record FirstOf (P : GroupEnd → Live → Type 0) (m : GroupEnd) (rest : List GroupEnd) (members : List Live) : Type 0 where
   pub first : Live
   pub others : List Live
   pub are : members ≡ first ∷ others
-  pub ready : IsReady W m first
+  pub is : P m first
   pub apart : AllByRecursion (λ (u : Live). u.number ≢ first.number) others
-  pub each : AreEach (IsReady W) rest others
+  pub each : AreEach P rest others
 
-pub parted : (W : World) (m : GroupEnd) (rest : List GroupEnd) (members : List Live) → AreEach (IsReady W) (m ∷ rest) members → FirstReady W m rest members
-parted W m rest [] each = absurd each
-parted W m rest (t ∷ members) each = record { first = t; others = members; are = refl; ready = each.0; apart = each.1; each = each.2 }
+pub parted : (P : GroupEnd → Live → Type 0) (m : GroupEnd) (rest : List GroupEnd) (members : List Live) → AreEach P (m ∷ rest) members → FirstOf P m rest members
+parted P m rest [] each = absurd each
+parted P m rest (t ∷ members) each = record { first = t; others = members; are = refl; is = each.0; apart = each.1; each = each.2 }
 
-pub none_ready : (W : World) (members : List Live) → AreEach (IsReady W) [] members → members ≡ []
-none_ready W [] each = refl
-none_ready W (t ∷ members) each = absurd each
+pub none_each : (P : GroupEnd → Live → Type 0) (ms : List GroupEnd) (members : List Live) → length ms ≡ 0 → AreEach P ms members → members ≡ []
+none_each P [] [] none each = refl
+none_each P [] (t ∷ members) none each = absurd each
+none_each P (m ∷ ms) members none each = absurd (omega (arith, none))
 
 pub planned_none : (W : World) (more : List Commit) (members : List Live) (plan : Plan) (replies : List GroupReply) → members ≡ [] → IsAhead W more plan → HasPlanned W more members plan replies replies
 planned_none W more members plan replies none is = record {

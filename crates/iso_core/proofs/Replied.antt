@@ -1,5 +1,5 @@
 -- The members of a group before their end and after it.
-use Rattle.iso_core.proofs.Words.{◌≡◌, ◌∙◌, sym, refl, ap, ℕ, suc, List, [], ◌∷◌, length, map, GroupReply, after_member, group, member_reply, with_first, end_step, World, Live, GroupEnd, AreEach, bare_end, unsettled, without_reply}
+use Rattle.iso_core.proofs.Words.{◌≡◌, ◌∙◌, sym, refl, ap, ℕ, suc, List, [], ◌∷◌, length, length-map, map, GroupReply, after_member, group, member_reply, with_first, end_step, World, Live, GroupEnd, AreEach, bare_end, unsettled, without_reply}
 
 -- as many as there are transactions
 pub each_one : (P : GroupEnd → Live → Type 0) (ms : List GroupEnd) (ts : List Live) → AreEach P ms ts → length ms ≡ length ts
@@ -7,6 +7,10 @@ each_one P [] [] each = refl
 each_one P [] (t ∷ ts) each = absurd each
 each_one P (m ∷ ms) [] each = absurd each
 each_one P (m ∷ ms) (t ∷ ts) each = ap suc (each_one P ms ts each.2)
+
+-- as many as before they were settled
+pub as_many : (new old : List GroupEnd) → map unsettled new ≡ map unsettled old → length new ≡ length old
+as_many new old same = sym (length-map new unsettled) ∙ ap length same ∙ length-map old unsettled
 
 one_more : (first : GroupReply) (x : List GroupReply × World) (n : ℕ) → length x.0 ≡ n → length (with_first first x).0 ≡ suc n
 one_more first (others, V) n is = ap suc is

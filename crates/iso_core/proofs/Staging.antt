@@ -1,5 +1,5 @@
 -- The commits of a plan are taken in, and their transactions leave.
-use Rattle.iso_core.proofs.{Words.{Bool, true, false, IsSome, nat_eq, remove_entry, begin_of, Begun, leave_all, ◌≡◌, ◌≢◌, ◌∙◌, inl, inr, sym, refl, ap, ℕ, ◌+◌, ◌-◌, ◌<◌, ◌≤◌, ◌==◌, cond, List, [], ◌∷◌, ◌++◌, length, map, take, drop, arith, subst, eq-eqb, ne_eqb, Result, OnOk, transport, AllByRecursion, cases_eq, append_assoc, length-append, length_push, take-append-le, take_all, drop-append-le, drop_all, map-append, length-map, sum_by-append, AreNotes, AreNotesAfter, Held, Note, RisesFrom, above, dropped_after, notes_rise, Half, MayFollow, half_of_world, last_told, next_gate, told_bytes, with_records, Commit, Geometry, first_after, record_length, log_place, all_own, array_at, last, IsRecord, Written, written, after_leaving, World, Live, floor, without, IsWorld, floor_above, floor_below, length-records, floor_between, IsIndexOf, BlockVersions, PartSpan, HasRoom, HasTaken, MayTake, parts_in, index_more, may_take, GroupEnd, Kept, Plan, Staged, IsAmong, ahead, IsOf, IsMember, AreEach, IsGrownWith, IsReady, MayTakeAll, all_parts, parts_of, HasTold, DiskState, held_log, AreOf, up, LogExtent, extent_of, on_ok_weaker}, Commits.held_records, Leaves.{is_live, leaves_so}, Judging.staged_count, Numbers.last_is, Standings.kept_with}
+use Rattle.iso_core.proofs.{Words.{Bool, true, false, IsSome, nat_eq, remove_entry, begin_of, Begun, leave_all, ◌≡◌, ◌≢◌, ◌∙◌, inl, inr, sym, refl, ap, ℕ, ◌+◌, ◌-◌, ◌<◌, ◌≤◌, ◌==◌, cond, List, [], ◌∷◌, ◌++◌, length, map, take, drop, arith, subst, eq-eqb, ne_eqb, Result, OnOk, transport, AllByRecursion, cases_eq, append_assoc, length-append, length_push, take-append-le, take_all, drop-append-le, drop_all, map-append, length-map, sum_by-append, AreNotes, AreNotesAfter, Held, Note, RisesFrom, above, dropped_after, notes_rise, Half, MayFollow, half_of_world, last_told, next_gate, told_bytes, with_records, Commit, Geometry, first_after, record_length, log_place, all_own, array_at, last, IsRecord, Written, written, after_leaving, World, Live, floor, without, IsWorld, floor_above, floor_below, length-records, floor_between, IsIndexOf, BlockVersions, PartSpan, HasRoom, HasTaken, MayTake, parts_in, index_more, may_take, GroupEnd, Kept, Plan, Staged, IsAmong, ahead, IsOf, IsMember, AreEach, IsGrownWith, IsLiveMember, IsReady, MayTakeAll, all_parts, parts_of, HasTold, DiskState, held_log, AreOf, up, LogExtent, extent_of, on_ok_weaker}, Commits.held_records, Leaves.{is_live, leaves_so}, Judging.staged_count, Numbers.last_is, Standings.kept_with}
 use Rattle.std.proofs.lemmas.List.{length-drop}
 
 -- parts of both lists
@@ -136,18 +136,15 @@ among_left n u (v ∷ live) other (inr there) = elim (cases_eq v.number n) [
   | inr e ↦ rw (ne_eqb v.number n e) (inr (among_left n u live other there))
 ]
 
-pub ready_left : (W : World) (t : Live) (members : List GroupEnd) (ts : List Live) → AllByRecursion (λ (u : Live). u.number ≢ t.number) ts → AreEach (IsReady W) members ts → AreEach (IsReady (after_leaving W t)) members ts
-ready_left W t [] [] other each = tt
-ready_left W t [] (u ∷ ts) other each = absurd each
-ready_left W t (m ∷ members) [] other each = absurd each
-ready_left W t (m ∷ members) (u ∷ ts) other each = (
-  record {
-    here = record { number = each.0.here.number; among = among_left t.number u W.live other.0 each.0.here.among };
-    settled = grind arith;
-    none = each.0.none;
-  },
+pub members_left : (W : World) (t : Live) (members : List GroupEnd) (ts : List Live) → AllByRecursion (λ (u : Live). u.number ≢ t.number) ts → AreEach (IsLiveMember W) members ts
+    → AreEach (IsLiveMember (after_leaving W t)) members ts
+members_left W t [] [] other each = tt
+members_left W t [] (u ∷ ts) other each = absurd each
+members_left W t (m ∷ members) [] other each = absurd each
+members_left W t (m ∷ members) (u ∷ ts) other each = (
+  record { number = each.0.number; among = among_left t.number u W.live other.0 each.0.among },
   each.1,
-  ready_left W t members ts other.1 each.2,
+  members_left W t members ts other.1 each.2,
 )
 
 shorter : (tx : ℕ) (live : List (ℕ × Begun)) → IsSome (begin_of tx live) → length (remove_entry (nat_eq tx) live) + 1 ≡ length live
@@ -160,7 +157,7 @@ shorter tx (e ∷ live) some = by (nat_eq tx e.0) refl (λ there. shorter tx liv
     by false is later = let rest = later (rw is at some) in rw is (omega (arith, rest))
 
 -- where as many leave as are live, none is left
-pub none_left : (kept : Kept) (W : World) (group : List GroupEnd) (members : List Live) → IsOf kept W → AreEach (IsReady W) group members → length group ≡ length kept.live
+pub none_left : (kept : Kept) (W : World) (group : List GroupEnd) (members : List Live) → IsOf kept W → AreEach (IsLiveMember W) group members → length group ≡ length kept.live
     → IsOf (record kept { live = [] }) (leave_all members W)
 none_left kept W [] [] of each as_many = subst (λ (l : List (ℕ × Begun)). IsOf (record kept { live = l }) W) (no_entry kept.live (sym as_many)) of
   where
@@ -171,8 +168,8 @@ none_left kept W [] (t ∷ ts) of each as_many = absurd each
 none_left kept W (m ∷ group) [] of each as_many = absurd each
 none_left kept W (m ∷ group) (t ∷ ts) of each as_many =
     let rest = remove_entry (nat_eq m.tx) kept.live in
-    let fewer = shorter m.tx kept.live (is_live kept W m.tx t of each.0.here) in
-    none_left (record kept { live = rest }) (after_leaving W t) group ts (leaves_so kept W m.tx t of each.0.here rest refl) (ready_left W t group ts each.1 each.2) (omega (arith, as_many, fewer))
+    let fewer = shorter m.tx kept.live (is_live kept W m.tx t of each.0) in
+    none_left (record kept { live = rest }) (after_leaving W t) group ts (leaves_so kept W m.tx t of each.0 rest refl) (members_left W t group ts each.1 each.2) (omega (arith, as_many, fewer))
 
 rises_low : (a b : ℕ) (notes : List Note) → a ≤ b → RisesFrom b notes → RisesFrom a notes
 rises_low a b [] le rises = tt

@@ -22,6 +22,10 @@ pub record IsReady (W : World) (m : GroupEnd) (t : Live) : Type 0 where
   pub settled : IsSettledOf W t m.work
   pub none : m.reply ≡ None
 
+-- a member is a live transaction, whatever its work
+abbrev pub IsLiveMember : World → GroupEnd → Live → Type 0
+IsLiveMember W m t = IsTx W m.tx t
+
 -- the members are those transactions in order, which are different ones
 abbrev pub AreEach : (GroupEnd → Live → Type 0) → List GroupEnd → List Live → Type 0
 AreEach P [] [] = Unit {0}

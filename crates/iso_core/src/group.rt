@@ -1,8 +1,8 @@
 // The end of a group.
-ghost use Rattle.std.specs.Prelude.{◌≡◌, ◌≢◌, ◌⊎◌, ◌+◌, ◌<◌, ◌++◌, true, false, List, [], ◌∷◌, OnOk, IfErr, IsErrOf, length};
+ghost use Rattle.std.specs.Prelude.{◌≡◌, ◌≢◌, ◌⊎◌, ◌+◌, ◌<◌, ◌++◌, true, false, List, [], ◌∷◌, OnOk, IfErr, IsErrOf, length, map};
 ghost use Rattle.iso_disk.specs.Disk.{LeavesOnly, StaysTold};
 ghost use Rattle.iso_model.specs.{declared.access.Commit.Commit, World.{World, Live}, Group.{group, leave_all}, Between.ShowsEither, History.with_commits};
-ghost use Rattle.iso_core.specs.{Calls.BlamesDisk, Core.AreOf, Kept.IsOf, Planned.{AreEach, IsPlannedFor, IsReady}, Standing.{down, up}};
+ghost use Rattle.iso_core.specs.{Calls.BlamesDisk, Core.AreOf, Kept.IsOf, Planned.{AreEach, IsPlannedFor, IsReady, unsettled}, Standing.{down, up}};
 
 use crate::append::append_all;
 use crate::group_end::GroupEnd;
@@ -52,17 +52,18 @@ fn prepare_group(
     kept: &mut Kept,
     plan: &mut Plan,
     replies: &mut Vec<GroupReply>,
-    ends: &[GroupEnd],
+    ends: &mut [GroupEnd],
 ) -> Result<(), Memory>
-    requires ready { (W : World) × (members : List Live) × IsOf kept.old W × AreEach (IsReady W) ends.now members }
+    requires ready { (W : World) × (members : List Live) × IsOf kept.old W × AreEach (IsReady W) ends.old members }
     requires empty { (plan.old.bytes.items ≡ []) × (plan.old.staged.items ≡ []) × (plan.old.parts.items ≡ []) × (plan.old.notes.notes ≡ []) }
     requires none { replies.old.items ≡ [] }
-    ensures planned { (W : World) (members : List Live) → IsOf kept.old W → AreEach (IsReady W) ends.now members
+    ensures planned { (W : World) (members : List Live) → IsOf kept.old W → AreEach (IsReady W) ends.old members
         → OnOk result (IsPlannedFor W members plan.new kept.new replies.new.items) }
     ensures same { (W : World) → IsOf kept.old W → IsOf kept.new W }
     ensures half { kept.new.half ≡ kept.old.half }
     ensures down { kept.new.down ≡ kept.old.down }
     ensures log { kept.new.log ≡ kept.old.log }
+    ensures members { map unsettled ends.new ≡ map unsettled ends.old }
 {
     make_room(plan, replies, ends.len())?;
     plan_members(kept, plan, replies, ends)?;
@@ -72,32 +73,33 @@ fn prepare_group(
 }
 
 /// Ends members whose works are settled, while the core is up: all their commits are in one append, or none. The replies
-/// are handed out in order. Of the plan the memory alone is used.
+/// are handed out in order. Of the plan the memory alone is used. The works are settled no more.
 pub(crate) fn end_ready<D: Disk>(
     kept: &mut Kept,
     disk: &mut D,
     plan: &mut Plan,
     replies: &mut Vec<GroupReply>,
-    ends: &[GroupEnd],
+    ends: &mut [GroupEnd],
 ) -> Result<(), CoreError>
-    requires ready { (W : World) × (members : List Live) × AreOf (D.state disk.old) kept.old W up × AreEach (IsReady W) ends.now members }
+    requires ready { (W : World) × (members : List Live) × AreOf (D.state disk.old) kept.old W up × AreEach (IsReady W) ends.old members }
     requires none { replies.old.items ≡ [] }
 
     // The replies and the world are the model's.
-    ensures ended { (W : World) (members : List Live) → AreOf (D.state disk.old) kept.old W up → AreEach (IsReady W) ends.now members
+    ensures ended { (W : World) (members : List Live) → AreOf (D.state disk.old) kept.old W up → AreEach (IsReady W) ends.old members
         → OnOk result ((replies.new.items ≡ (group W members).0) × AreOf (D.state disk.new) kept.new (group W members).1 up) }
     ensures same { (W : World) → AreOf (D.state disk.old) kept.old W up → IfErr result (λ e. e ≢ CoreError.Disk → AreOf (D.state disk.new) kept.new W up) }
     ensures only { IfErr result (λ e. (e ≡ CoreError.Disk) ⊎ (e ≡ CoreError.Memory)) }
+    ensures members { map unsettled ends.new ≡ map unsettled ends.old }
 
     // At each moment an image shows the history before the group or after the whole of it.
-    ensures moments { (W : World) (members : List Live) → AreOf (D.state disk.old) kept.old W up → AreEach (IsReady W) ends.now members
+    ensures moments { (W : World) (members : List Live) → AreOf (D.state disk.old) kept.old W up → AreEach (IsReady W) ends.old members
         → LeavesOnly (D.state disk.old) (D.state disk.new) (ShowsEither W (group W members).1) }
-    ensures lost { (W : World) (members : List Live) → AreOf (D.state disk.old) kept.old W up → AreEach (IsReady W) ends.now members → IsErrOf result CoreError.Disk
+    ensures lost { (W : World) (members : List Live) → AreOf (D.state disk.old) kept.old W up → AreEach (IsReady W) ends.old members → IsErrOf result CoreError.Disk
         → (more : List Commit) × ((group W members).1.history ≡ with_commits more W.history) × AreOf (D.state disk.new) kept.new (leave_all members W) (down more) }
 
     // The disk fails for a commit alone. Nothing is written where no member commits, nor where memory is wanting.
-    ensures commits { (W : World) (members : List Live) → AreOf (D.state disk.old) kept.old W up → AreEach (IsReady W) ends.now members → IsErrOf result CoreError.Disk → (group W members).1.history ≢ W.history }
-    ensures unwritten { (W : World) (members : List Live) → AreOf (D.state disk.old) kept.old W up → AreEach (IsReady W) ends.now members → (group W members).1.history ≡ W.history → disk.new ≡ disk.old }
+    ensures commits { (W : World) (members : List Live) → AreOf (D.state disk.old) kept.old W up → AreEach (IsReady W) ends.old members → IsErrOf result CoreError.Disk → (group W members).1.history ≢ W.history }
+    ensures unwritten { (W : World) (members : List Live) → AreOf (D.state disk.old) kept.old W up → AreEach (IsReady W) ends.old members → (group W members).1.history ≡ W.history → disk.new ≡ disk.old }
     ensures untouched { IfErr result (λ e. e ≢ CoreError.Disk → disk.new ≡ disk.old) }
     ensures told { OnOk result (StaysTold (D.state disk.old) (D.state disk.new)) }
     ensures cause { BlamesDisk (D.state disk.old).faults (D.state disk.new).faults result }

@@ -1,10 +1,10 @@
 // How a member of a group ends, after those before it.
-ghost use Rattle.std.specs.Prelude.{◌≡◌, ℕ, ◌+◌, ◌<◌, ◌++◌, [], ◌∷◌, true, List, None, OnOk, IfNone, IfOk, IfSome, map};
+ghost use Rattle.std.specs.Prelude.{◌≡◌, ℕ, ◌+◌, ◌<◌, ◌++◌, [], ◌∷◌, true, List, None, OnOk, IfOk, map};
 ghost use Rattle.byte_marks.specs.{declared.extent.Extent.Extent, Touched.AreTouched};
 ghost use Rattle.iso_model.specs.{declared.access.Kind.TheVariants.{Read, Write}, declared.access.Commit.Commit, declared.access.Geometry.Geometry, Conflict.clash, History.{History, last}, Step.{end_step, commit_from}, declared.limits.TheConstants.LAST, Worlds.IsWorld, World.{World, Live}, Group.{ahead, made_by, member_reply}};
 ghost use Rattle.conflict_rule.specs.Decision.{IsAsked};
 ghost use Rattle.version_read.specs.Parts.{part_of};
-ghost use Rattle.iso_core.specs.{Ends.{AreNextRecords, IsSettledOf, MayCommit, written_of}, Kept.IsOf, Calls.IsTx, Planned.{is_commit, IfCommits, IsAhead, AreEach, HasPlanned, IsNextStaged, IsReady}};
+ghost use Rattle.iso_core.specs.{Ends.{AreNextRecords, IsSettledOf, MayCommit, written_of}, Kept.IsOf, Calls.IsTx, Planned.{is_commit, IfCommits, IsAhead, AreEach, HasPlanned, IsNextStaged, IsReady, unsettled}};
 
 use crate::group_end::GroupEnd;
 use crate::kept::Kept;
@@ -149,21 +149,22 @@ fn push_staged(staged: &mut Vec<Staged>, at: u64, count: usize) -> Result<(), Me
     Ok(())
 }
 
-/// Adds the spelled record to those of the plan, as that of a commit with this work.
-fn stage(kept: &mut Kept, plan: &mut Plan, work: &Work) -> Result<(), Memory>
-    requires { (W : World) × (more : List Commit) × (tx : ℕ) × (t : Live) × IsOf kept.old W × IsAhead W more plan.old × IsSettledOf W t work.now × IsNextStaged (ahead W more) tx t kept.old }
+/// Adds the spelled record to those of the plan, as that of a commit with this work, of which it takes over what was written.
+fn stage(kept: &mut Kept, plan: &mut Plan, work: &mut Work) -> Result<(), Memory>
+    requires { (W : World) × (more : List Commit) × (tx : ℕ) × (t : Live) × IsOf kept.old W × IsAhead W more plan.old × IsSettledOf W t work.old × IsNextStaged (ahead W more) tx t kept.old }
     ensures same { kept.new ≡ kept.old }
-    ensures ahead { (W : World) (more : List Commit) (tx : ℕ) (t : Live) → IsOf kept.old W → IsAhead W more plan.old → IsSettledOf W t work.now → IsNextStaged (ahead W more) tx t kept.old
+    ensures ahead { (W : World) (more : List Commit) (tx : ℕ) (t : Live) → IsOf kept.old W → IsAhead W more plan.old → IsSettledOf W t work.old → IsNextStaged (ahead W more) tx t kept.old
         → OnOk result (IsAhead W (more ++ commit_from t ∷ []) plan.new) }
+    ensures work { work.new ≡ record work.old { settled = work.new.settled } }
 {
     let number = kept.log.last() + plan.staged.len() as u64 + 1;
     let at = plan.bytes.len() as u64;
-    let mut writes = kept.notes.spare_set();
-    writes.copy_from(work.writes())?;
     push_staged(&mut plan.staged, at, kept.parts.len())?;
     push_parts(&mut plan.parts, kept.parts.as_slice())?;
     push_bytes(&mut plan.bytes, records_in(&kept.buffer))?;
     plan.notes.reserve()?;
+    let spare = kept.notes.spare_set();
+    let writes = work.take_writes(spare);
     plan.notes.add(number, writes);
     Ok(())
 }
@@ -176,11 +177,17 @@ fn commits(reply: &GroupReply) -> bool
 }
 
 /// Adds the spelled record to those of the plan, where the reply is a commit.
-fn stage_if(kept: &mut Kept, plan: &mut Plan, work: &Work, reply: &GroupReply) -> Result<(), Memory>
-    requires { (W : World) × (more : List Commit) × (tx : ℕ) × (t : Live) × IsOf kept.old W × IsAhead W more plan.old × IsSettledOf W t work.now × IfCommits reply.now (IsNextStaged (ahead W more) tx t kept.old) }
+fn stage_if(
+    kept: &mut Kept,
+    plan: &mut Plan,
+    work: &mut Work,
+    reply: &GroupReply,
+) -> Result<(), Memory>
+    requires { (W : World) × (more : List Commit) × (tx : ℕ) × (t : Live) × IsOf kept.old W × IsAhead W more plan.old × IsSettledOf W t work.old × IfCommits reply.now (IsNextStaged (ahead W more) tx t kept.old) }
     ensures same { kept.new ≡ kept.old }
-    ensures ahead { (W : World) (more : List Commit) (tx : ℕ) (t : Live) → IsOf kept.old W → IsAhead W more plan.old → IsSettledOf W t work.now → IfCommits reply.now (IsNextStaged (ahead W more) tx t kept.old)
+    ensures ahead { (W : World) (more : List Commit) (tx : ℕ) (t : Live) → IsOf kept.old W → IsAhead W more plan.old → IsSettledOf W t work.old → IfCommits reply.now (IsNextStaged (ahead W more) tx t kept.old)
         → OnOk result (IsAhead W (more ++ made_by t reply.now) plan.new) }
+    ensures work { work.new ≡ record work.old { settled = work.new.settled } }
 {
     if !commits(reply) {
         return Ok(());
@@ -200,27 +207,20 @@ pub(crate) fn plan_member(
     kept: &mut Kept,
     plan: &mut Plan,
     replies: &mut Vec<GroupReply>,
-    member: &GroupEnd,
+    member: &mut GroupEnd,
 ) -> Result<(), Memory>
-    requires { (W : World) × (more : List Commit) × (t : Live) × IsOf kept.old W × IsAhead W more plan.old × IsReady W member.now t }
-    ensures ahead { (W : World) (more : List Commit) (t : Live) → IsOf kept.old W → IsAhead W more plan.old → IsReady W member.now t
+    requires { (W : World) × (more : List Commit) × (t : Live) × IsOf kept.old W × IsAhead W more plan.old × IsReady W member.old t }
+    ensures ahead { (W : World) (more : List Commit) (t : Live) → IsOf kept.old W → IsAhead W more plan.old → IsReady W member.old t
         → OnOk result (IsAhead W (more ++ made_by t (member_reply (end_step (ahead W more) t).0)) plan.new) }
-    ensures replies { (W : World) (more : List Commit) (t : Live) → IsOf kept.old W → IsAhead W more plan.old → IsReady W member.now t
+    ensures replies { (W : World) (more : List Commit) (t : Live) → IsOf kept.old W → IsAhead W more plan.old → IsReady W member.old t
         → OnOk result (replies.new.items ≡ replies.old.items ++ member_reply (end_step (ahead W more) t).0 ∷ []) }
     ensures same { kept.new ≡ record kept.old { buffer = kept.new.buffer; parts = kept.new.parts } }
+    ensures member { unsettled member.new ≡ unsettled member.old }
 {
     let reply = judge(kept, plan, member)?;
-    stage_if(kept, plan, &member.work, &reply)?;
+    stage_if(kept, plan, &mut member.work, &reply)?;
     push_reply(replies, reply)?;
     Ok(())
-}
-
-/// The first member, and the others.
-pub(crate) fn first_member(group: &[GroupEnd]) -> Option<(&GroupEnd, &[GroupEnd])>
-    ensures some { IfSome result (λ x. group.now ≡ x.0.now ∷ x.1.now) }
-    ensures none { IfNone result (group.now ≡ []) }
-{
-    group.split_first()
 }
 
 /// Decides all members in order, each after those before it.
@@ -228,14 +228,15 @@ pub(crate) fn plan_members(
     kept: &mut Kept,
     plan: &mut Plan,
     replies: &mut Vec<GroupReply>,
-    group: &[GroupEnd],
+    group: &mut [GroupEnd],
 ) -> Result<(), Memory>
-    requires { (W : World) × (more : List Commit) × (members : List Live) × IsOf kept.old W × IsAhead W more plan.old × AreEach (IsReady W) group.now members }
-    ensures planned { (W : World) (more : List Commit) (members : List Live) → IsOf kept.old W → IsAhead W more plan.old → AreEach (IsReady W) group.now members
+    requires { (W : World) × (more : List Commit) × (members : List Live) × IsOf kept.old W × IsAhead W more plan.old × AreEach (IsReady W) group.old members }
+    ensures planned { (W : World) (more : List Commit) (members : List Live) → IsOf kept.old W → IsAhead W more plan.old → AreEach (IsReady W) group.old members
         → OnOk result (HasPlanned W more members plan.new replies.old.items replies.new.items) }
     ensures same { kept.new ≡ record kept.old { buffer = kept.new.buffer; parts = kept.new.parts } }
+    ensures members { map unsettled group.new ≡ map unsettled group.old }
 {
-    let Some((member, rest)) = first_member(group) else {
+    let Some((member, rest)) = group.split_first_mut() else {
         return Ok(());
     };
     plan_member(kept, plan, replies, member)?;

@@ -4,10 +4,9 @@ ghost use Rattle.iso_image.specs.Half.{Half};
 ghost use Rattle.iso_model.specs.{declared.access.Commit.Commit, declared.access.Geometry.Geometry, Geometry.log_place, Image.written, World.{World, Live}, Group.{ahead, leave_all}};
 ghost use Rattle.mv_index.specs.Placed.{IsIndexOf};
 ghost use Rattle.version_read.specs.Parts.{HasRoom};
-ghost use Rattle.iso_core.specs.{Kept.{AreNeeded, IsOf}, Planned.{AreEach, IsAhead, IsGrownWith, IsReady, IsReserved, MayTakeAll}};
+ghost use Rattle.iso_core.specs.{Kept.{AreNeeded, IsOf}, Planned.{AreEach, IsAhead, IsGrownWith, IsLiveMember, IsReserved, MayTakeAll}};
 
 use crate::group_end::GroupEnd;
-use crate::judge::first_member;
 use crate::kept::Kept;
 use crate::leave::leave;
 use crate::plan::{Plan, Staged};
@@ -92,10 +91,18 @@ pub(crate) fn take_plan(kept: &mut Kept, gate: u64, plan: &mut Plan)
     kept.notes.take_all(notes);
 }
 
+// The first member, and the others.
+fn first_member(group: &[GroupEnd]) -> Option<(&GroupEnd, &[GroupEnd])>
+    ensures some { IfSome result (λ x. group.now ≡ x.0.now ∷ x.1.now) }
+    ensures none { IfNone result (group.now ≡ []) }
+{
+    group.split_first()
+}
+
 // Takes all members out, one after the other.
 fn leave_each(kept: &mut Kept, group: &[GroupEnd])
-    requires { (W : World) × (members : List Live) × IsOf kept.old W × AreEach (IsReady W) group.now members }
-    ensures left { (W : World) (members : List Live) → IsOf kept.old W → AreEach (IsReady W) group.now members → IsOf kept.new (leave_all members W) }
+    requires { (W : World) × (members : List Live) × IsOf kept.old W × AreEach (IsLiveMember W) group.now members }
+    ensures left { (W : World) (members : List Live) → IsOf kept.old W → AreEach (IsLiveMember W) group.now members → IsOf kept.new (leave_all members W) }
     ensures half { kept.new.half ≡ kept.old.half }
     ensures down { kept.new.down ≡ kept.old.down }
 {
@@ -108,8 +115,8 @@ fn leave_each(kept: &mut Kept, group: &[GroupEnd])
 
 // Takes all members out. Where no other is live, none is left.
 fn leave_all(kept: &mut Kept, group: &[GroupEnd])
-    requires { (W : World) × (members : List Live) × IsOf kept.old W × AreEach (IsReady W) group.now members }
-    ensures left { (W : World) (members : List Live) → IsOf kept.old W → AreEach (IsReady W) group.now members → IsOf kept.new (leave_all members W) }
+    requires { (W : World) × (members : List Live) × IsOf kept.old W × AreEach (IsLiveMember W) group.now members }
+    ensures left { (W : World) (members : List Live) → IsOf kept.old W → AreEach (IsLiveMember W) group.now members → IsOf kept.new (leave_all members W) }
     ensures half { kept.new.half ≡ kept.old.half }
     ensures down { kept.new.down ≡ kept.old.down }
 {
@@ -134,9 +141,9 @@ fn drop_notes(kept: &mut Kept)
 
 /// Takes all members out, and the notes that no live transaction needs any more. It takes no memory.
 pub(crate) fn leave_members(kept: &mut Kept, group: &[GroupEnd])
-    requires { (W : World) × (members : List Live) × IsOf kept.old W × AreEach (IsReady W) group.now members }
-    ensures left { (W : World) (members : List Live) → IsOf kept.old W → AreEach (IsReady W) group.now members → IsOf kept.new (leave_all members W) }
-    ensures needed { (W : World) (members : List Live) → IsOf kept.old W → AreEach (IsReady W) group.now members → AreNeeded (leave_all members W) kept.new.notes }
+    requires { (W : World) × (members : List Live) × IsOf kept.old W × AreEach (IsLiveMember W) group.now members }
+    ensures left { (W : World) (members : List Live) → IsOf kept.old W → AreEach (IsLiveMember W) group.now members → IsOf kept.new (leave_all members W) }
+    ensures needed { (W : World) (members : List Live) → IsOf kept.old W → AreEach (IsLiveMember W) group.now members → AreNeeded (leave_all members W) kept.new.notes }
     ensures half { kept.new.half ≡ kept.old.half }
     ensures down { kept.new.down ≡ kept.old.down }
 {

@@ -1,4 +1,4 @@
-use Rattle.iso_core.proofs.{Words.{◌≡◌, ◌≢◌, ◌∙◌, ◌⊎◌, sym, ap, ℕ, ◌+◌, ◌<◌, ◌++◌, [], ◌∷◌, List, length, map, subst, arith, DiskState, LeavesOnly, weakened, IsHeld, half_of_world, next_gate, with_records, extent_of, image_size, last, records, written, World, Live, GroupReply, Kept, AreOf, AreNextRecords, ahead, group, leave_all, IsOf, AreEach, IsGrownWith, IsPlannedFor, IsReady, up, ShowsEither}, Committing.{down_on, keeps_stand}, Grouping.{fits_kept, group_core, group_so, grown_with, history_so, leave_all_is, left_all, lost_group, many, next_records, none_ahead, other_history, ready_ahead, shows_group, shows_lost}, Moments.stays_shown, group.end_ready.Goals.After-as_slice}
+use Rattle.iso_core.proofs.{Words.{◌≡◌, ◌≢◌, ◌∙◌, ◌⊎◌, sym, ap, ℕ, ◌+◌, ◌<◌, ◌++◌, [], ◌∷◌, List, length, map, subst, arith, DiskState, LeavesOnly, weakened, IsHeld, half_of_world, next_gate, with_records, extent_of, image_size, last, records, written, World, Live, GroupReply, Kept, AreOf, AreNextRecords, ahead, group, leave_all, IsOf, AreEach, IsGrownWith, IsPlannedFor, IsReady, up, ShowsEither}, Committing.{down_on, keeps_stand}, Grouping.{fits_kept, group_core, group_so, grown_with, history_so, leave_all_is, left_all, live_members, lost_group, many, members_ahead, next_records, none_ahead, other_history, shows_group, shows_lost}, Moments.stays_shown, group.end_ready.Goals.After-as_slice}
 use Rattle.iso_core.proofs.group.end_ready.Goals as goal
 
 pub prepare_group-requires-clause-ready : goal.prepare_group-requires-clause-ready
@@ -12,7 +12,9 @@ returns-in-Err-clause-moments g c W members of each =
     stays_shown (g.D.Disk.state c.args.disk.now) (g.met.D.Disk.lawful c.args.disk.now) c.args.kept.now W (group W members).1 of
 
 pub leave_members-requires : goal.leave_members-requires
-leave_members-requires g c = grind arith
+leave_members-requires g c =
+    let (W, members, of, each) = c.requires.ready in
+    (W, members, c.prepare_group.ensures.same W of.kept_of, live_members W c.prepare_group.new.ends c.args.ends.now members c.prepare_group.ensures.members each)
 
 pub returns-then-is_bare-clause-ended : goal.returns-then-is_bare-clause-ended
 returns-then-is_bare-clause-ended g c W members of each =
@@ -26,7 +28,7 @@ returns-then-is_bare-clause-ended g c W members of each =
       ap (λ (x : List GroupReply × World). x.0) whole,
       subst (λ (x : List GroupReply × World). AreOf d c.leave_members.new.kept x.1 up) whole
           (left_all d kept c.leave_members.new.kept W members (keeps_stand d c.args.kept.now kept W of one c.prepare_group.ensures.half c.prepare_group.ensures.down)
-          (c.leave_members.ensures.left W members one each) c.leave_members.ensures.half c.leave_members.ensures.down),
+          (c.leave_members.ensures.left W members one (live_members W c.prepare_group.new.ends c.args.ends.now members c.prepare_group.ensures.members each)) c.leave_members.ensures.half c.leave_members.ensures.down),
     )
 
 pub returns-then-is_bare-clause-moments : goal.returns-then-is_bare-clause-moments
@@ -95,10 +97,13 @@ leave_members-requires-in-Ok g c =
     let stage = stands g s W members of each in
     let p = planned g s W members of each in
     let log_is = c.in-Ok.ensures.grown W (map (written W.geometry) p.all) (all g s W members of each) stage (next g s W members of each) (bytes g s W members of each) in
-    (ahead W p.all, members, c.take_plan.ensures.taken W p.all (grown g s W members of each c.append_all.new.kept c.in-Ok.gate log_is (c.in-Ok.ensures.gate W stage)), ready_ahead W p.all c.args.ends.now members each)
+    (ahead W p.all, members, c.take_plan.ensures.taken W p.all (grown g s W members of each c.append_all.new.kept c.in-Ok.gate log_is (c.in-Ok.ensures.gate W stage)), members_ahead W p.all c.prepare_group.new.ends members (live_members W c.prepare_group.new.ends c.args.ends.now members c.prepare_group.ensures.members each))
 
 pub leave_members-requires-in-Err-append_all : goal.leave_members-requires-in-Err-append_all
-leave_members-requires-in-Err-append_all g c = grind (arith, down_on)
+leave_members-requires-in-Err-append_all g c =
+    let (W, members, of, each) = c.requires.ready in
+    let stage = stands g (goal.at.leave_members-requires-in-Err-append_all g c).After-as_slice W members of each in
+    (W, members, down_on c.append_all.new.kept W _ (subst (λ (k : Kept). IsOf k W) (sym c.in-Err-append_all.ensures.kept) stage.kept_of), live_members W c.prepare_group.new.ends c.args.ends.now members c.prepare_group.ensures.members each)
 
 pub returns-in-Ok-clause-ended : goal.returns-in-Ok-clause-ended
 returns-in-Ok-clause-ended g c W members of each =
@@ -115,7 +120,7 @@ returns-in-Ok-clause-ended g c W members of each =
       ap (λ (x : List GroupReply × World). x.0) (whole g s W members of each),
       subst (λ (x : List GroupReply × World). AreOf new c.leave_members-in-Ok.new.kept x.1 up) (whole g s W members of each)
           (group_core W p.all c.prepare_group.new.plan of.kept_of.world p.has d new c.prepare_group.new.kept c.append_all.new.kept c.take_plan.new.kept c.leave_members-in-Ok.new.kept members stage
-          (c.leave_members-in-Ok.ensures.left (ahead W p.all) members taken (ready_ahead W p.all c.args.ends.now members each))
+          (c.leave_members-in-Ok.ensures.left (ahead W p.all) members taken (members_ahead W p.all c.prepare_group.new.ends members (live_members W c.prepare_group.new.ends c.args.ends.now members c.prepare_group.ensures.members each)))
           (c.append_all.ensures.moments W more (all g s W members of each) stage is ends).same_size c.in-Ok.ensures.settled
           (ap (λ (k : Kept). k.half) log_is) c.take_plan.ensures.half c.leave_members-in-Ok.ensures.half c.leave_members-in-Ok.ensures.down c.take_plan.ensures.down (ap (λ (k : Kept). k.down) log_is)
           (c.in-Ok.ensures.held W more (all g s W members of each) stage is ends)),
@@ -151,7 +156,7 @@ returns-in-Err-append_all-clause-lost g c W members of each failed =
       p.all,
       history_so W members p.all c.prepare_group.new.replies.items p.decides,
       lost_group (g.D.Disk.state c.args.disk.now) (g.D.Disk.state c.append_all.new.disk) c.leave_members-in-Err-append_all.new.kept W p.all members (g.met.D.Disk.lawful c.append_all.new.disk) (sym run.same_size)
-          (c.leave_members-in-Err-append_all.ensures.left W members (down_on c.append_all.new.kept W _ (subst (λ (k : Kept). IsOf k W) (sym c.in-Err-append_all.ensures.kept) stage.kept_of)) each)
+          (c.leave_members-in-Err-append_all.ensures.left W members (down_on c.append_all.new.kept W _ (subst (λ (k : Kept). IsOf k W) (sym c.in-Err-append_all.ensures.kept) stage.kept_of)) (live_members W c.prepare_group.new.ends c.args.ends.now members c.prepare_group.ensures.members each))
           c.leave_members-in-Err-append_all.ensures.down
           (of.size ∙ ap (λ (V : World). image_size V.geometry) (sym (leave_all_is members W)))
           (weakened run (shows_lost W p.all c.prepare_group.new.plan of.kept_of.world p.has c.prepare_group.new.kept.half members)),
