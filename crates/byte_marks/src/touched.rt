@@ -6,7 +6,6 @@ use crate::Marks;
 use iso_model::Memory;
 use std::alloc::Global;
 use std::marker::Model;
-use std::mem;
 
 /// For each block, rising, the bytes that a transaction's reads or its writes touch.
 #[derive(Drop)]
@@ -178,23 +177,5 @@ impl Touched {
             entries.push((entry.0, entry.1.copy()?))?;
         }
         Ok(Touched { entries })
-    }
-
-    /// Has the bytes of another set, in the memory that it has as far as that does.
-    ///
-    /// # Errors
-    ///
-    /// Want of memory. It has no bytes then.
-    pub fn copy_from(&mut self, other: &Touched) -> Result<(), Memory>
-        ensures { OnOk result (self.new ≡ other.now) }
-    {
-        let mut entries = mem::replace(&mut self.entries, Vec::new(*other.entries.allocator()));
-        entries.clear();
-        entries.reserve_exact(other.entries.len())?;
-        for entry in &other.entries {
-            entries.push((entry.0, entry.1.copy()?))?;
-        }
-        self.entries = entries;
-        Ok(())
     }
 }
