@@ -140,6 +140,47 @@ members_leave live (n ∷ numbers) (t ∷ members) placed are =
     ∙ members_leave (without t.number live) numbers members (all_filter (λ u. u.place ≡ client u.number) (λ u. not (u.number == t.number)) live placed)
     (subst (λ (k : ℕ). AreMembers (without k live) numbers members) (sym number) (members_without n live numbers members placed are.1 are.2))
 
+-- who leaves first makes no difference
+without_both : (n m : ℕ) (live : List Live) → without n (without m live) ≡ without m (without n live)
+without_both n m [] = refl
+without_both n m (u ∷ live) = go (u.number == n) (u.number == m) refl refl (without_both n m live)
+  where
+    go : (a b : Bool) → (u.number == n) ≡ a → (u.number == m) ≡ b → without n (without m live) ≡ without m (without n live) → without n (without m (u ∷ live)) ≡ without m (without n (u ∷ live))
+    go true true e f more = rw (e, f) more
+    go true false e f more = rw (f, e) more
+    go false true e f more = rw (e, f) more
+    go false false e f more = rw (e, f, e) (ap (λ (l : List Live). u ∷ l) more)
+
+none_leaves : (n : ℕ) (live : List Live) → ArePlaced live → of_number n live ≡ None → without n live ≡ live
+none_leaves n [] placed none = refl
+none_leaves n (u ∷ live) placed none =
+    go (n == u.number) refl (subst (λ place. cond (is_at_client n place) (Some u) (of_number n live) ≡ None) placed.0 none) (λ rest. none_leaves n live placed.1 rest)
+  where
+    go : (b : Bool) → (n == u.number) ≡ b → cond b (Some u) (of_number n live) ≡ None → (of_number n live ≡ None → without n live ≡ live) → without n (u ∷ live) ≡ u ∷ live
+    go true same is later = absurd (cc is)
+    go false same is later = let other : (u.number == n) ≡ false = grind (arith, nat_tests) in rw other (ap (λ (l : List Live). u ∷ l) (later is))
+
+-- whom a number finds leaves by it
+one_leaves : (n : ℕ) (live : List Live) → ArePlaced live → without_found live (of_number n live) ≡ without n live
+one_leaves n live placed = go (of_number n live) refl
+  where
+    go : (o : Option Live) → of_number n live ≡ o → without_found live o ≡ without n live
+    go None found = sym (none_leaves n live placed found)
+    go (Some t) found = ap (λ (k : ℕ). without k live) (found_number n live t placed found)
+
+-- so the last of them may leave first
+pub last_leaves : (numbers : List ℕ) (m : ℕ) (live : List Live) → ArePlaced live → left_of (numbers ++ m ∷ []) live ≡ left_of numbers (without_found live (of_number m live))
+last_leaves [] m live placed = refl
+last_leaves (n ∷ numbers) m live placed =
+    let one = one_leaves n live placed in
+    let other = one_leaves m live placed in
+    let stay : (k : ℕ) → ArePlaced (without k live) = λ k. all_filter (λ u. u.place ≡ client u.number) (λ u. not (u.number == k)) live placed in
+    let mid : ArePlaced (without_found live (of_number n live)) = subst (λ (l : List Live). ArePlaced l) (sym one) (stay n) in
+    let late : ArePlaced (without_found live (of_number m live)) = subst (λ (l : List Live). ArePlaced l) (sym other) (stay m) in
+    last_leaves numbers m (without_found live (of_number n live)) mid
+    ∙ ap (left_of numbers) (one_leaves m (without_found live (of_number n live)) mid ∙ ap (without m) one ∙ without_both m n live ∙ ap (without n) (sym other)
+    ∙ sym (one_leaves n (without_found live (of_number m live)) late))
+
 -- AN END THAT HAS ROOM
 -- The end of a transaction: it is gone, and the log has grown by no more than its record.
 pub record EndsWell (W : World) (t : Live) (given : CoreReply × World) : Type 0 where

@@ -48,6 +48,8 @@ pub(crate) fn places_of(alloc: Global, live: &[Seat], numbers: &[u64]) -> Option
     ensures { IfSome result (λ places. StandAt live.now numbers.now places.items) }
 {
     let mut places = Vec::new(alloc);
+    // Without memory for all of them the list grows step by step.
+    let _ = places.reserve(numbers.len());
     if !find_places(live, numbers, &mut places) {
         return None;
     }
@@ -68,15 +70,15 @@ fn leave_one(live: &mut Vec<Seat>, spare: &mut Vec<Box<Work>>, number: u64)
     keep_spare(spare, gone.work);
 }
 
-/// The transactions of these numbers leave the list.
+/// The transactions of these numbers leave the list, the last one first: numbers mostly rise, so few others have to move.
 pub(crate) fn leave(live: &mut Vec<Seat>, spare: &mut Vec<Box<Work>>, numbers: &[u64])
     requires { AreDistinct (map live_of live.old.items) }
     ensures live { map live_of live.new.items ≡ left_of numbers.now (map live_of live.old.items) }
     ensures sized { (g : Geometry) → AllByRecursion (IsSized g) live.old.items → AllByRecursion (IsSized g) live.new.items }
 {
-    let Some((first, others)) = numbers.split_first() else {
+    let Some((last, others)) = numbers.split_last() else {
         return;
     };
-    leave_one(live, spare, *first);
+    leave_one(live, spare, *last);
     leave(live, spare, others);
 }
