@@ -56,11 +56,13 @@ pub(crate) fn label(word: &[u8]) -> Result<Label, LineError>
     Label::new(word).ok_or(LineError::Cause(6))
 }
 
-/// The labels that the words of a text spell.
-pub(crate) fn labels(alloc: Global, text: &[u8]) -> Result<LabelList, LineError>
+/// The labels that the words of a text spell, which has `count` words.
+pub(crate) fn labels(alloc: Global, count: u32, text: &[u8]) -> Result<LabelList, LineError>
     ensures { Gives result (labels_of (words_of text.now)) }
 {
     let mut labels = LabelList::empty(alloc);
+    // Without memory for all of them the list grows step by step.
+    let _ = labels.reserve(count);
     push_labels(&mut labels, text)?;
     Ok(labels)
 }

@@ -291,7 +291,7 @@ fn group(alloc: Global, client: u8, arguments: &[u8]) -> Result<Parsed, LineErro
     if count == 0 || count > MAX_LABELS {
         return Err(LineError::Cause(3));
     }
-    let labels = labels(alloc, arguments)?;
+    let labels = labels(alloc, count as u32, arguments)?;
     Ok(Parsed::Line(Line {
         client,
         op: Op::Group { labels },
