@@ -1,5 +1,5 @@
 //! Threads that commit transactions on a file, where each sync takes a while: each ends its own, or all end them together
-//! (`end_with` of `group_commit`).
+//! (`end_with` of `committer`).
 //!
 //! `commit_load THREADS COMMITS PAUSE plain|together` prints how many have committed, of COMMITS in each thread, and how many syncs of PAUSE
 //! microseconds that took. Without words it runs four small loads. The image is `commit_load.img` in the folder where it runs, removed

@@ -4,7 +4,7 @@ ghost use Rattle.iso_shared.specs.Ports.{IsPort, port_view};
 ghost use Rattle.commit_load.specs.Seats.{AreSeated, IsWorker};
 
 use ask_desk::{Client, Desk};
-use group_commit::{Ends, OfDevice};
+use committer::{Ends, OfDevice};
 use iso_disk::Disk;
 use iso_shared::{Origin, Port, Shared};
 use std::alloc::Global;

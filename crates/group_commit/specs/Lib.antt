@@ -1,5 +1,2 @@
 pub mod Each
 pub mod Groups
-pub mod Outcomes
-pub mod Serving
-pub mod Together

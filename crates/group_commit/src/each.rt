@@ -84,8 +84,12 @@ pub fn end_each<D: Disk + Drop, O: Origin, R: Wait>(
     }
 }
 
-// Room for what so many members are told.
-pub(crate) fn told_room<D: Disk + Drop, O: Origin>(
+/// Room for what `count` members are told.
+///
+/// # Errors
+///
+/// Want of memory.
+pub fn told_room<D: Disk + Drop, O: Origin>(
     alloc: Global,
     count: usize,
 ) -> Result<Vec<Ended<D, O>>, Memory>

@@ -1,23 +1,16 @@
-//! Transactions that end as a group: those found under labels, those handed in to one caller, and those that threads hand in at desks.
+//! Transactions that end as a group, in one turn: those found under labels, and those handed in to one caller.
 //!
 //! `commit_group` and `commit_each` say which entries they make and what members are answered (`did`, `told`); `commit_found` of none is never
-//! refused (`none`). `end_each` gives each a port that has seen its end. At a `Committer` one of those that wait serves all: `end`, `outcome`
-//! and `end_with` tell each its own reply (`outcome`, `did`); a session that comes alone ends its own itself. Ends may wait.
+//! refused (`none`). `end_each` gives each a port that has seen its end (`ok`), and hands a refused group back (`kept`). Ends may wait, and
+//! nothing promises that they return. How threads meet is the matter of `committer`.
 #![tactic(auto)]
 
 mod aborts;
 mod answers;
 mod commit;
-mod committer;
 mod each;
-mod ends;
 mod members;
-mod outcomes;
-mod serve;
-mod session_end;
 
 pub use commit::{commit_found, commit_group};
-pub use committer::Committer;
-pub use each::{Ended, commit_each, end_each};
-pub use ends::{Ends, OfDevice, Outcome, hand_in};
-pub use session_end::end_with;
+pub use each::{Ended, commit_each, end_each, told_room};
+pub use members::group_room;

@@ -37,8 +37,12 @@ pub(crate) fn let_go<D: Disk + Drop, O: Origin>(members: Vec<Option<Tx<D, O>>>)
     rest.destroy_empty();
 }
 
-/// A vector with room for `count` members.
-pub(crate) fn group_room<D: Disk + Drop, O: Origin>(
+/// Room for the members of a group of `count`.
+///
+/// # Errors
+///
+/// Want of memory.
+pub fn group_room<D: Disk + Drop, O: Origin>(
     alloc: Global,
     count: u32,
 ) -> Result<Vec<Tx<D, O>>, Memory>

@@ -2,7 +2,7 @@
 
 use crate::hall::{Clients, Hall, Play, played, same};
 use crate::waiting::{Told, hand, told};
-use group_commit::OfDevice;
+use committer::OfDevice;
 use iso_memdisk::MemDisk;
 use iso_model::{Clash, CoreError, GroupReply};
 use iso_shared::{Origin, Port};

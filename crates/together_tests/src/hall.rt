@@ -8,8 +8,8 @@ ghost use Rattle.iso_model.specs.{Geometry.is_valid, World.World};
 ghost use Rattle.iso_shared.specs.{Ports.{IsPort, first_geometry, port_view}, Standing.{Came, Holds}, States.opened};
 
 use ask_desk::{Client, Desk, Protocol};
+use committer::{Committer, Ends, OfDevice};
 use device_calls::{Beginning, beginning_of};
-use group_commit::{Committer, Ends, OfDevice};
 use iso_core::Core;
 use iso_memdisk::MemDisk;
 use iso_model::{Geometry, LAST};

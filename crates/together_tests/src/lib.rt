@@ -1,4 +1,4 @@
-//! Tests of the `Committer` of `group_commit`: transactions that wait at desks at one time, and sessions that end with nobody, over a
+//! Tests of the `Committer` of `committer`: transactions that wait at desks at one time, and sessions that end with nobody, over a
 //! new image in memory.
 #![tactic(auto)]
 

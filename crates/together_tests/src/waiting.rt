@@ -1,11 +1,12 @@
 // Transactions that are handed in at desks and wait there, and what they are told.
 ghost use Rattle.std.specs.Prelude.{◌≡◌, ◌+◌, ◌<◌, Some};
 ghost use Rattle.ask_desk.specs.Sides.{HasRequest, IsClient, Rests};
-ghost use Rattle.group_commit.specs.Outcomes.{MayEnd};
+ghost use Rattle.committer.specs.Outcomes.{MayEnd};
 ghost use Rattle.iso_shared.specs.{Ports.{IsPort, first_geometry, port_view}, declared.tx.Tx.{Tx}};
 
 use ask_desk::{Client, Desk};
-use group_commit::{Committer, Ended, Ends, OfDevice, Outcome, hand_in};
+use committer::{Committer, Ends, OfDevice, Outcome, hand_in};
+use group_commit::Ended;
 use handle_pass::Session;
 use iso_memdisk::MemDisk;
 use iso_model::{CoreError, GroupReply};

@@ -1,6 +1,6 @@
 use Rattle.std.proofs.Common.{arith}
 use Rattle.handle_pass.proofs.Handing.{more_units}
-use Rattle.group_commit.proofs.SessionEnds.{ended_same}
+use Rattle.committer.proofs.SessionEnds.{ended_same}
 use Rattle.commit_load.proofs.work.end_together.Goals as goal
 
 pub end_with-requires-clause-units : goal.end_with-requires-clause-units

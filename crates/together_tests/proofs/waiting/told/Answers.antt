@@ -1,5 +1,5 @@
 use Rattle.std.proofs.Common.{ℕ, ◌+◌, ◌∙◌, ap}
-use Rattle.group_commit.proofs.Rejoined.{told_of}
+use Rattle.committer.proofs.Rejoined.{told_of}
 use Rattle.iso_shared.specs.Ports.{port_view}
 use Rattle.together_tests.proofs.waiting.told.Goals as goal
 

@@ -1,4 +1,0 @@
-use Rattle.group_commit.proofs.committer.Committer.end.Goals as goal
-
-pub returns-clause-outcome : goal.returns-clause-outcome
-returns-clause-outcome g c = c.outcome.ensures.outcome c.args.tx c.hand_in.ensures.1
