@@ -8,7 +8,7 @@ pub use Rattle.iso_model.{proofs.Groups.{consecutive, group_is}, proofs.Held.{sh
 unfoldable pub use Rattle.iso_model.specs.{Array.put, Conflict.clash, Effect.runs, Group.group_step, Step.{begin_step, commit_step, end_step, switch_step}}
 pub use Rattle.script_model.{proofs.CoreSteps.as_either, proofs.Looks.looks_history, proofs.ScriptBytes.{IfGiven, any_given, given_next, given_none, given_one, script_lines}, proofs.Steps.{after_leads, step_leads}, specs.Bench.answers_to, specs.CoreReplies.{as_reply, as_step}, specs.FilesArea.{file_blocks, files_area}, specs.Operations.{AreLines, IsAmongGrouped, IsOp, SaysCommit}, specs.Script.{Script, after, bad_line, before_script, client_in_range, is_printable, is_skipped, last_piece, no_lines, operation_of, replies, script_from, without_return}, specs.Step.{access_step, after_store, array_of, file_refusal, file_step, found_reply, grouped, in_store, in_transaction, marked_step, out_of_transaction, pairs_reply, release_step, removed_reply, store_refusal, takeover_step}, specs.Text.{before_piece, is_empty, number_of, pieces, reply_line, words_of}, specs.declared.script.BadLine.BadLine, specs.declared.script.Line.Line, specs.declared.script.LineError.LineError, specs.declared.script.LineError.TheVariants.{Cause, Memory as NoMemory}, specs.declared.script.Op.Op, specs.declared.script.Op.TheVariants.{Abort, Await, Begin, Compact, End, FileDelete, FileMove, FileNew, FileRead, FileWrite, Fill, Get, Group, HashDelete, HashGet, HashPut, Mark, Put, Read as ReadBlock, Release, Stat, Takeover, TreeDelete, TreeGet, TreePut, TreeScan, Trim, Upgrade, Write as WriteBlock}, specs.declared.script.Parsed.Parsed, specs.declared.script.Parsed.TheVariants.{Line as Says, Skip}, specs.declared.script.Reply.Reply}
 unfoldable pub use Rattle.script_model.specs.{Script.{parse, parse_whole, said, script}, Step.{file_delete_step, file_move_step, file_new_step, file_read_step, file_write_step, fill_step, get_step, hash_delete_step, hash_get_step, hash_put_step, mark_step, numbers, put_step, read_step, step, store_step, tree_delete_step, tree_get_step, tree_put_step, tree_scan_step, write_step}, Text.reply_text}
-pub use Rattle.script_text.specs.Parsing.{Gives}
+pub use Rattle.script_text.specs.Parsing.{Gives, placed}
 pub use Rattle.store_model.specs.{Areas.{hash_area, tree_area}, FileCalls.{Call, create_program, read_program, remove_program, rename_program, write_program}, HashCalls.{del_program, get_program, put_program}, Stores.{Program, outcome}, declared.files.FsError.FsError, declared.stores.StoreError.StoreError}
 pub use lib.Count.{count_trailing_zeros}
 pub use lib.Lanes.{chunk, mask_l, top, zip2}

@@ -1,6 +1,7 @@
 // One line after the other.
 ghost use Rattle.std.specs.Prelude.{◌≡◌, ℕ, [], ◌∷◌, IfErr, IfOk, OnOk};
 ghost use Rattle.iso_model.specs.World.{World};
+ghost use Rattle.script_text.specs.Parsing.{placed};
 ghost use Rattle.script_runner.specs.{Lines.{AnswersParsed, IsByStep, IsLine, Ran, SaysLine, end_of, halt_of}, Run.Answered};
 
 use crate::machine::ScriptMachine;
@@ -52,23 +53,26 @@ fn halt_of(number: u64, error: LineError) -> Halt
     }
 }
 
-/// Answers what a text says.
+/// Answers what a text says that was read into its place.
 #[inline(always)]
 pub(crate) fn answer_parsed<M: ScriptMachine, K: Sink>(
     number: u64,
-    parsed: Result<Parsed, LineError>,
+    read: Result<(), LineError>,
+    parsed: &Parsed,
     reply: &mut ReplyLine,
     machine: &mut M,
     output: &mut K,
 ) -> Result<(), Halt>
     requires stands { (W : World) × M.stands machine.old W }
-    requires line { IfOk parsed SaysLine }
+    requires line { IfOk (placed read parsed.now) SaysLine }
     ensures { (W : World) → M.stands machine.old W
-        → AnswersParsed (M.stands machine.new) (M.disk machine.old) (M.disk machine.new) (K.state output.old) (K.state output.new) W number parsed result }
+        → AnswersParsed (M.stands machine.new) (M.disk machine.old) (M.disk machine.new) (K.state output.old) (K.state output.new) W number (placed read parsed.now) result }
 {
+    if let Err(error) = read {
+        return Err(halt_of(number, error));
+    }
     match parsed {
-        Ok(Parsed::Skip) => Ok(()),
-        Ok(Parsed::Line(line)) => answer_line(&line, reply, machine, output),
-        Err(error) => Err(halt_of(number, error)),
+        Parsed::Skip => Ok(()),
+        Parsed::Line(line) => answer_line(line, reply, machine, output),
     }
 }

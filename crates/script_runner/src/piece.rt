@@ -3,7 +3,7 @@ ghost use Rattle.std.specs.Prelude.{◌≡◌, ℕ, ◌+◌, ◌^◌, ◌<◌, �
 ghost use Rattle.iso_io.specs.Sink.{SinkState};
 ghost use Rattle.script_model.specs.Script.{parse_whole};
 ghost use Rattle.iso_model.specs.World.{World};
-ghost use Rattle.script_text.specs.Parsing.{Gives};
+ghost use Rattle.script_text.specs.Parsing.{Gives, placed};
 ghost use Rattle.script_runner.specs.{Lines.{EndsAt, Reads, end_of}, Run.HasNoFeed};
 
 use crate::feed::find_feed;
@@ -12,7 +12,7 @@ use crate::machine::ScriptMachine;
 use crate::run_end::Halt;
 use iso_io::Sink;
 use script_model::{LineError, Parsed};
-use script_text::{ReplyLine, parse_whole_line};
+use script_text::{ReplyLine, parse_whole_line_into};
 use std::alloc::Global;
 
 /// Where a run is in the input.
@@ -22,6 +22,8 @@ pub(crate) struct Progress {
     pub(crate) number: u64,
     /// The front of it that was taken.
     pub(crate) held: Vec<u8>,
+    /// What the last line said.
+    pub(crate) parsed: Parsed,
     /// The line of the last reply.
     pub(crate) reply: ReplyLine,
 }
@@ -37,21 +39,26 @@ fn split_line(text: &[u8]) -> Option<(&[u8], &[u8])>
     Some((line, &rest[1..]))
 }
 
-/// What a whole line says, whose front is held. Where it says something, nothing is held then.
+/// Puts what a whole line says, whose front is held, in its place. Where it says something, nothing is held then.
 #[inline(always)]
-fn parse_held(alloc: Global, held: &mut Vec<u8>, line: &[u8]) -> Result<Parsed, LineError>
-    ensures parsed { Gives result (parse_whole (held.old.items ++ line.now)) }
-    ensures held { OnOk result (held.new.items ≡ []) }
+fn parse_held(
+    alloc: Global,
+    held: &mut Vec<u8>,
+    line: &[u8],
+    into: &mut Parsed,
+) -> Result<(), LineError>
+    ensures parsed { Gives (placed result into.new) (parse_whole (held.old.items ++ line.now)) }
+    ensures held { OnOk (placed result into.new) (held.new.items ≡ []) }
 {
     if held.is_empty() {
-        return parse_whole_line(alloc, line);
+        return parse_whole_line_into(alloc, line, into);
     }
     if let Err(_) = held.extend_from_slice(line) {
         return Err(LineError::Memory);
     }
-    let parsed = parse_whole_line(alloc, held);
+    let read = parse_whole_line_into(alloc, held, into);
     held.clear();
-    parsed
+    read
 }
 
 /// Answers a whole line, whose front is held.
@@ -76,10 +83,11 @@ fn answer_whole<M: ScriptMachine, K: Sink>(
         → IfErr result (λ halt. EndsAt (M.stands machine.new) (M.disk m) (M.disk machine.new) k (K.state output.new) W (bytes ++ (line.now ++ 10 ∷ []))
         (end_of halt)) }
 {
-    let parsed = parse_held(alloc, &mut progress.held, line);
+    let read = parse_held(alloc, &mut progress.held, line, &mut progress.parsed);
     let answered = answer_parsed(
         progress.number,
-        parsed,
+        read,
+        &progress.parsed,
         &mut progress.reply,
         machine,
         output,

@@ -10,8 +10,8 @@ use crate::piece::{Progress, answer_piece};
 use crate::run_end::{Halt, RunEnd};
 use iso_io::{Sink, Source};
 use iso_model::{MAX_INPUT, MAX_LINE};
-use script_model::BadLine;
-use script_text::{ReplyLine, parse_line};
+use script_model::{BadLine, Parsed};
+use script_text::{ReplyLine, parse_line_into};
 use std::alloc::{AllocError, Global};
 
 /// The most bytes that one take is asked for.
@@ -96,10 +96,11 @@ fn answer_last<M: ScriptMachine, K: Sink>(
     if progress.held.is_empty() {
         return RunEnd::Done;
     }
-    let parsed = parse_line(alloc, &progress.held);
+    let read = parse_line_into(alloc, &progress.held, &mut progress.parsed);
     match answer_parsed(
         progress.number,
-        parsed,
+        read,
+        &progress.parsed,
         &mut progress.reply,
         machine,
         output,
@@ -128,6 +129,7 @@ fn answer_input<M: ScriptMachine, S: Source, K: Sink>(
     let mut progress = Progress {
         number: 1,
         held: Vec::new(alloc),
+        parsed: Parsed::Skip,
         reply: ReplyLine::new(alloc),
     };
     let mut left = MAX_INPUT;

@@ -12,6 +12,11 @@ abbrev pub Gives : {X : Type 0} → Result X LineError → Result X ℕ → Type
 Gives (Ok x) defined = defined ≡ Ok x
 Gives (Err error) defined = Fails error defined
 
+-- what a step gives that leaves it in a place
+abbrev pub placed : {X : Type 0} → Result (Unit {0}) LineError → X → Result X LineError
+placed (Ok done) x = Ok x
+placed (Err error) x = Err error
+
 -- the items that are defined, after those that were there, or the cause that is defined, unless memory ran out
 abbrev pub GivesBehind : {X : Type 0} → Result (Unit {0}) LineError → Result (List X) ℕ → (old new : List X) → Type 0
 GivesBehind {X = X} (Ok done) defined old new = (more : List X) × (defined ≡ Ok more) × (new ≡ old ++ more)

@@ -1,7 +1,7 @@
 // What a line of a script says.
 ghost use Rattle.std.specs.{Prelude.{◌≡◌, if◌then◌else◌}, List.list_all};
 ghost use Rattle.script_model.specs.{Script.{is_printable, is_skipped, parse, parse_whole, said, without_return}, Text.words_of};
-ghost use Rattle.script_text.specs.Parsing.{Gives};
+ghost use Rattle.script_text.specs.Parsing.{Gives, placed};
 
 use crate::argument::client;
 use crate::operation::operation_of;
@@ -16,21 +16,38 @@ use std::alloc::Global;
 ///
 /// - `Cause`: the first test that the line fails.
 /// - `Memory`: want of memory for what it says.
-#[tactic(auto, unfolding(script_model::specs::Script::parse))]
 pub fn parse_line(alloc: Global, text: &[u8]) -> Result<Parsed, LineError>
     ensures { Gives result (parse text.now) }
+{
+    let mut parsed = Parsed::Skip;
+    match parse_line_into(alloc, text, &mut parsed) {
+        Ok(()) => Ok(parsed),
+        Err(error) => Err(error),
+    }
+}
+
+/// What a line without its line feed says, in place of what an earlier line said.
+///
+/// # Errors
+///
+/// As those of `parse_line`. What is in the place then is not said.
+#[inline(never)]
+#[tactic(auto, unfolding(script_model::specs::Script::parse))]
+pub fn parse_line_into(alloc: Global, text: &[u8], into: &mut Parsed) -> Result<(), LineError>
+    ensures { Gives (placed result into.new) (parse text.now) }
 {
     if text.len() > MAX_LINE {
         return Err(LineError::Cause(7));
     }
     if is_skipped(text) {
-        return Ok(Parsed::Skip);
+        *into = Parsed::Skip;
+        return Ok(());
     }
-    match said(alloc, text) {
+    match say(alloc, text, into) {
         // what a line says has printable bytes alone, so these are looked at where it says nothing
         Err(LineError::Cause(cause)) => Err(LineError::Cause(first_cause(text, cause))),
         Err(LineError::Memory) => Err(LineError::Memory),
-        Ok(parsed) => Ok(parsed),
+        Ok(()) => Ok(()),
     }
 }
 
@@ -39,14 +56,34 @@ pub fn parse_line(alloc: Global, text: &[u8]) -> Result<Parsed, LineError>
 /// # Errors
 ///
 /// As those of `parse_line`.
-#[tactic(auto, unfolding(script_model::specs::Script::parse_whole))]
 pub fn parse_whole_line(alloc: Global, piece: &[u8]) -> Result<Parsed, LineError>
     ensures { Gives result (parse_whole piece.now) }
+{
+    let mut parsed = Parsed::Skip;
+    match parse_whole_line_into(alloc, piece, &mut parsed) {
+        Ok(()) => Ok(parsed),
+        Err(error) => Err(error),
+    }
+}
+
+/// What the bytes before a line feed say, as `parse_whole_line` has it, in place of what an earlier line said.
+///
+/// # Errors
+///
+/// As those of `parse_line`. What is in the place then is not said.
+#[inline(always)]
+#[tactic(auto, unfolding(script_model::specs::Script::parse_whole))]
+pub fn parse_whole_line_into(
+    alloc: Global,
+    piece: &[u8],
+    into: &mut Parsed,
+) -> Result<(), LineError>
+    ensures { Gives (placed result into.new) (parse_whole piece.now) }
 {
     if piece.len() > MAX_LINE {
         return Err(LineError::Cause(7));
     }
-    parse_line(alloc, without_return(piece))
+    parse_line_into(alloc, without_return(piece), into)
 }
 
 /// A line without the one carriage return at its end.
@@ -74,10 +111,11 @@ fn first_cause(text: &[u8], cause: u8) -> u8
     }
 }
 
-/// What the words of a line say.
+/// Puts what the words of a line say in its place.
+#[inline(always)]
 #[tactic(auto, unfolding(script_model::specs::Script::said))]
-fn said(alloc: Global, text: &[u8]) -> Result<Parsed, LineError>
-    ensures { Gives result (said (words_of text.now)) }
+fn say(alloc: Global, text: &[u8], into: &mut Parsed) -> Result<(), LineError>
+    ensures { Gives (placed result into.new) (said (words_of text.now)) }
 {
     let Some((first, rest)) = next_word(text) else {
         return Err(LineError::Cause(1));
@@ -86,5 +124,5 @@ fn said(alloc: Global, text: &[u8]) -> Result<Parsed, LineError>
     let Some((name, arguments)) = next_word(rest) else {
         return Err(LineError::Cause(2));
     };
-    operation_of(alloc, client, name, arguments)
+    operation_of(alloc, client, name, arguments, into)
 }

@@ -1,7 +1,8 @@
 // The operations, each with its arguments, which are tested from the left.
-ghost use Rattle.script_model.specs.{Script.{bare, begin_arguments, group_arguments, key_and_value, number_and_bytes, one_key, one_label, one_number, operation_of, other_operation, put_arguments, scan_arguments, store_operation, three_numbers, tree_operation, two_numbers}, Text.words_of};
+ghost use Rattle.std.specs.Prelude.{◌≡◌};
+ghost use Rattle.script_model.specs.{declared.script.Parsed.TheVariants.{Line as Says}, Script.{bare, begin_arguments, group_arguments, key_and_value, number_and_bytes, one_key, one_label, one_number, operation_of, other_operation, put_arguments, scan_arguments, store_operation, three_numbers, tree_operation, two_numbers}, Text.words_of};
 ghost use Rattle.script_model.specs.declared.script.Op.TheVariants as ops;
-ghost use Rattle.script_text.specs.Parsing.{Gives, said_by};
+ghost use Rattle.script_text.specs.Parsing.{Gives, placed, said_by};
 
 use crate::argument::{hex, label, labels, mode, number, stored};
 use crate::files::file_operation;
@@ -9,44 +10,45 @@ use crate::word::{count_words, next_word, one_word, three_words, two_words};
 use script_model::{Line, LineError, MAX_LABELS, Op, Parsed};
 use std::alloc::Global;
 
-/// The line of this client with the operation of this name.
+/// Puts the line of this client with the operation of this name in its place: it has many bytes to be handed on by value.
 #[tactic(auto, unfolding(script_model::specs::Script::operation_of))]
 pub(crate) fn operation_of(
     alloc: Global,
     client: u8,
     name: &[u8],
     arguments: &[u8],
-) -> Result<Parsed, LineError>
-    ensures { Gives result (said_by client (operation_of name.now (words_of arguments.now))) }
+    into: &mut Parsed,
+) -> Result<(), LineError>
+    ensures { Gives (placed result into.new) (said_by client (operation_of name.now (words_of arguments.now))) }
 {
     if name == b"begin".as_slice() {
-        return begin(client, arguments);
+        return begin(client, arguments, into);
     }
     if name == b"put".as_slice() {
-        return put(alloc, client, arguments);
+        return put(alloc, client, arguments, into);
     }
     if name == b"read".as_slice() {
-        return read(client, arguments);
+        return read(client, arguments, into);
     }
     if name == b"get".as_slice() {
-        return get(client, arguments);
+        return get(client, arguments, into);
     }
     if name == b"write".as_slice() {
-        return write(alloc, client, arguments);
+        return write(alloc, client, arguments, into);
     }
     if name == b"fill".as_slice() {
-        return fill(alloc, client, arguments);
+        return fill(alloc, client, arguments, into);
     }
     if name == b"mark".as_slice() {
-        return mark(client, arguments);
+        return mark(client, arguments, into);
     }
     if name == b"end".as_slice() {
-        return bare(client, Op::End, arguments);
+        return bare(client, Op::End, arguments, into);
     }
     if name == b"abort".as_slice() {
-        return bare(client, Op::Abort, arguments);
+        return bare(client, Op::Abort, arguments, into);
     }
-    other_operation(alloc, client, name, arguments)
+    other_operation(alloc, client, name, arguments, into)
 }
 
 #[tactic(auto, unfolding(script_model::specs::Script::other_operation))]
@@ -55,34 +57,35 @@ fn other_operation(
     client: u8,
     name: &[u8],
     arguments: &[u8],
-) -> Result<Parsed, LineError>
-    ensures { Gives result (said_by client (other_operation name.now (words_of arguments.now))) }
+    into: &mut Parsed,
+) -> Result<(), LineError>
+    ensures { Gives (placed result into.new) (said_by client (other_operation name.now (words_of arguments.now))) }
 {
     if name == b"release".as_slice() {
-        return release(client, arguments);
+        return release(client, arguments, into);
     }
     if name == b"takeover".as_slice() {
-        return takeover(client, arguments);
+        return takeover(client, arguments, into);
     }
     if name == b"await".as_slice() {
-        return await_label(client, arguments);
+        return await_label(client, arguments, into);
     }
     if name == b"group".as_slice() {
-        return group(alloc, client, arguments);
+        return group(alloc, client, arguments, into);
     }
     if name == b"trim".as_slice() {
-        return bare(client, Op::Trim, arguments);
+        return bare(client, Op::Trim, arguments, into);
     }
     if name == b"stat".as_slice() {
-        return bare(client, Op::Stat, arguments);
+        return bare(client, Op::Stat, arguments, into);
     }
     if name == b"compact".as_slice() {
-        return bare(client, Op::Compact, arguments);
+        return bare(client, Op::Compact, arguments, into);
     }
     if name == b"upgrade".as_slice() {
-        return bare(client, Op::Upgrade, arguments);
+        return bare(client, Op::Upgrade, arguments, into);
     }
-    store_operation(alloc, client, name, arguments)
+    store_operation(alloc, client, name, arguments, into)
 }
 
 #[tactic(auto, unfolding(script_model::specs::Script::store_operation))]
@@ -91,19 +94,20 @@ fn store_operation(
     client: u8,
     name: &[u8],
     arguments: &[u8],
-) -> Result<Parsed, LineError>
-    ensures { Gives result (said_by client (store_operation name.now (words_of arguments.now))) }
+    into: &mut Parsed,
+) -> Result<(), LineError>
+    ensures { Gives (placed result into.new) (said_by client (store_operation name.now (words_of arguments.now))) }
 {
     if name == b"hput".as_slice() {
-        return hash_put(alloc, client, arguments);
+        return hash_put(alloc, client, arguments, into);
     }
     if name == b"hget".as_slice() {
-        return hash_get(alloc, client, arguments);
+        return hash_get(alloc, client, arguments, into);
     }
     if name == b"hdel".as_slice() {
-        return hash_delete(alloc, client, arguments);
+        return hash_delete(alloc, client, arguments, into);
     }
-    tree_operation(alloc, client, name, arguments)
+    tree_operation(alloc, client, name, arguments, into)
 }
 
 #[tactic(auto, unfolding(script_model::specs::Script::tree_operation))]
@@ -112,56 +116,64 @@ fn tree_operation(
     client: u8,
     name: &[u8],
     arguments: &[u8],
-) -> Result<Parsed, LineError>
-    ensures { Gives result (said_by client (tree_operation name.now (words_of arguments.now))) }
+    into: &mut Parsed,
+) -> Result<(), LineError>
+    ensures { Gives (placed result into.new) (said_by client (tree_operation name.now (words_of arguments.now))) }
 {
     if name == b"tput".as_slice() {
-        return tree_put(alloc, client, arguments);
+        return tree_put(alloc, client, arguments, into);
     }
     if name == b"tget".as_slice() {
-        return tree_get(alloc, client, arguments);
+        return tree_get(alloc, client, arguments, into);
     }
     if name == b"tdel".as_slice() {
-        return tree_delete(alloc, client, arguments);
+        return tree_delete(alloc, client, arguments, into);
     }
     if name == b"tscan".as_slice() {
-        return tree_scan(alloc, client, arguments);
+        return tree_scan(alloc, client, arguments, into);
     }
-    file_operation(alloc, client, name, arguments)
+    file_operation(alloc, client, name, arguments, into)
+}
+
+/// Puts what a line of this client says in its place.
+#[inline(always)]
+pub(crate) fn say_line(into: &mut Parsed, client: u8, op: Op)
+    ensures { into.new ≡ Says (record { client = client; op = op }) }
+{
+    *into = Parsed::Line(Line { client, op });
 }
 
 /// An operation that has no arguments.
 #[inline(always)]
-fn bare(client: u8, op: Op, arguments: &[u8]) -> Result<Parsed, LineError>
-    ensures { Gives result (said_by client (bare op (words_of arguments.now))) }
+fn bare(client: u8, op: Op, arguments: &[u8], into: &mut Parsed) -> Result<(), LineError>
+    ensures { Gives (placed result into.new) (said_by client (bare op (words_of arguments.now))) }
 {
     match next_word(arguments) {
-        None => Ok(Parsed::Line(Line { client, op })),
+        None => {
+            say_line(into, client, op);
+            Ok(())
+        }
         Some(_) => Err(LineError::Cause(3)),
     }
 }
 
-fn begin(client: u8, arguments: &[u8]) -> Result<Parsed, LineError>
-    ensures { Gives result (said_by client (begin_arguments (words_of arguments.now))) }
+fn begin(client: u8, arguments: &[u8], into: &mut Parsed) -> Result<(), LineError>
+    ensures { Gives (placed result into.new) (said_by client (begin_arguments (words_of arguments.now))) }
 {
     let Some((word, more)) = next_word(arguments) else {
-        return Ok(Parsed::Line(Line {
-            client,
-            op: Op::Begin { mode: None },
-        }));
+        say_line(into, client, Op::Begin { mode: None });
+        return Ok(());
     };
     if let Some(_) = next_word(more) {
         return Err(LineError::Cause(3));
     }
     let mode = mode(word)?;
-    Ok(Parsed::Line(Line {
-        client,
-        op: Op::Begin { mode: Some(mode) },
-    }))
+    say_line(into, client, Op::Begin { mode: Some(mode) });
+    Ok(())
 }
 
-fn put(alloc: Global, client: u8, arguments: &[u8]) -> Result<Parsed, LineError>
-    ensures { Gives result (said_by client (put_arguments (words_of arguments.now))) }
+fn put(alloc: Global, client: u8, arguments: &[u8], into: &mut Parsed) -> Result<(), LineError>
+    ensures { Gives (placed result into.new) (said_by client (put_arguments (words_of arguments.now))) }
 {
     let Some((block, start, text)) = three_words(arguments) else {
         return Err(LineError::Cause(3));
@@ -169,27 +181,23 @@ fn put(alloc: Global, client: u8, arguments: &[u8]) -> Result<Parsed, LineError>
     let block = number(block)?;
     let off = number(start)?;
     let bytes = hex(alloc, text)?;
-    Ok(Parsed::Line(Line {
-        client,
-        op: Op::Put { block, off, bytes },
-    }))
+    say_line(into, client, Op::Put { block, off, bytes });
+    Ok(())
 }
 
-fn read(client: u8, arguments: &[u8]) -> Result<Parsed, LineError>
-    ensures { Gives result (said_by client (one_number ops.Read (words_of arguments.now))) }
+fn read(client: u8, arguments: &[u8], into: &mut Parsed) -> Result<(), LineError>
+    ensures { Gives (placed result into.new) (said_by client (one_number ops.Read (words_of arguments.now))) }
 {
     let Some(block) = one_word(arguments) else {
         return Err(LineError::Cause(3));
     };
     let block = number(block)?;
-    Ok(Parsed::Line(Line {
-        client,
-        op: Op::Read { block },
-    }))
+    say_line(into, client, Op::Read { block });
+    Ok(())
 }
 
-fn get(client: u8, arguments: &[u8]) -> Result<Parsed, LineError>
-    ensures { Gives result (said_by client (three_numbers ops.Get (words_of arguments.now))) }
+fn get(client: u8, arguments: &[u8], into: &mut Parsed) -> Result<(), LineError>
+    ensures { Gives (placed result into.new) (said_by client (three_numbers ops.Get (words_of arguments.now))) }
 {
     let Some((block, off, len)) = three_words(arguments) else {
         return Err(LineError::Cause(3));
@@ -197,189 +205,176 @@ fn get(client: u8, arguments: &[u8]) -> Result<Parsed, LineError>
     let block = number(block)?;
     let off = number(off)?;
     let len = number(len)?;
-    Ok(Parsed::Line(Line {
-        client,
-        op: Op::Get { block, off, len },
-    }))
+    say_line(into, client, Op::Get { block, off, len });
+    Ok(())
 }
 
-fn write(alloc: Global, client: u8, arguments: &[u8]) -> Result<Parsed, LineError>
-    ensures { Gives result (said_by client (number_and_bytes ops.Write (words_of arguments.now))) }
+fn write(alloc: Global, client: u8, arguments: &[u8], into: &mut Parsed) -> Result<(), LineError>
+    ensures { Gives (placed result into.new) (said_by client (number_and_bytes ops.Write (words_of arguments.now))) }
 {
     let Some((block, bytes)) = two_words(arguments) else {
         return Err(LineError::Cause(3));
     };
     let block = number(block)?;
     let bytes = hex(alloc, bytes)?;
-    Ok(Parsed::Line(Line {
-        client,
-        op: Op::Write { block, bytes },
-    }))
+    say_line(into, client, Op::Write { block, bytes });
+    Ok(())
 }
 
-fn fill(alloc: Global, client: u8, arguments: &[u8]) -> Result<Parsed, LineError>
-    ensures { Gives result (said_by client (number_and_bytes ops.Fill (words_of arguments.now))) }
+fn fill(alloc: Global, client: u8, arguments: &[u8], into: &mut Parsed) -> Result<(), LineError>
+    ensures { Gives (placed result into.new) (said_by client (number_and_bytes ops.Fill (words_of arguments.now))) }
 {
     let Some((block, bytes)) = two_words(arguments) else {
         return Err(LineError::Cause(3));
     };
     let block = number(block)?;
     let bytes = hex(alloc, bytes)?;
-    Ok(Parsed::Line(Line {
-        client,
-        op: Op::Fill { block, bytes },
-    }))
+    say_line(into, client, Op::Fill { block, bytes });
+    Ok(())
 }
 
-fn mark(client: u8, arguments: &[u8]) -> Result<Parsed, LineError>
-    ensures { Gives result (said_by client (two_numbers ops.Mark (words_of arguments.now))) }
+fn mark(client: u8, arguments: &[u8], into: &mut Parsed) -> Result<(), LineError>
+    ensures { Gives (placed result into.new) (said_by client (two_numbers ops.Mark (words_of arguments.now))) }
 {
     let Some((off, len)) = two_words(arguments) else {
         return Err(LineError::Cause(3));
     };
     let off = number(off)?;
     let len = number(len)?;
-    Ok(Parsed::Line(Line {
-        client,
-        op: Op::Mark { off, len },
-    }))
+    say_line(into, client, Op::Mark { off, len });
+    Ok(())
 }
 
-fn release(client: u8, arguments: &[u8]) -> Result<Parsed, LineError>
-    ensures { Gives result (said_by client (one_label ops.Release (words_of arguments.now))) }
+fn release(client: u8, arguments: &[u8], into: &mut Parsed) -> Result<(), LineError>
+    ensures { Gives (placed result into.new) (said_by client (one_label ops.Release (words_of arguments.now))) }
 {
     let Some(text) = one_word(arguments) else {
         return Err(LineError::Cause(3));
     };
     let label = label(text)?;
-    Ok(Parsed::Line(Line {
-        client,
-        op: Op::Release { label },
-    }))
+    say_line(into, client, Op::Release { label });
+    Ok(())
 }
 
-fn takeover(client: u8, arguments: &[u8]) -> Result<Parsed, LineError>
-    ensures { Gives result (said_by client (one_label ops.Takeover (words_of arguments.now))) }
+fn takeover(client: u8, arguments: &[u8], into: &mut Parsed) -> Result<(), LineError>
+    ensures { Gives (placed result into.new) (said_by client (one_label ops.Takeover (words_of arguments.now))) }
 {
     let Some(text) = one_word(arguments) else {
         return Err(LineError::Cause(3));
     };
     let label = label(text)?;
-    Ok(Parsed::Line(Line {
-        client,
-        op: Op::Takeover { label },
-    }))
+    say_line(into, client, Op::Takeover { label });
+    Ok(())
 }
 
-fn await_label(client: u8, arguments: &[u8]) -> Result<Parsed, LineError>
-    ensures { Gives result (said_by client (one_label ops.Await (words_of arguments.now))) }
+fn await_label(client: u8, arguments: &[u8], into: &mut Parsed) -> Result<(), LineError>
+    ensures { Gives (placed result into.new) (said_by client (one_label ops.Await (words_of arguments.now))) }
 {
     let Some(text) = one_word(arguments) else {
         return Err(LineError::Cause(3));
     };
     let label = label(text)?;
-    Ok(Parsed::Line(Line {
-        client,
-        op: Op::Await { label },
-    }))
+    say_line(into, client, Op::Await { label });
+    Ok(())
 }
 
-fn group(alloc: Global, client: u8, arguments: &[u8]) -> Result<Parsed, LineError>
-    ensures { Gives result (said_by client (group_arguments (words_of arguments.now))) }
+fn group(alloc: Global, client: u8, arguments: &[u8], into: &mut Parsed) -> Result<(), LineError>
+    ensures { Gives (placed result into.new) (said_by client (group_arguments (words_of arguments.now))) }
 {
     let count = count_words(arguments);
     if count == 0 || count > MAX_LABELS {
         return Err(LineError::Cause(3));
     }
     let labels = labels(alloc, count as u32, arguments)?;
-    Ok(Parsed::Line(Line {
-        client,
-        op: Op::Group { labels },
-    }))
+    say_line(into, client, Op::Group { labels });
+    Ok(())
 }
 
-fn hash_put(alloc: Global, client: u8, arguments: &[u8]) -> Result<Parsed, LineError>
-    ensures { Gives result (said_by client (key_and_value ops.HashPut (words_of arguments.now))) }
+fn hash_put(alloc: Global, client: u8, arguments: &[u8], into: &mut Parsed) -> Result<(), LineError>
+    ensures { Gives (placed result into.new) (said_by client (key_and_value ops.HashPut (words_of arguments.now))) }
 {
     let Some((key, value)) = two_words(arguments) else {
         return Err(LineError::Cause(3));
     };
     let key = stored(alloc, key)?;
     let value = stored(alloc, value)?;
-    Ok(Parsed::Line(Line {
-        client,
-        op: Op::HashPut { key, value },
-    }))
+    say_line(into, client, Op::HashPut { key, value });
+    Ok(())
 }
 
-fn hash_get(alloc: Global, client: u8, arguments: &[u8]) -> Result<Parsed, LineError>
-    ensures { Gives result (said_by client (one_key ops.HashGet (words_of arguments.now))) }
+fn hash_get(alloc: Global, client: u8, arguments: &[u8], into: &mut Parsed) -> Result<(), LineError>
+    ensures { Gives (placed result into.new) (said_by client (one_key ops.HashGet (words_of arguments.now))) }
 {
     let Some(key) = one_word(arguments) else {
         return Err(LineError::Cause(3));
     };
     let key = stored(alloc, key)?;
-    Ok(Parsed::Line(Line {
-        client,
-        op: Op::HashGet { key },
-    }))
+    say_line(into, client, Op::HashGet { key });
+    Ok(())
 }
 
-fn hash_delete(alloc: Global, client: u8, arguments: &[u8]) -> Result<Parsed, LineError>
-    ensures { Gives result (said_by client (one_key ops.HashDelete (words_of arguments.now))) }
+fn hash_delete(
+    alloc: Global,
+    client: u8,
+    arguments: &[u8],
+    into: &mut Parsed,
+) -> Result<(), LineError>
+    ensures { Gives (placed result into.new) (said_by client (one_key ops.HashDelete (words_of arguments.now))) }
 {
     let Some(key) = one_word(arguments) else {
         return Err(LineError::Cause(3));
     };
     let key = stored(alloc, key)?;
-    Ok(Parsed::Line(Line {
-        client,
-        op: Op::HashDelete { key },
-    }))
+    say_line(into, client, Op::HashDelete { key });
+    Ok(())
 }
 
-fn tree_put(alloc: Global, client: u8, arguments: &[u8]) -> Result<Parsed, LineError>
-    ensures { Gives result (said_by client (key_and_value ops.TreePut (words_of arguments.now))) }
+fn tree_put(alloc: Global, client: u8, arguments: &[u8], into: &mut Parsed) -> Result<(), LineError>
+    ensures { Gives (placed result into.new) (said_by client (key_and_value ops.TreePut (words_of arguments.now))) }
 {
     let Some((key, value)) = two_words(arguments) else {
         return Err(LineError::Cause(3));
     };
     let key = stored(alloc, key)?;
     let value = stored(alloc, value)?;
-    Ok(Parsed::Line(Line {
-        client,
-        op: Op::TreePut { key, value },
-    }))
+    say_line(into, client, Op::TreePut { key, value });
+    Ok(())
 }
 
-fn tree_get(alloc: Global, client: u8, arguments: &[u8]) -> Result<Parsed, LineError>
-    ensures { Gives result (said_by client (one_key ops.TreeGet (words_of arguments.now))) }
+fn tree_get(alloc: Global, client: u8, arguments: &[u8], into: &mut Parsed) -> Result<(), LineError>
+    ensures { Gives (placed result into.new) (said_by client (one_key ops.TreeGet (words_of arguments.now))) }
 {
     let Some(key) = one_word(arguments) else {
         return Err(LineError::Cause(3));
     };
     let key = stored(alloc, key)?;
-    Ok(Parsed::Line(Line {
-        client,
-        op: Op::TreeGet { key },
-    }))
+    say_line(into, client, Op::TreeGet { key });
+    Ok(())
 }
 
-fn tree_delete(alloc: Global, client: u8, arguments: &[u8]) -> Result<Parsed, LineError>
-    ensures { Gives result (said_by client (one_key ops.TreeDelete (words_of arguments.now))) }
+fn tree_delete(
+    alloc: Global,
+    client: u8,
+    arguments: &[u8],
+    into: &mut Parsed,
+) -> Result<(), LineError>
+    ensures { Gives (placed result into.new) (said_by client (one_key ops.TreeDelete (words_of arguments.now))) }
 {
     let Some(key) = one_word(arguments) else {
         return Err(LineError::Cause(3));
     };
     let key = stored(alloc, key)?;
-    Ok(Parsed::Line(Line {
-        client,
-        op: Op::TreeDelete { key },
-    }))
+    say_line(into, client, Op::TreeDelete { key });
+    Ok(())
 }
 
-fn tree_scan(alloc: Global, client: u8, arguments: &[u8]) -> Result<Parsed, LineError>
-    ensures { Gives result (said_by client (scan_arguments (words_of arguments.now))) }
+fn tree_scan(
+    alloc: Global,
+    client: u8,
+    arguments: &[u8],
+    into: &mut Parsed,
+) -> Result<(), LineError>
+    ensures { Gives (placed result into.new) (said_by client (scan_arguments (words_of arguments.now))) }
 {
     let Some((from, to, most)) = three_words(arguments) else {
         return Err(LineError::Cause(3));
@@ -387,8 +382,6 @@ fn tree_scan(alloc: Global, client: u8, arguments: &[u8]) -> Result<Parsed, Line
     let from = stored(alloc, from)?;
     let to = stored(alloc, to)?;
     let most = number(most)?;
-    Ok(Parsed::Line(Line {
-        client,
-        op: Op::TreeScan { from, to, most },
-    }))
+    say_line(into, client, Op::TreeScan { from, to, most });
+    Ok(())
 }

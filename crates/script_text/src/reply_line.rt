@@ -46,6 +46,7 @@ impl ReplyLine {
     /// # Errors
     ///
     /// Want of memory. There is no line then.
+    #[inline(always)]
     pub fn set(&mut self, client: u8, reply: &Reply) -> Result<(), Memory>
         ensures ok { OnOk result (self.new ≡ reply_line client reply.now) }
         ensures err { OnErr result (self.new ≡ []) }
@@ -66,6 +67,7 @@ impl ReplyLine {
         }
     }
 
+    #[inline(always)]
     fn set_other(&mut self, client: u8, reply: &Reply) -> Result<(), Memory>
         requires { IsOther reply.now }
         ensures ok { OnOk result (self.new ≡ reply_line client reply.now) }
