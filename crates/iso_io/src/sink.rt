@@ -58,6 +58,7 @@ pub enum PutError {
 /// The sink has taken a front of the piece.
 /// - `Failed`: a call of the sink failed.
 /// - `TookNothing`: the sink took nothing of bytes that were left.
+#[inline(always)]
 #[tactic(auto, using(crate::proofs::Told::steps))]
 pub fn put_all<K: Sink>(sink: &mut K, bytes: &[u8]) -> Result<(), PutError>
     ensures ok { OnOk result (Wrote (K.state sink.old) (K.state sink.new) bytes.now) }
