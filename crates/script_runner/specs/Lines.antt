@@ -5,6 +5,8 @@ use Rattle.iso_io.specs.{Source.{SourceState, Took}, Sink.{SinkState, CountsStan
 use Rattle.script_model.specs.{declared.script.Line.Line, declared.script.LineError.LineError, declared.script.LineError.TheVariants.{Cause, Memory as NoMemory}, declared.script.Parsed.Parsed, declared.script.Parsed.TheVariants.{Skip, Line as Says}, Script.{Script, replies, script_from}, Text.pieces, Operations.{AreLines, IsOp}}
 use Rattle.iso_model.specs.{World.World, Worlds.IsWorld, Between.ShowsBetween}
 use Rattle.script_runner.specs.{declared.run_end.Halt.Halt, declared.run_end.RunEnd.RunEnd, Told.IfTold, Replies.PutReplies, Run.{AreLinesOf, Answered, EndsInFeed, HasNoFeed, IsBehind}}
+use Rattle.script_model.specs.declared.stop.Stop.{Stop}
+use Rattle.script_model.specs.declared.stop.Stop.TheVariants as stop
 use Rattle.script_runner.specs.declared.run_end.Halt.TheVariants as halt
 use Rattle.script_runner.specs.declared.run_end.RunEnd.TheVariants as end
 
@@ -35,6 +37,12 @@ end_of halt.Memory = end.Memory
 abbrev pub halt_of : (number : ℕ) → LineError → Halt
 halt_of number (Cause cause) = halt.BadLine (record { line = number; cause = cause })
 halt_of number NoMemory = halt.Memory
+
+-- how a line ends a run that the machine does not answer
+abbrev pub stopped : Stop → Halt
+stopped stop.Down = halt.Disk
+stopped stop.Disk = halt.Disk
+stopped stop.Memory = halt.Memory
 
 -- a line that says something ends a run so
 abbrev pub IsByStep : Halt → Type 0

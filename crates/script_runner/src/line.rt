@@ -2,13 +2,24 @@
 ghost use Rattle.std.specs.Prelude.{◌≡◌, ℕ, [], ◌∷◌, IfErr, IfOk, OnOk};
 ghost use Rattle.iso_model.specs.World.{World};
 ghost use Rattle.script_text.specs.Parsing.{placed};
-ghost use Rattle.script_runner.specs.{Lines.{AnswersParsed, IsByStep, IsLine, Ran, SaysLine, end_of, halt_of}, Run.Answered};
+ghost use Rattle.script_runner.specs.{Lines.{AnswersParsed, IsByStep, IsLine, Ran, SaysLine, end_of, halt_of, stopped}, Run.Answered};
 
 use crate::machine::ScriptMachine;
 use crate::run_end::Halt;
 use iso_io::{Sink, put_all};
 use script_model::{BadLine, Line, LineError, Parsed, Stop};
 use script_text::ReplyLine;
+
+/// How a run ends whose machine gave no reply.
+fn stopped(why: Stop) -> Halt
+    ensures { result ≡ stopped why }
+{
+    match why {
+        Stop::Down => Halt::Disk,
+        Stop::Disk => Halt::Disk,
+        Stop::Memory => Halt::Memory,
+    }
+}
 
 /// Runs the operation of a line, and hands its reply to the sink.
 #[inline(always)]
@@ -25,13 +36,13 @@ fn answer_line<M: ScriptMachine, K: Sink>(
     ensures halted { (W : World) (number : ℕ) → M.stands machine.old W → IfErr result (λ halt. IsByStep halt
         × Answered (M.stands machine.new) (M.disk machine.old) (M.disk machine.new) (K.state output.old) (K.state output.new) W (end_of halt) [] ((number, line.now) ∷ [])) }
 {
-    let answer = match machine.step(line.client, &line.op) {
+    // what was answered stays where the machine has put it
+    let answered = machine.step(line.client, &line.op);
+    let answer = match &answered {
         Ok(answer) => answer,
-        Err(Stop::Down) => return Err(Halt::Disk),
-        Err(Stop::Disk) => return Err(Halt::Disk),
-        Err(Stop::Memory) => return Err(Halt::Memory),
+        Err(why) => return Err(stopped(*why)),
     };
-    if let Err(_) = reply.set(line.client, &answer) {
+    if let Err(_) = reply.set(line.client, answer) {
         return Err(Halt::Memory);
     }
     if let Err(_) = put_all(output, reply.text()) {
