@@ -11,6 +11,7 @@ use script_model::{Line, LineError, MAX_LABELS, Op, Parsed};
 use std::alloc::Global;
 
 /// Puts the line of this client with the operation of this name in its place: it has many bytes to be handed on by value.
+#[inline(always)]
 #[tactic(auto, unfolding(script_model::specs::Script::operation_of))]
 pub(crate) fn operation_of(
     alloc: Global,
