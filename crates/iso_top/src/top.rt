@@ -101,7 +101,7 @@ pub fn alone<I: Image + Drop, S: Source, K: Sink>(
 
 /// The top call. It does what the words ask for: `words` are the program's name and its arguments, `image` is not bound yet,
 /// `input` has the script and `output` gets the replies. The clients of a `par` command run in threads, and `gate` is called before
-/// each of their lines; all other words are for this thread alone. The image is handed back with every status.
+/// each of their lines; all other words are given to `alone`. The image is handed back with every status.
 pub fn isotope<I: Image + Send + Drop, S: Source, K: Sink, G: Gate, R: Threads + Wait + Sync>(
     rt: &R,
     alloc: Global,
@@ -133,7 +133,7 @@ pub fn isotope<I: Image + Send + Drop, S: Source, K: Sink, G: Gate, R: Threads +
         Ok(Some(request)) => match request.task {
             Task::Par => run_clients(rt, alloc, request.image, image, input, output, gate),
             Task::New { .. } | Task::Run | Task::Recover | Task::Bench { .. } => {
-                meet(alloc, &request, image, input, output)
+                alone(alloc, words, image, input, output)
             }
         },
         Ok(None) => tell_usage(output, image),

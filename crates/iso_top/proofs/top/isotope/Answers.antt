@@ -11,9 +11,3 @@ returns-in-Par-clause-complete g c =
     let met = subst (λ (task : Task). HasMet state task name c.run_clients.result.status c.args.image c.run_clients.result.image input_old input_new old new) (sym c.in-Par.is) c.run_clients.ensures in
     rw (sym c.in-Ok-Some.ensures.request) (rw c.in-Ok-Some.field-0-is
     (λ accepted good d i o. met_all state name c.run_clients.result.status c.args.image c.run_clients.result.image input_old input_new old new d i o c.in-Ok-Some.request.task accepted good met))
-
-pub returns-in-New-clause-complete : Rattle.iso_top.proofs.top.isotope.Goals.returns-in-New-clause-complete
-returns-in-New-clause-complete g c =
-    rw (sym c.in-Ok-Some.ensures.request) (rw c.in-Ok-Some.field-0-is
-    (λ accepted good d i o. met_all g.I.Disk.state c.in-Ok-Some.request.image.now c.meet.result.status c.args.image c.meet.result.image (g.S.Source.state c.args.input.now)
-    (g.S.Source.state c.meet.new.input) (g.K.Sink.state c.args.output.now) (g.K.Sink.state c.meet.new.output) d i o c.in-Ok-Some.request.task accepted good c.meet.ensures))
