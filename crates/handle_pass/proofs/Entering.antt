@@ -179,6 +179,21 @@ module _ {D O : Type 0} where
   pub same_state : (s : Inside D O) (t u : Tx D O) → s.tx ≡ Some t → u ≡ t → state_of (record { shared = s.shared; port = s.port; tx = Some u }) ≡ state_of s
   same_state s t u was same = ap (λ (o : Option (Tx D O)). state_of (record { shared = s.shared; port = s.port; tx = o })) (ap Some same ∙ sym was)
 
+  -- so did one after which its holder sees the same transaction, with the same pass
+  pub seen_state : (s : Inside D O) (t u : Tx D O) → s.tx ≡ Some t → u.pass ≡ t.pass → own_in u ≡ own_in t → u.checked ≡ t.checked
+      → state_of (record { shared = s.shared; port = s.port; tx = Some u }) ≡ state_of s
+  seen_state s t u was pass own checked =
+      let v = view s.port.pass in
+      let as_it_was : state_of (record { shared = s.shared; port = s.port; tx = Some u }) ≡ state_of (record { shared = s.shared; port = s.port; tx = Some t }) = λ i. record {
+        device = (state_of s).device;
+        own = Some (own i);
+        checked = (checked i).upto;
+        seen = v.seen;
+        mine = v.mine ++ (view (pass i)).mine;
+        units = v.units + (view (pass i)).units;
+      } in
+      as_it_was ∙ same_state s t t was refl
+
   -- what its holder sees of one transaction
   pub own_same : (t u : Tx D O) → IsSameTx t u → own_in u ≡ own_in t
   own_same t u same = λ i. posting_of_tx (same.number i) (same.work i)

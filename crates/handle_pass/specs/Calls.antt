@@ -1,6 +1,6 @@
 -- How the calls of a session end that begin, check, end and abort its transaction.
 use Rattle.std.specs.Prelude.{◌≡◌, ℕ, ◌+◌, ◌≤◌, ◌⊎◌, [], Option, Some, None, IsSome, Result, Ok, Err}
-use Rattle.iso_model.specs.{declared.access.EndReply.EndReply, declared.access.Mode.Mode, declared.core_error.CoreError.CoreError, declared.memory.NotInTx.NotInTx, Step.mode_named}
+use Rattle.iso_model.specs.{declared.access.EndReply.EndReply, declared.access.Mode.Mode, declared.core_error.CoreError.CoreError, declared.memory.NotInTx.NotInTx, Conflict.clash, History.History, Step.mode_named}
 use Rattle.iso_model.specs.declared.core_error.CoreError.TheVariants as error
 use Rattle.iso_shared.specs.declared.entry.Call.TheVariants as call
 use Rattle.iso_shared.specs.{declared.entry.Entry.Entry, Ports.most_steps, States.Start, Told.cause_of}
@@ -39,6 +39,10 @@ module _ (A : Start) where
   HasChecked s (Ok upto) t = (o : Own) × (s.own ≡ Some o) × (t.own ≡ Some o) × (t.checked ≡ upto) × Made A s t (entry.Recent o.number upto)
   HasChecked s (Err end.NotInTx) t = (s.own ≡ None) × (t ≡ s)
   HasChecked s (Err (end.Core e)) t = (o : Own) × (s.own ≡ Some o) × KeepsTx s t × IsCheckCause s t o e
+
+  -- the session has a transaction, and no commit of any history clashes with it
+  abbrev pub CannotClash : SessionState → Type 0
+  CannotClash s = (o : Own) × (s.own ≡ Some o) × ((H : History) → clash A.world.geometry H o.mode o.begin o.accesses ≡ None)
 
   -- the end took at most a step for each commit above those that were compared ahead: a step is a commit looked at
   abbrev pub TookFew : (s t : SessionState) → (e : Entry) → Made A s t e → (old new : ℕ) → Type 0

@@ -1,6 +1,6 @@
 // The begin of a session's transaction, its end and its abort, and the check ahead of its end.
-ghost use Rattle.std.specs.Prelude.{◌≡◌, ◌<◌, IfOk};
-ghost use Rattle.handle_pass.specs.Calls.{HasAborted, HasBegun, HasChecked, HasEnded};
+ghost use Rattle.std.specs.{Prelude.{◌≡◌, ◌<◌, IfOk}, Bool.OnTrue};
+ghost use Rattle.handle_pass.specs.Calls.{CannotClash, HasAborted, HasBegun, HasChecked, HasEnded};
 
 use crate::errors::{BeginError, EndError};
 use crate::session::{Session, attach};
@@ -57,6 +57,19 @@ impl<'a, D: Disk + Drop, O: Origin> Session<'a, D, O> {
                     Err(error) => Err(EndError::Core(error)),
                 }
             }
+        }
+    }
+
+    /// Whether no commit can clash with the transaction, whatever was committed since its begin: it wrote nothing, or in
+    /// serial mode it read nothing. Then `check_tx` tells its end nothing. It waits for nobody and makes no entry. `false`
+    /// also where there is no transaction, and where memory is wanting to see it.
+    pub fn cannot_clash(&mut self) -> bool
+        ensures same { self.new ≡ self.old }
+        ensures never { OnTrue result (CannotClash O.start self.new) }
+    {
+        match &mut self.tx {
+            None => false,
+            Some(tx) => tx.cannot_clash(),
         }
     }
 

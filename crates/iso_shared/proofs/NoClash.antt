@@ -1,5 +1,5 @@
 -- A transaction that can clash with no commit.
-use Rattle.iso_shared.proofs.Words.{◌≡◌, ◌∙◌, sym, refl, arith, ℕ, ◌<◌, ◌≤◌, Bool, true, false, ◌&&◌, nat_lt, List, Option, Some, None, AreTouched, Write, clash, Access, Clash, Geometry, History, Mode, AreWithin, Doing, IsTxOf, Start, Tx, last, state_at, tx_view, up_to}
+use Rattle.iso_shared.proofs.Words.{◌≡◌, ◌∙◌, sym, refl, ℕ, ◌<◌, Bool, true, false, ◌&&◌, nat_lt, List, Option, Some, None, AreTouched, Write, clash, Access, Clash, Geometry, History, Mode, AreWithin, Doing}
 use Rattle.std.proofs.lemmas.Bool.{both_ways, lt-ltb}
 use Rattle.byte_marks.specs.{Touched.touches, declared.extent.Extent.Extent}
 use Rattle.conflict_rule.proofs.Clashing.{no_write_where}
@@ -34,20 +34,3 @@ never work bytes are none g H size blocks =
     unguarded g H work.mode work.begin work.accesses bytes (record {
       is = λ b p. are.is b p ∙ sym (λ i. nat_lt b (blocks i) && nat_lt p (size i) && model.touches (guarded work.mode) work.accesses b p);
     }) none
-
--- one that was checked against the commits up to a later number
-pub passed : {D O : Type 0} {A : Start} (t : Tx D O) (upto : ℕ) → CannotClash t.work → t.checked.upto ≤ upto → upto ≤ last (state_at A (tx_view t).seen).world.history → IsTxOf A t
-    → IsTxOf A (record t { checked = record { upto = upto; clash = None } })
-passed {A = A} t upto never from to is =
-    let S = state_at A (tx_view t).seen in
-    record {
-      held = is.held;
-      on = is.on;
-      own = is.own;
-      ahead = record {
-        first = is.ahead.first;
-        from = omega (arith, is.ahead.from, from);
-        to = to;
-        clash_is = sym (never S.world.geometry (up_to S.world.history upto) (sym is.own.on.size) (sym is.own.on.blocks));
-      };
-    }

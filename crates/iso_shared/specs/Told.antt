@@ -69,10 +69,6 @@ upgrade_entry before now r = entry_of before now call.Upgrade (λ n. entry.Upgra
 abbrev pub recent_entry : (before now : ℕ) → (tx : ℕ) → Result Recent CoreError → Entry
 recent_entry before now tx r = entry_of before now (call.Recent tx) (λ recent. entry.Recent tx recent.upto) r
 
--- the same, by the number alone
-abbrev pub upto_entry : (before now : ℕ) → (tx : ℕ) → Result ℕ CoreError → Entry
-upto_entry before now tx r = entry_of before now (call.Recent tx) (λ upto. entry.Recent tx upto) r
-
 abbrev pub numbers_of : Stat → Numbers
 numbers_of s = record { last = s.last; base = s.base; trim = s.trim; live = s.live; used = s.used; versions = s.versions; down = s.down }
 

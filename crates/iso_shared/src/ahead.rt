@@ -1,12 +1,12 @@
 // The check ahead of the turn of an end.
-ghost use Rattle.std.specs.{Prelude.{◌≡◌, ℕ, ◌<◌, ◌≤◌, ◌⊎◌, IfErr, IfOk, OnErr, true, List}, Bool.OnTrue};
-ghost use Rattle.iso_model.specs.{declared.access.Geometry.Geometry, Conflict.clash, History.{History, last}, declared.access.Kind.TheVariants.{Read, Write}};
+ghost use Rattle.std.specs.{Prelude.{◌≡◌, ℕ, ◌<◌, ◌⊎◌, IfErr, IfOk, true, List}, Bool.OnTrue};
+ghost use Rattle.iso_model.specs.{declared.access.Geometry.Geometry, Conflict.clash, History.History, declared.access.Kind.TheVariants.{Read, Write}};
 ghost use Rattle.iso_model.specs.declared.core_error.CoreError.TheVariants.{Memory as OfMemory};
 ghost use Rattle.tx_table.specs.Work.{AreWithin};
 ghost use Rattle.iso_shared.specs.declared.entry.Call.TheVariants as TheCall;
 ghost use Rattle.byte_marks.specs.{declared.extent.Extent.Extent, Touched.AreTouched};
 ghost use Rattle.conflict_rule.specs.Decision.{IsAsked};
-ghost use Rattle.iso_shared.specs.{declared.entry.Entry.TheVariants.{Recent as OfRecent, Refused}, Ports.{CannotClash, IsRecent, IsSameTx, IsTx, Made, check_of, doing_of, number_of, state_of, tx_view}, Told.{cause_of, recent_entry, upto_entry}};
+ghost use Rattle.iso_shared.specs.{declared.entry.Entry.TheVariants.{Recent as OfRecent, Refused}, Ports.{CannotClash, IsRecent, IsSameTx, IsTx, Made, check_of, doing_of, number_of, state_of, tx_view}, Told.{cause_of, recent_entry}};
 
 use crate::guarded::Origin;
 use crate::shared::Shared;
@@ -45,8 +45,7 @@ impl<D: Disk + Drop, O: Origin> Shared<D, O> {
     }
 
     /// Compares what the transaction did with the commits since, ahead of the turn of its end, and answers up to which one.
-    /// It is `recent` and `Tx::check` in one. A transaction that can clash with no commit is compared with none, and no
-    /// note of a commit is copied for it.
+    /// It is `recent` and `Tx::check` in one.
     ///
     /// # Errors
     ///
@@ -60,53 +59,11 @@ impl<D: Disk + Drop, O: Origin> Shared<D, O> {
             × (((before : ℕ) × (now : ℕ) × Made O.start (tx_view tx.old) (tx_view tx.old) (Refused (TheCall.Recent (number_of tx.old)) (cause_of before now e)) (tx_view tx.new))
             ⊎ ((e ≡ OfMemory) × (upto : ℕ) × Made O.start (tx_view tx.old) (tx_view tx.old) (OfRecent (number_of tx.old) upto) (tx_view tx.new)))) }
     {
-        if tx.is_free() {
-            return self.pass_over(rt, tx);
-        }
         match self.recent(rt, tx) {
             Ok(recent) => match tx.check(recent) {
                 Ok(upto) => Ok(upto),
                 Err(_) => Err(CoreError::Memory),
             },
-            Err(error) => Err(error),
-        }
-    }
-
-    // The last commit, as the entry of a check tells it. No note is above it, so none is copied.
-    fn newest<R: Wait>(&self, rt: &R, tx: &mut Tx<D, O>) -> Result<Recent, CoreError>
-        requires tx { IsTx self.now O.start tx.old }
-        ensures tx { IsTx self.now O.start tx.new }
-        ensures same { IsSameTx tx.old tx.new × (doing_of tx.new ≡ doing_of tx.old) × ((tx_view tx.new).units ≡ (tx_view tx.old).units) }
-        ensures made { (before : ℕ) × (now : ℕ) × Made O.start (tx_view tx.old) (tx_view tx.old) (recent_entry before now (number_of tx.old) result) (tx_view tx.new) }
-        ensures later { IfOk result (λ r. ((check_of tx.new).upto ≤ r.upto) × (r.upto ≤ last (state_of O.start tx.new).world.history)) }
-    {
-        let mut turn = self.lock.take(rt, &mut tx.pass);
-        let guarded = turn.value();
-        let before = Snapshot::of(&guarded.core);
-        let stat = guarded.core.stat();
-        let result = guarded.core.recent(tx.number, stat.last);
-        self.give(&mut tx.pass, turn, before, Told::Recent(tx.number, &result));
-        result
-    }
-
-    // Checks a transaction that can clash with no commit.
-    fn pass_over<R: Wait>(&self, rt: &R, tx: &mut Tx<D, O>) -> Result<u64, CoreError>
-        requires tx { IsTx self.now O.start tx.old }
-        requires free { CannotClash (doing_of tx.old) }
-        ensures tx { IsTx self.now O.start tx.new }
-        ensures same { (number_of tx.new ≡ number_of tx.old) × (doing_of tx.new ≡ doing_of tx.old) × ((tx_view tx.new).units ≡ (tx_view tx.old).units) }
-        ensures made { (before : ℕ) × (now : ℕ) × Made O.start (tx_view tx.old) (tx_view tx.old) (upto_entry before now (number_of tx.old) result) (tx_view tx.new) }
-        ensures ok { IfOk result (λ upto. (check_of tx.new).upto ≡ upto) }
-        ensures err { OnErr result (check_of tx.new ≡ check_of tx.old) }
-    {
-        match self.newest(rt, tx) {
-            Ok(newest) => {
-                tx.checked = Checked {
-                    upto: newest.upto,
-                    clash: None,
-                };
-                Ok(newest.upto)
-            }
             Err(error) => Err(error),
         }
     }

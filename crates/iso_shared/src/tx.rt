@@ -158,8 +158,9 @@ impl<D: Disk + Drop, O: Origin> Tx<D, O> {
         Ok(recent.upto)
     }
 
-    // Whether it can clash with no commit. Where memory is wanting to see that, it is not said.
-    pub(crate) fn is_free(&mut self) -> bool
+    /// Whether no commit can clash with it, whatever was committed since its begin: it wrote nothing, or in serial mode it
+    /// read nothing. Its end then needs no check ahead. `false` also where memory is wanting to see it.
+    pub fn cannot_clash(&mut self) -> bool
         requires tx { IsTxOf O.start self.old }
         ensures tx { IsTxOf O.start self.new }
         ensures same { (pass_of self.new ≡ pass_of self.old) × (number_of self.new ≡ number_of self.old) × (check_of self.new ≡ check_of self.old) × (doing_of self.new ≡ record (doing_of self.old) { settled = (doing_of self.new).settled }) }
