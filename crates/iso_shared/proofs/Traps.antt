@@ -1,5 +1,9 @@
 -- What no legal list holds that a looser word would let in, and what the rows of the other file leave.
 use Rattle.iso_shared.proofs.{Words.{◌≡◌, ℕ, ◌+◌, ◌-◌, zero, suc, true, false, List, [], ◌∷◌, ◌++◌, Some, None, ap, length, replicate, refl, sym, ◌∙◌, arith, length-replicate, Access, Committed, ReadOnly, Serial, Snapshot, LAST, CoreReply, put, clash, runs, begin_step, commit_step, end_step, read_access, switch_step, write_access, versions, empty_history, fresh, Entry, Numbers, Fits, MayRefuse, numbers_at, IsIsolatedAt, most_steps, Start, opened, state_at}, Rows.{fallen, one_ended, one_put, posted, small, start, two_begun}}
+use Rattle.iso_disk.specs.Disk.{DiskState, IsLawful}
+use Rattle.iso_shared.proofs.Standings.{told_now, told_since}
+use Rattle.iso_shared.specs.Standing.{HaveEnded, ShowsFrom}
+use mathlib.Core.List.{IsPrefix}
 use Rattle.iso_model.specs.declared.core_reply.CoreReply.TheVariants as reply
 use Rattle.iso_shared.specs.declared.entry.Call.TheVariants as call
 use Rattle.iso_shared.specs.declared.entry.Cause.TheVariants as cause
@@ -261,3 +265,13 @@ some_number n e = cc e
 not_isolated : IsIsolatedAt start lost_read → ⊥
 unfolding put
 not_isolated is = some_number 169 ((is 2 (omega arith) (omega arith)).isolated 0 0 refl)
+
+-- a store that syncs what it answered only as it closes: the image of a crash at the turn's end has not its commit
+not_synced_at_the_close : {D : Type 0} {disk : D → DiskState} {A : Start} {first d : DiskState} (es : List Entry) (e : Entry) (moments : List ℕ) → IsLawful d → HaveEnded disk A first d (es ++ e ∷ []) moments
+    → (c : List ℕ) → d.now c → (ShowsFrom A (es ++ e ∷ []) (es ++ e ∷ []) c → ⊥) → ⊥
+not_synced_at_the_close es e moments laws have c here lacks = lacks (told_now es e moments laws have c here)
+
+-- one that syncs it as the next turn begins: an image that was left since the moment at which the turn ended has not its commit
+not_synced_at_the_next_turn : {D : Type 0} {disk : D → DiskState} {A : Start} {first d : DiskState} {es : List Entry} {moments : List ℕ} → HaveEnded disk A first d es moments → (before : List Entry) (e : Entry) (past : List ℕ) (t : ℕ)
+    → IsPrefix (before ++ e ∷ []) es → IsPrefix (past ++ t ∷ []) moments → length past ≡ length before → (c : List ℕ) → d.left t c → (ShowsFrom A (before ++ e ∷ []) es c → ⊥) → ⊥
+not_synced_at_the_next_turn have before e past t front gone same c left lacks = lacks ((told_since have before e past t front gone same).1 c left)

@@ -117,6 +117,7 @@ module _ {D O : Type 0} where
     pub port : IsPort s new
     pub units : (view new.pass).units ≡ (view old.pass).units + v.units
     pub seen : (view new.pass).seen ≡ longer (view old.pass).seen v.seen
+    pub past : IsPrefix (moments old.pass) (moments new.pass)
     pub places : (p : ℕ) → times p (view new.pass).mine ≡ times p (view old.pass).mine + times p v.mine
 
 -- The pass of u, which was told what v had seen, made one entry, e, which is the last that w has seen. All of that is legal.

@@ -1,8 +1,9 @@
 // The end of a transaction, in one turn.
 ghost use Rattle.std.specs.Prelude.{◌≡◌, ◌≢◌, ◌+◌, ◌-◌, ◌<◌, ◌≤◌, ℕ, Some, None, Ok, Err, length, IfOk, IfErr, IfSome, IfNone, MatchOption, MatchResult};
+ghost use mathlib.Core.List.{IsPrefix};
 ghost use Rattle.iso_model.specs.declared.core_error.CoreError.TheVariants.{Disk as OfDisk};
 ghost use Rattle.iso_shared.specs.declared.entry.Call.TheVariants as TheCall;
-ghost use Rattle.iso_shared.specs.{declared.entry.Entry.TheVariants.{End, Refused}, Ports.{IsPort, IsSameTx, IsTx, Made, MadeBoth, TookFew, check_of, doing_of, number_of, port_view, tx_view}, Told.{cause_of, end_entry}, Turns.HasNoTurn};
+ghost use Rattle.iso_shared.specs.{declared.entry.Entry.TheVariants.{End, Refused}, Ports.{IsPort, IsSameTx, IsTx, Made, MadeBoth, TookFew, check_of, doing_of, number_of, port_moments, port_view, tx_view}, Told.{cause_of, end_entry}, Turns.HasNoTurn};
 ghost use Rattle.turn_lock.specs.Lock.{lock_id};
 ghost use Rattle.tx_table.specs.Work.{AreWithin};
 
@@ -82,6 +83,9 @@ impl<D: Disk + Drop, O: Origin> Shared<D, O> {
             × ((before : ℕ) × (now : ℕ) × MadeBoth O.start (port_view port.old) (tx_view tx) (Refused (TheCall.End (number_of tx) (doing_of tx).accesses) (cause_of before now e.0)) (port_view port.new)))) }
         ensures kept { IfErr result (λ e. IfSome e.1 (λ t. (e.0 ≢ OfDisk) × IsTx self.now O.start t × IsSameTx tx t × ((tx_view t).units ≡ (tx_view tx).units) × (port_view port.new ≡ port_view port.old)
             × ((before : ℕ) × (now : ℕ) × Made O.start (port_view port.old) (tx_view tx) (Refused (TheCall.End (number_of tx) (doing_of tx).accesses) (cause_of before now e.0)) (tx_view t)))) }
+
+        // The moments at which the turns ended that the port has seen stay, and the moment of this turn comes behind them.
+        ensures past { IsPrefix (port_moments port.old) (port_moments port.new) }
 
         // A step is a commit looked at: those that were checked ahead are not looked at again.
         ensures steps { MatchResult result (λ _. TookFew O.start (port_view port.new).seen (check_of tx).upto steps.old steps.new)

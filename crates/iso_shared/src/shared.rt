@@ -129,6 +129,7 @@ impl<D: Disk + Drop, O: Origin> Shared<D, O> {
         ensures same { IsAlike (view to.old) (view to.new) }
         ensures told { IsPrefix (view from.old).seen (view to.new).seen }
         ensures begins { IsPrefix (view to.old).seen (view to.new).seen }
+        ensures past { moments from.new ≡ moments from.old }
     {
         let note = self.lock.split(from, None, 0);
         self.lock.join(to, note);
@@ -170,6 +171,7 @@ impl<D: Disk + Drop, O: Origin> Shared<D, O> {
         ensures same { IsSameTx tx.old tx.new × (doing_of tx.new ≡ doing_of tx.old) × IsAlike (tx_view tx.old) (tx_view tx.new) }
         ensures told { IsPrefix (port_view port.old).seen (tx_view tx.new).seen }
         ensures begins { IsPrefix (tx_view tx.old).seen (tx_view tx.new).seen }
+        ensures past { port_moments port.new ≡ port_moments port.old }
     {
         self.tell(&mut port.pass, &mut tx.pass);
     }

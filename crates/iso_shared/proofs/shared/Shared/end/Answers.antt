@@ -1,4 +1,8 @@
 use Rattle.iso_shared.{proofs.Words.{view, CoreError, EndReply, Err, IfErr, Made, MadeBoth, Result, View, ap, longer, refl, sym, times, ℕ, ◌+◌, ◌≡◌, ◌≢◌, ◌∙◌, rules, subst, Doing, Entry, TookFew, end_entry, OfDisk}, specs.Ports.IsTx, proofs.Mades.{both_on, joined_seen, made_on, units_by}, proofs.shared.Shared.end.Goals.After-end_in_turn}
+use Rattle.iso_shared.specs.Turns.{moments}
+use Rattle.std.proofs.lemmas.List.{append-nil}
+use Rattle.std.specs.Prelude.{[]}
+use mathlib.Core.List.{IsPrefix}
 use Rattle.iso_shared.proofs.shared.Shared.end.Goals as goal
 
 -- what there is once the turn of the end is over
@@ -38,6 +42,9 @@ returns-in-Ok-clause-ok g c =
     let x = (view c.spend.new.port.pass) in
     (both g s x c.spend.ensures.seen _ (made g s _ c.in-Ok.is) c.spend.ensures.places, units g s x c.spend.ensures.units)
 
+pub returns-in-Ok-clause-past : goal.returns-in-Ok-clause-past
+returns-in-Ok-clause-past g c = subst (λ l. IsPrefix l (moments c.spend.new.port.pass)) c.tell_tx.ensures.past c.spend.ensures.past
+
 pub returns-in-Ok-clause-steps : goal.returns-in-Ok-clause-steps
 returns-in-Ok-clause-steps g c = few g (goal.at.returns-in-Ok-clause-steps g c).After-end_in_turn (view c.spend.new.port.pass) c.spend.ensures.seen
 
@@ -47,6 +54,9 @@ returns-in-Disk-clause-gone g c =
     let x = (view c.spend-in-Disk.new.port.pass) in
     let m = c.end_in_turn.ensures.made in
     (refl, units g s x c.spend-in-Disk.ensures.units, (m.0, m.1, both g s x c.spend-in-Disk.ensures.seen _ (made g s _ (c.in-Err.is ∙ ap Err c.in-Disk.is)) c.spend-in-Disk.ensures.places))
+
+pub returns-in-Disk-clause-past : goal.returns-in-Disk-clause-past
+returns-in-Disk-clause-past g c = subst (λ l. IsPrefix l (moments c.spend-in-Disk.new.port.pass)) c.tell_tx.ensures.past c.spend-in-Disk.ensures.past
 
 pub returns-in-Disk-clause-steps : goal.returns-in-Disk-clause-steps
 returns-in-Disk-clause-steps g c = few g (goal.at.returns-in-Disk-clause-steps g c).After-end_in_turn (view c.spend-in-Disk.new.port.pass) c.spend-in-Disk.ensures.seen
@@ -79,5 +89,6 @@ returns-in_default g c =
           made_on A (view c.args.port.now.pass) (view c.args.tx.pass) (t g s) (w g s) _ c.tell_tx.ensures.told c.tell_tx.ensures.begins same.2.0 (made g s _ c.in-Err.is),
         ),
       );
+      past = subst (λ l. IsPrefix l (moments c.tell_tx.new.port.pass)) c.tell_tx.ensures.past ([], append-nil (moments c.tell_tx.new.port.pass));
       steps = subst (λ k. TookFew A (w g s).seen k.upto c.args.steps.now c.end_in_turn.new.steps) same.0.checked c.end_in_turn.ensures.steps;
     }
