@@ -1,10 +1,10 @@
 -- A client that the disk stopped: its own entries tell of a fault, or that the device is down.
-use Rattle.iso_top.proofs.Words.{◌≡◌, ◌≢◌, ◌⊎◌, inl, inr, ◌==◌, ℕ, ◌-◌, Bool, true, false, cond, ◌||◌, List, [], ◌∷◌, ◌++◌, Option, Some, None, Err, refl, sym, subst, AllByRecursion, list_any, Geometry, Mode, Line, Op, Reply, Call, Cause, Entry, stopped, wants, entries_of, lines_run, Part, Stop, Aborts, Begins, CallsStore, ClientLines, Compacts, Did, Does, EndsThen, Fetches, GroupEnds, Groups, Looks, LooksFor, Own, Posts, Reads, Says, Stats, StopsAtLast, StopsBy, Trims, Upgrades, Where, WhereShown, all_fetches, refused, refused_fetch}
+use Rattle.iso_top.proofs.Words.{◌≡◌, ◌≢◌, ◌⊎◌, inl, inr, ◌==◌, ℕ, ◌-◌, Bool, true, false, cond, ◌||◌, List, [], ◌∷◌, ◌++◌, Option, Some, None, Err, refl, sym, subst, AllByRecursion, list_any, Geometry, Mode, Line, Op, Reply, Call, Cause, Entry, stopped, wants, entries_of, lines_run, Part, Stop, Aborts, Begins, CallsStore, ClientLines, Compacts, Did, Does, EndsNow, EndsThen, Fetches, GroupEnds, Groups, Looks, LooksFor, Own, Posts, Reads, Says, Stats, StopsAtLast, StopsBy, Trims, Upgrades, Where, WhereShown, all_fetches, refused, refused_fetch}
 use Rattle.script_model.specs.declared.script.Op.TheVariants as op
 use Rattle.script_model.specs.declared.script.Reply.TheVariants as reply
 use Rattle.iso_shared.specs.declared.entry.Cause.TheVariants as cause
 use Rattle.iso_shared.specs.declared.entry.Entry.TheVariants as entry
-use Rattle.par_script.specs.Lines.{Ends}
+use Rattle.par_script.specs.Lines.{AsksAndEnds, Ends}
 use Rattle.script_model.specs.declared.stop.Stop.TheVariants as stop
 
 -- the entry tells of a fault, or that the device is down
@@ -85,16 +85,23 @@ module _ (g : Geometry) (tells : Bool) (w : Stop) (other : w ≢ stop.Memory) wh
   reads : (t : Own) (o : Op) (block : ℕ) (es : List Entry) (own' : Option Own) → Reads g t o block es (Err w) own' → HasBlame es
   reads t o block es own' d = where_shown _ _ _ (HasBlame es) (fetches t o block es own') (says (Some t) o es own') d
 
+  ends_now : (t : Own) (es : List Entry) (own' : Option Own) → EndsNow t es (Err w) own' → HasBlame es
+  ends_now t (entry.End n accesses answered ∷ []) own' d = absurd (cc d.2)
+  ends_now t (entry.Refused c why ∷ []) own' d = inl (refused_blames c why w other d.1)
+  ends_now t es own' d = absurd d
+
   ends_then : (t : Own) (es : List Entry) (own' : Option Own) → EndsThen t es (Err w) own' → HasBlame es
   ends_then t [] own' d = absurd (other (cc d.0))
-  ends_then t (entry.End n accesses answered ∷ []) own' d = absurd (cc d.2)
-  ends_then t (entry.Refused c why ∷ []) own' d = inl (refused_blames c why w other d.1)
-  ends_then t es own' d = absurd d
+  ends_then t es own' d = ends_now t es own' d
 
-  ends : (t : Own) (es : List Entry) (own' : Option Own) → Ends t es (Err w) own' → HasBlame es
-  ends t (entry.Refused c why ∷ []) own' d = inl (refused_blames c why w other d.1)
-  ends t (entry.Recent n upto ∷ es) own' d = inr (ends_then t es own' d.1)
-  ends t es own' d = absurd d
+  asks_and_ends : (t : Own) (es : List Entry) (own' : Option Own) → AsksAndEnds t es (Err w) own' → HasBlame es
+  asks_and_ends t (entry.Refused c why ∷ []) own' d = inl (refused_blames c why w other d.1)
+  asks_and_ends t (entry.Recent n upto ∷ es) own' d = inr (ends_then t es own' d.1)
+  asks_and_ends t es own' d = absurd d
+
+  ends : (t : Own) (es : List Entry) (own' : Option Own) → Ends g t es (Err w) own' → HasBlame es
+  ends t es own' (inl d) = asks_and_ends t es own' d
+  ends t es own' (inr d) = ends_now t es own' d.1
 
   aborts : (t : Own) (es : List Entry) (own' : Option Own) → Aborts t es (Err w) own' → HasBlame es
   aborts t (entry.Abort n ∷ []) own' d = absurd (cc d.1)

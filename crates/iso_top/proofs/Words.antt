@@ -14,7 +14,7 @@ pub use Rattle.iso_recover.specs.{Cause.{IsBlamed, IsTest}, Made.IsUnmadeOrEmpty
 unfoldable pub use Rattle.iso_image.proofs.{SmallImages.{blank, one_commit}, RefusalWords.{fault_of, half_of, parts_fault, put, super_of}}
 pub use Rattle.iso_shared.{proofs.Follows.{histories_grow, last_longer}, proofs.Growing.{Grows, between_grown, grows_all}, proofs.Grouped.behind_it, proofs.PostsBefore.told_shown, proofs.Standings.came_first, specs.Legal.{Fits, LegalFrom, MayRefuse}, specs.Plain.CommitsUpTo, specs.Ports.{port_moments, port_view}, specs.Standing.{Came, HaveEnded, Holds, ShowsFrom, standing_of, start_at, whole, with_lost}, specs.States.{Start, State, after_all, after_fault, after_refusal, opened, state_at}, specs.declared.entry.Call.Call, specs.declared.entry.Cause.Cause, specs.declared.entry.Entry.Entry}
 pub use Rattle.par_lines.specs.{Ends.{Ends, HasEnded, status_of, stopped, wants}, declared.par.ParEnd.ParEnd}
-pub use Rattle.par_script.specs.{Lines.{Aborts, Begins, CallsStore, ClientLines, Compacts, Did, Does, EndsThen, Fetches, GroupEnds, Groups, Looks, LooksFor, Own, Posts, Reads, Says, Stats, StopsAtLast, StopsBy, Trims, Upgrades, Where, WhereShown, fetches as all_fetches, refused, refused_fetch}, Output.{IsFront, IsOutput}, Told.{Told, entries_of, lines_run}, declared.part.Part.Part}
+pub use Rattle.par_script.specs.{Lines.{Aborts, Begins, CallsStore, ClientLines, Compacts, Did, Does, EndsNow, EndsThen, Fetches, GroupEnds, Groups, Looks, LooksFor, Own, Posts, Reads, Says, Stats, StopsAtLast, StopsBy, Trims, Upgrades, Where, WhereShown, fetches as all_fetches, refused, refused_fetch}, Output.{IsFront, IsOutput}, Told.{Told, entries_of, lines_run}, declared.part.Part.Part}
 pub use Rattle.script_model.{proofs.ScriptBytes.script_lines, proofs.Small.{answers, text}, specs.Bench.{answers_to, array_bytes, bench_geometry, bench_output, bench_summary, bench_text, bench_world, is_committed, is_conflict, recover_output}, specs.Operations.{IsOp, AreLines}, specs.Script.{Script, after, replies, script}, specs.declared.script.BadLine.BadLine, specs.declared.script.Line.Line, specs.declared.script.Op.Op, specs.declared.script.Reply.Reply, specs.declared.stop.Stop.Stop}
 unfoldable pub use Rattle.script_model.proofs.Words.{begin_step, digits, get_step, number_of, numbers, operation_of, other_operation, reply_text, runs, step, versions, words_of}
 pub use Rattle.script_runner.{proofs.Acknowledged.told_kept, proofs.Histories.{between_on, shows_last}, proofs.Replying.plain_same, proofs.Steps.{all_first, replies-append}, specs.Read.{HasNoLines, HasRead}, specs.Replies.{AreRepliesTo, AreSameButShown, Replied, TellsCommit, text_of}, specs.Run.{Acknowledges, AreFirst, AreLinesOf, HasRun, IfUp}, specs.Told.{ArePlain, IsPlain}, specs.declared.lines.ScriptError.ScriptError, specs.declared.run_end.RunEnd.RunEnd}

@@ -1,5 +1,5 @@
 -- What is told of a client's transaction stays true by each of its lines.
-use Rattle.par_calls.proofs.{Words.{◌≡◌, ◌∙◌, ◌⊎◌, inl, inr, sym, ap, subst, ℕ, ◌&&◌, IsTrue, List, [], ◌∷◌, length, drop, Option, Some, None, Result, Ok, and_parts, list_all, Access, Geometry, Array, is_valid, HasShape, with_accesses, Op, Reply, Stop, IsOp, step, Entry, Compacts, Ends, EndsThen, Fetches, Own, Posts, Reads, Says, Stats, Trims, Upgrades, WhereShown, answer, own_after, with_block, SecondStore, Told, spares_calls, spares_stores, told_more, SecondGoes, same_told, IsSecond, Answered, alone, live_of}, Sound.{IsGood, as_first, line_good, sound}, Alike.AreAlike}
+use Rattle.par_calls.proofs.{Words.{◌≡◌, ◌∙◌, ◌⊎◌, inl, inr, sym, ap, subst, ℕ, ◌&&◌, IsTrue, List, [], ◌∷◌, length, drop, Option, Some, None, Result, Ok, and_parts, list_all, Access, Geometry, Array, is_valid, HasShape, with_accesses, Op, Reply, Stop, IsOp, step, Entry, AsksAndEnds, Compacts, Ends, EndsNow, EndsThen, Fetches, Own, Posts, Reads, Says, Stats, Trims, Upgrades, WhereShown, answer, own_after, with_block, SecondStore, Told, spares_calls, spares_stores, told_more, SecondGoes, same_told, IsSecond, Answered, alone, live_of}, Sound.{IsGood, as_first, line_good, sound}, Alike.AreAlike}
 use Rattle.script_model.specs.declared.script.Op.TheVariants as op
 use Rattle.script_model.specs.declared.script.Reply.TheVariants as reply
 use Rattle.iso_shared.specs.declared.entry.Cause.TheVariants as cause
@@ -65,17 +65,24 @@ module _ (S : SecondStore) (lawful : IsSecond S) (second : SecondGoes S) (g : Ge
   reads x block es r own' isop alike none d =
       reads_by (answer g [] (Some t) x) x block es r own' (fetched x block es r own' isop alike none) (says x es r own' isop (alike [])) d
 
+  ends_now : (es : List Entry) (r : Reply) (own' : Option Own) → EndsNow t es (Ok r) own' → Leaves op.End r own'
+  ends_now (entry.End n accesses answered ∷ []) r own' d = inl d.3
+  ends_now (entry.Refused c (cause.Disk before now) ∷ []) r own' d = inl d.2
+  ends_now (entry.Refused c why ∷ []) r own' d = inr (idle op.End r own' (lawful.quiet op.End tt r) d.2)
+  ends_now es r own' d = absurd d
+
   ends_then : (es : List Entry) (r : Reply) (own' : Option Own) → EndsThen t es (Ok r) own' → Leaves op.End r own'
   ends_then [] r own' d = absurd (cc d.0)
-  ends_then (entry.End n accesses answered ∷ []) r own' d = inl d.3
-  ends_then (entry.Refused c (cause.Disk before now) ∷ []) r own' d = inl d.2
-  ends_then (entry.Refused c why ∷ []) r own' d = inr (idle op.End r own' (lawful.quiet op.End tt r) d.2)
-  ends_then es r own' d = absurd d
+  ends_then es r own' d = ends_now es r own' d
 
-  pub ends : (es : List Entry) (r : Reply) (own' : Option Own) → Ends t es (Ok r) own' → Leaves op.End r own'
-  ends (entry.Refused c why ∷ []) r own' d = inr (idle op.End r own' (lawful.quiet op.End tt r) d.2)
-  ends (entry.Recent n upto ∷ es) r own' d = ends_then es r own' d.1
-  ends es r own' d = absurd d
+  asks_and_ends : (es : List Entry) (r : Reply) (own' : Option Own) → AsksAndEnds t es (Ok r) own' → Leaves op.End r own'
+  asks_and_ends (entry.Refused c why ∷ []) r own' d = inr (idle op.End r own' (lawful.quiet op.End tt r) d.2)
+  asks_and_ends (entry.Recent n upto ∷ es) r own' d = ends_then es r own' d.1
+  asks_and_ends es r own' d = absurd d
+
+  pub ends : (es : List Entry) (r : Reply) (own' : Option Own) → Ends g t es (Ok r) own' → Leaves op.End r own'
+  ends es r own' (inl d) = asks_and_ends es r own' d
+  ends es r own' (inr d) = ends_now es r own' d.1
 
   pub posts : (label : List ℕ) (es : List Entry) (r : Reply) (own' : Option Own) → Posts t label es (Ok r) own' → Leaves (op.Release label) r own'
   posts label (entry.Post n l accesses ∷ []) r own' d = inl d.4

@@ -1,5 +1,5 @@
 -- Each entry of a line is of its client's own transaction, or of those that its looks found.
-use Rattle.par_calls.proofs.Words.{◌≡◌, ◌∙◌, inl, inr, sym, refl, ap, subst, ℕ, ◌-◌, Bool, true, false, List, [], ◌∷◌, ◌++◌, Option, Some, None, Result, Geometry, Mode, Op, Reply, Stop, Cause, Entry, Aborts, Begins, CallsStore, Compacts, Did, Does, Ends, EndsThen, Fetched, Fetches, GroupEnds, GroupWants, Groups, Looks, LooksFor, Own, Posts, Says, Stats, Trims, Upgrades, Where, WhereShown, aborts_after, aborts_of, answer, fetches, found_ones, members_for, refused_fetch, IsOfOwn, found_in}
+use Rattle.par_calls.proofs.Words.{◌≡◌, ◌∙◌, inl, inr, sym, refl, ap, subst, ℕ, ◌-◌, Bool, true, false, List, [], ◌∷◌, ◌++◌, Option, Some, None, Result, Geometry, Mode, Op, Reply, Stop, Cause, Entry, Aborts, AsksAndEnds, Begins, CallsStore, Compacts, Did, Does, Ends, EndsNow, EndsThen, Fetched, Fetches, GroupEnds, GroupWants, Groups, Looks, LooksFor, Own, Posts, Says, Stats, Trims, Upgrades, Where, WhereShown, aborts_after, aborts_of, answer, fetches, found_ones, members_for, refused_fetch, IsOfOwn, found_in}
 use Rattle.script_model.specs.declared.script.Op.TheVariants as op
 use Rattle.script_model.specs.declared.script.Reply.TheVariants as reply
 use Rattle.iso_shared.specs.declared.entry.Cause.TheVariants as cause
@@ -76,16 +76,23 @@ module _ (g : Geometry) (tells : Bool) (r : Result Reply Stop) where
   read_by (reply.Shown bytes) t x block es own' d = one_fetch t x block es own' d
   read_by q t x block es own' d = none_of (Some t) [] es d.0
 
+  ends_now : (t : Own) (made es : List Entry) (own' : Option Own) → EndsNow t es r own' → AreOfOwn (Some t) made es
+  ends_now t made (entry.End n accesses answered ∷ []) own' d = ((d.0, d.1), tt)
+  ends_now t made (entry.Refused c why ∷ []) own' d = (tt, tt)
+  ends_now t made es own' d = absurd d
+
   ends_then : (t : Own) (made es : List Entry) (own' : Option Own) → EndsThen t es r own' → AreOfOwn (Some t) made es
   ends_then t made [] own' d = tt
-  ends_then t made (entry.End n accesses answered ∷ []) own' d = ((d.0, d.1), tt)
-  ends_then t made (entry.Refused c why ∷ []) own' d = (tt, tt)
-  ends_then t made es own' d = absurd d
+  ends_then t made es own' d = ends_now t made es own' d
 
-  ends : (t : Own) (es : List Entry) (own' : Option Own) → Ends t es r own' → AreOfOwn (Some t) [] es
-  ends t (entry.Refused c why ∷ []) own' d = (tt, tt)
-  ends t (entry.Recent n upto ∷ es) own' d = (tt, ends_then t (entry.Recent n upto ∷ []) es own' d.1)
-  ends t es own' d = absurd d
+  asks_and_ends : (t : Own) (es : List Entry) (own' : Option Own) → AsksAndEnds t es r own' → AreOfOwn (Some t) [] es
+  asks_and_ends t (entry.Refused c why ∷ []) own' d = (tt, tt)
+  asks_and_ends t (entry.Recent n upto ∷ es) own' d = (tt, ends_then t (entry.Recent n upto ∷ []) es own' d.1)
+  asks_and_ends t es own' d = absurd d
+
+  ends : (t : Own) (es : List Entry) (own' : Option Own) → Ends g t es r own' → AreOfOwn (Some t) [] es
+  ends t es own' (inl d) = asks_and_ends t es own' d
+  ends t es own' (inr d) = ends_now t [] es own' d.1
 
   aborts : (t : Own) (es : List Entry) (own' : Option Own) → Aborts t es r own' → AreOfOwn (Some t) [] es
   aborts t (entry.Abort n ∷ []) own' d = (tt, tt)

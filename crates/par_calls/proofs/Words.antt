@@ -2,7 +2,7 @@
 pub use Rattle.iso_model.{proofs.Bounds.limits, proofs.Bytes.{other_block, written_block}, proofs.FreshWorlds.fresh_is, proofs.Growth.{all_weaker, appended_is}, proofs.Recorded.array_shape, proofs.Worlds.with_lives, specs.Array.{Array, merged}, specs.Effect.{is_write, own, own as written}, specs.Geometry.is_serial, specs.Group.leave_all, specs.History.{History, all_own, array_at, last}, specs.Marks.{is_outside, mark_fault, marked}, specs.Premises.{AreAccesses, HasBytes, HasShape, IsAccess, IsHistory, IsSpan, block_at}, specs.Step.{after_leaving, get_access, put_access, read_access, shown_to, with_accesses, write_access}, specs.World.{Live, World, attached, fresh, unattached}, specs.Worlds.{Extends, IsWorld}, specs.declared.access.Access.Access, specs.declared.access.Commit.Commit, specs.declared.access.EndReply.TheVariants.{Committed, Conflict, ReadOnly}, specs.declared.access.Geometry.Geometry, specs.declared.access.GroupReply.GroupReply, specs.declared.access.MarkError.MarkError, specs.declared.access.Mode.Mode, specs.declared.access.Mode.TheVariants.Serial, specs.declared.access.Span.Span, specs.declared.limits.TheConstants.MAX_ACCESSES}
 unfoldable pub use Rattle.iso_model.specs.{Array.put, Geometry.is_valid}
 pub use Rattle.iso_shared.{proofs.Racked.known_on, proofs.Begins.began_last, proofs.Follows.{Follows, follows_all, follows_next, last_longer}, proofs.Giving.fault_keeps, proofs.Grouped.after_live, proofs.Racked.IsPosting, proofs.Trace.{IsSound, after_append, legal_append, loose_is, opened_sound, sound_next}, specs.Legal.{AreLoose, Fits, IsLegal, LegalFrom, MayHaveMade}, specs.Ports.IsIsolatedAt, specs.States.{Start, State, after, after_all, after_fault, after_refusal, commits_made, is_live, is_loose, lost_commits, member_numbers, members_of, opened, posting_of, state_at, txs_of}, specs.declared.entry.Call.Call, specs.declared.entry.Cause.Cause, specs.declared.entry.Entry.Entry, specs.declared.entry.Member.Member, specs.declared.entry.MemberEnd.MemberEnd, specs.declared.entry.Posting.Posting}
-pub use Rattle.par_script.specs.{Lines.{Aborts, Begins, CallsStore, ClientLines, Compacts, Did, Does, Ends, EndsThen, Fetched, Fetches, GroupEnds, GroupWants, Groups, InStore, Looks, LooksFor, Own, Posts, Reads, Says, Stats, StopsAtLast, Trims, Upgrades, Walk, Where, WhereShown, aborts_after, aborts_of, alone, answer, blocks_read, fetches, found_ones, last_abort, live_of, member_for, members_for, own_after, own_among, refused_fetch, with_block}, Told.{FoundSome, entries_of, has_line, lines_of, lines_run}, declared.part.Part.Part}
+pub use Rattle.par_script.specs.{Lines.{Aborts, AsksAndEnds, Begins, CallsStore, ClientLines, Compacts, Did, Does, Ends, EndsNow, EndsThen, Fetched, Fetches, GroupEnds, GroupWants, Groups, InStore, Looks, LooksFor, Own, Posts, Reads, Says, Stats, StopsAtLast, Trims, Upgrades, Walk, Where, WhereShown, aborts_after, aborts_of, alone, answer, blocks_read, fetches, found_ones, last_abort, live_of, member_for, members_for, own_after, own_among, refused_fetch, with_block}, Told.{FoundSome, entries_of, has_line, lines_of, lines_run}, declared.part.Part.Part}
 pub use Rattle.script_model.specs.{Operations.{AreLines, IsOnStore, IsOp}, Step.{access_step, array_of, found_reply, in_store, in_transaction, mark_refused, marked_step, pairs_reply, removed_reply}, declared.script.Line.Line, declared.script.Op.Op, declared.script.Reply.Reply, declared.stop.Stop.Stop}
 unfoldable pub use Rattle.script_model.specs.Step.{file_delete_step, file_move_step, file_new_step, file_read_step, file_write_step, fill_step, get_step, hash_delete_step, hash_get_step, hash_put_step, mark_step, put_step, read_step, step, store_step, tree_delete_step, tree_get_step, tree_put_step, tree_scan_step, write_step}
 pub use Rattle.std.{proofs.Common.{Bool, Err, IsTrue, List, None, Ok, Option, Result, Some, ap, append-nil, append_assoc, arith, bytes_eq, cond, drop, eq-eqb, false, filter, inl, inr, is_some, length, map, nat_le, not, refl, replicate, slice_index, subst, suc, sym, take, true, zero, ℕ, [], ◌&&◌, ◌++◌, ◌+◌, ◌-◌, ◌<◌, ◌==◌, ◌||◌, ◌∙◌, ◌∷◌, ◌≡◌, ◌≤◌, ◌⊎◌}, proofs.lemmas.Bool.{and_from, and_parts, cases_eq, eqb-true, le-leb}, proofs.lemmas.List.append_cancel_left, specs.List.{AllByRecursion, list_all, list_any, range_with_len}, specs.Map.{lookup, remove_entry}}

@@ -1,5 +1,5 @@
 -- What each call of a session makes of a client's line.
-use Rattle.par_lines.proofs.Words.{◌≡◌, ℕ, List, [], ◌∷◌, Option, Some, None, ap, inl, inr, refl, sym, subst, ◌∙◌, IsSome, Result, Ok, Err, BeginError, EndError, PostTxError, left_by, HasAborted, HasBegun, HasChecked, HasEnded, IsCheckCause, HasLooked, HasPosted, KeepsTx, Made, moves_made, moves_none, moves_on, Stat, reply_of, EndReply, Mode, CoreError, InTx, NotInTx, as_reply, Op, Reply, step, Entry, Start, cause_of, compact_entry, numbers_of, trim_entry, upgrade_entry, Stop, Own, Did, Does, EndsThen, Answered, SessionState}
+use Rattle.par_lines.proofs.Words.{◌≡◌, ℕ, List, [], ◌∷◌, Option, Some, None, ap, inl, inr, refl, sym, subst, ◌∙◌, IsSome, Result, Ok, Err, BeginError, EndError, PostTxError, left_by, CannotClash, HasAborted, HasBegun, HasChecked, HasEnded, IsCheckCause, HasLooked, HasPosted, KeepsTx, Made, moves_made, moves_none, moves_on, Stat, reply_of, EndReply, Mode, CoreError, InTx, NotInTx, as_reply, Op, Reply, step, Entry, Start, cause_of, compact_entry, numbers_of, trim_entry, upgrade_entry, Stop, Own, Did, Does, EndsThen, Answered, SessionState}
 use Rattle.handle_pass.specs.declared.errors.BeginError.TheVariants as begin
 use Rattle.handle_pass.specs.declared.errors.EndError.TheVariants as end
 use Rattle.handle_pass.specs.declared.errors.PostTxError.TheVariants as post
@@ -35,6 +35,10 @@ same_own o p is = ap (unwrap_or' o) is
 -- an operation that is this one, and an answer that is this one
 pub said : {A : Start} {s t : SessionState} {o p : Op} {r q : Result Reply Stop} → o ≡ p → r ≡ q → Answered A s p q t → Answered A s o r t
 said {A} {s} {t} {o} {p} {r} {q} is says answered = subst (λ x. Answered A s x r t) (sym is) (subst (λ x. Answered A s p x t) (sym says) answered)
+
+-- a line before which the session was asked something that changed nothing
+pub asked_before : {A : Start} {s u t : SessionState} {o : Op} {r : Result Reply Stop} → u ≡ s → Answered A u o r t → Answered A s o r t
+asked_before {A} {s} {u} {t} {o} {r} same answered = subst (λ v. Answered A v o r t) same answered
 
 module _ (A : Start) where
   -- a line of one entry
@@ -119,8 +123,8 @@ module _ (A : Start) where
   unchecked s t (end.Core e) h = by_cause h.3
     where
       by_cause : IsCheckCause A s t h.0 e → Answered A s op.End (say.refused e) t
-      by_cause (inl c) = by_entry s t op.End (entry.Refused (call.Recent h.0.number) (cause_of c.0 c.1 e)) (say.refused e) (Some h.0) h.1 c.2 (refl, refused_is c.0 c.1 e, h.2.is ∙ h.1)
-      by_cause (inr c) = by_entry s t op.End (entry.Recent h.0.number c.1) (say.refused e) (Some h.0) h.1 c.2 (refl, (ap say.refused c.0, h.2.is ∙ h.1))
+      by_cause (inl c) = by_entry s t op.End (entry.Refused (call.Recent h.0.number) (cause_of c.0 c.1 e)) (say.refused e) (Some h.0) h.1 c.2 (inl (refl, refused_is c.0 c.1 e, h.2.is ∙ h.1))
+      by_cause (inr c) = by_entry s t op.End (entry.Recent h.0.number c.1) (say.refused e) (Some h.0) h.1 c.2 (inl (refl, (ap say.refused c.0, h.2.is ∙ h.1)))
 
   -- the end after a check
   two : (s m t : SessionState) (o : Own) (upto : ℕ) (e : Entry) (r : Result Reply Stop) → s.own ≡ Some o → Made A s m (entry.Recent o.number upto) → Made A m t e → EndsThen o (e ∷ []) r t.own
@@ -128,7 +132,7 @@ module _ (A : Start) where
   two s m t o upto e r is first second ends = record {
     entries = entry.Recent o.number upto ∷ e ∷ [];
     moves = moves_on s m t (entry.Recent o.number upto ∷ []) (e ∷ []) (moves_made A s m (entry.Recent o.number upto) first) (moves_made A m t e second);
-    did = inl (subst (λ w. Does A.world.geometry A.tells w op.End (entry.Recent o.number upto ∷ e ∷ []) r t.own) (sym is) (refl, ends));
+    did = inl (subst (λ w. Does A.world.geometry A.tells w op.End (entry.Recent o.number upto ∷ e ∷ []) r t.own) (sym is) (inl (refl, ends)));
     of = second.of ∙ first.of;
   }
 
@@ -140,3 +144,15 @@ module _ (A : Start) where
   ended s m t upto old new (Err (end.Core e)) c h =
       let same : h.0 ≡ c.0 = same_own h.0 c.0 (sym h.1 ∙ c.2) in
       two s m t c.0 upto _ (say.refused e) c.1 c.4 h.5 (ap (λ (o : Own). call.End o.number o.accesses) same, refused_is h.3 h.4 e, h.2 ∙ left_is h.3 h.4 e h.0 ∙ ap (lines.left_by (cause_of h.3 h.4 e)) same)
+
+  -- the transaction with which no commit can clash is the session's
+  spared : (s : SessionState) (o : Own) → s.own ≡ Some o → CannotClash A s → lines.CannotClash A.world.geometry o
+  spared s o is never = subst (lines.CannotClash A.world.geometry) (same_own never.0 o (sym never.1 ∙ is)) never.2
+
+  -- its end, without a check
+  pub at_once : (s t : SessionState) (old new : ℕ) (r : Result EndReply EndError) → CannotClash A s → HasEnded A s old r t new → Answered A s op.End (say.ended r) t
+  at_once s t old new (Ok answer) never h =
+      by_entry s t op.End _ (Ok (as_reply (reply_of answer))) (Some h.0) h.1 h.3 (inr (spared s h.0 h.1 never, (refl, refl, refl, h.2)))
+  at_once s t old new (Err end.NotInTx) never h = absurd (cc (sym h.0 ∙ never.1))
+  at_once s t old new (Err (end.Core e)) never h =
+      by_entry s t op.End _ (say.refused e) (Some h.0) h.1 h.5 (inr (spared s h.0 h.1 never, (refl, refused_is h.3 h.4 e, h.2 ∙ left_is h.3 h.4 e h.0)))

@@ -12,7 +12,8 @@ use script_model::{Reply, Stop};
 use std::sync::Wait;
 use std::sync::ledger::{Blank, Ledger};
 
-/// Asks for the later commits and compares, and then ends the transaction, with a count of its steps that nobody asks for.
+/// Ends the transaction, with a count of its steps that nobody asks for. Before that it asks for the later commits and compares,
+/// but where no commit can clash.
 pub(crate) fn end<'a, L: Ledger, D: Disk + Drop, O: Origin, R: Wait>(
     blank: Blank,
     rt: &R,
@@ -24,6 +25,9 @@ pub(crate) fn end<'a, L: Ledger, D: Disk + Drop, O: Origin, R: Wait>(
     ensures did { Answered O.start session.old End result session.new }
 {
     let mut steps = Steps::<L>::start(blank);
+    if session.cannot_clash() {
+        return ended(session.end_tx(rt, &mut steps));
+    }
     match session.check_tx(rt) {
         Ok(_) => ended(session.end_tx(rt, &mut steps)),
         Err(error) => not_ended(error),

@@ -116,7 +116,7 @@ awaits_b : Did small true None (op.Await b) (entry.Look b None ∷ entry.Look b 
 awaits_b = inl (omega arith, refl, (omega arith, refl, refl, refl))
 
 ends_two : Did small true (Some at_b) op.End (entry.Recent 2 1 ∷ entry.End 2 (get_both ∷ []) ReadOnly ∷ []) (Ok reply.ReadOnly) None
-ends_two = inl (refl, (refl, refl, refl, refl))
+ends_two = inl (inl (refl, (refl, refl, refl, refl)))
 
 puts_bb : Did small true (Some at_a) (op.Put 0 1 (187 ∷ [])) [] (Ok reply.Done) (Some (record at_a { accesses = put_aa ∷ put_bb ∷ [] }))
 unfolding step put_step
@@ -130,7 +130,7 @@ awaits_a : Did small true None (op.Await a) (entry.Look a None ∷ entry.Look a 
 awaits_a = inl (omega arith, refl, (omega arith, refl, refl, refl))
 
 ends_one : Did small true (Some (record at_a { accesses = put_aa ∷ put_bb ∷ [] })) op.End (entry.Recent 1 0 ∷ entry.End 1 (put_aa ∷ put_bb ∷ []) (Committed 1) ∷ []) (Ok (reply.Committed 1)) None
-ends_one = inl (refl, (refl, refl, refl, refl))
+ends_one = inl (inl (refl, (refl, refl, refl, refl)))
 
 begins_two : Did small true None (op.Begin None) (entry.Begin 2 1 Serial ∷ []) (Ok (reply.Began 1)) (Some (record at_b { accesses = [] }))
 begins_two = inl (refl, refl, refl)
@@ -326,14 +326,8 @@ told = record {
   told = (record { made = first_entries; own = None; ran = first_walk; all = refl }, (record { made = second_entries; own = None; ran = second_walk; all = refl }, tt));
 }
 
--- What is refused: a reply of another answer, an end without its look at the later commits, an entry of a line that the
--- client's own state answers, a look for another label, and a read of the block as it is without the own writes.
-not_read_only : Does small true (Some at_a) op.End (entry.Recent 1 0 ∷ entry.End 1 (put_aa ∷ []) (Committed 1) ∷ []) (Ok reply.ReadOnly) None → ⊥
-not_read_only does = cc (does.1.2)
-
-not_unchecked : Does small true (Some at_a) op.End (entry.End 1 (put_aa ∷ []) (Committed 1) ∷ []) (Ok (reply.Committed 1)) None → ⊥
-not_unchecked does = does
-
+-- What is refused: an entry of a line that the client's own state answers, a look for another label, and a read of the block as
+-- it is without the own writes.
 not_in_one : Does small true (Some at_a) (op.Begin None) (entry.Begin 2 0 Serial ∷ []) (Ok (reply.Began 0)) (Some at_a) → ⊥
 unfolding step
 not_in_one does = cc (does.0)
@@ -364,10 +358,7 @@ no_fetch_outside : Does small true (Some at_a) (op.Read 4) (entry.Fetch 1 4 [] �
 unfolding step read_step
 no_fetch_outside does = cc (does.0)
 
--- a fault of an end: the client stops, and has nothing to abort; after a fault of a fetch it has
-stops_without : Does small true (Some at_a) op.End (entry.Recent 1 0 ∷ entry.Refused (call.End 1 (put_aa ∷ [])) (cause.Disk 0 1) ∷ []) (Err stop.Disk) None
-stops_without = (refl, (refl, refl, refl))
-
+-- a fault of a fetch: the client stops, and has its transaction to abort
 stops_with : Does small true (Some at_a) (op.Read 0) (entry.Refused (call.Fetch 1 0) (cause.Disk 0 1) ∷ []) (Err stop.Disk) (Some at_a)
 unfolding step read_step
 stops_with = (refl, refl, refl)
@@ -395,22 +386,6 @@ not_another_block does = cc (does.1)
 not_another_reader : Does small true (Some at_a) (op.Read 0) (entry.Fetch 2 0 block ∷ []) (Ok (reply.Shown block)) (Some at_a) → ⊥
 unfolding step read_step
 not_another_reader does = cc (does.0)
-
--- an end is of the own transaction, with its accesses, and ends it
-not_anothers_end : Does small true (Some at_b) op.End (entry.Recent 2 1 ∷ entry.End 1 (get_both ∷ []) ReadOnly ∷ []) (Ok reply.ReadOnly) None → ⊥
-not_anothers_end does = cc (does.1.0)
-
-not_without_accesses : Does small true (Some at_b) op.End (entry.Recent 2 1 ∷ entry.End 2 [] ReadOnly ∷ []) (Ok reply.ReadOnly) None → ⊥
-not_without_accesses does = not_equal 0 1 (omega arith) (ap (λ (l : List Access). length l) (does.1.1))
-
-not_anothers_recent : Does small true (Some at_b) op.End (entry.Recent 1 1 ∷ entry.End 2 (get_both ∷ []) ReadOnly ∷ []) (Ok reply.ReadOnly) None → ⊥
-not_anothers_recent does = cc (does.0)
-
-not_kept_by_a_fault : Does small true (Some at_a) op.End (entry.Recent 1 0 ∷ entry.Refused (call.End 1 (put_aa ∷ [])) (cause.Disk 0 1) ∷ []) (Err stop.Disk) (Some at_a) → ⊥
-not_kept_by_a_fault does = cc (does.1.2)
-
-not_answered_over_a_fault : Does small true (Some at_a) op.End (entry.Recent 1 0 ∷ entry.Refused (call.End 1 (put_aa ∷ [])) (cause.Disk 0 1) ∷ []) (Ok reply.ReadOnly) None → ⊥
-not_answered_over_a_fault does = cc (does.1.1)
 
 -- an abort, a post and a look are of the own transaction and label
 not_anothers_abort : Does small true (Some at_a) op.Abort (entry.Abort 2 ∷ []) (Ok reply.Done) None → ⊥
@@ -455,12 +430,6 @@ not_another_fetch_refused : Does small true (Some at_a) (op.Read 0) (entry.Refus
 unfolding step read_step
 not_another_fetch_refused does = cc (does.0)
 
-not_anothers_recent_refused : Does small true (Some at_a) op.End (entry.Refused (call.Recent 2) cause.Memory ∷ []) (Err stop.Memory) (Some at_a) → ⊥
-not_anothers_recent_refused does = cc (does.0)
-
-not_lost_by_a_refused_recent : Does small true (Some at_a) op.End (entry.Refused (call.Recent 1) cause.Memory ∷ []) (Err stop.Memory) None → ⊥
-not_lost_by_a_refused_recent does = cc (does.2)
-
 not_anothers_post_refused : Does small true (Some at_a) (op.Release a) (entry.Refused (call.Post 2 a (put_aa ∷ [])) cause.LabelTaken ∷ []) (Ok reply.LabelTaken) (Some at_a) → ⊥
 not_anothers_post_refused does = cc (does.0)
 
@@ -500,13 +469,6 @@ accesses_had (Some t) = t.accesses
 not_read_unnoted : Does small true (Some (record at_b { accesses = [] })) (op.Get 0 0 2) (entry.Fetch 2 0 block ∷ []) (Ok (reply.Shown (170 ∷ 187 ∷ []))) (Some (record at_b { accesses = [] })) → ⊥
 unfolding step get_step
 not_read_unnoted does = not_equal 0 1 (omega arith) (ap (λ (o : Option Own). length (accesses_had o)) (does.3))
-
--- an end that wants memory after its look at later commits stops the client, which keeps its transaction
-not_ended_unasked : Does small true (Some at_a) op.End (entry.Recent 1 0 ∷ []) (Ok reply.ReadOnly) (Some at_a) → ⊥
-not_ended_unasked does = cc (does.1.0)
-
-not_lost_unasked : Does small true (Some at_a) op.End (entry.Recent 1 0 ∷ []) (Err stop.Memory) None → ⊥
-not_lost_unasked does = cc (does.1.1)
 
 -- an await looks for its own label, and takes what it finds there
 not_awaited_elsewhere : Does small true None (op.Await b) (entry.Look a None ∷ entry.Look b (Some at_b) ∷ []) (Ok (reply.Began 1)) (Some at_b) → ⊥

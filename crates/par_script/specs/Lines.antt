@@ -1,6 +1,6 @@
 -- What the lines of one client make of its own transaction, with the answers of their entries.
 use Rattle.std.specs.{Prelude.{◌≡◌, ◌⊎◌, ℕ, ◌-◌, ◌<◌, ◌==◌, ◌&&◌, Bool, true, false, cond, not, List, [], ◌∷◌, ◌++◌, Option, Some, None, Result, Ok, Err, IfOk, length, map, option_map, replicate, unwrap_or}, List.AllByRecursion}
-use Rattle.iso_model.specs.{declared.access.Access.Access, declared.access.Geometry.Geometry, declared.access.GroupReply.GroupReply, declared.access.Mode.Mode, Array.Array, Effect.is_write, Geometry.is_serial, Group.label_replies, Premises.block_at, World.{World, Live, client, fresh}}
+use Rattle.iso_model.specs.{declared.access.Access.Access, declared.access.Geometry.Geometry, declared.access.GroupReply.GroupReply, declared.access.Mode.Mode, Array.Array, Conflict.clash, Effect.is_write, Geometry.is_serial, Group.label_replies, History.History, Premises.block_at, World.{World, Live, client, fresh}}
 use Rattle.script_model.specs.{CoreReplies.as_reply, declared.script.Line.Line, declared.script.Op.Op, declared.script.Reply.Reply, FilesArea.file_blocks, Step.step, declared.stop.Stop.Stop}
 use Rattle.script_model.specs.declared.script.Op.TheVariants as op
 use Rattle.script_model.specs.declared.script.Reply.TheVariants as reply
@@ -86,17 +86,30 @@ abbrev pub left_by : Cause → Own → Option Own
 left_by (cause.Disk before now) t = None
 left_by why t = Some t
 
+-- the end itself
+abbrev pub EndsNow : Own → List Entry → Result Reply Stop → Option Own → Type 0
+EndsNow t (entry.End n accesses answered ∷ []) r own' = (n ≡ t.number) × (accesses ≡ t.accesses) × (r ≡ Ok (as_reply (reply_of answered))) × (own' ≡ None)
+EndsNow t (entry.Refused c why ∷ []) r own' = (c ≡ call.End t.number t.accesses) × (r ≡ refused why) × (own' ≡ left_by why t)
+EndsNow t es r own' = ⊥
+
 -- after the later commits were asked for: the end, unless memory was wanting for the check
 abbrev pub EndsThen : Own → List Entry → Result Reply Stop → Option Own → Type 0
 EndsThen t [] r own' = (r ≡ Err stop.Memory) × (own' ≡ Some t)
-EndsThen t (entry.End n accesses answered ∷ []) r own' = (n ≡ t.number) × (accesses ≡ t.accesses) × (r ≡ Ok (as_reply (reply_of answered))) × (own' ≡ None)
-EndsThen t (entry.Refused c why ∷ []) r own' = (c ≡ call.End t.number t.accesses) × (r ≡ refused why) × (own' ≡ left_by why t)
-EndsThen t es r own' = ⊥
+EndsThen t es r own' = EndsNow t es r own'
 
-abbrev pub Ends : Own → List Entry → Result Reply Stop → Option Own → Type 0
-Ends t (entry.Refused c why ∷ []) r own' = (c ≡ call.Recent t.number) × (r ≡ refused why) × (own' ≡ Some t)
-Ends t (entry.Recent n upto ∷ es) r own' = (n ≡ t.number) × EndsThen t es r own'
-Ends t es r own' = ⊥
+-- the later commits are asked for, and then comes the end
+abbrev pub AsksAndEnds : Own → List Entry → Result Reply Stop → Option Own → Type 0
+AsksAndEnds t (entry.Refused c why ∷ []) r own' = (c ≡ call.Recent t.number) × (r ≡ refused why) × (own' ≡ Some t)
+AsksAndEnds t (entry.Recent n upto ∷ es) r own' = (n ≡ t.number) × EndsThen t es r own'
+AsksAndEnds t es r own' = ⊥
+
+-- no commit can clash with the transaction, by the rule of conflicts: whatever the history of the image is, it has no clash with it
+abbrev pub CannotClash : Geometry → Own → Type 0
+CannotClash g t = (H : History) → clash g H t.mode t.begin t.accesses ≡ None
+
+-- an end asks for the later commits; where no commit can clash with the transaction, it may come at once
+abbrev pub Ends : Geometry → Own → List Entry → Result Reply Stop → Option Own → Type 0
+Ends g t es r own' = AsksAndEnds t es r own' ⊎ (CannotClash g t × EndsNow t es r own')
 
 abbrev pub Aborts : Own → List Entry → Result Reply Stop → Option Own → Type 0
 Aborts t (entry.Abort n ∷ []) r own' = (n ≡ t.number) × (r ≡ Ok reply.Done) × (own' ≡ None)
@@ -251,7 +264,7 @@ Does g tells None (op.Takeover label) es r own' = Looks label es r own'
 Does g tells None (op.Await label) es r own' = LooksFor label MAX_LOOKS es r own'
 Does g tells (Some t) (op.Read block) es r own' = Reads g t (op.Read block) block es r own'
 Does g tells (Some t) (op.Get block off len) es r own' = Reads g t (op.Get block off len) block es r own'
-Does g tells (Some t) op.End es r own' = Ends t es r own'
+Does g tells (Some t) op.End es r own' = Ends g t es r own'
 Does g tells (Some t) op.Abort es r own' = Aborts t es r own'
 Does g tells (Some t) (op.Release label) es r own' = Posts t label es r own'
 Does g tells (Some t) (op.HashPut key value) es r own' = InStore g.hash t (CallsStore g tells t (op.HashPut key value) es r own') (Says g (Some t) (op.HashPut key value) es r own')
