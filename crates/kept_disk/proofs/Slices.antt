@@ -1,5 +1,5 @@
 -- Slices of lists that are written over, and places of lists that are set.
-use Rattle.kept_disk.proofs.Words.{◌≡◌, ◌<◌, ◌≤◌, ◌+◌, ◌-◌, ℕ, zero, suc, min, List, [], ◌∷◌, ◌++◌, Option, Some, None, inl, length, take, drop, set, refl, sym, ◌∙◌, ap, arith, length-drop, take-take, drop-drop, drop-take, length-take, length-take-le, take_at, drop_all, drop-append-le, take-append-le, take-add, take-length, put_mid-paste, option_map, same_Some, slice_get, Torn, spliced, drop-torn, length-spliced, slice-torn, spliced_torn, take-spliced, take-drop-spliced, spliced_behind, torn_whole, put_mid}
+use Rattle.kept_disk.proofs.Words.{◌≡◌, ◌<◌, ◌≤◌, ◌+◌, ◌-◌, ℕ, zero, suc, min, List, [], ◌∷◌, ◌++◌, Option, Some, None, inl, length, take, drop, set, get_or, replicate, refl, sym, ◌∙◌, ap, arith, length-drop, take-take, drop-drop, drop-take, length-take, length-take-le, take_at, drop_all, drop-append-le, take-append-le, take-add, take-length, put_mid-paste, option_map, same_Some, slice_get, Torn, spliced, drop-torn, length-spliced, slice-torn, spliced_torn, take-spliced, take-drop-spliced, spliced_behind, torn_whole, put_mid}
 
 -- the length of a slice
 pub length-slice : (k b : ℕ) (l : List ℕ) → length (take k (drop b l)) ≡ min k (length l - b)
@@ -107,3 +107,23 @@ part_written from len n old lent into count same size within =
     let part = lent_part from (from + len - from) lent into (omega (arith, size)) ∙ ap (λ (l : List ℕ). spliced l from into) same in
     let long : length (put_mid from (from + len - from) lent into) ≡ length old = ap length part ∙ length-spliced old from into (omega (arith, size, within)) in
     lent_whole n (put_mid from (from + len - from) lent into) old count long ∙ part
+
+-- bytes after one that equal those one place before are all that one
+follow : (x : ℕ) (ys : List ℕ) → ys ≡ take (length ys) (x ∷ ys) → ys ≡ replicate (length ys) x
+follow x [] same = refl
+follow x (y ∷ zs) same =
+    let here : y ≡ x = cc in
+    let rest : zs ≡ take (length zs) (y ∷ zs) = cc in
+    λ i. here i ∷ (follow y zs rest ∙ ap (replicate (length zs)) here) i
+
+pub all_zeros : (xs : List ℕ) → 0 < length xs → get_or xs 0 0 ≡ 0 → drop 1 xs ≡ take (length xs - 1) xs → xs ≡ replicate (length xs) 0
+all_zeros [] some first same = absurd (omega (arith, some))
+all_zeros (x ∷ xs) some first same =
+    let less : length (x ∷ xs) - 1 ≡ length xs = omega arith in
+    λ i. first i ∷ (follow x xs (same ∙ ap (λ (n : ℕ). take n (x ∷ xs)) less) ∙ ap (replicate (length xs)) first) i
+
+-- a place that is told of a list
+pub told_inside : {X : Type 0} (xs : List X) (i : ℕ) (x : X) → slice_get xs i ≡ Some x → i < length xs
+told_inside [] i x told = absurd (cc told)
+told_inside (y ∷ ys) zero x told = omega arith
+told_inside (y ∷ ys) (suc i) x told = let rest = told_inside ys i x told in omega (arith, rest)

@@ -1,5 +1,5 @@
 -- Pages that stand for contents: as they are filled, as bytes are written, and what a read takes of them.
-use Rattle.kept_disk.proofs.{Words.{◌≡◌, ◌⊎◌, ◌≤◌, ◌<◌, ◌+◌, ◌-◌, ◌*◌, ◌%◌, ◌++◌, ℕ, min, Bool, ◌==◌, cond, List, Option, Some, None, inl, inr, length, take, drop, set, get_or, refl, sym, ◌∙◌, ap, subst, arith, length-drop, take_min, same_Some, slice_get, spliced, length-spliced, slice-torn, spliced_torn, Torn, page_of, AreLaid, Covers, HasPage, IsHeld, Stand, from_of, cases_eq, cases_lt, ne_eqb, get_or-set_same, get_or-set_other, sum_by-set}, Slices.{length-slice, part_of, slice_before, spliced_inside, get-set_same, get-set_other}}
+use Rattle.kept_disk.proofs.{Words.{◌≡◌, ◌⊎◌, ◌≤◌, ◌<◌, ◌+◌, ◌-◌, ◌*◌, ◌%◌, ◌++◌, ℕ, min, Bool, ◌==◌, cond, List, Option, Some, None, inl, inr, length, replicate, take, drop, set, get_or, refl, sym, ◌∙◌, ap, subst, arith, length-drop, take-replicate, drop-replicate, drop_at, take_min, same_Some, slice_get, spliced, length-spliced, slice-torn, spliced_torn, Torn, page_of, AreLaid, HasPage, IsBlank, IsHeld, Stand, StandsFor, from_of, cases_eq, cases_lt, ne_eqb, get_or-set_same, get_or-set_other, sum_by-set}, Slices.{length-slice, part_of, slice_before, spliced_inside, get-set_same, get-set_other}}
 
 -- bytes that were read as a page
 pub filled : (c bytes : List ℕ) (n from len : ℕ) → len ≡ min (length c - n * 4096) 4096 → take len (drop from bytes) ≡ take len (drop (n * 4096) c) → HasPage c n bytes from
@@ -17,6 +17,34 @@ taken c bytes n at from len inside fits has =
     sym (part_of from len count at bytes enough)
     ∙ ap (λ (l : List ℕ). take len (drop from l)) has
     ∙ part_of from len 4096 (n * 4096) c inside
+
+-- a part of zeros
+zeros_in : (k from len : ℕ) → from + len ≤ k → take {A = ℕ} len (drop from (replicate k 0)) ≡ replicate len 0
+zeros_in k from len inside = ap (take len) (drop-replicate from k 0) ∙ take-replicate len (k - from) 0 (omega (arith, inside))
+
+-- what a read takes of a page of zeros
+pub taken_zeros : (c : List ℕ) (n from len : ℕ) → from + len ≤ 4096 → n * 4096 + from + len ≤ length c → IsBlank c n → replicate len 0 ≡ take len (drop (n * 4096 + from) c)
+taken_zeros c n from len inside fits blank =
+    let count = length (page_of c n) in
+    let enough : from + len ≤ count = omega (arith, inside, fits, length-slice 4096 (n * 4096) c) in
+    sym (zeros_in count from len enough) ∙ ap (λ (l : List ℕ). take len (drop from l)) (sym blank) ∙ part_of from len 4096 (n * 4096) c inside
+
+-- zeros that were read as a page
+pub read_zeros : (c page : List ℕ) (n len : ℕ) → len ≡ min (length c - n * 4096) 4096 → take len (drop 0 page) ≡ take len (drop (n * 4096) c) → take len page ≡ replicate (length (take len page)) 0 → IsBlank c n
+read_zeros c page n len is read zeros =
+    let same : take (length (page_of c n)) page ≡ page_of c n = filled c page n 0 len is read in
+    let count : length (page_of c n) ≡ len = omega (arith, is, length-slice 4096 (n * 4096) c) in
+    let here : take len page ≡ page_of c n = ap (λ (k : ℕ). take k page) (sym count) ∙ same in
+    subst (λ (l : List ℕ). l ≡ replicate (length l) 0) here zeros
+
+-- bytes after the others, from which a page was read, and those of a page of zeros
+pub page_behind : (c bytes page : List ℕ) (n : ℕ) → HasPage c n page 0 → HasPage c n (bytes ++ page) (length bytes)
+page_behind c bytes page n has = ap (take (length (page_of c n))) (drop_at bytes page (length bytes) refl) ∙ has
+
+pub zeros_behind : (c bytes : List ℕ) (n : ℕ) → IsBlank c n → HasPage c n (bytes ++ replicate 4096 0) (length bytes)
+zeros_behind c bytes n blank =
+    let short : length (page_of c n) ≤ 4096 = omega (arith, length-slice 4096 (n * 4096) c) in
+    page_behind c bytes (replicate 4096 0) n (take-replicate (length (page_of c n)) 4096 0 short ∙ sym blank)
 
 -- a page's bytes, where what is torn lies elsewhere
 pub still_has : (c old new : List ℕ) (n from at len : ℕ) → Torn at len old new → (from + 4096 ≤ at) ⊎ (at + len ≤ from) → HasPage c n old from → HasPage c n new from
@@ -102,38 +130,76 @@ module _ {ends bytes : List ℕ} {memory : ℕ} (laid : AreLaid ends bytes memor
           room = omega (arith, laid.room, size, enough, sum, one, gone);
         }
 
--- a place that was filled, or where that failed: bytes may stand after the others, and its own were torn
-module _ (numbers : List (Option ℕ)) {ends later old mid new : List ℕ} {i len memory after : ℕ} (covers : Covers numbers ends) (laid : AreLaid ends old memory) (grown : (more : List ℕ) × (mid ≡ old ++ more))
-    (now : AreLaid later mid after) (others : (j : ℕ) → (j ≡ i → ⊥) → get_or later j 0 ≡ get_or ends j 0) (has : 0 < get_or later i 0) (torn : Torn (from_of later i) len mid new) (small : len ≤ 4096) where
-  -- the others are as they were
-  others_have : (c : List ℕ) (n : ℕ) → (n % 2048 ≡ i → ⊥) → Stand numbers ends old c → IsHeld numbers n → HasPage c n new (from_of later (n % 2048))
-  others_have c n differs stand held =
+-- a page stands in its place where its bytes are the same in other contents
+pub stands_in : (c d : List ℕ) (n : ℕ) (ends bytes : List ℕ) → page_of d n ≡ page_of c n → StandsFor c n ends bytes → StandsFor d n ends bytes
+stands_in c d n ends bytes same stands = record {
+  zeros = λ none. subst (λ (l : List ℕ). l ≡ replicate (length l) 0) (sym same) (stands.zeros none);
+  has = λ some. subst (λ (l : List ℕ). take (length l) (drop (from_of ends (n % 2048)) bytes) ≡ l) (sym same) (stands.has some);
+}
+
+-- pages in other places than one, whose bytes were torn, or which has some now after the others
+module _ {ends bytes : List ℕ} {i memory : ℕ} (laid : AreLaid ends bytes memory) where
+  pub torn_elsewhere : {new : List ℕ} {len : ℕ} → 0 < get_or ends i 0 → Torn (from_of ends i) len bytes new → len ≤ 4096 → (c : List ℕ) (n : ℕ) → (n % 2048 ≡ i → ⊥) → StandsFor c n ends bytes → StandsFor c n ends new
+  torn_elsewhere {new = new} {len = len} has torn small c n differs stands = record {
+    zeros = stands.zeros;
+    has = λ some. still_has c bytes new n (from_of ends (n % 2048)) (from_of ends i) len torn
+        (elim (lie_apart laid (n % 2048) i differs some has) [
+          | inl before ↦ inl before
+          | inr behind ↦ inr (omega (arith, behind, small))
+        ]) (stands.has some);
+  }
+
+  pub grown_elsewhere : (more : List ℕ) (end : ℕ) (c : List ℕ) (n : ℕ) → (n % 2048 ≡ i → ⊥) → StandsFor c n ends bytes → StandsFor c n (set ends i end) (bytes ++ more)
+  grown_elsewhere more end c n differs stands =
       let p = n % 2048 in
-      let same : get_or later p 0 ≡ get_or ends p 0 = others p differs in
-      let there : 0 < get_or later p 0 = omega (arith, covers n held, same) in
-      let apart : (from_of later p + 4096 ≤ from_of later i) ⊎ (from_of later i + len ≤ from_of later p) = elim (lie_apart now p i differs there has) [
-        | inl before ↦ inl before
-        | inr behind ↦ inr (omega (arith, behind, small))
-      ] in
-      still_has c mid new n (from_of later p) (from_of later i) len torn apart
-      (subst (HasPage c n mid) (sym (ap (λ (e : ℕ). e - 4096) same))
-      (subst (λ (l : List ℕ). HasPage c n l (from_of ends p)) (sym grown.1) (grown_has c old grown.0 n (from_of ends p) (lies laid p (covers n held)) (stand n held))))
+      let same : get_or (set ends i end) p 0 ≡ get_or ends p 0 = get_or-set_other ends i p end 0 differs in
+      record {
+        zeros = λ none. stands.zeros (sym same ∙ none);
+        has = λ some.
+            let there : 0 < get_or ends p 0 = omega (arith, some, same) in
+            subst (HasPage c n (bytes ++ more)) (sym (ap (λ (e : ℕ). e - 4096) same)) (grown_has c bytes more n (from_of ends p) (lies laid p there) (stands.has there));
+      }
 
-  pub stand_emptied : (c : List ℕ) → Stand numbers ends old c → Stand (set numbers i None) later new c
-  stand_emptied c stand n = held_by numbers i n None (λ same is. absurd (cc is)) (λ differs held. others_have c n differs stand held)
+-- the page of a place that was given bytes after the others
+pub grown_here : (c ends bytes more : List ℕ) (n : ℕ) → n % 2048 < length ends → HasPage c n (bytes ++ more) (length bytes) → StandsFor c n (set ends (n % 2048) (length bytes + 4096)) (bytes ++ more)
+grown_here c ends bytes more n inside has =
+    let is : get_or (set ends (n % 2048) (length bytes + 4096)) (n % 2048) 0 ≡ length bytes + 4096 = get_or-set_same ends (n % 2048) (length bytes + 4096) 0 inside in
+    record {
+      zeros = λ none. absurd (omega (arith, is, none));
+      has = λ some. subst (HasPage c n (bytes ++ more)) (let at : length bytes ≡ from_of (set ends (n % 2048) (length bytes + 4096)) (n % 2048) = omega (arith, is) in at) has;
+    }
 
-  pub covers_emptied : Covers (set numbers i None) later
-  covers_emptied n = held_by numbers i n None (λ same is. absurd (cc is)) (λ differs held. omega (arith, covers n held, others (n % 2048) differs))
+-- a place that was filled, or where that failed, where the others stand as before
+module _ (numbers : List (Option ℕ)) {ends old later new c d : List ℕ} (q : ℕ) (others : (n : ℕ) → (n % 2048 ≡ q % 2048 → ⊥) → StandsFor c n ends old → StandsFor d n later new) (stand : Stand numbers ends old c) where
+  pub stand_emptied : Stand (set numbers (q % 2048) None) later new d
+  stand_emptied n = held_by numbers (q % 2048) n None (λ same is. absurd (cc is)) (λ differs held. others n differs (stand n held))
 
-  pub stand_filled : (c : List ℕ) (q : ℕ) → HasPage c q new (from_of later i) → Stand numbers ends old c → Stand (set numbers i (Some q)) later new c
-  stand_filled c q page stand n =
-      held_by numbers i n (Some q)
-      (λ same is. subst (λ (k : ℕ). HasPage c n new (from_of later k)) (sym same) (subst (λ (m : ℕ). HasPage c m new (from_of later i)) (same_Some q n is) page))
-      (λ differs held. others_have c n differs stand held)
+  pub stand_filled : StandsFor d q later new → Stand (set numbers (q % 2048) (Some q)) later new d
+  stand_filled page n =
+      held_by numbers (q % 2048) n (Some q)
+      (λ same is. subst (λ (m : ℕ). StandsFor d m later new) (same_Some q n is) page)
+      (λ differs held. others n differs (stand n held))
 
-  pub covers_filled : (q : ℕ) → Covers (set numbers i (Some q)) later
-  covers_filled q n =
-      held_by numbers i n (Some q) (λ same is. subst (λ (k : ℕ). 0 < get_or later k 0) (sym same) has) (λ differs held. omega (arith, covers n held, others (n % 2048) differs))
+-- a page that was read, whose place had no bytes: it is zeros, or its bytes stand after the others
+module _ (numbers : List (Option ℕ)) {ends bytes : List ℕ} {memory : ℕ} (page c : List ℕ) (q len : ℕ) (laid : AreLaid ends bytes memory) (none : get_or ends (q % 2048) 0 ≡ 0) (is : len ≡ min (length c - q * 4096) 4096) (read : take len (drop 0 page) ≡ take len (drop (q * 4096) c)) (stand : Stand numbers ends bytes c) where
+  pub stand_zeros : take len page ≡ replicate (length (take len page)) 0 → Stand (set numbers (q % 2048) (Some q)) ends bytes c
+  stand_zeros zeros = stand_filled numbers q (λ n differs stands. stands) stand (record { zeros = λ e. read_zeros c page q len is read zeros; has = λ some. absurd (omega (arith, some, none)) })
+
+  pub stand_behind : q % 2048 < length ends → Stand (set numbers (q % 2048) (Some q)) (set ends (q % 2048) (length bytes + 4096)) (bytes ++ page) c
+  stand_behind inside =
+      stand_filled numbers q (grown_elsewhere laid page (length bytes + 4096) c) stand (grown_here c ends bytes page q inside (page_behind c bytes page q (filled c page q 0 len is read)))
+
+-- where the place of a page that is held is given bytes
+pub stand_given : (numbers : List (Option ℕ)) {ends bytes : List ℕ} {memory : ℕ} (n : ℕ) (c : List ℕ) → AreLaid ends bytes memory → n % 2048 < length ends → get_or ends (n % 2048) 0 ≡ 0 → IsHeld numbers n
+    → Stand numbers ends bytes c → Stand numbers (set ends (n % 2048) (length bytes + 4096)) (bytes ++ replicate 4096 0) c
+stand_given numbers {ends = ends} {bytes = bytes} n c laid inside none held stand m other =
+    elim (cases_eq (m % 2048) (n % 2048)) [
+      | inr differs ↦ grown_elsewhere laid (replicate 4096 0) (length bytes + 4096) c m differs (stand m other)
+      | inl same ↦
+          let is : m ≡ n = same_Some m n (same_Some (Some m) (Some n) (sym other ∙ ap (slice_get numbers) same ∙ held)) in
+          subst (λ (k : ℕ). StandsFor c k (set ends (n % 2048) (length bytes + 4096)) (bytes ++ replicate 4096 0)) (sym is)
+          (grown_here c ends bytes (replicate 4096 0) n inside (zeros_behind c bytes n ((stand n held).zeros none)))
+    ]
 
 -- bytes written inside one page
 module _ (numbers : List (Option ℕ)) (ends bytes c : List ℕ) (q from : ℕ) (xs : List ℕ) (inside : from + length xs ≤ 4096) (fits : q * 4096 + from + length xs ≤ length c) (stand : Stand numbers ends bytes c) where
@@ -148,45 +214,49 @@ module _ (numbers : List (Option ℕ)) (ends bytes c : List ℕ) (q from : ℕ) 
       slice-torn torn (n * 4096) 4096 apart
 
   -- so the other pages that are held stand as before
-  others_stand : (n : ℕ) → (n ≡ q → ⊥) → IsHeld numbers n → HasPage (spliced c (q * 4096 + from) xs) n bytes (from_of ends (n % 2048))
-  others_stand n differs held =
-      subst (λ (l : List ℕ). take (length l) (drop (from_of ends (n % 2048)) bytes) ≡ l) (sym (same_page n differs)) (stand n held)
+  others_stand : (n : ℕ) → (n ≡ q → ⊥) → IsHeld numbers n → StandsFor (spliced c (q * 4096 + from) xs) n ends bytes
+  others_stand n differs held = stands_in c (spliced c (q * 4096 + from) xs) n ends bytes (same_page n differs) (stand n held)
 
   -- where that page is not held
   pub stand_apart : (IsHeld numbers q → ⊥) → Stand numbers ends bytes (spliced c (q * 4096 + from) xs)
   stand_apart none n held = others_stand n (λ same. none (subst (IsHeld numbers) same held)) held
 
-  -- where it is held, and the bytes are laid over it
-  module _ {memory : ℕ} (laid : AreLaid ends bytes memory) (covers : Covers numbers ends) (held_q : IsHeld numbers q) where
+  -- where it is held and has bytes, and these are laid over them
+  module _ {memory : ℕ} (laid : AreLaid ends bytes memory) (has_q : 0 < get_or ends (q % 2048) 0) (held_q : IsHeld numbers q) where
     -- its own bytes
     put_has : HasPage (spliced c (q * 4096 + from) xs) q (spliced bytes (from_of ends (q % 2048) + from) xs) (from_of ends (q % 2048))
     put_has =
         let count = length (page_of c q) in
         let at = from_of ends (q % 2048) in
         let enough : from + length xs ≤ count = omega (arith, inside, fits, length-slice 4096 (q * 4096) c) in
-        let room : at + from + length xs ≤ length bytes = omega (arith, lies laid (q % 2048) (covers q held_q), inside) in
+        let room : at + from + length xs ≤ length bytes = omega (arith, lies laid (q % 2048) has_q, inside) in
         let size : length (page_of (spliced c (q * 4096 + from) xs) q) ≡ count =
         length-slice 4096 (q * 4096) (spliced c (q * 4096 + from) xs) ∙ ap (λ (s : ℕ). min 4096 (s - q * 4096)) (length-spliced c (q * 4096 + from) xs fits) ∙ sym (length-slice 4096 (q * 4096) c) in
         let page : page_of (spliced c (q * 4096 + from) xs) q ≡ spliced (page_of c q) from xs = spliced_inside c (q * 4096) from 4096 xs inside fits in
         ap (λ (k : ℕ). take k (drop at (spliced bytes (at + from) xs))) size
         ∙ spliced_inside bytes at from count xs enough room
-        ∙ ap (λ (l : List ℕ). spliced l from xs) (stand q held_q)
+        ∙ ap (λ (l : List ℕ). spliced l from xs) ((stand q held_q).has has_q)
         ∙ sym page
 
     pub stand_put : Stand numbers ends (spliced bytes (from_of ends (q % 2048) + from) xs) (spliced c (q * 4096 + from) xs)
     stand_put n held =
         let at = from_of ends (q % 2048) in
-        let room : at + from + length xs ≤ length bytes = omega (arith, lies laid (q % 2048) (covers q held_q), inside) in
-        let other : (n % 2048 ≡ q % 2048 → ⊥) → HasPage (spliced c (q * 4096 + from) xs) n (spliced bytes (at + from) xs) (from_of ends (n % 2048)) = λ differs.
-        let apart : (from_of ends (n % 2048) + 4096 ≤ at + from) ⊎ (at + from + length xs ≤ from_of ends (n % 2048)) = elim (lie_apart laid (n % 2048) (q % 2048) differs (covers n held) (covers q held_q)) [
-          | inl before ↦ inl (omega (arith, before))
-          | inr behind ↦ inr (omega (arith, behind, inside))
-        ] in
-        still_has (spliced c (q * 4096 + from) xs) bytes (spliced bytes (at + from) xs) n (from_of ends (n % 2048)) (at + from) (length xs) (spliced_torn bytes (at + from) xs room) apart (others_stand n (λ same. differs (ap (λ (k : ℕ). k % 2048) same)) held) in
+        let room : at + from + length xs ≤ length bytes = omega (arith, lies laid (q % 2048) has_q, inside) in
+        let other : (n % 2048 ≡ q % 2048 → ⊥) → StandsFor (spliced c (q * 4096 + from) xs) n ends (spliced bytes (at + from) xs) = λ differs.
+        let stands = others_stand n (λ same. differs (ap (λ (k : ℕ). k % 2048) same)) held in
+        record {
+          zeros = stands.zeros;
+          has = λ some. still_has (spliced c (q * 4096 + from) xs) bytes (spliced bytes (at + from) xs) n (from_of ends (n % 2048)) (at + from) (length xs) (spliced_torn bytes (at + from) xs room)
+              (elim (lie_apart laid (n % 2048) (q % 2048) differs some has_q) [
+                | inl before ↦ inl (omega (arith, before))
+                | inr behind ↦ inr (omega (arith, behind, inside))
+              ]) (stands.has some);
+        } in
         elim (compared (n % 2048) (q % 2048)) [
           | inl below ↦ other (λ same. omega (arith, below, same))
           | inr (inl same) ↦
               let is : n ≡ q = same_Some n q (same_Some (Some n) (Some q) (sym held ∙ ap (slice_get numbers) same ∙ held_q)) in
-              subst (λ (m : ℕ). HasPage (spliced c (q * 4096 + from) xs) m (spliced bytes (at + from) xs) (from_of ends (m % 2048))) (sym is) put_has
+              subst (λ (m : ℕ). StandsFor (spliced c (q * 4096 + from) xs) m ends (spliced bytes (at + from) xs)) (sym is)
+              (record { zeros = λ none. absurd (omega (arith, none, has_q)); has = λ some. put_has })
           | inr (inr above) ↦ other (λ same. omega (arith, above, same))
         ]

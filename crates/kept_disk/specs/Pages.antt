@@ -1,5 +1,5 @@
 -- When pages stand for the bytes of a disk.
-use Rattle.std.specs.{Prelude.{◌≡◌, ℕ, ◌+◌, ◌-◌, ◌*◌, ◌/◌, ◌%◌, ◌<◌, ◌≤◌, ◌==◌, List, Option, count_by, length, take, drop, Some, None, Result, OnOk, slice_get, slice_index}, Option.ForSome}
+use Rattle.std.specs.{Prelude.{◌≡◌, ℕ, ◌+◌, ◌-◌, ◌*◌, ◌/◌, ◌%◌, ◌<◌, ◌≤◌, ◌==◌, List, Option, count_by, length, replicate, take, drop, Some, None, Result, OnOk, slice_get, slice_index}, Option.ForSome}
 use Rattle.counts.specs.Count.{HasCause}
 use Rattle.iso_disk.specs.Disk.{DiskState, Elapses}
 
@@ -19,13 +19,18 @@ IsHeld numbers n = slice_get numbers (n % 2048) ≡ Some (Some n)
 abbrev pub from_of : List ℕ → ℕ → ℕ
 from_of ends place = slice_index ends place - 4096
 
--- each page that is held has its bytes where those of its place stand
-abbrev pub Stand : List (Option ℕ) → (ends bytes c : List ℕ) → Type 0
-Stand numbers ends bytes c = (n : ℕ) → IsHeld numbers n → HasPage c n bytes (from_of ends (n % 2048))
+-- a page of zeros throughout
+abbrev pub IsBlank : List ℕ → ℕ → Type 0
+IsBlank c n = page_of c n ≡ replicate (length (page_of c n)) 0
 
--- the place of each page that is held has bytes
-abbrev pub Covers : List (Option ℕ) → List ℕ → Type 0
-Covers numbers ends = (n : ℕ) → IsHeld numbers n → 0 < slice_index ends (n % 2048)
+-- the place of a page stands for it: by its bytes, or for zeros where it has none
+pub record StandsFor (c : List ℕ) (n : ℕ) (ends bytes : List ℕ) : Type 0 where
+  pub zeros : slice_index ends (n % 2048) ≡ 0 → IsBlank c n
+  pub has : 0 < slice_index ends (n % 2048) → HasPage c n bytes (from_of ends (n % 2048))
+
+-- the place of each page that is held stands for it
+abbrev pub Stand : List (Option ℕ) → (ends bytes c : List ℕ) → Type 0
+Stand numbers ends bytes c = (n : ℕ) → IsHeld numbers n → StandsFor c n ends bytes
 
 -- The places that have bytes have a page each, apart from the others, and so much memory has room for those that have none.
 pub record AreLaid (ends bytes : List ℕ) (memory : ℕ) : Type 0 where

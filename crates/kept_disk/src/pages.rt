@@ -1,7 +1,7 @@
 // Pages: bytes of a disk that are kept in memory, and which of its pages these are.
-ghost use Rattle.std.specs.{Prelude.{◌≡◌, ◌+◌, ◌*◌, ◌/◌, ◌%◌, ◌<◌, ◌≤◌, ◌++◌, ◌↔◌, ℕ, List, Some, None, length, set, take, drop, IsTrue, IfOk, IsOk, OnOk, slice_get, slice_index, vec_capacity}, Option.ForSome};
+ghost use Rattle.std.specs.{Prelude.{◌≡◌, ◌⊎◌, ◌+◌, ◌*◌, ◌/◌, ◌%◌, ◌<◌, ◌≤◌, ◌^◌, ◌++◌, ◌↔◌, ℕ, List, Some, None, true, length, replicate, set, take, drop, IsTrue, IfOk, IsOk, OnOk, slice_get, slice_index, vec_capacity}, Option.ForSome};
 ghost use Rattle.iso_disk.specs.Disk.{Torn, spliced};
-ghost use Rattle.kept_disk.specs.Pages.{AreLaid, Covers, HasFilled, HasLooked, HoldsNone, IsHeld, Stand, from_of};
+ghost use Rattle.kept_disk.specs.Pages.{AreLaid, HasFilled, HasLooked, HoldsNone, IsHeld, Stand, from_of};
 
 use iso_disk::{Disk, DiskFault};
 use std::alloc::{AllocError, Global};
@@ -12,19 +12,22 @@ pub(crate) const PAGE: usize = 4096;
 /// How many pages are kept at most.
 const PAGES: usize = 2048;
 
-/// Pages that may be held, each in the place that its number gives, and their bytes, in the order in which places were first held.
+/// Pages that may be held, each in the place that its number gives, and their bytes, in the order in which places first had some.
 /// Of the last page of a disk the first bytes alone may count.
 ///
-/// The memory for the bytes is taken at once, but those of a place are first touched when a page is held in it, and no others.
+/// The memory for the bytes is taken at once, but those of a place are first touched when a page is held in it that is not zeros
+/// throughout, and no others: to touch memory for the first time takes longer than to read the page.
 #[derive(Drop)]
 pub struct Pages {
     numbers: Vec<Option<u64>>,
-    // Where the bytes of each place end, and 0 for a place that has none yet.
+    // Where the bytes of each place end, and 0 for a place that has none yet: what it holds is zeros.
     ends: Vec<usize>,
     bytes: Vec<u8>,
+    // For the bytes of a page whose place has none.
+    page: Vec<u8>,
     ghost places: { length ends.items ≡ length numbers.items },
-    ghost covers: { Covers numbers.items ends.items },
     ghost laid: { AreLaid ends.items bytes.items (vec_capacity bytes) },
+    ghost whole: { 0 < length numbers.items → length page.items ≡ 4096 },
 }
 
 impl Pages {
@@ -36,6 +39,7 @@ impl Pages {
             numbers: Vec::new(alloc),
             ends: Vec::new(alloc),
             bytes: Vec::new(alloc),
+            page: Vec::new(alloc),
         }
     }
 
@@ -47,10 +51,12 @@ impl Pages {
         bytes.reserve_exact(PAGES * PAGE)?;
         let numbers = blank_numbers(alloc)?;
         let ends = blank_ends(alloc)?;
+        let page = blank_page(alloc)?;
         Ok(Pages {
             numbers,
             ends,
             bytes,
+            page,
         })
     }
 
@@ -100,10 +106,14 @@ impl Pages {
         if self.holds(number) {
             return Ok(());
         }
-        fill(
+        if self.ends[place_of(number)] != 0 {
+            return fill(&mut self.numbers, &self.ends, &mut self.bytes, disk, number);
+        }
+        fill_first(
             &mut self.numbers,
             &mut self.ends,
             &mut self.bytes,
+            &mut self.page,
             disk,
             number,
         )
@@ -113,15 +123,36 @@ impl Pages {
     pub(crate) fn copy_out(&self, at: u64, into: &mut [u8])
         requires held { IsHeld self.now.numbers.items (at / 4096) }
         requires inside { at % 4096 + length into.old ≤ 4096 }
-        ensures { into.new ≡ take (length into.old) (drop (from_of self.now.ends.items (at / 4096 % 2048) + at % 4096) self.now.bytes.items) }
+        ensures zeros { slice_index self.now.ends.items (at / 4096 % 2048) ≡ 0 → into.new ≡ replicate (length into.old) 0 }
+        ensures bytes { 0 < slice_index self.now.ends.items (at / 4096 % 2048) → into.new ≡ take (length into.old) (drop (from_of self.now.ends.items (at / 4096 % 2048) + at % 4096) self.now.bytes.items) }
     {
+        if self.ends[place_of(at / PAGE as u64)] == 0 {
+            into.fill(0);
+            return;
+        }
         let from = self.byte_of(at);
         into.copy_from_slice(&self.bytes[from..from + into.len()]);
     }
 
-    /// Lays bytes over those of a page that is held, from a place of the disk on.
+    /// Has bytes for a page that is held.
+    pub(crate) fn give_bytes(&mut self, number: u64)
+        requires held { IsHeld self.old.numbers.items number }
+        ensures numbers { self.new.numbers ≡ self.old.numbers }
+        ensures has { 0 < slice_index self.new.ends.items (number % 2048) }
+        ensures stand { (c : List ℕ) → Stand self.old.numbers.items self.old.ends.items self.old.bytes.items c → Stand self.new.numbers.items self.new.ends.items self.new.bytes.items c }
+    {
+        let place = place_of(number);
+        if self.ends[place] != 0 {
+            return;
+        }
+        blank(&mut self.page);
+        add_page(&mut self.ends, &mut self.bytes, place, &self.page);
+    }
+
+    /// Lays bytes over those of a page that is held and has bytes, from a place of the disk on.
     pub(crate) fn put(&mut self, at: u64, bytes: &[u8])
         requires held { IsHeld self.old.numbers.items (at / 4096) }
+        requires has { 0 < slice_index self.old.ends.items (at / 4096 % 2048) }
         requires inside { at % 4096 + length bytes.now ≤ 4096 }
         ensures numbers { self.new.numbers ≡ self.old.numbers }
         ensures ends { self.new.ends ≡ self.old.ends }
@@ -133,7 +164,7 @@ impl Pages {
 
     // Where the byte of a place of the disk lies among the bytes of the pages, which hold it.
     fn byte_of(&self, at: u64) -> usize
-        requires { IsHeld self.now.numbers.items (at / 4096) }
+        requires { 0 < slice_index self.now.ends.items (at / 4096 % 2048) }
         ensures is { result ≡ from_of self.now.ends.items (at / 4096 % 2048) + at % 4096 }
         ensures inside { result + 4096 ≤ length self.now.bytes.items + at % 4096 }
     {
@@ -169,6 +200,15 @@ fn blank_ends(alloc: Global) -> Result<Vec<usize>, AllocError>
     Ok(ends)
 }
 
+// The bytes of a page.
+fn blank_page(alloc: Global) -> Result<Vec<u8>, AllocError>
+    ensures { IfOk result (λ page. length page.items ≡ 4096) }
+{
+    let mut page = Vec::new(alloc);
+    page.resize(PAGE, 0)?;
+    Ok(page)
+}
+
 // Lets go of each page.
 fn clear(numbers: &mut [Option<u64>])
     ensures { HoldsNone numbers.new }
@@ -178,74 +218,110 @@ fn clear(numbers: &mut [Option<u64>])
     }
 }
 
-// Reads the page of this number into its place.
+// Zeros throughout.
+fn blank(page: &mut Vec<u8>)
+    ensures { page.new.items ≡ replicate (length page.old.items) 0 }
+{
+    page.as_mut_slice().fill(0);
+}
+
+// Where the page of this number begins on a disk.
+fn start_of(number: u64) -> u64
+    requires { number * 4096 < 2 ^ 64 }
+    ensures { result ≡ number * 4096 }
+{
+    number * PAGE as u64
+}
+
+// Reads the page of this number into its place, which has bytes.
 fn fill<D: Disk>(
     numbers: &mut Vec<Option<u64>>,
-    ends: &mut Vec<usize>,
+    ends: &[usize],
     bytes: &mut Vec<u8>,
     disk: &mut D,
     number: u64,
 ) -> Result<(), DiskFault>
     requires inside { number * 4096 < (D.state disk.old).size }
     requires place { number % 2048 < length numbers.old.items }
-    requires places { length ends.old.items ≡ length numbers.old.items }
-    requires covers { Covers numbers.old.items ends.old.items }
-    requires laid { AreLaid ends.old.items bytes.old.items (vec_capacity bytes.old) }
-    ensures filled { HasFilled numbers.old.items ends.old.items bytes.old.items numbers.new.items ends.new.items bytes.new.items number (D.state disk.old) (D.state disk.new) result }
-    ensures ends { length ends.new.items ≡ length numbers.new.items }
-    ensures covers { Covers numbers.new.items ends.new.items }
-    ensures laid { AreLaid ends.new.items bytes.new.items (vec_capacity bytes.new) }
+    requires has { 0 < slice_index ends.now (number % 2048) }
+    requires laid { AreLaid ends.now bytes.old.items (vec_capacity bytes.old) }
+    ensures filled { HasFilled numbers.old.items ends.now bytes.old.items numbers.new.items ends.now bytes.new.items number (D.state disk.old) (D.state disk.new) result }
+    ensures laid { AreLaid ends.now bytes.new.items (vec_capacity bytes.new) }
 {
     let place = place_of(number);
     numbers[place] = None;
-    let from = reach(ends, bytes, place);
-    let at = number * PAGE as u64;
+    let at = start_of(number);
     let len = (disk.size() - at).min(PAGE as u64) as usize;
-    read_into(disk, at, bytes, from, len)?;
+    read_into(disk, at, bytes, ends[place] - PAGE, len)?;
     numbers[place] = Some(number);
     Ok(())
 }
 
-// Where the bytes of a place begin. Where it had none, they come after the others from now on, in memory that was taken for them.
-fn reach(ends: &mut Vec<usize>, bytes: &mut Vec<u8>, place: usize) -> usize
-    requires inside { place < length ends.old.items }
+// Reads the page of this number, whose place has no bytes, and lays them after the others where they are not all zero.
+fn fill_first<D: Disk>(
+    numbers: &mut Vec<Option<u64>>,
+    ends: &mut Vec<usize>,
+    bytes: &mut Vec<u8>,
+    page: &mut Vec<u8>,
+    disk: &mut D,
+    number: u64,
+) -> Result<(), DiskFault>
+    requires inside { number * 4096 < (D.state disk.old).size }
+    requires place { number % 2048 < length numbers.old.items }
+    requires places { length ends.old.items ≡ length numbers.old.items }
+    requires none { slice_index ends.old.items (number % 2048) ≡ 0 }
     requires laid { AreLaid ends.old.items bytes.old.items (vec_capacity bytes.old) }
-    ensures from { result ≡ from_of ends.new.items place }
-    ensures has { 0 < slice_index ends.new.items place }
-    ensures others { (i : ℕ) → (i ≡ place → ⊥) → slice_index ends.new.items i ≡ slice_index ends.old.items i }
+    requires page { length page.old.items ≡ 4096 }
+    ensures filled { HasFilled numbers.old.items ends.old.items bytes.old.items numbers.new.items ends.new.items bytes.new.items number (D.state disk.old) (D.state disk.new) result }
     ensures places { length ends.new.items ≡ length ends.old.items }
-    ensures grown { (more : List ℕ) × (bytes.new.items ≡ bytes.old.items ++ more) }
     ensures laid { AreLaid ends.new.items bytes.new.items (vec_capacity bytes.new) }
+    ensures page { length page.new.items ≡ 4096 }
 {
-    if ends[place] == 0 {
-        add_page(ends, bytes, place);
+    let place = place_of(number);
+    numbers[place] = None;
+    let at = start_of(number);
+    let len = (disk.size() - at).min(PAGE as u64) as usize;
+    read_into(disk, at, page, 0, len)?;
+    if !are_zeros(&page[..len]) {
+        add_page(ends, bytes, place, page);
     }
-    ends[place] - PAGE
+    numbers[place] = Some(number);
+    Ok(())
 }
 
-// Lays the bytes of a place that has none after the others.
-fn add_page(ends: &mut Vec<usize>, bytes: &mut Vec<u8>, place: usize)
+// Whether all bytes are zero: the first is, and each other equals the one before it. They are compared as a whole.
+fn are_zeros(bytes: &[u8]) -> bool
+    ensures { result ≡ true → bytes.now ≡ replicate (length bytes.now) 0 }
+{
+    if bytes.is_empty() {
+        return true;
+    }
+    let rest = &bytes[1..];
+    let before = &bytes[..bytes.len() - 1];
+    bytes[0] == 0 && rest == before
+}
+
+// Lays these bytes after the others as those of a place that has none, in memory that was taken for them.
+fn add_page(ends: &mut Vec<usize>, bytes: &mut Vec<u8>, place: usize, page: &[u8])
     requires inside { place < length ends.old.items }
     requires none { slice_index ends.old.items place ≡ 0 }
     requires laid { AreLaid ends.old.items bytes.old.items (vec_capacity bytes.old) }
+    requires page { length page.now ≡ 4096 }
     ensures ends { ends.new.items ≡ set ends.old.items place (length bytes.old.items + 4096) }
-    ensures grown { (more : List ℕ) × (bytes.new.items ≡ bytes.old.items ++ more) }
+    ensures bytes { bytes.new.items ≡ bytes.old.items ++ page.now }
     ensures laid { AreLaid ends.new.items bytes.new.items (vec_capacity bytes.new) }
 {
-    let end = bytes.len() + PAGE;
-    grow(bytes, end);
-    ends[place] = end;
+    append(bytes, page);
+    ends[place] = bytes.len();
 }
 
-// Makes the vector `end` bytes long, in memory that was taken for them.
-fn grow(bytes: &mut Vec<u8>, end: usize)
-    requires more { length bytes.old.items ≤ end }
-    requires room { end ≤ vec_capacity bytes.old }
-    ensures whole { length bytes.new.items ≡ end }
-    ensures grown { (more : List ℕ) × (bytes.new.items ≡ bytes.old.items ++ more) }
+// Appends bytes, in memory that was taken for them.
+fn append(bytes: &mut Vec<u8>, more: &[u8])
+    requires { length bytes.old.items + length more.now ≤ vec_capacity bytes.old }
+    ensures bytes { bytes.new.items ≡ bytes.old.items ++ more.now }
     ensures room { vec_capacity bytes.old ≤ vec_capacity bytes.new }
 {
-    let _ = bytes.resize(end, 0);
+    let _ = bytes.extend_from_slice(more);
 }
 
 // Reads `len` bytes of the disk from `at` on into these, from `from` on.

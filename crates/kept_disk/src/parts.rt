@@ -104,7 +104,9 @@ fn lay_part(pages: &mut Pages, at: u64, bytes: &[u8])
     requires { at % 4096 + length bytes.now ≤ 4096 }
     ensures { (c : List ℕ) → at + length bytes.now ≤ length c → Stand pages.old.numbers.items pages.old.ends.items pages.old.bytes.items c → Stand pages.new.numbers.items pages.new.ends.items pages.new.bytes.items (spliced c at bytes.now) }
 {
-    if pages.holds(at / PAGE as u64) {
+    let number = at / PAGE as u64;
+    if pages.holds(number) {
+        pages.give_bytes(number);
         pages.put(at, bytes);
     }
 }

@@ -1,52 +1,47 @@
-use Rattle.kept_disk.proofs.{Words.{rules, ◌≡◌, ℕ, List, Option, Some, None, set, sym, ◌∙◌, subst, arith, length-contents, length-set, slice_get, AreLaid, Covers, HasPage, Stand, Torn}, Slices.{get-set_at, get-set_other, set-set}, Standing.{covers_emptied, covers_filled, filled, laid_same, stand_emptied, stand_filled}}
+use Rattle.kept_disk.proofs.{Words.{rules, ◌≡◌, ◌%◌, ◌*◌, ℕ, List, Option, Some, None, drop, set, take, sym, ◌∙◌, ap, subst, arith, length-contents, length-set, slice_get, HasPage, Stand, Torn, from_of}, Slices.{get-set_at, get-set_other, set-set}, Standing.{filled, laid_same, stand_emptied, stand_filled, torn_elsewhere}}
 use Rattle.kept_disk.proofs.pages.fill.Goals as goal
 
 pub returns-in_err-read_into-clause-filled : goal.returns-in_err-read_into-clause-filled
-returns-in_err-read_into-clause-filled g c = record {
-  stand = λ x told stand. stand_emptied c.args.numbers.now.items c.requires.covers c.requires.laid c.reach-from.ensures.grown c.reach-from.ensures.laid c.reach-from.ensures.others c.reach-from.ensures.has
-      (subst (λ (k : ℕ). Torn k c.min-len.result c.reach-from.new.bytes.items c.read_into.new.bytes.items) c.reach-from.ensures.from c.read_into.ensures.others) (omega (arith, c.min-len.ensures)) x stand;
-  held = search rules;
-  others = λ k other. get-set_other c.args.numbers.now.items c.place_of-place.result k None (λ same. other (same ∙ c.place_of-place.ensures.is));
-  places = length-set c.args.numbers.now.items c.place_of-place.result None;
-  looked = record { contents = c.read_into.ensures.looked.contents; crash = c.read_into.ensures.looked.crash; cause = search rules };
-}
-
-pub returns-in_err-read_into-clause-covers : goal.returns-in_err-read_into-clause-covers
-returns-in_err-read_into-clause-covers g c =
-    covers_emptied c.args.numbers.now.items c.requires.covers c.requires.laid c.reach-from.ensures.grown c.reach-from.ensures.laid c.reach-from.ensures.others c.reach-from.ensures.has
-    (subst (λ (k : ℕ). Torn k c.min-len.result c.reach-from.new.bytes.items c.read_into.new.bytes.items) c.reach-from.ensures.from c.read_into.ensures.others) (omega (arith, c.min-len.ensures))
-
-pub returns-in_err-read_into-clause-laid : goal.returns-in_err-read_into-clause-laid
-returns-in_err-read_into-clause-laid g c =
-    subst (AreLaid c.reach-from.new.ends.items c.read_into.new.bytes.items) (sym c.read_into.ensures.room) (laid_same c.reach-from.ensures.laid c.read_into.new.bytes.items c.read_into.ensures.others.size)
+returns-in_err-read_into-clause-filled g c =
+    let numbers = c.args.numbers.now.items in
+    let place_is = c.place_of-place.ensures.is in
+    let new = c.read_into.new.bytes.items in
+    let torn = subst (λ (k : ℕ). Torn (from_of c.args.ends.now k) c.min-len.result c.args.bytes.now.items new) place_is c.read_into.ensures.others in
+    record {
+      stand = λ x told stand. subst (λ (k : ℕ). Stand (set numbers k None) c.args.ends.now new x) (sym place_is)
+          (stand_emptied numbers c.args.number (torn_elsewhere c.requires.laid c.requires.has torn (omega (arith, c.min-len.ensures)) x) stand);
+      held = search rules;
+      others = λ k other. get-set_other numbers c.place_of-place.result k None (λ same. other (same ∙ place_is));
+      places = length-set numbers c.place_of-place.result None;
+      looked = record { contents = c.read_into.ensures.looked.contents; crash = c.read_into.ensures.looked.crash; cause = search rules };
+    }
 
 pub returns-clause-filled : goal.returns-clause-filled
-returns-clause-filled g c = record {
-  stand = λ x told stand. let from = c.reach-from.result in
-      let size = length-contents (g.met.D.Disk.lawful c.args.disk.now) x told in
-      let has : HasPage x c.args.number c.read_into.new.bytes.items from =
-      filled x c.read_into.new.bytes.items c.args.number from c.min-len.result (omega (arith, size, c.size.ensures, c.min-len.ensures)) (c.in_ok-read_into.ensures.read x told) in
-      subst (λ (l : List (Option ℕ)). Stand l c.reach-from.new.ends.items c.read_into.new.bytes.items x) (sym (set-set c.args.numbers.now.items c.place_of-place.result None (Some c.args.number)))
-      (stand_filled c.args.numbers.now.items c.requires.covers c.requires.laid c.reach-from.ensures.grown c.reach-from.ensures.laid c.reach-from.ensures.others c.reach-from.ensures.has
-      (subst (λ (k : ℕ). Torn k c.min-len.result c.reach-from.new.bytes.items c.read_into.new.bytes.items) c.reach-from.ensures.from c.read_into.ensures.others) (omega (arith, c.min-len.ensures)) x c.args.number (subst (HasPage x c.args.number c.read_into.new.bytes.items) c.reach-from.ensures.from has) stand);
-  held =
-      let numbers = c.args.numbers.now.items in
-      let place = c.place_of-place.result in
-      subst (λ (k : ℕ). slice_get (set (set numbers place None) place (Some c.args.number)) k ≡ Some (Some c.args.number)) c.place_of-place.ensures.is
-      (get-set_at (set numbers place None) place (Some c.args.number) (omega (arith, length-set numbers place None, c.requires.place, c.place_of-place.ensures.is)));
-  others = λ k other. let differs : k ≡ c.place_of-place.result → ⊥ = λ same. other (same ∙ c.place_of-place.ensures.is) in
-      get-set_other (set c.args.numbers.now.items c.place_of-place.result None) c.place_of-place.result k (Some c.args.number) differs
-      ∙ get-set_other c.args.numbers.now.items c.place_of-place.result k None differs;
-  places = length-set (set c.args.numbers.now.items c.place_of-place.result None) c.place_of-place.result (Some c.args.number) ∙ length-set c.args.numbers.now.items c.place_of-place.result None;
-  looked = c.in_ok-read_into.ensures.looked;
-}
-
-pub returns-clause-covers : goal.returns-clause-covers
-returns-clause-covers g c =
-    subst (λ (l : List (Option ℕ)). Covers l c.reach-from.new.ends.items) (sym (set-set c.args.numbers.now.items c.place_of-place.result None (Some c.args.number)))
-    (covers_filled c.args.numbers.now.items c.requires.covers c.requires.laid c.reach-from.ensures.grown c.reach-from.ensures.laid c.reach-from.ensures.others c.reach-from.ensures.has
-    (subst (λ (k : ℕ). Torn k c.min-len.result c.reach-from.new.bytes.items c.read_into.new.bytes.items) c.reach-from.ensures.from c.read_into.ensures.others) (omega (arith, c.min-len.ensures)) c.args.number)
-
-pub returns-clause-laid : goal.returns-clause-laid
-returns-clause-laid g c =
-    subst (AreLaid c.reach-from.new.ends.items c.read_into.new.bytes.items) (sym c.read_into.ensures.room) (laid_same c.reach-from.ensures.laid c.read_into.new.bytes.items c.read_into.ensures.others.size)
+returns-clause-filled g c =
+    let numbers = c.args.numbers.now.items in
+    let place_is = c.place_of-place.ensures.is in
+    let new = c.read_into.new.bytes.items in
+    let len = c.min-len.result in
+    let p = c.args.number % 2048 in
+    let from = from_of c.args.ends.now p in
+    let torn = subst (λ (k : ℕ). Torn (from_of c.args.ends.now k) len c.args.bytes.now.items new) place_is c.read_into.ensures.others in
+    record {
+      stand = λ x told stand.
+          let size = length-contents (g.met.D.Disk.lawful c.args.disk.now) x told in
+          let read : take len (drop from new) ≡ take len (drop (c.args.number * 4096) x) =
+          subst (λ (k : ℕ). take len (drop (from_of c.args.ends.now k) new) ≡ take len (drop (c.args.number * 4096) x)) place_is
+          (c.in_ok-read_into.ensures.read x told ∙ ap (λ (a : ℕ). take len (drop a x)) c.start_of-at.ensures) in
+          let page : HasPage x c.args.number new from = filled x new c.args.number from len (omega (arith, size, c.size.ensures, c.start_of-at.ensures, c.min-len.ensures)) read in
+          subst (λ (k : ℕ). Stand (set (set numbers k None) k (Some c.args.number)) c.args.ends.now new x) (sym place_is)
+          (subst (λ (l : List (Option ℕ)). Stand l c.args.ends.now new x) (sym (set-set numbers p None (Some c.args.number)))
+          (stand_filled numbers c.args.number (torn_elsewhere c.requires.laid c.requires.has torn (omega (arith, c.min-len.ensures)) x) stand
+          (record { zeros = λ none. absurd (omega (arith, none, c.requires.has)); has = λ some. page })));
+      held =
+          subst (λ (k : ℕ). slice_get (set (set numbers c.place_of-place.result None) c.place_of-place.result (Some c.args.number)) k ≡ Some (Some c.args.number)) place_is
+          (get-set_at (set numbers c.place_of-place.result None) c.place_of-place.result (Some c.args.number) (omega (arith, length-set numbers c.place_of-place.result None, c.requires.place, place_is)));
+      others = λ k other. let differs : k ≡ c.place_of-place.result → ⊥ = λ same. other (same ∙ place_is) in
+          get-set_other (set numbers c.place_of-place.result None) c.place_of-place.result k (Some c.args.number) differs
+          ∙ get-set_other numbers c.place_of-place.result k None differs;
+      places = length-set (set numbers c.place_of-place.result None) c.place_of-place.result (Some c.args.number) ∙ length-set numbers c.place_of-place.result None;
+      looked = c.in_ok-read_into.ensures.looked;
+    }

@@ -1,15 +1,19 @@
 use Rattle.kept_disk.proofs.{Words.{◌+◌, ◌/◌, ◌%◌, ℕ, List, sym, subst, arith, spliced, IsHeld, Stand, from_of}, Paging.at_page, Standing.{stand_apart, stand_put}}
 
+pub put-requires-clause-held : Rattle.kept_disk.proofs.parts.lay_part.Goals.put-requires-clause-held
+put-requires-clause-held c = subst (λ v. IsHeld v.items (c.args.at / 4096)) (sym c.give_bytes.ensures.numbers) (c.holds.ensures.0 c.if-holds.true)
+
 pub returns-then-holds : Rattle.kept_disk.proofs.parts.lay_part.Goals.returns-then-holds
 returns-then-holds c l fits stand =
     let q = c.args.at / 4096 in
     let is = at_page c.args.at in
-    let pages = c.args.pages.now in
-    let put = stand_put pages.numbers.items pages.ends.items pages.bytes.items l q (c.args.at % 4096) c.args.bytes.now c.requires (omega (arith, fits, is)) stand pages.laid pages.covers (c.holds.ensures.0 c.if-holds.true) in
+    let pages = c.give_bytes.new.self in
+    let held = subst (λ v. IsHeld v.items q) (sym c.give_bytes.ensures.numbers) (c.holds.ensures.0 c.if-holds.true) in
+    let put = stand_put pages.numbers.items pages.ends.items pages.bytes.items l q (c.args.at % 4096) c.args.bytes.now c.requires (omega (arith, fits, is)) (c.give_bytes.ensures.stand l stand) pages.laid c.give_bytes.ensures.has held in
     let laid = subst (λ (a : ℕ). Stand pages.numbers.items pages.ends.items (spliced pages.bytes.items (from_of pages.ends.items (q % 2048) + c.args.at % 4096) c.args.bytes.now) (spliced l a c.args.bytes.now)) is put in
     subst (λ (b : List ℕ). Stand c.put.new.self.numbers.items c.put.new.self.ends.items b (spliced l c.args.at c.args.bytes.now)) (sym c.put.ensures.bytes)
     (subst (λ v. Stand c.put.new.self.numbers.items v.items (spliced pages.bytes.items (from_of pages.ends.items (q % 2048) + c.args.at % 4096) c.args.bytes.now) (spliced l c.args.at c.args.bytes.now)) (sym c.put.ensures.ends)
-    (λ n held. laid n (subst (λ v. IsHeld v.items n) c.put.ensures.numbers held)))
+    (λ n there. laid n (subst (λ v. IsHeld v.items n) c.put.ensures.numbers there)))
 
 pub returns-else-holds : Rattle.kept_disk.proofs.parts.lay_part.Goals.returns-else-holds
 returns-else-holds c l fits stand =

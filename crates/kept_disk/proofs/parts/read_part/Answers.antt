@@ -1,11 +1,24 @@
-use Rattle.kept_disk.proofs.{Words.{◌/◌, ◌%◌, ℕ, length, take, drop, ◌∙◌, ap, arith, length-contents, from_of}, Paging.at_page, Standing.taken}
+use Rattle.kept_disk.proofs.{Words.{◌≡◌, ◌⊎◌, ◌<◌, ◌/◌, ◌%◌, ℕ, inl, inr, length, take, drop, ◌∙◌, ap, arith, cases_eq, get_or, length-contents, from_of}, Paging.at_page, Standing.{taken, taken_zeros}}
 
 pub returns-clause-bytes : Rattle.kept_disk.proofs.parts.read_part.Goals.returns-clause-bytes
 returns-clause-bytes g c l told =
     let q = c.args.at / 4096 in
     let is = at_page c.args.at in
     let size = length-contents (g.met.D.Disk.lawful c.args.disk.now) l told in
-    let has = c.hold.ensures.filled.stand l told (c.requires.stand l told) q c.in_ok-hold.ensures.filled.held in
-    c.copy_out.ensures
-    ∙ taken l c.hold.new.self.bytes.items q (from_of c.hold.new.self.ends.items (q % 2048)) (c.args.at % 4096) (length c.args.into.now) c.requires.inside (omega (arith, size, c.requires.fits, is)) has
-    ∙ ap (λ (a : ℕ). take (length c.args.into.now) (drop a l)) is
+    let pages = c.hold.new.self in
+    let len = length c.args.into.now in
+    let stands = c.hold.ensures.filled.stand l told (c.requires.stand l told) q c.in_ok-hold.ensures.filled.held in
+    elim (cases_eq (get_or pages.ends.items (q % 2048) 0) 0) [
+      | inl none ↦ c.copy_out.ensures.zeros none ∙ taken_zeros l q (c.args.at % 4096) len c.requires.inside (omega (arith, size, c.requires.fits, is)) (stands.zeros none)
+      | inr some ↦
+          let has : 0 < get_or pages.ends.items (q % 2048) 0 = omega (arith, some) in
+          c.copy_out.ensures.bytes has
+          ∙ taken l pages.bytes.items q (from_of pages.ends.items (q % 2048)) (c.args.at % 4096) len c.requires.inside (omega (arith, size, c.requires.fits, is)) (stands.has has)
+    ]
+    ∙ ap (λ (a : ℕ). take len (drop a l)) is
+
+pub returns-in_err-hold-clause-stand : Rattle.kept_disk.proofs.parts.read_part.Goals.returns-in_err-hold-clause-stand
+returns-in_err-hold-clause-stand g c x told = c.hold.ensures.filled.stand x told (c.requires.stand x told)
+
+pub returns-clause-stand : Rattle.kept_disk.proofs.parts.read_part.Goals.returns-clause-stand
+returns-clause-stand g c x told = c.hold.ensures.filled.stand x told (c.requires.stand x told)
