@@ -1,5 +1,5 @@
 -- Pages that stand for contents: as they are filled, as bytes are written, and what a read takes of them.
-use Rattle.kept_disk.proofs.{Words.{◌≡◌, ◌⊎◌, ◌≤◌, ◌<◌, ◌+◌, ◌-◌, ◌*◌, ◌%◌, ◌++◌, ℕ, min, Bool, ◌==◌, cond, List, Option, Some, None, inl, inr, length, replicate, take, drop, set, get_or, refl, sym, ◌∙◌, ap, subst, arith, length-drop, take-replicate, drop-replicate, drop_at, take_min, same_Some, slice_get, spliced, length-spliced, slice-torn, spliced_torn, Torn, page_of, AreLaid, HasPage, IsBlank, IsHeld, Stand, StandsFor, from_of, cases_eq, cases_lt, ne_eqb, get_or-set_same, get_or-set_other, sum_by-set}, Slices.{length-slice, part_of, slice_before, spliced_inside, get-set_same, get-set_other}}
+use Rattle.kept_disk.proofs.{Words.{◌≡◌, ◌⊎◌, ◌≤◌, ◌<◌, ◌+◌, ◌-◌, ◌*◌, ◌%◌, ◌++◌, ℕ, min, Bool, ◌==◌, cond, List, Option, Some, None, inl, inr, length, replicate, take, drop, set, get_or, refl, sym, ◌∙◌, ap, subst, arith, length-drop, take-replicate, drop-replicate, drop_at, take_min, same_Some, slice_get, spliced, length-spliced, slice-torn, spliced_torn, take-drop-spliced, take-length, Torn, page_of, AreLaid, HasPage, IsBlank, IsHeld, Stand, StandsFor, from_of, cases_eq, cases_lt, ne_eqb, get_or-set_same, get_or-set_other, sum_by-set}, Slices.{length-slice, part_of, slice_before, spliced_inside, get-set_same, get-set_other}}
 
 -- bytes that were read as a page
 pub filled : (c bytes : List ℕ) (n from len : ℕ) → len ≡ min (length c - n * 4096) 4096 → take len (drop from bytes) ≡ take len (drop (n * 4096) c) → HasPage c n bytes from
@@ -188,6 +188,45 @@ module _ (numbers : List (Option ℕ)) {ends bytes : List ℕ} {memory : ℕ} (p
   pub stand_behind : q % 2048 < length ends → Stand (set numbers (q % 2048) (Some q)) (set ends (q % 2048) (length bytes + 4096)) (bytes ++ page) c
   stand_behind inside =
       stand_filled numbers q (grown_elsewhere laid page (length bytes + 4096) c) stand (grown_here c ends bytes page q inside (page_behind c bytes page q (filled c page q 0 len is read)))
+
+-- a page that was written as a whole
+module _ (numbers : List (Option ℕ)) {ends bytes : List ℕ} {memory : ℕ} (c : List ℕ) (q : ℕ) (xs : List ℕ) (laid : AreLaid ends bytes memory) (long : length xs ≡ 4096) (fits : q * 4096 + 4096 ≤ length c) (stand : Stand numbers ends bytes c) where
+  -- its own bytes
+  own_page : page_of (spliced c (q * 4096) xs) q ≡ xs
+  own_page = ap (λ (k : ℕ). take k (drop (q * 4096) (spliced c (q * 4096) xs))) (sym long) ∙ take-drop-spliced c (q * 4096) xs (omega (arith, fits, long))
+
+  own_has : (b : List ℕ) (from : ℕ) → take 4096 (drop from b) ≡ xs → HasPage (spliced c (q * 4096) xs) q b from
+  own_has b from is = ap (λ (k : ℕ). take k (drop from b)) (ap length own_page ∙ long) ∙ is ∙ sym own_page
+
+  -- pages in other places
+  elsewhere : (e b : List ℕ) (n : ℕ) → (n % 2048 ≡ q % 2048 → ⊥) → StandsFor c n e b → StandsFor (spliced c (q * 4096) xs) n e b
+  elsewhere e b n differs stands =
+      let torn = spliced_torn c (q * 4096) xs (omega (arith, fits, long)) in
+      let lies : (n * 4096 + 4096 ≤ q * 4096) ⊎ (q * 4096 + length xs ≤ n * 4096) = elim (places_apart n q (λ same. differs (ap (λ (k : ℕ). k % 2048) same))) [
+        | inl before ↦ inl before
+        | inr behind ↦ inr (omega (arith, behind, long))
+      ] in
+      stands_in c (spliced c (q * 4096) xs) n e b (slice-torn torn (n * 4096) 4096 lies) stands
+
+  pub written_over : 0 < get_or ends (q % 2048) 0 → Stand (set numbers (q % 2048) (Some q)) ends (spliced bytes (from_of ends (q % 2048)) xs) (spliced c (q * 4096) xs)
+  written_over has =
+      let from = from_of ends (q % 2048) in
+      let new = spliced bytes from xs in
+      let room : from + length xs ≤ length bytes = omega (arith, lies laid (q % 2048) has, long) in
+      let here : take 4096 (drop from new) ≡ xs = ap (λ (k : ℕ). take k (drop from new)) (sym long) ∙ take-drop-spliced bytes from xs room in
+      stand_filled numbers q (λ n differs stands. elsewhere ends new n differs (torn_elsewhere laid has (spliced_torn bytes from xs room) (omega (arith, long)) c n differs stands)) stand
+      (record { zeros = λ none. absurd (omega (arith, none, has)); has = λ some. own_has new from here })
+
+  pub written_zeros : get_or ends (q % 2048) 0 ≡ 0 → xs ≡ replicate (length xs) 0 → Stand (set numbers (q % 2048) (Some q)) ends bytes (spliced c (q * 4096) xs)
+  written_zeros none zeros =
+      stand_filled numbers q (elsewhere ends bytes) stand
+      (record { zeros = λ e. subst (λ (l : List ℕ). l ≡ replicate (length l) 0) (sym own_page) zeros; has = λ some. absurd (omega (arith, some, none)) })
+
+  pub written_behind : q % 2048 < length ends → Stand (set numbers (q % 2048) (Some q)) (set ends (q % 2048) (length bytes + 4096)) (bytes ++ xs) (spliced c (q * 4096) xs)
+  written_behind inside =
+      let whole : take 4096 (drop 0 xs) ≡ xs = ap (λ (k : ℕ). take k xs) (sym long) ∙ take-length xs in
+      stand_filled numbers q (λ n differs stands. elsewhere (set ends (q % 2048) (length bytes + 4096)) (bytes ++ xs) n differs (grown_elsewhere laid xs (length bytes + 4096) c n differs stands)) stand
+      (grown_here (spliced c (q * 4096) xs) ends bytes xs q inside (page_behind (spliced c (q * 4096) xs) bytes xs q (own_has xs 0 whole)))
 
 -- where the place of a page that is held is given bytes
 pub stand_given : (numbers : List (Option ℕ)) {ends bytes : List ℕ} {memory : ℕ} (n : ℕ) (c : List ℕ) → AreLaid ends bytes memory → n % 2048 < length ends → get_or ends (n % 2048) 0 ≡ 0 → IsHeld numbers n

@@ -134,6 +134,22 @@ impl Pages {
         into.copy_from_slice(&self.bytes[from..from + into.len()]);
     }
 
+    /// Holds the page of this number, all of which was written: the disk has these bytes there.
+    pub(crate) fn hold_written(&mut self, number: u64, page: &[u8])
+        requires place { number % 2048 < length self.old.numbers.items }
+        requires whole { length page.now ≡ 4096 }
+        ensures { (c : List ℕ) → number * 4096 + 4096 ≤ length c → Stand self.old.numbers.items self.old.ends.items self.old.bytes.items c
+            → Stand self.new.numbers.items self.new.ends.items self.new.bytes.items (spliced c (number * 4096) page.now) }
+    {
+        lay_page(
+            &mut self.numbers,
+            &mut self.ends,
+            &mut self.bytes,
+            number,
+            page,
+        );
+    }
+
     /// Has bytes for a page that is held.
     pub(crate) fn give_bytes(&mut self, number: u64)
         requires held { IsHeld self.old.numbers.items number }
@@ -287,6 +303,37 @@ fn fill_first<D: Disk>(
     }
     numbers[place] = Some(number);
     Ok(())
+}
+
+// Lays the bytes of a page into its place.
+fn lay_page(
+    numbers: &mut Vec<Option<u64>>,
+    ends: &mut Vec<usize>,
+    bytes: &mut Vec<u8>,
+    number: u64,
+    page: &[u8],
+)
+    requires place { number % 2048 < length numbers.old.items }
+    requires places { length ends.old.items ≡ length numbers.old.items }
+    requires laid { AreLaid ends.old.items bytes.old.items (vec_capacity bytes.old) }
+    requires whole { length page.now ≡ 4096 }
+    ensures stand { (c : List ℕ) → number * 4096 + 4096 ≤ length c → Stand numbers.old.items ends.old.items bytes.old.items c
+        → Stand numbers.new.items ends.new.items bytes.new.items (spliced c (number * 4096) page.now) }
+    ensures numbers { length numbers.new.items ≡ length numbers.old.items }
+    ensures places { length ends.new.items ≡ length ends.old.items }
+    ensures laid { AreLaid ends.new.items bytes.new.items (vec_capacity bytes.new) }
+{
+    let place = place_of(number);
+    numbers[place] = Some(number);
+    let end = ends[place];
+    if end != 0 {
+        lay_over(bytes, end - PAGE, page);
+        return;
+    }
+    if are_zeros(page) {
+        return;
+    }
+    add_page(ends, bytes, place, page);
 }
 
 // Whether all bytes are zero: the first is, and each other equals the one before it. They are compared as a whole.

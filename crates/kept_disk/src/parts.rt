@@ -81,7 +81,7 @@ fn read_part<D: Disk>(
     Ok(())
 }
 
-/// Lays bytes over the pages that hold what they were written over.
+/// Lays bytes over the pages that hold what they were written over, and holds those that were written as wholes.
 pub(crate) fn lay_parts(pages: &mut Pages, at: u64, bytes: &[u8])
     requires { at + length bytes.now < 2 ^ 64 }
     ensures { (c : List ℕ) → at + length bytes.now ≤ length c → Stand pages.old.numbers.items pages.old.ends.items pages.old.bytes.items c → Stand pages.new.numbers.items pages.new.ends.items pages.new.bytes.items (spliced c at bytes.now) }
@@ -99,12 +99,16 @@ pub(crate) fn lay_parts(pages: &mut Pages, at: u64, bytes: &[u8])
     }
 }
 
-// Lays bytes over the page that they lie in, where it is held.
+// Lays bytes over the page that they lie in, where it is held or they are all of it.
 fn lay_part(pages: &mut Pages, at: u64, bytes: &[u8])
     requires { at % 4096 + length bytes.now ≤ 4096 }
     ensures { (c : List ℕ) → at + length bytes.now ≤ length c → Stand pages.old.numbers.items pages.old.ends.items pages.old.bytes.items c → Stand pages.new.numbers.items pages.new.ends.items pages.new.bytes.items (spliced c at bytes.now) }
 {
     let number = at / PAGE as u64;
+    if bytes.len() == PAGE && pages.has_place(number) {
+        pages.hold_written(number, bytes);
+        return;
+    }
     if pages.holds(number) {
         pages.give_bytes(number);
         pages.put(at, bytes);

@@ -1,4 +1,4 @@
-use Rattle.kept_disk.proofs.{Words.{◌+◌, ◌/◌, ◌%◌, ℕ, List, sym, subst, arith, spliced, IsHeld, Stand, from_of}, Paging.at_page, Standing.{stand_apart, stand_put}}
+use Rattle.kept_disk.proofs.{Words.{◌≡◌, ◌*◌, ◌+◌, ◌/◌, ◌%◌, ℕ, List, sym, subst, arith, spliced, IsHeld, Stand, from_of}, Paging.at_page, Standing.{stand_apart, stand_put}}
 
 pub put-requires-clause-held : Rattle.kept_disk.proofs.parts.lay_part.Goals.put-requires-clause-held
 put-requires-clause-held c = subst (λ v. IsHeld v.items (c.args.at / 4096)) (sym c.give_bytes.ensures.numbers) (c.holds.ensures.0 c.if-holds.true)
@@ -22,3 +22,10 @@ returns-else-holds c l fits stand =
     let pages = c.args.pages.now in
     subst (λ (a : ℕ). Stand pages.numbers.items pages.ends.items pages.bytes.items (spliced l a c.args.bytes.now)) is
     (stand_apart pages.numbers.items pages.ends.items pages.bytes.items l q (c.args.at % 4096) c.args.bytes.now c.requires (omega (arith, fits, is)) stand (λ held. let yes = c.holds.ensures.1 held in cc (yes, c.if-holds.false)))
+
+pub returns-then-has_place : Rattle.kept_disk.proofs.parts.lay_part.Goals.returns-then-has_place
+returns-then-has_place c l fits stand =
+    let number = c.args.at / 4096 in
+    let pages = c.hold_written.new.self in
+    let same : number * 4096 ≡ c.args.at = omega (arith, at_page c.args.at, c.requires) in
+    subst (λ (a : ℕ). Stand pages.numbers.items pages.ends.items pages.bytes.items (spliced l a c.args.bytes.now)) same (c.hold_written.ensures l (omega (arith, fits, same)) stand)
