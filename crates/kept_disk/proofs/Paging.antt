@@ -1,19 +1,21 @@
 -- The page of a place, and ranges that are held.
-use Rattle.kept_disk.proofs.Words.{◌≡◌, ◌⊎◌, ◌<◌, ◌≤◌, ◌+◌, ◌*◌, ◌/◌, ◌%◌, ℕ, List, Option, inl, inr, sym, ◌∙◌, subst, arith, mod-add-div, mod-lt, slice_get, HoldsRange, IsHeld}
+use Rattle.kept_disk.proofs.Words.{◌≡◌, ◌⊎◌, ◌<◌, ◌≤◌, ◌+◌, ◌*◌, ◌/◌, ◌%◌, ℕ, List, Option, inl, inr, sym, ◌∙◌, subst, arith, mod-add-div, mod-lt, slice_get, HoldsRange, IsHeld, end_of, page_at, start_of}
 
--- a place, by its page
-pub at_page : (at : ℕ) → at / 4096 * 4096 + at % 4096 ≡ at
-at_page at = omega (arith, mod-add-div at 4096)
+-- a place lies in its page
+pub from_start : (at : ℕ) → start_of (page_at at) ≤ at
+from_start at = omega (arith, mod-add-div (at + 4000) 4096)
+
+pub to_end : (at : ℕ) → at < end_of (page_at at)
+to_end at = let below : (at + 4000) % 4096 < 4096 = mod-lt (at + 4000) (omega arith) in omega (arith, mod-add-div (at + 4000) 4096, below)
 
 -- where a whole range is held, so is the page of each place in it
-pub held_in : (numbers : List (Option ℕ)) (at len done : ℕ) → done < len → HoldsRange numbers at len → IsHeld numbers ((at + done) / 4096)
+pub held_in : (numbers : List (Option ℕ)) (at len done : ℕ) → done < len → HoldsRange numbers at len → IsHeld numbers (page_at (at + done))
 held_in numbers at len done within range = range (at + done) (omega arith) (omega (arith, within))
 
 -- where a range lies in one page, it is held with that page
-pub held_page : (numbers : List (Option ℕ)) (at len : ℕ) → at % 4096 + len ≤ 4096 → IsHeld numbers (at / 4096) → HoldsRange numbers at len
+pub held_page : (numbers : List (Option ℕ)) (at len : ℕ) → at + len ≤ end_of (page_at at) → IsHeld numbers (page_at at) → HoldsRange numbers at len
 held_page numbers at len inside here place from to =
-    let below : place % 4096 < 4096 = mod-lt place (omega arith) in
-    let same : at / 4096 ≡ place / 4096 = omega (arith, at_page at, at_page place, below, inside, from, to) in
+    let same : page_at at ≡ page_at place = omega (arith, from_start at, from_start place, to_end place, inside, from, to) in
     subst (IsHeld numbers) same here
 
 -- two pages near each other have two places
@@ -21,18 +23,19 @@ apart : (p q : ℕ) → p < q → q ≤ p + 2000 → p % 2048 ≡ q % 2048 → �
 apart p q less near same = omega (arith, mod-add-div p 2048, mod-add-div q 2048, less, near, same)
 
 -- what is held so far, and the page of one part more
-pub held_further : (old new : List (Option ℕ)) (at done count : ℕ) → (at + done) % 4096 + count ≤ 4096 → done + count ≤ 65536 → IsHeld new ((at + done) / 4096) → ((k : ℕ) → (k ≡ (at + done) / 4096 % 2048 → ⊥) → slice_get new k ≡ slice_get old k) → HoldsRange old at done → HoldsRange new at (done + count)
+pub held_further : (old new : List (Option ℕ)) (at done count : ℕ) → at + done + count ≤ end_of (page_at (at + done)) → done + count ≤ 65536 → IsHeld new (page_at (at + done)) → ((k : ℕ) → (k ≡ page_at (at + done) % 2048 → ⊥) → slice_get new k ≡ slice_get old k) → HoldsRange old at done → HoldsRange new at (done + count)
 held_further old new at done count inside small here others so_far place from to =
-    let p = place / 4096 in
-    let q = (at + done) / 4096 in
-    let of_place = at_page place in
-    let of_part = at_page (at + done) in
-    let below : place % 4096 < 4096 = mod-lt place (omega arith) in
+    let p = page_at place in
+    let q = page_at (at + done) in
+    let after = from_start place in
+    let before = to_end place in
+    let starts = from_start (at + done) in
+    let ends = to_end (at + done) in
     let cases : (p < q) ⊎ ((p ≡ q) ⊎ (q < p)) = grind arith in
     elim cases [
       | inl less ↦
-          let near : q ≤ p + 2000 = omega (arith, of_place, of_part, below, from, small) in
-          others (p % 2048) (apart p q less near) ∙ so_far place from (omega (arith, of_place, of_part, below, less))
+          let near : q ≤ p + 2000 = omega (arith, starts, before, from, small) in
+          others (p % 2048) (apart p q less near) ∙ so_far place from (omega (arith, before, starts, less))
       | inr (inl same) ↦ subst (IsHeld new) (sym same) here
-      | inr (inr more) ↦ absurd (omega (arith, of_place, of_part, inside, to, more))
+      | inr (inr more) ↦ absurd (omega (arith, after, inside, to, more))
     ]

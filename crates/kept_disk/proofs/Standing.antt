@@ -1,39 +1,39 @@
 -- Pages that stand for contents: as they are filled, as bytes are written, and what a read takes of them.
-use Rattle.kept_disk.proofs.{Words.{◌≡◌, ◌⊎◌, ◌≤◌, ◌<◌, ◌+◌, ◌-◌, ◌*◌, ◌%◌, ◌++◌, ℕ, min, Bool, ◌==◌, cond, List, Option, Some, None, inl, inr, length, replicate, take, drop, set, get_or, refl, sym, ◌∙◌, ap, subst, arith, length-drop, take-replicate, drop-replicate, drop_at, take_min, same_Some, slice_get, spliced, length-spliced, slice-torn, spliced_torn, take-drop-spliced, take-length, Torn, page_of, AreLaid, HasPage, IsBlank, IsHeld, Stand, StandsFor, from_of, cases_eq, cases_lt, ne_eqb, get_or-set_same, get_or-set_other, sum_by-set}, Slices.{length-slice, part_of, slice_before, spliced_inside, get-set_same, get-set_other}}
+use Rattle.kept_disk.proofs.{Words.{◌≡◌, ◌⊎◌, ◌≤◌, ◌<◌, ◌+◌, ◌-◌, ◌*◌, ◌%◌, ◌++◌, ℕ, min, Bool, ◌==◌, cond, List, Option, Some, None, inl, inr, length, replicate, take, drop, set, get_or, refl, sym, ◌∙◌, ap, subst, arith, length-drop, take-replicate, drop-replicate, drop_at, take_min, same_Some, slice_get, spliced, length-spliced, slice-torn, spliced_torn, take-drop-spliced, take-length, Torn, page_of, AreLaid, HasPage, IsBlank, IsHeld, Stand, StandsFor, end_of, from_of, start_of, cases_eq, cases_lt, ne_eqb, get_or-set_same, get_or-set_other, sum_by-set}, Slices.{length-slice, part_of, slice_before, spliced_inside, get-set_same, get-set_other}}
 
 -- bytes that were read as a page
-pub filled : (c bytes : List ℕ) (n from len : ℕ) → len ≡ min (length c - n * 4096) 4096 → take len (drop from bytes) ≡ take len (drop (n * 4096) c) → HasPage c n bytes from
+pub filled : (c bytes : List ℕ) (n from len : ℕ) → len ≡ min (length c - start_of n) (end_of n - start_of n) → take len (drop from bytes) ≡ take len (drop (start_of n) c) → HasPage c n bytes from
 filled c bytes n from len is read =
-    let rest = drop (n * 4096) c in
-    let count : length (page_of c n) ≡ len = omega (arith, is, length-slice 4096 (n * 4096) c) in
-    let whole : take len rest ≡ page_of c n = ap (λ (k : ℕ). take k rest) (let same : len ≡ min 4096 (length rest) = omega (arith, is, length-drop (n * 4096) c) in same) ∙ take_min 4096 rest in
+    let rest = drop (start_of n) c in
+    let count : length (page_of c n) ≡ len = omega (arith, is, length-slice (end_of n - start_of n) (start_of n) c) in
+    let whole : take len rest ≡ page_of c n = ap (λ (k : ℕ). take k rest) (let same : len ≡ min (end_of n - start_of n) (length rest) = omega (arith, is, length-drop (start_of n) c) in same) ∙ take_min (end_of n - start_of n) rest in
     ap (λ (k : ℕ). take k (drop from bytes)) count ∙ read ∙ whole
 
 -- what a read takes of a page
-pub taken : (c bytes : List ℕ) (n at from len : ℕ) → from + len ≤ 4096 → n * 4096 + from + len ≤ length c → HasPage c n bytes at → take len (drop (at + from) bytes) ≡ take len (drop (n * 4096 + from) c)
+pub taken : (c bytes : List ℕ) (n at from len : ℕ) → from + len ≤ end_of n - start_of n → start_of n + from + len ≤ length c → HasPage c n bytes at → take len (drop (at + from) bytes) ≡ take len (drop (start_of n + from) c)
 taken c bytes n at from len inside fits has =
     let count = length (page_of c n) in
-    let enough : from + len ≤ count = omega (arith, inside, fits, length-slice 4096 (n * 4096) c) in
+    let enough : from + len ≤ count = omega (arith, inside, fits, length-slice (end_of n - start_of n) (start_of n) c) in
     sym (part_of from len count at bytes enough)
     ∙ ap (λ (l : List ℕ). take len (drop from l)) has
-    ∙ part_of from len 4096 (n * 4096) c inside
+    ∙ part_of from len (end_of n - start_of n) (start_of n) c inside
 
 -- a part of zeros
 zeros_in : (k from len : ℕ) → from + len ≤ k → take {A = ℕ} len (drop from (replicate k 0)) ≡ replicate len 0
 zeros_in k from len inside = ap (take len) (drop-replicate from k 0) ∙ take-replicate len (k - from) 0 (omega (arith, inside))
 
 -- what a read takes of a page of zeros
-pub taken_zeros : (c : List ℕ) (n from len : ℕ) → from + len ≤ 4096 → n * 4096 + from + len ≤ length c → IsBlank c n → replicate len 0 ≡ take len (drop (n * 4096 + from) c)
+pub taken_zeros : (c : List ℕ) (n from len : ℕ) → from + len ≤ end_of n - start_of n → start_of n + from + len ≤ length c → IsBlank c n → replicate len 0 ≡ take len (drop (start_of n + from) c)
 taken_zeros c n from len inside fits blank =
     let count = length (page_of c n) in
-    let enough : from + len ≤ count = omega (arith, inside, fits, length-slice 4096 (n * 4096) c) in
-    sym (zeros_in count from len enough) ∙ ap (λ (l : List ℕ). take len (drop from l)) (sym blank) ∙ part_of from len 4096 (n * 4096) c inside
+    let enough : from + len ≤ count = omega (arith, inside, fits, length-slice (end_of n - start_of n) (start_of n) c) in
+    sym (zeros_in count from len enough) ∙ ap (λ (l : List ℕ). take len (drop from l)) (sym blank) ∙ part_of from len (end_of n - start_of n) (start_of n) c inside
 
 -- zeros that were read as a page
-pub read_zeros : (c page : List ℕ) (n len : ℕ) → len ≡ min (length c - n * 4096) 4096 → take len (drop 0 page) ≡ take len (drop (n * 4096) c) → take len page ≡ replicate (length (take len page)) 0 → IsBlank c n
+pub read_zeros : (c page : List ℕ) (n len : ℕ) → len ≡ min (length c - start_of n) (end_of n - start_of n) → take len (drop 0 page) ≡ take len (drop (start_of n) c) → take len page ≡ replicate (length (take len page)) 0 → IsBlank c n
 read_zeros c page n len is read zeros =
     let same : take (length (page_of c n)) page ≡ page_of c n = filled c page n 0 len is read in
-    let count : length (page_of c n) ≡ len = omega (arith, is, length-slice 4096 (n * 4096) c) in
+    let count : length (page_of c n) ≡ len = omega (arith, is, length-slice (end_of n - start_of n) (start_of n) c) in
     let here : take len page ≡ page_of c n = ap (λ (k : ℕ). take k page) (sym count) ∙ same in
     subst (λ (l : List ℕ). l ≡ replicate (length l) 0) here zeros
 
@@ -43,13 +43,13 @@ page_behind c bytes page n has = ap (take (length (page_of c n))) (drop_at bytes
 
 pub zeros_behind : (c bytes : List ℕ) (n : ℕ) → IsBlank c n → HasPage c n (bytes ++ replicate 4096 0) (length bytes)
 zeros_behind c bytes n blank =
-    let short : length (page_of c n) ≤ 4096 = omega (arith, length-slice 4096 (n * 4096) c) in
+    let short : length (page_of c n) ≤ 4096 = omega (arith, length-slice (end_of n - start_of n) (start_of n) c) in
     page_behind c bytes (replicate 4096 0) n (take-replicate (length (page_of c n)) 4096 0 short ∙ sym blank)
 
 -- a page's bytes, where what is torn lies elsewhere
 pub still_has : (c old new : List ℕ) (n from at len : ℕ) → Torn at len old new → (from + 4096 ≤ at) ⊎ (at + len ≤ from) → HasPage c n old from → HasPage c n new from
 still_has c old new n from at len torn apart has =
-    let short : length (page_of c n) ≤ 4096 = omega (arith, length-slice 4096 (n * 4096) c) in
+    let short : length (page_of c n) ≤ 4096 = omega (arith, length-slice (end_of n - start_of n) (start_of n) c) in
     let lies : (from + length (page_of c n) ≤ at) ⊎ (at + len ≤ from) = elim apart [
       | inl before ↦ inl (omega (arith, before, short))
       | inr behind ↦ inr behind
@@ -59,7 +59,7 @@ still_has c old new n from at len torn apart has =
 -- and where more bytes stand after
 pub grown_has : (c old more : List ℕ) (n from : ℕ) → from + 4096 ≤ length old → HasPage c n old from → HasPage c n (old ++ more) from
 grown_has c old more n from within has =
-    let short : length (page_of c n) ≤ 4096 = omega (arith, length-slice 4096 (n * 4096) c) in
+    let short : length (page_of c n) ≤ 4096 = omega (arith, length-slice (end_of n - start_of n) (start_of n) c) in
     slice_before (length (page_of c n)) from old more (omega (arith, within, short)) ∙ has
 
 -- of two numbers
@@ -67,7 +67,7 @@ compared : (p q : ℕ) → (p < q) ⊎ ((p ≡ q) ⊎ (q < p))
 compared p q = grind arith
 
 -- two places lie apart
-pub places_apart : (p q : ℕ) → (p ≡ q → ⊥) → (p * 4096 + 4096 ≤ q * 4096) ⊎ (q * 4096 + 4096 ≤ p * 4096)
+pub places_apart : (p q : ℕ) → (p ≡ q → ⊥) → (end_of p ≤ start_of q) ⊎ (end_of q ≤ start_of p)
 places_apart p q differ =
     elim (compared p q) [
       | inl below ↦ inl (omega (arith, below))
@@ -181,7 +181,7 @@ module _ (numbers : List (Option ℕ)) {ends old later new c d : List ℕ} (q : 
       (λ differs held. others n differs (stand n held))
 
 -- a page that was read, whose place had no bytes: it is zeros, or its bytes stand after the others
-module _ (numbers : List (Option ℕ)) {ends bytes : List ℕ} {memory : ℕ} (page c : List ℕ) (q len : ℕ) (laid : AreLaid ends bytes memory) (none : get_or ends (q % 2048) 0 ≡ 0) (is : len ≡ min (length c - q * 4096) 4096) (read : take len (drop 0 page) ≡ take len (drop (q * 4096) c)) (stand : Stand numbers ends bytes c) where
+module _ (numbers : List (Option ℕ)) {ends bytes : List ℕ} {memory : ℕ} (page c : List ℕ) (q len : ℕ) (laid : AreLaid ends bytes memory) (none : get_or ends (q % 2048) 0 ≡ 0) (is : len ≡ min (length c - start_of q) (end_of q - start_of q)) (read : take len (drop 0 page) ≡ take len (drop (start_of q) c)) (stand : Stand numbers ends bytes c) where
   pub stand_zeros : take len page ≡ replicate (length (take len page)) 0 → Stand (set numbers (q % 2048) (Some q)) ends bytes c
   stand_zeros zeros = stand_filled numbers q (λ n differs stands. stands) stand (record { zeros = λ e. read_zeros c page q len is read zeros; has = λ some. absurd (omega (arith, some, none)) })
 
@@ -190,25 +190,27 @@ module _ (numbers : List (Option ℕ)) {ends bytes : List ℕ} {memory : ℕ} (p
       stand_filled numbers q (grown_elsewhere laid page (length bytes + 4096) c) stand (grown_here c ends bytes page q inside (page_behind c bytes page q (filled c page q 0 len is read)))
 
 -- a page that was written as a whole
-module _ (numbers : List (Option ℕ)) {ends bytes : List ℕ} {memory : ℕ} (c : List ℕ) (q : ℕ) (xs : List ℕ) (laid : AreLaid ends bytes memory) (long : length xs ≡ 4096) (fits : q * 4096 + 4096 ≤ length c) (stand : Stand numbers ends bytes c) where
+module _ (numbers : List (Option ℕ)) {ends bytes : List ℕ} {memory : ℕ} (c : List ℕ) (q : ℕ) (xs : List ℕ) (laid : AreLaid ends bytes memory) (long : length xs ≡ 4096) (full : start_of q + 4096 ≡ end_of q) (fits : end_of q ≤ length c) (stand : Stand numbers ends bytes c) where
   -- its own bytes
-  own_page : page_of (spliced c (q * 4096) xs) q ≡ xs
-  own_page = ap (λ (k : ℕ). take k (drop (q * 4096) (spliced c (q * 4096) xs))) (sym long) ∙ take-drop-spliced c (q * 4096) xs (omega (arith, fits, long))
+  own_page : page_of (spliced c (start_of q) xs) q ≡ xs
+  own_page =
+      let size : end_of q - start_of q ≡ length xs = omega (arith, long, full) in
+      ap (λ (k : ℕ). take k (drop (start_of q) (spliced c (start_of q) xs))) size ∙ take-drop-spliced c (start_of q) xs (omega (arith, fits, long, full))
 
-  own_has : (b : List ℕ) (from : ℕ) → take 4096 (drop from b) ≡ xs → HasPage (spliced c (q * 4096) xs) q b from
+  own_has : (b : List ℕ) (from : ℕ) → take 4096 (drop from b) ≡ xs → HasPage (spliced c (start_of q) xs) q b from
   own_has b from is = ap (λ (k : ℕ). take k (drop from b)) (ap length own_page ∙ long) ∙ is ∙ sym own_page
 
   -- pages in other places
-  elsewhere : (e b : List ℕ) (n : ℕ) → (n % 2048 ≡ q % 2048 → ⊥) → StandsFor c n e b → StandsFor (spliced c (q * 4096) xs) n e b
+  elsewhere : (e b : List ℕ) (n : ℕ) → (n % 2048 ≡ q % 2048 → ⊥) → StandsFor c n e b → StandsFor (spliced c (start_of q) xs) n e b
   elsewhere e b n differs stands =
-      let torn = spliced_torn c (q * 4096) xs (omega (arith, fits, long)) in
-      let lies : (n * 4096 + 4096 ≤ q * 4096) ⊎ (q * 4096 + length xs ≤ n * 4096) = elim (places_apart n q (λ same. differs (ap (λ (k : ℕ). k % 2048) same))) [
-        | inl before ↦ inl before
-        | inr behind ↦ inr (omega (arith, behind, long))
+      let torn = spliced_torn c (start_of q) xs (omega (arith, fits, long, full)) in
+      let lies : (start_of n + (end_of n - start_of n) ≤ start_of q) ⊎ (start_of q + length xs ≤ start_of n) = elim (places_apart n q (λ same. differs (ap (λ (k : ℕ). k % 2048) same))) [
+        | inl before ↦ inl (omega (arith, before))
+        | inr behind ↦ inr (omega (arith, behind, long, full))
       ] in
-      stands_in c (spliced c (q * 4096) xs) n e b (slice-torn torn (n * 4096) 4096 lies) stands
+      stands_in c (spliced c (start_of q) xs) n e b (slice-torn torn (start_of n) (end_of n - start_of n) lies) stands
 
-  pub written_over : 0 < get_or ends (q % 2048) 0 → Stand (set numbers (q % 2048) (Some q)) ends (spliced bytes (from_of ends (q % 2048)) xs) (spliced c (q * 4096) xs)
+  pub written_over : 0 < get_or ends (q % 2048) 0 → Stand (set numbers (q % 2048) (Some q)) ends (spliced bytes (from_of ends (q % 2048)) xs) (spliced c (start_of q) xs)
   written_over has =
       let from = from_of ends (q % 2048) in
       let new = spliced bytes from xs in
@@ -217,16 +219,16 @@ module _ (numbers : List (Option ℕ)) {ends bytes : List ℕ} {memory : ℕ} (c
       stand_filled numbers q (λ n differs stands. elsewhere ends new n differs (torn_elsewhere laid has (spliced_torn bytes from xs room) (omega (arith, long)) c n differs stands)) stand
       (record { zeros = λ none. absurd (omega (arith, none, has)); has = λ some. own_has new from here })
 
-  pub written_zeros : get_or ends (q % 2048) 0 ≡ 0 → xs ≡ replicate (length xs) 0 → Stand (set numbers (q % 2048) (Some q)) ends bytes (spliced c (q * 4096) xs)
+  pub written_zeros : get_or ends (q % 2048) 0 ≡ 0 → xs ≡ replicate (length xs) 0 → Stand (set numbers (q % 2048) (Some q)) ends bytes (spliced c (start_of q) xs)
   written_zeros none zeros =
       stand_filled numbers q (elsewhere ends bytes) stand
       (record { zeros = λ e. subst (λ (l : List ℕ). l ≡ replicate (length l) 0) (sym own_page) zeros; has = λ some. absurd (omega (arith, some, none)) })
 
-  pub written_behind : q % 2048 < length ends → Stand (set numbers (q % 2048) (Some q)) (set ends (q % 2048) (length bytes + 4096)) (bytes ++ xs) (spliced c (q * 4096) xs)
+  pub written_behind : q % 2048 < length ends → Stand (set numbers (q % 2048) (Some q)) (set ends (q % 2048) (length bytes + 4096)) (bytes ++ xs) (spliced c (start_of q) xs)
   written_behind inside =
       let whole : take 4096 (drop 0 xs) ≡ xs = ap (λ (k : ℕ). take k xs) (sym long) ∙ take-length xs in
       stand_filled numbers q (λ n differs stands. elsewhere (set ends (q % 2048) (length bytes + 4096)) (bytes ++ xs) n differs (grown_elsewhere laid xs (length bytes + 4096) c n differs stands)) stand
-      (grown_here (spliced c (q * 4096) xs) ends bytes xs q inside (page_behind (spliced c (q * 4096) xs) bytes xs q (own_has xs 0 whole)))
+      (grown_here (spliced c (start_of q) xs) ends bytes xs q inside (page_behind (spliced c (start_of q) xs) bytes xs q (own_has xs 0 whole)))
 
 -- where the place of a page that is held is given bytes
 pub stand_given : (numbers : List (Option ℕ)) {ends bytes : List ℕ} {memory : ℕ} (n : ℕ) (c : List ℕ) → AreLaid ends bytes memory → n % 2048 < length ends → get_or ends (n % 2048) 0 ≡ 0 → IsHeld numbers n
@@ -241,51 +243,51 @@ stand_given numbers {ends = ends} {bytes = bytes} n c laid inside none held stan
     ]
 
 -- bytes written inside one page
-module _ (numbers : List (Option ℕ)) (ends bytes c : List ℕ) (q from : ℕ) (xs : List ℕ) (inside : from + length xs ≤ 4096) (fits : q * 4096 + from + length xs ≤ length c) (stand : Stand numbers ends bytes c) where
+module _ (numbers : List (Option ℕ)) (ends bytes c : List ℕ) (q from : ℕ) (xs : List ℕ) (inside : from + length xs ≤ end_of q - start_of q) (fits : start_of q + from + length xs ≤ length c) (stand : Stand numbers ends bytes c) where
   -- another page of the contents stays
-  same_page : (n : ℕ) → (n ≡ q → ⊥) → page_of (spliced c (q * 4096 + from) xs) n ≡ page_of c n
+  same_page : (n : ℕ) → (n ≡ q → ⊥) → page_of (spliced c (start_of q + from) xs) n ≡ page_of c n
   same_page n differs =
-      let torn = spliced_torn c (q * 4096 + from) xs fits in
-      let apart : (n * 4096 + 4096 ≤ q * 4096 + from) ⊎ (q * 4096 + from + length xs ≤ n * 4096) = elim (places_apart n q differs) [
+      let torn = spliced_torn c (start_of q + from) xs fits in
+      let apart : (start_of n + (end_of n - start_of n) ≤ start_of q + from) ⊎ (start_of q + from + length xs ≤ start_of n) = elim (places_apart n q differs) [
         | inl before ↦ inl (omega (arith, before))
         | inr behind ↦ inr (omega (arith, behind, inside))
       ] in
-      slice-torn torn (n * 4096) 4096 apart
+      slice-torn torn (start_of n) (end_of n - start_of n) apart
 
   -- so the other pages that are held stand as before
-  others_stand : (n : ℕ) → (n ≡ q → ⊥) → IsHeld numbers n → StandsFor (spliced c (q * 4096 + from) xs) n ends bytes
-  others_stand n differs held = stands_in c (spliced c (q * 4096 + from) xs) n ends bytes (same_page n differs) (stand n held)
+  others_stand : (n : ℕ) → (n ≡ q → ⊥) → IsHeld numbers n → StandsFor (spliced c (start_of q + from) xs) n ends bytes
+  others_stand n differs held = stands_in c (spliced c (start_of q + from) xs) n ends bytes (same_page n differs) (stand n held)
 
   -- where that page is not held
-  pub stand_apart : (IsHeld numbers q → ⊥) → Stand numbers ends bytes (spliced c (q * 4096 + from) xs)
+  pub stand_apart : (IsHeld numbers q → ⊥) → Stand numbers ends bytes (spliced c (start_of q + from) xs)
   stand_apart none n held = others_stand n (λ same. none (subst (IsHeld numbers) same held)) held
 
   -- where it is held and has bytes, and these are laid over them
   module _ {memory : ℕ} (laid : AreLaid ends bytes memory) (has_q : 0 < get_or ends (q % 2048) 0) (held_q : IsHeld numbers q) where
     -- its own bytes
-    put_has : HasPage (spliced c (q * 4096 + from) xs) q (spliced bytes (from_of ends (q % 2048) + from) xs) (from_of ends (q % 2048))
+    put_has : HasPage (spliced c (start_of q + from) xs) q (spliced bytes (from_of ends (q % 2048) + from) xs) (from_of ends (q % 2048))
     put_has =
         let count = length (page_of c q) in
         let at = from_of ends (q % 2048) in
-        let enough : from + length xs ≤ count = omega (arith, inside, fits, length-slice 4096 (q * 4096) c) in
+        let enough : from + length xs ≤ count = omega (arith, inside, fits, length-slice (end_of q - start_of q) (start_of q) c) in
         let room : at + from + length xs ≤ length bytes = omega (arith, lies laid (q % 2048) has_q, inside) in
-        let size : length (page_of (spliced c (q * 4096 + from) xs) q) ≡ count =
-        length-slice 4096 (q * 4096) (spliced c (q * 4096 + from) xs) ∙ ap (λ (s : ℕ). min 4096 (s - q * 4096)) (length-spliced c (q * 4096 + from) xs fits) ∙ sym (length-slice 4096 (q * 4096) c) in
-        let page : page_of (spliced c (q * 4096 + from) xs) q ≡ spliced (page_of c q) from xs = spliced_inside c (q * 4096) from 4096 xs inside fits in
+        let size : length (page_of (spliced c (start_of q + from) xs) q) ≡ count =
+        length-slice (end_of q - start_of q) (start_of q) (spliced c (start_of q + from) xs) ∙ ap (λ (s : ℕ). min (end_of q - start_of q) (s - start_of q)) (length-spliced c (start_of q + from) xs fits) ∙ sym (length-slice (end_of q - start_of q) (start_of q) c) in
+        let page : page_of (spliced c (start_of q + from) xs) q ≡ spliced (page_of c q) from xs = spliced_inside c (start_of q) from (end_of q - start_of q) xs inside fits in
         ap (λ (k : ℕ). take k (drop at (spliced bytes (at + from) xs))) size
         ∙ spliced_inside bytes at from count xs enough room
         ∙ ap (λ (l : List ℕ). spliced l from xs) ((stand q held_q).has has_q)
         ∙ sym page
 
-    pub stand_put : Stand numbers ends (spliced bytes (from_of ends (q % 2048) + from) xs) (spliced c (q * 4096 + from) xs)
+    pub stand_put : Stand numbers ends (spliced bytes (from_of ends (q % 2048) + from) xs) (spliced c (start_of q + from) xs)
     stand_put n held =
         let at = from_of ends (q % 2048) in
         let room : at + from + length xs ≤ length bytes = omega (arith, lies laid (q % 2048) has_q, inside) in
-        let other : (n % 2048 ≡ q % 2048 → ⊥) → StandsFor (spliced c (q * 4096 + from) xs) n ends (spliced bytes (at + from) xs) = λ differs.
+        let other : (n % 2048 ≡ q % 2048 → ⊥) → StandsFor (spliced c (start_of q + from) xs) n ends (spliced bytes (at + from) xs) = λ differs.
         let stands = others_stand n (λ same. differs (ap (λ (k : ℕ). k % 2048) same)) held in
         record {
           zeros = stands.zeros;
-          has = λ some. still_has (spliced c (q * 4096 + from) xs) bytes (spliced bytes (at + from) xs) n (from_of ends (n % 2048)) (at + from) (length xs) (spliced_torn bytes (at + from) xs room)
+          has = λ some. still_has (spliced c (start_of q + from) xs) bytes (spliced bytes (at + from) xs) n (from_of ends (n % 2048)) (at + from) (length xs) (spliced_torn bytes (at + from) xs room)
               (elim (lie_apart laid (n % 2048) (q % 2048) differs some has_q) [
                 | inl before ↦ inl (omega (arith, before))
                 | inr behind ↦ inr (omega (arith, behind, inside))
@@ -295,7 +297,7 @@ module _ (numbers : List (Option ℕ)) (ends bytes c : List ℕ) (q from : ℕ) 
           | inl below ↦ other (λ same. omega (arith, below, same))
           | inr (inl same) ↦
               let is : n ≡ q = same_Some n q (same_Some (Some n) (Some q) (sym held ∙ ap (slice_get numbers) same ∙ held_q)) in
-              subst (λ (m : ℕ). StandsFor (spliced c (q * 4096 + from) xs) m ends (spliced bytes (at + from) xs)) (sym is)
+              subst (λ (m : ℕ). StandsFor (spliced c (start_of q + from) xs) m ends (spliced bytes (at + from) xs)) (sym is)
               (record { zeros = λ none. absurd (omega (arith, none, has_q)); has = λ some. put_has })
           | inr (inr above) ↦ other (λ same. omega (arith, above, same))
         ]

@@ -3,9 +3,20 @@ use Rattle.std.specs.{Prelude.{◌≡◌, ℕ, ◌+◌, ◌-◌, ◌*◌, ◌/�
 use Rattle.counts.specs.Count.{HasCause}
 use Rattle.iso_disk.specs.Disk.{DiskState, Elapses}
 
+-- Pages of 4096 bytes lie one after the other from byte 96 on, as the blocks of an image do; the bytes before that are page 0.
+abbrev pub start_of : ℕ → ℕ
+start_of n = n * 4096 - 4000
+
+abbrev pub end_of : ℕ → ℕ
+end_of n = n * 4096 + 96
+
+-- the page of a place of the disk
+abbrev pub page_at : ℕ → ℕ
+page_at at = (at + 4000) / 4096
+
 -- the bytes of a page; those of the last one may be fewer
 abbrev pub page_of : List ℕ → ℕ → List ℕ
-page_of c n = take 4096 (drop (n * 4096) c)
+page_of c n = take (end_of n - start_of n) (drop (start_of n) c)
 
 -- these bytes have a page from a place on
 abbrev pub HasPage : List ℕ → ℕ → List ℕ → ℕ → Type 0
@@ -45,7 +56,7 @@ HoldsNone numbers = (k : ℕ) (number : Option ℕ) → slice_get numbers k ≡ 
 
 -- the page of each byte in the range is held
 abbrev pub HoldsRange : List (Option ℕ) → ℕ → ℕ → Type 0
-HoldsRange numbers at len = (place : ℕ) → at ≤ place → place < at + len → IsHeld numbers (place / 4096)
+HoldsRange numbers at len = (place : ℕ) → at ≤ place → place < at + len → IsHeld numbers (page_at place)
 
 -- a call that only reads of the disk: it tells what it told, and nothing else is left of it by a crash
 pub record HasLooked {T E : Type 0} (old new : DiskState) (result : Result T E) : Type 0 where

@@ -12,7 +12,8 @@ use std::alloc::Global;
 /// Longer reads go past the pages: they are of an opening or a compaction, and would turn out what is read again.
 const LONGEST: usize = 65_536;
 
-/// A disk over another one, of which it keeps the pages that were read, or written as wholes, last: 2,048 of 4 KiB. It is at each moment what
+/// A disk over another one, of which it keeps the pages that were read, or written as wholes, last: 2,048 of 4 KiB, from byte
+/// 96 on, where the blocks of an image begin. It is at each moment what
 /// the other is, and each page that it holds has the bytes that the other has there.
 ///
 /// The memory for the pages is taken at the first bind; where there is none, each call goes past them.

@@ -1,13 +1,16 @@
 // Pages: bytes of a disk that are kept in memory, and which of its pages these are.
-ghost use Rattle.std.specs.{Prelude.{◌≡◌, ◌⊎◌, ◌+◌, ◌*◌, ◌/◌, ◌%◌, ◌<◌, ◌≤◌, ◌^◌, ◌++◌, ◌↔◌, ℕ, List, Some, None, true, length, replicate, set, take, drop, IsTrue, IfOk, IsOk, OnOk, slice_get, slice_index, vec_capacity}, Option.ForSome};
+ghost use Rattle.std.specs.{Prelude.{◌≡◌, ◌⊎◌, ◌+◌, ◌-◌, ◌*◌, ◌/◌, ◌%◌, ◌<◌, ◌≤◌, ◌^◌, ◌++◌, ◌↔◌, ℕ, List, Some, None, true, length, replicate, set, take, drop, IsTrue, IfOk, IsOk, OnOk, slice_get, slice_index, vec_capacity}, Option.ForSome};
 ghost use Rattle.iso_disk.specs.Disk.{Torn, spliced};
-ghost use Rattle.kept_disk.specs.Pages.{AreLaid, HasFilled, HasLooked, HoldsNone, IsHeld, Stand, from_of};
+ghost use Rattle.kept_disk.specs.Pages.{AreLaid, HasFilled, HasLooked, HoldsNone, IsHeld, Stand, end_of, from_of, page_at, start_of};
 
 use iso_disk::{Disk, DiskFault};
 use std::alloc::{AllocError, Global};
 
 /// How many bytes a page has.
 pub(crate) const PAGE: usize = 4096;
+
+/// Where page 1 begins, and page 0 ends: where the blocks of an image do, so that a block of 4096 bytes is one page.
+const FIRST: u64 = 96;
 
 /// How many pages are kept at most.
 const PAGES: usize = 2048;
@@ -98,7 +101,7 @@ impl Pages {
 
     /// Holds the page of this number from now on: reads it, where it is not held yet. After a fault it is not held.
     pub(crate) fn hold<D: Disk>(&mut self, disk: &mut D, number: u64) -> Result<(), DiskFault>
-        requires inside { number * 4096 < (D.state disk.old).size }
+        requires inside { start_of number < (D.state disk.old).size }
         requires place { number % 2048 < length self.old.numbers.items }
         ensures filled { HasFilled self.old.numbers.items self.old.ends.items self.old.bytes.items self.new.numbers.items self.new.ends.items self.new.bytes.items number (D.state disk.old) (D.state disk.new) result }
         ensures stays { IsHeld self.old.numbers.items number → (IsOk result) × (disk.new ≡ disk.old) × (self.new ≡ self.old) }
@@ -121,12 +124,12 @@ impl Pages {
 
     /// Gives bytes of a page that is held, from a place of the disk on.
     pub(crate) fn copy_out(&self, at: u64, into: &mut [u8])
-        requires held { IsHeld self.now.numbers.items (at / 4096) }
-        requires inside { at % 4096 + length into.old ≤ 4096 }
-        ensures zeros { slice_index self.now.ends.items (at / 4096 % 2048) ≡ 0 → into.new ≡ replicate (length into.old) 0 }
-        ensures bytes { 0 < slice_index self.now.ends.items (at / 4096 % 2048) → into.new ≡ take (length into.old) (drop (from_of self.now.ends.items (at / 4096 % 2048) + at % 4096) self.now.bytes.items) }
+        requires held { IsHeld self.now.numbers.items (page_at at) }
+        requires inside { at + length into.old ≤ end_of (page_at at) }
+        ensures zeros { slice_index self.now.ends.items (page_at at % 2048) ≡ 0 → into.new ≡ replicate (length into.old) 0 }
+        ensures bytes { 0 < slice_index self.now.ends.items (page_at at % 2048) → into.new ≡ take (length into.old) (drop (from_of self.now.ends.items (page_at at % 2048) + (at - start_of (page_at at))) self.now.bytes.items) }
     {
-        if self.ends[place_of(at / PAGE as u64)] == 0 {
+        if self.ends[place_of(page_at(at))] == 0 {
             into.fill(0);
             return;
         }
@@ -138,8 +141,9 @@ impl Pages {
     pub(crate) fn hold_written(&mut self, number: u64, page: &[u8])
         requires place { number % 2048 < length self.old.numbers.items }
         requires whole { length page.now ≡ 4096 }
-        ensures { (c : List ℕ) → number * 4096 + 4096 ≤ length c → Stand self.old.numbers.items self.old.ends.items self.old.bytes.items c
-            → Stand self.new.numbers.items self.new.ends.items self.new.bytes.items (spliced c (number * 4096) page.now) }
+        requires full { start_of number + 4096 ≡ end_of number }
+        ensures { (c : List ℕ) → end_of number ≤ length c → Stand self.old.numbers.items self.old.ends.items self.old.bytes.items c
+            → Stand self.new.numbers.items self.new.ends.items self.new.bytes.items (spliced c (start_of number) page.now) }
     {
         lay_page(
             &mut self.numbers,
@@ -167,12 +171,12 @@ impl Pages {
 
     /// Lays bytes over those of a page that is held and has bytes, from a place of the disk on.
     pub(crate) fn put(&mut self, at: u64, bytes: &[u8])
-        requires held { IsHeld self.old.numbers.items (at / 4096) }
-        requires has { 0 < slice_index self.old.ends.items (at / 4096 % 2048) }
-        requires inside { at % 4096 + length bytes.now ≤ 4096 }
+        requires held { IsHeld self.old.numbers.items (page_at at) }
+        requires has { 0 < slice_index self.old.ends.items (page_at at % 2048) }
+        requires inside { at + length bytes.now ≤ end_of (page_at at) }
         ensures numbers { self.new.numbers ≡ self.old.numbers }
         ensures ends { self.new.ends ≡ self.old.ends }
-        ensures bytes { self.new.bytes.items ≡ spliced self.old.bytes.items (from_of self.old.ends.items (at / 4096 % 2048) + at % 4096) bytes.now }
+        ensures bytes { self.new.bytes.items ≡ spliced self.old.bytes.items (from_of self.old.ends.items (page_at at % 2048) + (at - start_of (page_at at))) bytes.now }
     {
         let from = self.byte_of(at);
         lay_over(&mut self.bytes, from, bytes);
@@ -180,11 +184,12 @@ impl Pages {
 
     // Where the byte of a place of the disk lies among the bytes of the pages, which hold it.
     fn byte_of(&self, at: u64) -> usize
-        requires { 0 < slice_index self.now.ends.items (at / 4096 % 2048) }
-        ensures is { result ≡ from_of self.now.ends.items (at / 4096 % 2048) + at % 4096 }
-        ensures inside { result + 4096 ≤ length self.now.bytes.items + at % 4096 }
+        requires { 0 < slice_index self.now.ends.items (page_at at % 2048) }
+        ensures is { result ≡ from_of self.now.ends.items (page_at at % 2048) + (at - start_of (page_at at)) }
+        ensures inside { result + 4096 ≤ length self.now.bytes.items + (at - start_of (page_at at)) }
     {
-        self.ends[place_of(at / PAGE as u64)] - PAGE + at as usize % PAGE
+        let number = page_at(at);
+        self.ends[place_of(number)] - PAGE + (at - start_of(number)) as usize
     }
 }
 
@@ -241,12 +246,43 @@ fn blank(page: &mut Vec<u8>)
     page.as_mut_slice().fill(0);
 }
 
+/// The number of the page of a place of the disk.
+pub(crate) fn page_at(at: u64) -> u64
+    ensures { result ≡ page_at at }
+{
+    if at < FIRST {
+        return 0;
+    }
+    (at - FIRST) / PAGE as u64 + 1
+}
+
+/// How many bytes its page has from a place of the disk on.
+pub(crate) fn left_in_page(at: u64) -> usize
+    ensures some { 0 < result }
+    ensures end { at + result ≡ end_of (page_at at) }
+{
+    if at < FIRST {
+        return (FIRST - at) as usize;
+    }
+    PAGE - ((at - FIRST) % PAGE as u64) as usize
+}
+
 // Where the page of this number begins on a disk.
 fn start_of(number: u64) -> u64
-    requires { number * 4096 < 2 ^ 64 }
-    ensures { result ≡ number * 4096 }
+    requires { start_of number < 2 ^ 64 }
+    ensures { result ≡ start_of number }
 {
-    number * PAGE as u64
+    if number == 0 {
+        return 0;
+    }
+    (number - 1) * PAGE as u64 + FIRST
+}
+
+// How many bytes it has at most.
+fn most_of(number: u64) -> u64
+    ensures { result ≡ end_of number - start_of number }
+{
+    if number == 0 { FIRST } else { PAGE as u64 }
 }
 
 // Reads the page of this number into its place, which has bytes.
@@ -257,7 +293,7 @@ fn fill<D: Disk>(
     disk: &mut D,
     number: u64,
 ) -> Result<(), DiskFault>
-    requires inside { number * 4096 < (D.state disk.old).size }
+    requires inside { start_of number < (D.state disk.old).size }
     requires place { number % 2048 < length numbers.old.items }
     requires has { 0 < slice_index ends.now (number % 2048) }
     requires laid { AreLaid ends.now bytes.old.items (vec_capacity bytes.old) }
@@ -267,7 +303,7 @@ fn fill<D: Disk>(
     let place = place_of(number);
     numbers[place] = None;
     let at = start_of(number);
-    let len = (disk.size() - at).min(PAGE as u64) as usize;
+    let len = (disk.size() - at).min(most_of(number)) as usize;
     read_into(disk, at, bytes, ends[place] - PAGE, len)?;
     numbers[place] = Some(number);
     Ok(())
@@ -282,7 +318,7 @@ fn fill_first<D: Disk>(
     disk: &mut D,
     number: u64,
 ) -> Result<(), DiskFault>
-    requires inside { number * 4096 < (D.state disk.old).size }
+    requires inside { start_of number < (D.state disk.old).size }
     requires place { number % 2048 < length numbers.old.items }
     requires places { length ends.old.items ≡ length numbers.old.items }
     requires none { slice_index ends.old.items (number % 2048) ≡ 0 }
@@ -296,7 +332,7 @@ fn fill_first<D: Disk>(
     let place = place_of(number);
     numbers[place] = None;
     let at = start_of(number);
-    let len = (disk.size() - at).min(PAGE as u64) as usize;
+    let len = (disk.size() - at).min(most_of(number)) as usize;
     read_into(disk, at, page, 0, len)?;
     if !are_zeros(&page[..len]) {
         add_page(ends, bytes, place, page);
@@ -317,8 +353,9 @@ fn lay_page(
     requires places { length ends.old.items ≡ length numbers.old.items }
     requires laid { AreLaid ends.old.items bytes.old.items (vec_capacity bytes.old) }
     requires whole { length page.now ≡ 4096 }
-    ensures stand { (c : List ℕ) → number * 4096 + 4096 ≤ length c → Stand numbers.old.items ends.old.items bytes.old.items c
-        → Stand numbers.new.items ends.new.items bytes.new.items (spliced c (number * 4096) page.now) }
+    requires full { start_of number + 4096 ≡ end_of number }
+    ensures stand { (c : List ℕ) → end_of number ≤ length c → Stand numbers.old.items ends.old.items bytes.old.items c
+        → Stand numbers.new.items ends.new.items bytes.new.items (spliced c (start_of number) page.now) }
     ensures numbers { length numbers.new.items ≡ length numbers.old.items }
     ensures places { length ends.new.items ≡ length ends.old.items }
     ensures laid { AreLaid ends.new.items bytes.new.items (vec_capacity bytes.new) }

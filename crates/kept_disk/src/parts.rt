@@ -1,9 +1,9 @@
 // Reads and writes, one page at a time.
 ghost use Rattle.std.specs.{Prelude.{◌≡◌, ◌+◌, ◌/◌, ◌%◌, ◌^◌, ◌<◌, ◌≤◌, ℕ, List, length, take, drop, OnOk, IsOk, slice_get, true}, Option.ForSome};
 ghost use Rattle.iso_disk.specs.Disk.{spliced};
-ghost use Rattle.kept_disk.specs.Pages.{HasLooked, HoldsRange, IsHeld, Stand};
+ghost use Rattle.kept_disk.specs.Pages.{HasLooked, HoldsRange, IsHeld, Stand, end_of, page_at};
 
-use crate::pages::{PAGE, Pages};
+use crate::pages::{PAGE, Pages, left_in_page, page_at};
 use iso_disk::{Disk, DiskFault};
 
 /// Reads bytes, from pages where these hold them, and through pages where not.
@@ -38,19 +38,19 @@ pub(crate) fn read_parts<D: Disk>(
 
 // Whether `len` bytes from a place on, at least one, lie in one page.
 fn is_in_one_page(at: u64, len: usize) -> bool
-    ensures { result ≡ true → (0 < len) × (at % 4096 + len ≤ 4096) }
+    ensures { result ≡ true → (0 < len) × (at + len ≤ end_of (page_at at)) }
 {
-    len != 0 && len <= PAGE - at as usize % PAGE
+    len != 0 && len <= left_in_page(at)
 }
 
 // How many of the `len` bytes from `at` on lie in the page of `at`.
 fn part_len(at: u64, len: usize) -> usize
     requires { 0 < len }
-    ensures inside { at % 4096 + result ≤ 4096 }
+    ensures inside { at + result ≤ end_of (page_at at) }
     ensures within { result ≤ len }
     ensures some { 0 < result }
 {
-    (PAGE - at as usize % PAGE).min(len)
+    left_in_page(at).min(len)
 }
 
 // Reads bytes of one page, which is then held where there is a place for it.
@@ -61,18 +61,18 @@ fn read_part<D: Disk>(
     into: &mut [u8],
 ) -> Result<(), DiskFault>
     requires fits { at + length into.old ≤ (D.state disk.old).size }
-    requires inside { at % 4096 + length into.old ≤ 4096 }
+    requires inside { at + length into.old ≤ end_of (page_at at) }
     requires some { 0 < length into.old }
     requires stand { ForSome (D.state disk.old).contents (Stand pages.old.numbers.items pages.old.ends.items pages.old.bytes.items) }
     ensures bytes { OnOk result (ForSome (D.state disk.old).contents (λ c. into.new ≡ take (length into.old) (drop at c))) }
     ensures looked { HasLooked (D.state disk.old) (D.state disk.new) result }
     ensures stand { ForSome (D.state disk.old).contents (Stand pages.new.numbers.items pages.new.ends.items pages.new.bytes.items) }
-    ensures held { IsHeld pages.old.numbers.items (at / 4096) → (IsOk result) × (disk.new ≡ disk.old) × (pages.new ≡ pages.old) }
-    ensures holds { OnOk result (at / 4096 % 2048 < length pages.old.numbers.items → IsHeld pages.new.numbers.items (at / 4096)) }
+    ensures held { IsHeld pages.old.numbers.items (page_at at) → (IsOk result) × (disk.new ≡ disk.old) × (pages.new ≡ pages.old) }
+    ensures holds { OnOk result (page_at at % 2048 < length pages.old.numbers.items → IsHeld pages.new.numbers.items (page_at at)) }
     ensures places { length pages.new.numbers.items ≡ length pages.old.numbers.items }
-    ensures others { (k : ℕ) → (k ≡ at / 4096 % 2048 → ⊥) → slice_get pages.new.numbers.items k ≡ slice_get pages.old.numbers.items k }
+    ensures others { (k : ℕ) → (k ≡ page_at at % 2048 → ⊥) → slice_get pages.new.numbers.items k ≡ slice_get pages.old.numbers.items k }
 {
-    let number = at / PAGE as u64;
+    let number = page_at(at);
     if !pages.has_place(number) {
         return disk.read(at, into);
     }
@@ -101,10 +101,10 @@ pub(crate) fn lay_parts(pages: &mut Pages, at: u64, bytes: &[u8])
 
 // Lays bytes over the page that they lie in, where it is held or they are all of it.
 fn lay_part(pages: &mut Pages, at: u64, bytes: &[u8])
-    requires { at % 4096 + length bytes.now ≤ 4096 }
+    requires { at + length bytes.now ≤ end_of (page_at at) }
     ensures { (c : List ℕ) → at + length bytes.now ≤ length c → Stand pages.old.numbers.items pages.old.ends.items pages.old.bytes.items c → Stand pages.new.numbers.items pages.new.ends.items pages.new.bytes.items (spliced c at bytes.now) }
 {
-    let number = at / PAGE as u64;
+    let number = page_at(at);
     if bytes.len() == PAGE && pages.has_place(number) {
         pages.hold_written(number, bytes);
         return;

@@ -1,4 +1,4 @@
-use Rattle.kept_disk.proofs.{Words.{◌≡◌, ◌<◌, ◌%◌, ◌*◌, ◌+◌, ◌-◌, ◌++◌, ℕ, min, List, Option, Some, None, drop, length, replicate, set, take, sym, ◌∙◌, ap, subst, arith, length-contents, length-set, slice_get, Stand}, Slices.{get-set_at, get-set_other, set-set}, Standing.{stand_behind, stand_zeros}, pages.fill_first.Goals.{then-not-are_zeros, else-not-are_zeros}}
+use Rattle.kept_disk.proofs.{Words.{◌≡◌, ◌<◌, ◌%◌, ◌+◌, ◌-◌, ◌++◌, ℕ, min, List, Option, Some, None, drop, length, replicate, set, take, sym, ◌∙◌, ap, subst, arith, length-contents, length-set, slice_get, Stand, end_of, start_of}, Slices.{get-set_at, get-set_other, set-set}, Standing.{stand_behind, stand_zeros}, pages.fill_first.Goals.{then-not-are_zeros, else-not-are_zeros}}
 use Rattle.kept_disk.proofs.pages.fill_first.Goals as goal
 
 pub returns-clause-filled : goal.returns-clause-filled
@@ -15,8 +15,8 @@ returns-clause-filled g c =
     record {
       stand = λ x told stand.
           let size = length-contents (g.met.D.Disk.lawful c.args.disk.now) x told in
-          let read : take len (drop 0 page) ≡ take len (drop (number * 4096) x) = c.in_ok-read_into.ensures.read x told ∙ ap (λ (a : ℕ). take len (drop a x)) c.start_of-at.ensures in
-          let is : len ≡ min (length x - number * 4096) 4096 = omega (arith, size, c.size.ensures, c.start_of-at.ensures, c.min-len.ensures) in
+          let read : take len (drop 0 page) ≡ take len (drop (start_of number) x) = c.in_ok-read_into.ensures.read x told ∙ ap (λ (a : ℕ). take len (drop a x)) c.start_of-at.ensures in
+          let is : len ≡ min (length x - start_of number) (end_of number - start_of number) = omega (arith, size, c.size.ensures, c.start_of-at.ensures, c.most_of.ensures, c.min-len.ensures) in
           let whole : Stand (set numbers (number % 2048) (Some number)) both.ends.items both.bytes.items x = elim both.branch [
             | then-not-are_zeros w ↦
                 let now_ends : both.ends.items ≡ set ends (number % 2048) (length bytes + 4096) = ap (λ v. v.items) w.ends-is ∙ w.add_page.ensures.ends ∙ ap (λ (k : ℕ). set ends k (length bytes + 4096)) place_is in
