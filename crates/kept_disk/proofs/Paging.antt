@@ -19,11 +19,11 @@ held_page numbers at len inside here place from to =
     subst (IsHeld numbers) same here
 
 -- two pages near each other have two places
-apart : (p q : ℕ) → p < q → q ≤ p + 2000 → p % 2048 ≡ q % 2048 → ⊥
-apart p q less near same = omega (arith, mod-add-div p 2048, mod-add-div q 2048, less, near, same)
+apart : (p q : ℕ) → p < q → q ≤ p + 2000 → p % 2053 ≡ q % 2053 → ⊥
+apart p q less near same = omega (arith, mod-add-div p 2053, mod-add-div q 2053, less, near, same)
 
 -- what is held so far, and the page of one part more
-pub held_further : (old new : List (Option ℕ)) (at done count : ℕ) → at + done + count ≤ end_of (page_at (at + done)) → done + count ≤ 65536 → IsHeld new (page_at (at + done)) → ((k : ℕ) → (k ≡ page_at (at + done) % 2048 → ⊥) → slice_get new k ≡ slice_get old k) → HoldsRange old at done → HoldsRange new at (done + count)
+pub held_further : (old new : List (Option ℕ)) (at done count : ℕ) → at + done + count ≤ end_of (page_at (at + done)) → done + count ≤ 65536 → IsHeld new (page_at (at + done)) → ((k : ℕ) → (k ≡ page_at (at + done) % 2053 → ⊥) → slice_get new k ≡ slice_get old k) → HoldsRange old at done → HoldsRange new at (done + count)
 held_further old new at done count inside small here others so_far place from to =
     let p = page_at place in
     let q = page_at (at + done) in
@@ -35,7 +35,7 @@ held_further old new at done count inside small here others so_far place from to
     elim cases [
       | inl less ↦
           let near : q ≤ p + 2000 = omega (arith, starts, before, from, small) in
-          others (p % 2048) (apart p q less near) ∙ so_far place from (omega (arith, before, starts, less))
+          others (p % 2053) (apart p q less near) ∙ so_far place from (omega (arith, before, starts, less))
       | inr (inl same) ↦ subst (IsHeld new) (sym same) here
       | inr (inr more) ↦ absurd (omega (arith, after, inside, to, more))
     ]

@@ -76,10 +76,10 @@ places_apart p q differ =
     ]
 
 -- a page that is held after a change of one place is that of the place, or was held before
-pub held_by : {X : Type 0} (numbers : List (Option ℕ)) (i n : ℕ) (new : Option ℕ) → ((n % 2048 ≡ i) → new ≡ Some n → X) → ((n % 2048 ≡ i → ⊥) → IsHeld numbers n → X) → IsHeld (set numbers i new) n → X
+pub held_by : {X : Type 0} (numbers : List (Option ℕ)) (i n : ℕ) (new : Option ℕ) → ((n % 2053 ≡ i) → new ≡ Some n → X) → ((n % 2053 ≡ i → ⊥) → IsHeld numbers n → X) → IsHeld (set numbers i new) n → X
 held_by {X = X} numbers i n new here there held =
-    let other : (n % 2048 ≡ i → ⊥) → X = λ differs. there differs (sym (get-set_other numbers i (n % 2048) new differs) ∙ held) in
-    elim (compared (n % 2048) i) [
+    let other : (n % 2053 ≡ i → ⊥) → X = λ differs. there differs (sym (get-set_other numbers i (n % 2053) new differs) ∙ held) in
+    elim (compared (n % 2053) i) [
       | inl below ↦ other (λ same. omega (arith, below, same))
       | inr (inl same) ↦ here same (get-set_same numbers i new (Some n) (subst (λ (k : ℕ). slice_get (set numbers i new) k ≡ Some (Some n)) same held))
       | inr (inr above) ↦ other (λ same. omega (arith, above, same))
@@ -134,24 +134,24 @@ module _ {ends bytes : List ℕ} {memory : ℕ} (laid : AreLaid ends bytes memor
 pub stands_in : (c d : List ℕ) (n : ℕ) (ends bytes : List ℕ) → page_of d n ≡ page_of c n → StandsFor c n ends bytes → StandsFor d n ends bytes
 stands_in c d n ends bytes same stands = record {
   zeros = λ none. subst (λ (l : List ℕ). l ≡ replicate (length l) 0) (sym same) (stands.zeros none);
-  has = λ some. subst (λ (l : List ℕ). take (length l) (drop (from_of ends (n % 2048)) bytes) ≡ l) (sym same) (stands.has some);
+  has = λ some. subst (λ (l : List ℕ). take (length l) (drop (from_of ends (n % 2053)) bytes) ≡ l) (sym same) (stands.has some);
 }
 
 -- pages in other places than one, whose bytes were torn, or which has some now after the others
 module _ {ends bytes : List ℕ} {i memory : ℕ} (laid : AreLaid ends bytes memory) where
-  pub torn_elsewhere : {new : List ℕ} {len : ℕ} → 0 < get_or ends i 0 → Torn (from_of ends i) len bytes new → len ≤ 4096 → (c : List ℕ) (n : ℕ) → (n % 2048 ≡ i → ⊥) → StandsFor c n ends bytes → StandsFor c n ends new
+  pub torn_elsewhere : {new : List ℕ} {len : ℕ} → 0 < get_or ends i 0 → Torn (from_of ends i) len bytes new → len ≤ 4096 → (c : List ℕ) (n : ℕ) → (n % 2053 ≡ i → ⊥) → StandsFor c n ends bytes → StandsFor c n ends new
   torn_elsewhere {new = new} {len = len} has torn small c n differs stands = record {
     zeros = stands.zeros;
-    has = λ some. still_has c bytes new n (from_of ends (n % 2048)) (from_of ends i) len torn
-        (elim (lie_apart laid (n % 2048) i differs some has) [
+    has = λ some. still_has c bytes new n (from_of ends (n % 2053)) (from_of ends i) len torn
+        (elim (lie_apart laid (n % 2053) i differs some has) [
           | inl before ↦ inl before
           | inr behind ↦ inr (omega (arith, behind, small))
         ]) (stands.has some);
   }
 
-  pub grown_elsewhere : (more : List ℕ) (end : ℕ) (c : List ℕ) (n : ℕ) → (n % 2048 ≡ i → ⊥) → StandsFor c n ends bytes → StandsFor c n (set ends i end) (bytes ++ more)
+  pub grown_elsewhere : (more : List ℕ) (end : ℕ) (c : List ℕ) (n : ℕ) → (n % 2053 ≡ i → ⊥) → StandsFor c n ends bytes → StandsFor c n (set ends i end) (bytes ++ more)
   grown_elsewhere more end c n differs stands =
-      let p = n % 2048 in
+      let p = n % 2053 in
       let same : get_or (set ends i end) p 0 ≡ get_or ends p 0 = get_or-set_other ends i p end 0 differs in
       record {
         zeros = λ none. stands.zeros (sym same ∙ none);
@@ -161,31 +161,31 @@ module _ {ends bytes : List ℕ} {i memory : ℕ} (laid : AreLaid ends bytes mem
       }
 
 -- the page of a place that was given bytes after the others
-pub grown_here : (c ends bytes more : List ℕ) (n : ℕ) → n % 2048 < length ends → HasPage c n (bytes ++ more) (length bytes) → StandsFor c n (set ends (n % 2048) (length bytes + 4096)) (bytes ++ more)
+pub grown_here : (c ends bytes more : List ℕ) (n : ℕ) → n % 2053 < length ends → HasPage c n (bytes ++ more) (length bytes) → StandsFor c n (set ends (n % 2053) (length bytes + 4096)) (bytes ++ more)
 grown_here c ends bytes more n inside has =
-    let is : get_or (set ends (n % 2048) (length bytes + 4096)) (n % 2048) 0 ≡ length bytes + 4096 = get_or-set_same ends (n % 2048) (length bytes + 4096) 0 inside in
+    let is : get_or (set ends (n % 2053) (length bytes + 4096)) (n % 2053) 0 ≡ length bytes + 4096 = get_or-set_same ends (n % 2053) (length bytes + 4096) 0 inside in
     record {
       zeros = λ none. absurd (omega (arith, is, none));
-      has = λ some. subst (HasPage c n (bytes ++ more)) (let at : length bytes ≡ from_of (set ends (n % 2048) (length bytes + 4096)) (n % 2048) = omega (arith, is) in at) has;
+      has = λ some. subst (HasPage c n (bytes ++ more)) (let at : length bytes ≡ from_of (set ends (n % 2053) (length bytes + 4096)) (n % 2053) = omega (arith, is) in at) has;
     }
 
 -- a place that was filled, or where that failed, where the others stand as before
-module _ (numbers : List (Option ℕ)) {ends old later new c d : List ℕ} (q : ℕ) (others : (n : ℕ) → (n % 2048 ≡ q % 2048 → ⊥) → StandsFor c n ends old → StandsFor d n later new) (stand : Stand numbers ends old c) where
-  pub stand_emptied : Stand (set numbers (q % 2048) None) later new d
-  stand_emptied n = held_by numbers (q % 2048) n None (λ same is. absurd (cc is)) (λ differs held. others n differs (stand n held))
+module _ (numbers : List (Option ℕ)) {ends old later new c d : List ℕ} (q : ℕ) (others : (n : ℕ) → (n % 2053 ≡ q % 2053 → ⊥) → StandsFor c n ends old → StandsFor d n later new) (stand : Stand numbers ends old c) where
+  pub stand_emptied : Stand (set numbers (q % 2053) None) later new d
+  stand_emptied n = held_by numbers (q % 2053) n None (λ same is. absurd (cc is)) (λ differs held. others n differs (stand n held))
 
-  pub stand_filled : StandsFor d q later new → Stand (set numbers (q % 2048) (Some q)) later new d
+  pub stand_filled : StandsFor d q later new → Stand (set numbers (q % 2053) (Some q)) later new d
   stand_filled page n =
-      held_by numbers (q % 2048) n (Some q)
+      held_by numbers (q % 2053) n (Some q)
       (λ same is. subst (λ (m : ℕ). StandsFor d m later new) (same_Some q n is) page)
       (λ differs held. others n differs (stand n held))
 
 -- a page that was read, whose place had no bytes: it is zeros, or its bytes stand after the others
-module _ (numbers : List (Option ℕ)) {ends bytes : List ℕ} {memory : ℕ} (page c : List ℕ) (q len : ℕ) (laid : AreLaid ends bytes memory) (none : get_or ends (q % 2048) 0 ≡ 0) (is : len ≡ min (length c - start_of q) (end_of q - start_of q)) (read : take len (drop 0 page) ≡ take len (drop (start_of q) c)) (stand : Stand numbers ends bytes c) where
-  pub stand_zeros : take len page ≡ replicate (length (take len page)) 0 → Stand (set numbers (q % 2048) (Some q)) ends bytes c
+module _ (numbers : List (Option ℕ)) {ends bytes : List ℕ} {memory : ℕ} (page c : List ℕ) (q len : ℕ) (laid : AreLaid ends bytes memory) (none : get_or ends (q % 2053) 0 ≡ 0) (is : len ≡ min (length c - start_of q) (end_of q - start_of q)) (read : take len (drop 0 page) ≡ take len (drop (start_of q) c)) (stand : Stand numbers ends bytes c) where
+  pub stand_zeros : take len page ≡ replicate (length (take len page)) 0 → Stand (set numbers (q % 2053) (Some q)) ends bytes c
   stand_zeros zeros = stand_filled numbers q (λ n differs stands. stands) stand (record { zeros = λ e. read_zeros c page q len is read zeros; has = λ some. absurd (omega (arith, some, none)) })
 
-  pub stand_behind : q % 2048 < length ends → Stand (set numbers (q % 2048) (Some q)) (set ends (q % 2048) (length bytes + 4096)) (bytes ++ page) c
+  pub stand_behind : q % 2053 < length ends → Stand (set numbers (q % 2053) (Some q)) (set ends (q % 2053) (length bytes + 4096)) (bytes ++ page) c
   stand_behind inside =
       stand_filled numbers q (grown_elsewhere laid page (length bytes + 4096) c) stand (grown_here c ends bytes page q inside (page_behind c bytes page q (filled c page q 0 len is read)))
 
@@ -201,44 +201,44 @@ module _ (numbers : List (Option ℕ)) {ends bytes : List ℕ} {memory : ℕ} (c
   own_has b from is = ap (λ (k : ℕ). take k (drop from b)) (ap length own_page ∙ long) ∙ is ∙ sym own_page
 
   -- pages in other places
-  elsewhere : (e b : List ℕ) (n : ℕ) → (n % 2048 ≡ q % 2048 → ⊥) → StandsFor c n e b → StandsFor (spliced c (start_of q) xs) n e b
+  elsewhere : (e b : List ℕ) (n : ℕ) → (n % 2053 ≡ q % 2053 → ⊥) → StandsFor c n e b → StandsFor (spliced c (start_of q) xs) n e b
   elsewhere e b n differs stands =
       let torn = spliced_torn c (start_of q) xs (omega (arith, fits, long, full)) in
-      let lies : (start_of n + (end_of n - start_of n) ≤ start_of q) ⊎ (start_of q + length xs ≤ start_of n) = elim (places_apart n q (λ same. differs (ap (λ (k : ℕ). k % 2048) same))) [
+      let lies : (start_of n + (end_of n - start_of n) ≤ start_of q) ⊎ (start_of q + length xs ≤ start_of n) = elim (places_apart n q (λ same. differs (ap (λ (k : ℕ). k % 2053) same))) [
         | inl before ↦ inl (omega (arith, before))
         | inr behind ↦ inr (omega (arith, behind, long, full))
       ] in
       stands_in c (spliced c (start_of q) xs) n e b (slice-torn torn (start_of n) (end_of n - start_of n) lies) stands
 
-  pub written_over : 0 < get_or ends (q % 2048) 0 → Stand (set numbers (q % 2048) (Some q)) ends (spliced bytes (from_of ends (q % 2048)) xs) (spliced c (start_of q) xs)
+  pub written_over : 0 < get_or ends (q % 2053) 0 → Stand (set numbers (q % 2053) (Some q)) ends (spliced bytes (from_of ends (q % 2053)) xs) (spliced c (start_of q) xs)
   written_over has =
-      let from = from_of ends (q % 2048) in
+      let from = from_of ends (q % 2053) in
       let new = spliced bytes from xs in
-      let room : from + length xs ≤ length bytes = omega (arith, lies laid (q % 2048) has, long) in
+      let room : from + length xs ≤ length bytes = omega (arith, lies laid (q % 2053) has, long) in
       let here : take 4096 (drop from new) ≡ xs = ap (λ (k : ℕ). take k (drop from new)) (sym long) ∙ take-drop-spliced bytes from xs room in
       stand_filled numbers q (λ n differs stands. elsewhere ends new n differs (torn_elsewhere laid has (spliced_torn bytes from xs room) (omega (arith, long)) c n differs stands)) stand
       (record { zeros = λ none. absurd (omega (arith, none, has)); has = λ some. own_has new from here })
 
-  pub written_zeros : get_or ends (q % 2048) 0 ≡ 0 → xs ≡ replicate (length xs) 0 → Stand (set numbers (q % 2048) (Some q)) ends bytes (spliced c (start_of q) xs)
+  pub written_zeros : get_or ends (q % 2053) 0 ≡ 0 → xs ≡ replicate (length xs) 0 → Stand (set numbers (q % 2053) (Some q)) ends bytes (spliced c (start_of q) xs)
   written_zeros none zeros =
       stand_filled numbers q (elsewhere ends bytes) stand
       (record { zeros = λ e. subst (λ (l : List ℕ). l ≡ replicate (length l) 0) (sym own_page) zeros; has = λ some. absurd (omega (arith, some, none)) })
 
-  pub written_behind : q % 2048 < length ends → Stand (set numbers (q % 2048) (Some q)) (set ends (q % 2048) (length bytes + 4096)) (bytes ++ xs) (spliced c (start_of q) xs)
+  pub written_behind : q % 2053 < length ends → Stand (set numbers (q % 2053) (Some q)) (set ends (q % 2053) (length bytes + 4096)) (bytes ++ xs) (spliced c (start_of q) xs)
   written_behind inside =
       let whole : take 4096 (drop 0 xs) ≡ xs = ap (λ (k : ℕ). take k xs) (sym long) ∙ take-length xs in
-      stand_filled numbers q (λ n differs stands. elsewhere (set ends (q % 2048) (length bytes + 4096)) (bytes ++ xs) n differs (grown_elsewhere laid xs (length bytes + 4096) c n differs stands)) stand
+      stand_filled numbers q (λ n differs stands. elsewhere (set ends (q % 2053) (length bytes + 4096)) (bytes ++ xs) n differs (grown_elsewhere laid xs (length bytes + 4096) c n differs stands)) stand
       (grown_here (spliced c (start_of q) xs) ends bytes xs q inside (page_behind (spliced c (start_of q) xs) bytes xs q (own_has xs 0 whole)))
 
 -- where the place of a page that is held is given bytes
-pub stand_given : (numbers : List (Option ℕ)) {ends bytes : List ℕ} {memory : ℕ} (n : ℕ) (c : List ℕ) → AreLaid ends bytes memory → n % 2048 < length ends → get_or ends (n % 2048) 0 ≡ 0 → IsHeld numbers n
-    → Stand numbers ends bytes c → Stand numbers (set ends (n % 2048) (length bytes + 4096)) (bytes ++ replicate 4096 0) c
+pub stand_given : (numbers : List (Option ℕ)) {ends bytes : List ℕ} {memory : ℕ} (n : ℕ) (c : List ℕ) → AreLaid ends bytes memory → n % 2053 < length ends → get_or ends (n % 2053) 0 ≡ 0 → IsHeld numbers n
+    → Stand numbers ends bytes c → Stand numbers (set ends (n % 2053) (length bytes + 4096)) (bytes ++ replicate 4096 0) c
 stand_given numbers {ends = ends} {bytes = bytes} n c laid inside none held stand m other =
-    elim (cases_eq (m % 2048) (n % 2048)) [
+    elim (cases_eq (m % 2053) (n % 2053)) [
       | inr differs ↦ grown_elsewhere laid (replicate 4096 0) (length bytes + 4096) c m differs (stand m other)
       | inl same ↦
           let is : m ≡ n = same_Some m n (same_Some (Some m) (Some n) (sym other ∙ ap (slice_get numbers) same ∙ held)) in
-          subst (λ (k : ℕ). StandsFor c k (set ends (n % 2048) (length bytes + 4096)) (bytes ++ replicate 4096 0)) (sym is)
+          subst (λ (k : ℕ). StandsFor c k (set ends (n % 2053) (length bytes + 4096)) (bytes ++ replicate 4096 0)) (sym is)
           (grown_here c ends bytes (replicate 4096 0) n inside (zeros_behind c bytes n ((stand n held).zeros none)))
     ]
 
@@ -263,14 +263,14 @@ module _ (numbers : List (Option ℕ)) (ends bytes c : List ℕ) (q from : ℕ) 
   stand_apart none n held = others_stand n (λ same. none (subst (IsHeld numbers) same held)) held
 
   -- where it is held and has bytes, and these are laid over them
-  module _ {memory : ℕ} (laid : AreLaid ends bytes memory) (has_q : 0 < get_or ends (q % 2048) 0) (held_q : IsHeld numbers q) where
+  module _ {memory : ℕ} (laid : AreLaid ends bytes memory) (has_q : 0 < get_or ends (q % 2053) 0) (held_q : IsHeld numbers q) where
     -- its own bytes
-    put_has : HasPage (spliced c (start_of q + from) xs) q (spliced bytes (from_of ends (q % 2048) + from) xs) (from_of ends (q % 2048))
+    put_has : HasPage (spliced c (start_of q + from) xs) q (spliced bytes (from_of ends (q % 2053) + from) xs) (from_of ends (q % 2053))
     put_has =
         let count = length (page_of c q) in
-        let at = from_of ends (q % 2048) in
+        let at = from_of ends (q % 2053) in
         let enough : from + length xs ≤ count = omega (arith, inside, fits, length-slice (end_of q - start_of q) (start_of q) c) in
-        let room : at + from + length xs ≤ length bytes = omega (arith, lies laid (q % 2048) has_q, inside) in
+        let room : at + from + length xs ≤ length bytes = omega (arith, lies laid (q % 2053) has_q, inside) in
         let size : length (page_of (spliced c (start_of q + from) xs) q) ≡ count =
         length-slice (end_of q - start_of q) (start_of q) (spliced c (start_of q + from) xs) ∙ ap (λ (s : ℕ). min (end_of q - start_of q) (s - start_of q)) (length-spliced c (start_of q + from) xs fits) ∙ sym (length-slice (end_of q - start_of q) (start_of q) c) in
         let page : page_of (spliced c (start_of q + from) xs) q ≡ spliced (page_of c q) from xs = spliced_inside c (start_of q) from (end_of q - start_of q) xs inside fits in
@@ -279,21 +279,21 @@ module _ (numbers : List (Option ℕ)) (ends bytes c : List ℕ) (q from : ℕ) 
         ∙ ap (λ (l : List ℕ). spliced l from xs) ((stand q held_q).has has_q)
         ∙ sym page
 
-    pub stand_put : Stand numbers ends (spliced bytes (from_of ends (q % 2048) + from) xs) (spliced c (start_of q + from) xs)
+    pub stand_put : Stand numbers ends (spliced bytes (from_of ends (q % 2053) + from) xs) (spliced c (start_of q + from) xs)
     stand_put n held =
-        let at = from_of ends (q % 2048) in
-        let room : at + from + length xs ≤ length bytes = omega (arith, lies laid (q % 2048) has_q, inside) in
-        let other : (n % 2048 ≡ q % 2048 → ⊥) → StandsFor (spliced c (start_of q + from) xs) n ends (spliced bytes (at + from) xs) = λ differs.
-        let stands = others_stand n (λ same. differs (ap (λ (k : ℕ). k % 2048) same)) held in
+        let at = from_of ends (q % 2053) in
+        let room : at + from + length xs ≤ length bytes = omega (arith, lies laid (q % 2053) has_q, inside) in
+        let other : (n % 2053 ≡ q % 2053 → ⊥) → StandsFor (spliced c (start_of q + from) xs) n ends (spliced bytes (at + from) xs) = λ differs.
+        let stands = others_stand n (λ same. differs (ap (λ (k : ℕ). k % 2053) same)) held in
         record {
           zeros = stands.zeros;
-          has = λ some. still_has (spliced c (start_of q + from) xs) bytes (spliced bytes (at + from) xs) n (from_of ends (n % 2048)) (at + from) (length xs) (spliced_torn bytes (at + from) xs room)
-              (elim (lie_apart laid (n % 2048) (q % 2048) differs some has_q) [
+          has = λ some. still_has (spliced c (start_of q + from) xs) bytes (spliced bytes (at + from) xs) n (from_of ends (n % 2053)) (at + from) (length xs) (spliced_torn bytes (at + from) xs room)
+              (elim (lie_apart laid (n % 2053) (q % 2053) differs some has_q) [
                 | inl before ↦ inl (omega (arith, before))
                 | inr behind ↦ inr (omega (arith, behind, inside))
               ]) (stands.has some);
         } in
-        elim (compared (n % 2048) (q % 2048)) [
+        elim (compared (n % 2053) (q % 2053)) [
           | inl below ↦ other (λ same. omega (arith, below, same))
           | inr (inl same) ↦
               let is : n ≡ q = same_Some n q (same_Some (Some n) (Some q) (sym held ∙ ap (slice_get numbers) same ∙ held_q)) in

@@ -24,7 +24,7 @@ HasPage c n bytes from = take (length (page_of c n)) (drop from bytes) ≡ page_
 
 -- the page of this number is held, in its place
 abbrev pub IsHeld : List (Option ℕ) → ℕ → Type 0
-IsHeld numbers n = slice_get numbers (n % 2048) ≡ Some (Some n)
+IsHeld numbers n = slice_get numbers (n % 2053) ≡ Some (Some n)
 
 -- where the bytes of a place begin: it is told where those of each place end, and 0 for a place that has none yet
 abbrev pub from_of : List ℕ → ℕ → ℕ
@@ -36,8 +36,8 @@ IsBlank c n = page_of c n ≡ replicate (length (page_of c n)) 0
 
 -- the place of a page stands for it: by its bytes, or for zeros where it has none
 pub record StandsFor (c : List ℕ) (n : ℕ) (ends bytes : List ℕ) : Type 0 where
-  pub zeros : slice_index ends (n % 2048) ≡ 0 → IsBlank c n
-  pub has : 0 < slice_index ends (n % 2048) → HasPage c n bytes (from_of ends (n % 2048))
+  pub zeros : slice_index ends (n % 2053) ≡ 0 → IsBlank c n
+  pub has : 0 < slice_index ends (n % 2053) → HasPage c n bytes (from_of ends (n % 2053))
 
 -- the place of each page that is held stands for it
 abbrev pub Stand : List (Option ℕ) → (ends bytes c : List ℕ) → Type 0
@@ -68,6 +68,6 @@ pub record HasLooked {T E : Type 0} (old new : DiskState) (result : Result T E) 
 pub record HasFilled {T E : Type 0} (numbers : List (Option ℕ)) (ends bytes : List ℕ) (numbers' : List (Option ℕ)) (ends' bytes' : List ℕ) (number : ℕ) (old new : DiskState) (result : Result T E) : Type 0 where
   pub stand : ForSome old.contents (λ c. Stand numbers ends bytes c → Stand numbers' ends' bytes' c)
   pub held : OnOk result (IsHeld numbers' number)
-  pub others : (k : ℕ) → (k ≡ number % 2048 → ⊥) → slice_get numbers' k ≡ slice_get numbers k
+  pub others : (k : ℕ) → (k ≡ number % 2053 → ⊥) → slice_get numbers' k ≡ slice_get numbers k
   pub places : length numbers' ≡ length numbers
   pub looked : HasLooked old new result

@@ -12,9 +12,9 @@ use std::alloc::Global;
 /// Longer reads go past the pages: they are of an opening or a compaction, and would turn out what is read again.
 const LONGEST: usize = 65_536;
 
-/// A disk over another one, of which it keeps the pages that were read, or written as wholes, last: 2,048 of 4 KiB, from byte
-/// 96 on, where the blocks of an image begin. It is at each moment what
-/// the other is, and each page that it holds has the bytes that the other has there.
+/// A disk over another one, of which it keeps the pages that were read, or written as wholes, last: 2,053 of 4 KiB, from byte
+/// 96 on, where the blocks of an image begin. It is at each moment what the other is, and each page that it holds has the bytes
+/// that the other has there.
 ///
 /// The memory for the pages is taken at the first bind; where there is none, each call goes past them.
 #[derive(Drop)]
@@ -77,7 +77,7 @@ impl<D: Disk> Disk for Kept<D> {
         ensures crash { Elapses (D.state self.old.disk) (D.state self.new.disk) (D.state self.old.disk).now }
         ensures cause { HasCause (D.state self.old.disk).faults (D.state self.new.disk).faults result }
         ensures held { length into.old ≤ 65536 → HoldsRange self.old.pages.numbers.items at (length into.old) → (IsOk result) × (self.new.disk ≡ self.old.disk) }
-        ensures holds { OnOk result (2048 ≤ length self.old.pages.numbers.items → length into.old ≤ 65536 → HoldsRange self.new.pages.numbers.items at (length into.old)) }
+        ensures holds { OnOk result (2053 ≤ length self.old.pages.numbers.items → length into.old ≤ 65536 → HoldsRange self.new.pages.numbers.items at (length into.old)) }
     {
         if into.len() > LONGEST {
             return self.disk.read(at, into);

@@ -12,8 +12,9 @@ pub(crate) const PAGE: usize = 4096;
 /// Where page 1 begins, and page 0 ends: where the blocks of an image do, so that a block of 4096 bytes is one page.
 const FIRST: u64 = 96;
 
-/// How many pages are kept at most.
-const PAGES: usize = 2048;
+/// How many pages are kept at most. It is a prime: pages at distances of powers of two, as those of one block and of the log's front
+/// are, would share a place if it were such a power.
+const PAGES: usize = 2053;
 
 /// Pages that may be held, each in the place that its number gives, and their bytes, in the order in which places first had some.
 /// Of the last page of a disk the first bytes alone may count.
@@ -87,7 +88,7 @@ impl Pages {
 
     /// Whether there is a place for the page of this number.
     pub(crate) fn has_place(&self, number: u64) -> bool
-        ensures { IsTrue result ↔ (number % 2048 < length self.now.numbers.items) }
+        ensures { IsTrue result ↔ (number % 2053 < length self.now.numbers.items) }
     {
         place_of(number) < self.numbers.len()
     }
@@ -102,7 +103,7 @@ impl Pages {
     /// Holds the page of this number from now on: reads it, where it is not held yet. After a fault it is not held.
     pub(crate) fn hold<D: Disk>(&mut self, disk: &mut D, number: u64) -> Result<(), DiskFault>
         requires inside { start_of number < (D.state disk.old).size }
-        requires place { number % 2048 < length self.old.numbers.items }
+        requires place { number % 2053 < length self.old.numbers.items }
         ensures filled { HasFilled self.old.numbers.items self.old.ends.items self.old.bytes.items self.new.numbers.items self.new.ends.items self.new.bytes.items number (D.state disk.old) (D.state disk.new) result }
         ensures stays { IsHeld self.old.numbers.items number → (IsOk result) × (disk.new ≡ disk.old) × (self.new ≡ self.old) }
     {
@@ -126,8 +127,8 @@ impl Pages {
     pub(crate) fn copy_out(&self, at: u64, into: &mut [u8])
         requires held { IsHeld self.now.numbers.items (page_at at) }
         requires inside { at + length into.old ≤ end_of (page_at at) }
-        ensures zeros { slice_index self.now.ends.items (page_at at % 2048) ≡ 0 → into.new ≡ replicate (length into.old) 0 }
-        ensures bytes { 0 < slice_index self.now.ends.items (page_at at % 2048) → into.new ≡ take (length into.old) (drop (from_of self.now.ends.items (page_at at % 2048) + (at - start_of (page_at at))) self.now.bytes.items) }
+        ensures zeros { slice_index self.now.ends.items (page_at at % 2053) ≡ 0 → into.new ≡ replicate (length into.old) 0 }
+        ensures bytes { 0 < slice_index self.now.ends.items (page_at at % 2053) → into.new ≡ take (length into.old) (drop (from_of self.now.ends.items (page_at at % 2053) + (at - start_of (page_at at))) self.now.bytes.items) }
     {
         if self.ends[place_of(page_at(at))] == 0 {
             into.fill(0);
@@ -139,7 +140,7 @@ impl Pages {
 
     /// Holds the page of this number, all of which was written: the disk has these bytes there.
     pub(crate) fn hold_written(&mut self, number: u64, page: &[u8])
-        requires place { number % 2048 < length self.old.numbers.items }
+        requires place { number % 2053 < length self.old.numbers.items }
         requires whole { length page.now ≡ 4096 }
         requires full { start_of number + 4096 ≡ end_of number }
         ensures { (c : List ℕ) → end_of number ≤ length c → Stand self.old.numbers.items self.old.ends.items self.old.bytes.items c
@@ -158,7 +159,7 @@ impl Pages {
     pub(crate) fn give_bytes(&mut self, number: u64)
         requires held { IsHeld self.old.numbers.items number }
         ensures numbers { self.new.numbers ≡ self.old.numbers }
-        ensures has { 0 < slice_index self.new.ends.items (number % 2048) }
+        ensures has { 0 < slice_index self.new.ends.items (number % 2053) }
         ensures stand { (c : List ℕ) → Stand self.old.numbers.items self.old.ends.items self.old.bytes.items c → Stand self.new.numbers.items self.new.ends.items self.new.bytes.items c }
     {
         let place = place_of(number);
@@ -172,11 +173,11 @@ impl Pages {
     /// Lays bytes over those of a page that is held and has bytes, from a place of the disk on.
     pub(crate) fn put(&mut self, at: u64, bytes: &[u8])
         requires held { IsHeld self.old.numbers.items (page_at at) }
-        requires has { 0 < slice_index self.old.ends.items (page_at at % 2048) }
+        requires has { 0 < slice_index self.old.ends.items (page_at at % 2053) }
         requires inside { at + length bytes.now ≤ end_of (page_at at) }
         ensures numbers { self.new.numbers ≡ self.old.numbers }
         ensures ends { self.new.ends ≡ self.old.ends }
-        ensures bytes { self.new.bytes.items ≡ spliced self.old.bytes.items (from_of self.old.ends.items (page_at at % 2048) + (at - start_of (page_at at))) bytes.now }
+        ensures bytes { self.new.bytes.items ≡ spliced self.old.bytes.items (from_of self.old.ends.items (page_at at % 2053) + (at - start_of (page_at at))) bytes.now }
     {
         let from = self.byte_of(at);
         lay_over(&mut self.bytes, from, bytes);
@@ -184,8 +185,8 @@ impl Pages {
 
     // Where the byte of a place of the disk lies among the bytes of the pages, which hold it.
     fn byte_of(&self, at: u64) -> usize
-        requires { 0 < slice_index self.now.ends.items (page_at at % 2048) }
-        ensures is { result ≡ from_of self.now.ends.items (page_at at % 2048) + (at - start_of (page_at at)) }
+        requires { 0 < slice_index self.now.ends.items (page_at at % 2053) }
+        ensures is { result ≡ from_of self.now.ends.items (page_at at % 2053) + (at - start_of (page_at at)) }
         ensures inside { result + 4096 ≤ length self.now.bytes.items + (at - start_of (page_at at)) }
     {
         let number = page_at(at);
@@ -195,8 +196,8 @@ impl Pages {
 
 // The place of the page of this number.
 fn place_of(number: u64) -> usize
-    ensures is { result ≡ number % 2048 }
-    ensures small { result < 2048 }
+    ensures is { result ≡ number % 2053 }
+    ensures small { result < 2053 }
 {
     (number % PAGES as u64) as usize
 }
@@ -204,7 +205,7 @@ fn place_of(number: u64) -> usize
 // The numbers of places in which no page is held.
 fn blank_numbers(alloc: Global) -> Result<Vec<Option<u64>>, AllocError>
     ensures none { IfOk result (λ numbers. HoldsNone numbers.items) }
-    ensures count { IfOk result (λ numbers. length numbers.items ≡ 2048) }
+    ensures count { IfOk result (λ numbers. length numbers.items ≡ 2053) }
 {
     let mut numbers = Vec::new(alloc);
     numbers.resize(PAGES, None)?;
@@ -214,7 +215,7 @@ fn blank_numbers(alloc: Global) -> Result<Vec<Option<u64>>, AllocError>
 // No place that has bytes.
 fn blank_ends(alloc: Global) -> Result<Vec<usize>, AllocError>
     ensures none { IfOk result (λ ends. (i : ℕ) → slice_index ends.items i ≡ 0) }
-    ensures count { IfOk result (λ ends. length ends.items ≡ 2048) }
+    ensures count { IfOk result (λ ends. length ends.items ≡ 2053) }
 {
     let mut ends = Vec::new(alloc);
     ends.resize(PAGES, 0)?;
@@ -294,8 +295,8 @@ fn fill<D: Disk>(
     number: u64,
 ) -> Result<(), DiskFault>
     requires inside { start_of number < (D.state disk.old).size }
-    requires place { number % 2048 < length numbers.old.items }
-    requires has { 0 < slice_index ends.now (number % 2048) }
+    requires place { number % 2053 < length numbers.old.items }
+    requires has { 0 < slice_index ends.now (number % 2053) }
     requires laid { AreLaid ends.now bytes.old.items (vec_capacity bytes.old) }
     ensures filled { HasFilled numbers.old.items ends.now bytes.old.items numbers.new.items ends.now bytes.new.items number (D.state disk.old) (D.state disk.new) result }
     ensures laid { AreLaid ends.now bytes.new.items (vec_capacity bytes.new) }
@@ -319,9 +320,9 @@ fn fill_first<D: Disk>(
     number: u64,
 ) -> Result<(), DiskFault>
     requires inside { start_of number < (D.state disk.old).size }
-    requires place { number % 2048 < length numbers.old.items }
+    requires place { number % 2053 < length numbers.old.items }
     requires places { length ends.old.items ≡ length numbers.old.items }
-    requires none { slice_index ends.old.items (number % 2048) ≡ 0 }
+    requires none { slice_index ends.old.items (number % 2053) ≡ 0 }
     requires laid { AreLaid ends.old.items bytes.old.items (vec_capacity bytes.old) }
     requires page { length page.old.items ≡ 4096 }
     ensures filled { HasFilled numbers.old.items ends.old.items bytes.old.items numbers.new.items ends.new.items bytes.new.items number (D.state disk.old) (D.state disk.new) result }
@@ -349,7 +350,7 @@ fn lay_page(
     number: u64,
     page: &[u8],
 )
-    requires place { number % 2048 < length numbers.old.items }
+    requires place { number % 2053 < length numbers.old.items }
     requires places { length ends.old.items ≡ length numbers.old.items }
     requires laid { AreLaid ends.old.items bytes.old.items (vec_capacity bytes.old) }
     requires whole { length page.now ≡ 4096 }

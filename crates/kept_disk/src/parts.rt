@@ -19,7 +19,7 @@ pub(crate) fn read_parts<D: Disk>(
     ensures looked { HasLooked (D.state disk.old) (D.state disk.new) result }
     ensures stand { ForSome (D.state disk.old).contents (Stand pages.new.numbers.items pages.new.ends.items pages.new.bytes.items) }
     ensures held { HoldsRange pages.old.numbers.items at (length into.old) → (IsOk result) × (disk.new ≡ disk.old) }
-    ensures holds { OnOk result (2048 ≤ length pages.old.numbers.items → length into.old ≤ 65536 → HoldsRange pages.new.numbers.items at (length into.old)) }
+    ensures holds { OnOk result (2053 ≤ length pages.old.numbers.items → length into.old ≤ 65536 → HoldsRange pages.new.numbers.items at (length into.old)) }
 {
     if is_in_one_page(at, into.len()) {
         return read_part(disk, pages, at, into);
@@ -68,9 +68,9 @@ fn read_part<D: Disk>(
     ensures looked { HasLooked (D.state disk.old) (D.state disk.new) result }
     ensures stand { ForSome (D.state disk.old).contents (Stand pages.new.numbers.items pages.new.ends.items pages.new.bytes.items) }
     ensures held { IsHeld pages.old.numbers.items (page_at at) → (IsOk result) × (disk.new ≡ disk.old) × (pages.new ≡ pages.old) }
-    ensures holds { OnOk result (page_at at % 2048 < length pages.old.numbers.items → IsHeld pages.new.numbers.items (page_at at)) }
+    ensures holds { OnOk result (page_at at % 2053 < length pages.old.numbers.items → IsHeld pages.new.numbers.items (page_at at)) }
     ensures places { length pages.new.numbers.items ≡ length pages.old.numbers.items }
-    ensures others { (k : ℕ) → (k ≡ page_at at % 2048 → ⊥) → slice_get pages.new.numbers.items k ≡ slice_get pages.old.numbers.items k }
+    ensures others { (k : ℕ) → (k ≡ page_at at % 2053 → ⊥) → slice_get pages.new.numbers.items k ≡ slice_get pages.old.numbers.items k }
 {
     let number = page_at(at);
     if !pages.has_place(number) {

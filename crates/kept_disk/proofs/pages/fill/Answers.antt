@@ -22,7 +22,7 @@ returns-clause-filled g c =
     let place_is = c.place_of-place.ensures.is in
     let new = c.read_into.new.bytes.items in
     let len = c.min-len.result in
-    let p = c.args.number % 2048 in
+    let p = c.args.number % 2053 in
     let from = from_of c.args.ends.now p in
     let torn = subst (λ (k : ℕ). Torn (from_of c.args.ends.now k) len c.args.bytes.now.items new) place_is c.read_into.ensures.others in
     record {

@@ -13,20 +13,20 @@ returns-then-end-ne0-clause-stand c x fits stand =
     let number = c.args.number in
     let page = c.args.page.now in
     let place_is = c.place_of-place.ensures.is in
-    let end = end_is ends c.place_of-place.result (number % 2048) c.index-end.result.now place_is (omega (arith, c.requires.place, c.requires.places)) c.index-end.ensures in
-    let has : 0 < get_or ends (number % 2048) 0 = omega (arith, end, c.if-end-ne0.true) in
-    let now : c.lay_over.new.bytes.items ≡ spliced bytes (from_of ends (number % 2048)) page = c.lay_over.ensures.bytes ∙ ap (λ (e : ℕ). spliced bytes (e - 4096) page) end in
+    let end = end_is ends c.place_of-place.result (number % 2053) c.index-end.result.now place_is (omega (arith, c.requires.place, c.requires.places)) c.index-end.ensures in
+    let has : 0 < get_or ends (number % 2053) 0 = omega (arith, end, c.if-end-ne0.true) in
+    let now : c.lay_over.new.bytes.items ≡ spliced bytes (from_of ends (number % 2053)) page = c.lay_over.ensures.bytes ∙ ap (λ (e : ℕ). spliced bytes (e - 4096) page) end in
     subst (λ (k : ℕ). Stand (set numbers k (Some number)) ends c.lay_over.new.bytes.items (spliced x (start_of number) page)) (sym place_is)
-    (subst (λ (b : List ℕ). Stand (set numbers (number % 2048) (Some number)) ends b (spliced x (start_of number) page)) (sym now)
+    (subst (λ (b : List ℕ). Stand (set numbers (number % 2053) (Some number)) ends b (spliced x (start_of number) page)) (sym now)
     (written_over numbers x number page c.requires.laid c.requires.whole c.requires.full fits stand has))
 
 pub returns-then-end-ne0-clause-laid : goal.returns-then-end-ne0-clause-laid
 returns-then-end-ne0-clause-laid c =
     let bytes = c.args.bytes.now.items in
     let from = c.index-end.result.now - 4096 in
-    let end = end_is c.args.ends.now.items c.place_of-place.result (c.args.number % 2048) c.index-end.result.now c.place_of-place.ensures.is (omega (arith, c.requires.place, c.requires.places)) c.index-end.ensures in
-    let has : 0 < get_or c.args.ends.now.items (c.args.number % 2048) 0 = omega (arith, end, c.if-end-ne0.true) in
-    let room : from + length c.args.page.now ≤ length bytes = omega (arith, lies c.requires.laid (c.args.number % 2048) has, end, c.requires.whole) in
+    let end = end_is c.args.ends.now.items c.place_of-place.result (c.args.number % 2053) c.index-end.result.now c.place_of-place.ensures.is (omega (arith, c.requires.place, c.requires.places)) c.index-end.ensures in
+    let has : 0 < get_or c.args.ends.now.items (c.args.number % 2053) 0 = omega (arith, end, c.if-end-ne0.true) in
+    let room : from + length c.args.page.now ≤ length bytes = omega (arith, lies c.requires.laid (c.args.number % 2053) has, end, c.requires.whole) in
     subst (AreLaid c.args.ends.now.items c.lay_over.new.bytes.items) (sym c.lay_over.ensures.room)
     (laid_same c.requires.laid c.lay_over.new.bytes.items (ap length c.lay_over.ensures.bytes ∙ length-spliced bytes from c.args.page.now room))
 
@@ -37,8 +37,8 @@ returns-then-are_zeros-clause-stand c x fits stand =
     let number = c.args.number in
     let place = c.place_of-place.result in
     let place_is = c.place_of-place.ensures.is in
-    let end = end_is ends place (number % 2048) c.index-end.result.now place_is (omega (arith, c.requires.place, c.requires.places)) c.index-end.ensures in
-    let none : get_or ends (number % 2048) 0 ≡ 0 = sym end ∙ c.if-end-ne0.false in
+    let end = end_is ends place (number % 2053) c.index-end.result.now place_is (omega (arith, c.requires.place, c.requires.places)) c.index-end.ensures in
+    let none : get_or ends (number % 2053) 0 ≡ 0 = sym end ∙ c.if-end-ne0.false in
     subst (λ (k : ℕ). Stand (set numbers k (Some number)) ends c.args.bytes.now.items (spliced x (start_of number) c.args.page.now)) (sym place_is)
     (written_zeros numbers x number c.args.page.now c.requires.laid c.requires.whole c.requires.full fits stand none (c.are_zeros.ensures c.if-are_zeros.true))
 
@@ -50,8 +50,8 @@ returns-clause-stand c x fits stand =
     let number = c.args.number in
     let page = c.args.page.now in
     let place_is = c.place_of-place.ensures.is in
-    let now_ends : c.add_page.new.ends.items ≡ set ends (number % 2048) (length bytes + 4096) = c.add_page.ensures.ends ∙ ap (λ (k : ℕ). set ends k (length bytes + 4096)) place_is in
+    let now_ends : c.add_page.new.ends.items ≡ set ends (number % 2053) (length bytes + 4096) = c.add_page.ensures.ends ∙ ap (λ (k : ℕ). set ends k (length bytes + 4096)) place_is in
     subst (λ (k : ℕ). Stand (set numbers k (Some number)) c.add_page.new.ends.items c.add_page.new.bytes.items (spliced x (start_of number) page)) (sym place_is)
-    (subst (λ (e : List ℕ). Stand (set numbers (number % 2048) (Some number)) e c.add_page.new.bytes.items (spliced x (start_of number) page)) (sym now_ends)
-    (subst (λ (b : List ℕ). Stand (set numbers (number % 2048) (Some number)) (set ends (number % 2048) (length bytes + 4096)) b (spliced x (start_of number) page)) (sym c.add_page.ensures.bytes)
+    (subst (λ (e : List ℕ). Stand (set numbers (number % 2053) (Some number)) e c.add_page.new.bytes.items (spliced x (start_of number) page)) (sym now_ends)
+    (subst (λ (b : List ℕ). Stand (set numbers (number % 2053) (Some number)) (set ends (number % 2053) (length bytes + 4096)) b (spliced x (start_of number) page)) (sym c.add_page.ensures.bytes)
     (written_behind numbers x number page c.requires.laid c.requires.whole c.requires.full fits stand (omega (arith, c.requires.place, c.requires.places)))))

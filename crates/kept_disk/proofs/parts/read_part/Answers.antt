@@ -9,12 +9,12 @@ returns-clause-bytes g c l told =
     let pages = c.hold.new.self in
     let len = length c.args.into.now in
     let stands = c.hold.ensures.filled.stand l told (c.requires.stand l told) q (subst (λ (k : ℕ). IsHeld pages.numbers.items k) c.page_at-number.ensures c.in_ok-hold.ensures.filled.held) in
-    elim (cases_eq (get_or pages.ends.items (q % 2048) 0) 0) [
+    elim (cases_eq (get_or pages.ends.items (q % 2053) 0) 0) [
       | inl none ↦ c.copy_out.ensures.zeros none ∙ taken_zeros l q from len (omega (arith, c.requires.inside, is)) (omega (arith, size, c.requires.fits, is)) (stands.zeros none)
       | inr some ↦
-          let has : 0 < get_or pages.ends.items (q % 2048) 0 = omega (arith, some) in
+          let has : 0 < get_or pages.ends.items (q % 2053) 0 = omega (arith, some) in
           c.copy_out.ensures.bytes has
-          ∙ taken l pages.bytes.items q (from_of pages.ends.items (q % 2048)) from len (omega (arith, c.requires.inside, is)) (omega (arith, size, c.requires.fits, is)) (stands.has has)
+          ∙ taken l pages.bytes.items q (from_of pages.ends.items (q % 2053)) from len (omega (arith, c.requires.inside, is)) (omega (arith, size, c.requires.fits, is)) (stands.has has)
     ]
     ∙ ap (λ (a : ℕ). take len (drop a l)) is
 

@@ -10,7 +10,7 @@ returns-then-is_in_one_page-clause-held g c range =
 pub returns-then-is_in_one_page-clause-holds : goal.returns-then-is_in_one_page-clause-holds
 returns-then-is_in_one_page-clause-holds g c =
     let one = c.is_in_one_page.ensures c.if-is_in_one_page.true in
-    let place : page_at c.args.at % 2048 < 2048 = mod-lt (page_at c.args.at) (omega arith) in
+    let place : page_at c.args.at % 2053 < 2053 = mod-lt (page_at c.args.at) (omega arith) in
     on_ok_weaker c.read_part.result (λ holds enough small. held_page c.read_part.new.pages.numbers.items c.args.at (length c.args.into.now) one.1 (holds (omega (arith, place, enough)))) c.read_part.ensures.holds
 
 pub returns-in-Err-clause-held : goal.returns-in-Err-clause-held
@@ -47,7 +47,7 @@ loop-done-preserved g c =
           let here = c.read_part-in-loop-done.ensures.held (subst (λ (p : Pages). IsHeld p.numbers.items (page_at (c.args.at + done))) (sym before.1) (held_in c.args.pages.now.numbers.items c.args.at (length c.args.into.now) done (omega (arith, c.loop-done-test.true, c.loop-done.auto.into)) range)) in
           (here.1 ∙ before.0, here.2 ∙ before.1);
       holds = λ enough small.
-          let place : page_at (c.args.at + done) % 2048 < 2048 = mod-lt (page_at (c.args.at + done)) (omega arith) in
+          let place : page_at (c.args.at + done) % 2053 < 2053 = mod-lt (page_at (c.args.at + done)) (omega arith) in
           let here = c.in_default.ensures.holds (omega (arith, place, enough, so_far.places)) in
           held_further c.loop-done.pages.numbers.items c.read_part-in-loop-done.new.pages.numbers.items c.args.at done count c.part_len-count.ensures.inside (omega (arith, fits, small, c.loop-done.auto.into)) here c.in_default.ensures.others (so_far.holds enough small);
     }

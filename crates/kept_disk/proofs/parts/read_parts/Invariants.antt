@@ -10,7 +10,7 @@ invariant-loop-done g l = record {
   stand : ForSome (g.D.Disk.state l.fn.disk).contents (Stand l.pages.numbers.items l.pages.ends.items l.pages.bytes.items);
   places : length l.pages.numbers.items ≡ length l.fn.pages.numbers.items;
   held : HoldsRange l.fn.pages.numbers.items l.at (length l.fn.into) → (l.disk ≡ l.fn.disk) × (l.pages ≡ l.fn.pages);
-  holds : 2048 ≤ length l.fn.pages.numbers.items → length l.fn.into ≤ 65536 → HoldsRange l.pages.numbers.items l.at l.done;
+  holds : 2053 ≤ length l.fn.pages.numbers.items → length l.fn.into ≤ 65536 → HoldsRange l.pages.numbers.items l.at l.done;
 }
 
 abbrev pub decreases-loop-done : Rattle.kept_disk.proofs.parts.read_parts.Given.decreases-loop-done

@@ -3,7 +3,7 @@ use Rattle.kept_disk.proofs.{Words.{◌≡◌, ◌<◌, ◌+◌, ◌++◌, ◌%�
 pub returns-clause-stand : Rattle.kept_disk.proofs.pages.Pages.give_bytes.Goals.returns-clause-stand
 returns-clause-stand c x stand =
     let old = c.args.self.now in
-    let p = c.args.number % 2048 in
+    let p = c.args.number % 2053 in
     let place_is = c.place_of-place.ensures.is in
     let inside : p < length old.numbers.items = told_inside old.numbers.items p (Some c.args.number) c.requires.held in
     let long : length old.page.items ≡ 4096 = old.whole (omega (arith, inside)) in
