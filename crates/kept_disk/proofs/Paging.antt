@@ -1,5 +1,5 @@
 -- The page of a place, and ranges that are held.
-use Rattle.kept_disk.proofs.Words.{◌≡◌, ◌⊎◌, ◌<◌, ◌≤◌, ◌+◌, ◌*◌, ◌/◌, ◌%◌, ℕ, List, Option, inl, inr, sym, ◌∙◌, subst, arith, mod-add-div, mod-lt, slice_get, HoldsRange, IsHeld, end_of, page_at, start_of}
+use Rattle.kept_disk.proofs.Words.{◌≡◌, ◌⊎◌, ◌<◌, ◌≤◌, ◌+◌, ◌%◌, ℕ, List, Option, inl, inr, sym, ◌∙◌, subst, arith, mod-add-div, mod-lt, slice_get, HoldsRange, IsHeld, end_of, page_at, start_of}
 
 -- a place lies in its page
 pub from_start : (at : ℕ) → start_of (page_at at) ≤ at

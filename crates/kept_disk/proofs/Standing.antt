@@ -1,5 +1,5 @@
 -- Pages that stand for contents: as they are filled, as bytes are written, and what a read takes of them.
-use Rattle.kept_disk.proofs.{Words.{◌≡◌, ◌⊎◌, ◌≤◌, ◌<◌, ◌+◌, ◌-◌, ◌*◌, ◌%◌, ◌++◌, ℕ, min, Bool, ◌==◌, cond, List, Option, Some, None, inl, inr, length, replicate, take, drop, set, get_or, refl, sym, ◌∙◌, ap, subst, arith, length-drop, take-replicate, drop-replicate, drop_at, take_min, same_Some, slice_get, spliced, length-spliced, slice-torn, spliced_torn, take-drop-spliced, take-length, Torn, page_of, AreLaid, HasPage, IsBlank, IsHeld, Stand, StandsFor, end_of, from_of, start_of, cases_eq, cases_lt, ne_eqb, get_or-set_same, get_or-set_other, sum_by-set}, Slices.{length-slice, part_of, slice_before, spliced_inside, get-set_same, get-set_other}}
+use Rattle.kept_disk.proofs.{Words.{◌≡◌, ◌⊎◌, ◌≤◌, ◌<◌, ◌+◌, ◌-◌, ◌%◌, ◌++◌, ℕ, min, Bool, ◌==◌, cond, List, Option, Some, None, inl, inr, length, replicate, take, drop, set, get_or, refl, sym, ◌∙◌, ap, subst, arith, length-drop, take-replicate, drop-replicate, drop_at, take_min, same_Some, slice_get, spliced, length-spliced, slice-torn, spliced_torn, take-drop-spliced, take-length, Torn, page_of, AreLaid, HasPage, IsBlank, IsHeld, Stand, StandsFor, end_of, from_of, start_of, cases_eq, cases_lt, ne_eqb, get_or-set_same, get_or-set_other, sum_by-set}, Slices.{length-slice, part_of, slice_before, spliced_inside, get-set_same, get-set_other}}
 
 -- bytes that were read as a page
 pub filled : (c bytes : List ℕ) (n from len : ℕ) → len ≡ min (length c - start_of n) (end_of n - start_of n) → take len (drop from bytes) ≡ take len (drop (start_of n) c) → HasPage c n bytes from

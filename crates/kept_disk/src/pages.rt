@@ -1,5 +1,5 @@
 // Pages: bytes of a disk that are kept in memory, and which of its pages these are.
-ghost use Rattle.std.specs.{Prelude.{◌≡◌, ◌⊎◌, ◌+◌, ◌-◌, ◌*◌, ◌/◌, ◌%◌, ◌<◌, ◌≤◌, ◌^◌, ◌++◌, ◌↔◌, ℕ, List, Some, None, true, length, replicate, set, take, drop, IsTrue, IfOk, IsOk, OnOk, slice_get, slice_index, vec_capacity}, Option.ForSome};
+ghost use Rattle.std.specs.{Prelude.{◌≡◌, ◌+◌, ◌-◌, ◌*◌, ◌/◌, ◌%◌, ◌<◌, ◌≤◌, ◌^◌, ◌++◌, ◌↔◌, ℕ, List, Some, None, true, length, replicate, set, take, drop, IsTrue, IfOk, IsOk, OnOk, slice_index, vec_capacity}, Option.ForSome};
 ghost use Rattle.iso_disk.specs.Disk.{Torn, spliced};
 ghost use Rattle.kept_disk.specs.Pages.{AreLaid, HasFilled, HasLooked, HoldsNone, IsHeld, Stand, end_of, from_of, page_at, start_of};
 

@@ -1,4 +1,4 @@
-use Rattle.kept_disk.proofs.{Words.{rules, ◌≡◌, ◌%◌, ℕ, List, Option, Some, None, drop, set, take, sym, ◌∙◌, ap, subst, arith, length-contents, length-set, slice_get, HasPage, Stand, Torn, from_of, start_of}, Slices.{get-set_at, get-set_other, set-set}, Standing.{filled, laid_same, stand_emptied, stand_filled, torn_elsewhere}}
+use Rattle.kept_disk.proofs.{Words.{rules, ◌≡◌, ◌%◌, ℕ, List, Option, Some, None, drop, set, take, sym, ◌∙◌, ap, subst, arith, length-contents, length-set, slice_get, HasPage, Stand, Torn, from_of, start_of}, Slices.{get-set_at, get-set_other, set-set}, Standing.{filled, stand_emptied, stand_filled, torn_elsewhere}}
 use Rattle.kept_disk.proofs.pages.fill.Goals as goal
 
 pub returns-in_err-read_into-clause-filled : goal.returns-in_err-read_into-clause-filled

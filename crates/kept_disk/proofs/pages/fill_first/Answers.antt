@@ -1,4 +1,4 @@
-use Rattle.kept_disk.proofs.{Words.{◌≡◌, ◌<◌, ◌%◌, ◌+◌, ◌-◌, ◌++◌, ℕ, min, List, Option, Some, None, drop, length, replicate, set, take, sym, ◌∙◌, ap, subst, arith, length-contents, length-set, slice_get, Stand, end_of, start_of}, Slices.{get-set_at, get-set_other, set-set}, Standing.{stand_behind, stand_zeros}, pages.fill_first.Goals.{then-not-are_zeros, else-not-are_zeros}}
+use Rattle.kept_disk.proofs.{Words.{◌≡◌, ◌%◌, ◌+◌, ◌-◌, ◌++◌, ℕ, min, List, Option, Some, None, drop, length, replicate, set, take, sym, ◌∙◌, ap, subst, arith, length-contents, length-set, slice_get, Stand, end_of, start_of}, Slices.{get-set_at, get-set_other, set-set}, Standing.{stand_behind, stand_zeros}, pages.fill_first.Goals.{then-not-are_zeros, else-not-are_zeros}}
 use Rattle.kept_disk.proofs.pages.fill_first.Goals as goal
 
 pub returns-clause-filled : goal.returns-clause-filled

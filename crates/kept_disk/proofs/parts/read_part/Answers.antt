@@ -1,4 +1,4 @@
-use Rattle.kept_disk.proofs.{Words.{◌≡◌, ◌⊎◌, ◌<◌, ◌+◌, ◌-◌, ◌%◌, ℕ, inl, inr, length, take, drop, ◌∙◌, ap, subst, arith, cases_eq, get_or, length-contents, IsHeld, from_of, page_at, start_of}, Paging.from_start, Standing.{taken, taken_zeros}}
+use Rattle.kept_disk.proofs.{Words.{◌≡◌, ◌<◌, ◌+◌, ◌-◌, ◌%◌, ℕ, inl, inr, length, take, drop, ◌∙◌, ap, subst, arith, cases_eq, get_or, length-contents, IsHeld, from_of, page_at, start_of}, Paging.from_start, Standing.{taken, taken_zeros}}
 
 pub returns-clause-bytes : Rattle.kept_disk.proofs.parts.read_part.Goals.returns-clause-bytes
 returns-clause-bytes g c l told =
