@@ -1,6 +1,9 @@
 -- Worked rows of the sum of accounts, and traps: what a looser definition would let through.
-use Rattle.accounts.proofs.{SumWords.{◌≡◌, ◌≢◌, ◌⊎◌, ◌∙◌, ℕ, ◌+◌, List, [], ◌∷◌, None, arith, ap, refl, sym, inl, inr, Pairs, empty, insert, get, KeyCall, StoreAnswer, Accounts, KeepsSum, amount, amount_in, sum_of, total}, Sums.total_put}
-use Rattle.accounts.specs.Made.{IsTaken}
+use Rattle.accounts.proofs.{SumWords.{◌≡◌, ◌≢◌, ◌≤◌, ◌⊎◌, ◌∙◌, ℕ, ◌+◌, List, [], ◌∷◌, None, Some, arith, ap, refl, sym, inl, inr, Pairs, empty, insert, get, KeyCall, StoreAnswer, Accounts, KeepsSum, amount, amount_in, sum_of, total}, Sums.total_put}
+use Rattle.iso_image.specs.Refusal.{Opened, opened, recovered}
+use Rattle.iso_model.specs.{declared.access.Geometry.Geometry, History.{History, array_at, last}}
+use Rattle.iso_shared.specs.{declared.entry.Entry.Entry, Standing.whole, States.{Start, state_at}}
+use Rattle.accounts.specs.{Lists.{KeepsSumAt, KeepsSumIn, KeepsSumSince, OpensWithSum}, Made.IsTaken}
 
 -- a value of eight bytes, and accounts of one byte
 abbrev eight : ℕ → List ℕ
@@ -50,3 +53,19 @@ another_name m gone (inr kept) = absurd (kept.first gone)
 -- nothing is taken from an account for itself
 taken_from_itself : (k : List ℕ) (n more : ℕ) (calls : List KeyCall) (answers : List StoreAnswer) → IsTaken k k n more calls answers → ⊥
 taken_from_itself k n more calls answers t = t.apart refl
+
+-- the sum is that of the first commit and of the last one too
+the_first_commit_counts : (accounts : Accounts) (g : Geometry) (H : History) (n : ℕ) → n ≤ last H → KeepsSumSince accounts g H n → KeepsSumIn accounts g (array_at H n)
+the_first_commit_counts accounts g H n le since = since n (omega arith) le
+
+the_last_commit_counts : (accounts : Accounts) (g : Geometry) (H : History) (n : ℕ) → n ≤ last H → KeepsSumSince accounts g H n → KeepsSumIn accounts g (array_at H (last H))
+the_last_commit_counts accounts g H n le since = since (last H) le (omega arith)
+
+-- and of the commits that were made since the start, with those that a fault has left open
+the_last_commit_of_a_list_counts : (accounts : Accounts) (A : Start) (es : List Entry) → last A.world.history ≤ last (whole (state_at A es)).history → KeepsSumAt accounts A es
+    → KeepsSumIn accounts A.world.geometry (array_at (whole (state_at A es)).history (last (whole (state_at A es)).history))
+the_last_commit_of_a_list_counts accounts A es le keeps = keeps (last (whole (state_at A es)).history) le (omega arith)
+
+-- an image that opens has the sum in what it opens to
+an_image_opens_with_it : (accounts : Accounts) (image : List ℕ) (o : Opened) → opened image ≡ Some o → OpensWithSum accounts image → KeepsSumIn accounts o.geometry (recovered o)
+an_image_opens_with_it accounts image o is opens = opens o is
