@@ -7,7 +7,8 @@ ghost use Rattle.committer.specs.Outcomes.{IsOutcome, MayEnd};
 ghost use Rattle.turn_lock.specs.Props.{pass_props};
 
 use crate::ends::{Ends, OfDevice, Outcome, hand_in, take_outcome};
-use crate::serve::{is_requested, serve_all};
+use crate::gather::{gather, requests};
+use crate::serve::serve_all;
 use ask_desk::{Client, Desk};
 use iso_disk::Disk;
 use iso_shared::{Origin, Port, Shared, Tx};
@@ -15,20 +16,22 @@ use std::alloc::Global;
 use std::marker::PhantomData;
 use std::sync::{Condvar, Mutex, MutexGuard, Wait};
 
-/// The port through which whoever serves makes the entries.
+/// The port through which whoever serves makes the entries, and how many had handed in when one last did.
 #[derive(Drop)]
 pub(crate) struct Leader<D: Disk + Drop, O: Origin, P: OfDevice<D, O>> {
     port: Port<D, O>,
     alloc: Global,
+    last: usize,
     device: PhantomData<P>,
     ghost at: { IfSome P.device (λ d. IsPort d port) × ((port_view port).units ≡ 1) } by { Prim.hlevel pass_props },
 }
 
 impl<D: Disk + Drop, O: Origin, P: OfDevice<D, O>> Leader<D, O, P> {
-    // Serves these desks once.
+    // Serves these desks once. As all who ended at the last time may be back soon, it waits a little for them.
     fn serve<R: Wait>(&mut self, rt: &R, shared: &Shared<D, O>, desks: &[Desk<Ends<D, O, P>>])
         requires { P.device ≡ Some shared.now }
     {
+        self.last = gather(desks, self.last);
         serve_all(rt, self.alloc, shared, &mut self.port, desks);
     }
 }
@@ -52,6 +55,7 @@ impl<D: Disk + Drop, O: Origin, P: OfDevice<D, O>> Committer<D, O, P> {
             leader: Mutex::new(Leader {
                 port,
                 alloc,
+                last: 1,
                 device: PhantomData,
             }),
             busy: Mutex::new(false),
@@ -73,21 +77,26 @@ impl<D: Disk + Drop, O: Origin, P: OfDevice<D, O>> Committer<D, O, P> {
         let Leader {
             port,
             alloc: _,
+            last: _,
             device: _,
         } = leader.into_inner();
         port
     }
 
-    /// The place of who serves, where it is free and nothing is handed in at these desks. Whoever comes while it is held hands its own
-    /// in, and serves once it is let go.
+    /// The place of who serves, where it is free, nothing is handed in at these desks, and at most one had when somebody last served.
+    /// Whoever comes while it is held hands its own in, and serves once it is let go.
     pub(crate) fn free_place(
         &self,
         desks: &[Desk<Ends<D, O, P>>],
     ) -> Option<MutexGuard<'_, Leader<D, O, P>>> {
-        if is_requested(desks) {
+        if requests(desks) > 0 {
             return None;
         }
-        self.leader.try_lock()
+        let leader = self.leader.try_lock()?;
+        if leader.last > 1 {
+            return None;
+        }
+        Some(leader)
     }
 
     /// Ends a transaction together with those that other threads end or hand in at these desks, which the client's own is among: it is

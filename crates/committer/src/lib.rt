@@ -8,6 +8,7 @@
 
 mod committer;
 mod ends;
+mod gather;
 mod outcomes;
 mod serve;
 mod session_end;

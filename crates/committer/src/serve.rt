@@ -5,6 +5,7 @@ ghost use Rattle.iso_shared.specs.Ports.{IsPort, port_view};
 ghost use Rattle.committer.specs.{Outcomes.MayEnd, Serving.{AreTold, due}};
 
 use crate::ends::{Ends, OfDevice, answer_tx, end_alone, take_tx};
+use crate::gather::requests;
 use crate::outcomes::{Outcomes, end_taken, finish, last_outcome};
 use ask_desk::Desk;
 use group_commit::{Ended, group_room, told_room};
@@ -14,18 +15,6 @@ use iso_model::Memory;
 use iso_shared::{Origin, Port, Shared, Tx};
 use std::alloc::Global;
 use std::sync::Wait;
-
-/// Whether something is handed in at one of these desks.
-pub(crate) fn is_requested<D: Disk + Drop, O: Origin, P: OfDevice<D, O>>(
-    desks: &[Desk<Ends<D, O, P>>],
-) -> bool {
-    for desk in desks {
-        if desk.is_requested() {
-            return true;
-        }
-    }
-    false
-}
 
 // Ends the transaction that was handed in at a desk, where there is one, by itself, and answers it. It takes no memory but that of
 // the end.
@@ -138,7 +127,7 @@ pub(crate) fn serve_all<D: Disk + Drop, O: Origin, P: OfDevice<D, O>, R: Wait>(
     if !desk.is_requested() {
         return serve_all(rt, alloc, shared, port, rest);
     }
-    if !is_requested(rest) {
+    if requests(rest) == 0 {
         return serve_desk(rt, shared, port, desk);
     }
     match room(alloc) {

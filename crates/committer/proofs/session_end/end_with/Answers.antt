@@ -1,4 +1,4 @@
-use Rattle.committer.proofs.{Words.{inl, inr, subst, sym, ◌∙◌}, Rejoined.{answered_in, kept_in, lost_in, rejoined, told_of}}
+use Rattle.committer.proofs.{Words.{inr, subst, sym, ◌∙◌}, Rejoined.{answered_in, kept_in, lost_in, rejoined, told_of}}
 use Rattle.handle_pass.specs.{Inside.own_in, Sessions.IsPortAt}
 use Rattle.committer.proofs.session_end.end_with.Goals as goal
 
