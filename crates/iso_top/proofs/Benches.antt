@@ -1,6 +1,10 @@
 -- What is put of a bench.
-use Rattle.iso_top.proofs.{Words.{◌≡◌, ◌⊎◌, inl, inr, ℕ, ◌+◌, ◌-◌, ◌*◌, List, [], Some, None, false, length, filter, refl, sym, ◌∙◌, ap, subst, arith, IsSome, DrawnState, DigestedState, drawn_state, digested_state, DiskState, SinkState, SourceState, Line, Reply, World, after, answers_to, bench_text, bench_world, is_committed, is_conflict, bench_text_of, sha256, Script, replies, script, RunEnd, ArePlain, AreSameButShown, plain_same, text_of, HasRun, PrintedBench, PrintedLine, summary_of, Printed, WasCut, WroteWhole, disk_fault_text, memory_text}, Counted.SameCounts}
+use Rattle.iso_top.proofs.Words.{◌≡◌, ◌⊎◌, Bool, inl, inr, ℕ, ◌+◌, ◌-◌, ◌*◌, List, [], Some, None, false, length, filter, refl, sym, ◌∙◌, ap, subst, arith, IsSome, DrawnState, DigestedState, drawn_state, digested_state, DiskState, SinkState, SourceState, Line, Reply, World, after, answers_to, bench_text, bench_world, is_committed, is_conflict, bench_text_of, sha256, Script, replies, script, RunEnd, ArePlain, AreSameButShown, plain_same, text_of, HasRun, PrintedBench, PrintedLine, summary_of, Printed, WasCut, WroteWhole, disk_fault_text, memory_text}
 use Rattle.script_runner.specs.declared.run_end.RunEnd.TheVariants as end
+
+-- as many replies pass a test, whatever bytes were shown
+abbrev pub SameCounts : (test : Reply → Bool) → Type 0
+SameCounts test = (xs ys : List Reply) → AreSameButShown xs ys → length (filter test xs) ≡ length (filter test ys)
 
 same_text : (xs ys : List ℕ) → Some xs ≡ Some ys → xs ≡ ys
 same_text xs ys e = cc

@@ -6,18 +6,12 @@ mod Beginnings
 mod Runs
 mod Answered
 mod Causes
-mod Results
-mod Benches
+pub mod Results
+pub mod Benches
 mod Tasks
 mod Stops
 mod Rising
-mod Behind
+pub mod Behind
 mod RunsOfClients
 mod ClientsMet
-mod Plainly
-mod Statuses
-mod ListLaws
-mod Failures
-mod Accessed
-mod Counted
 mod OpenedRows

@@ -7,5 +7,3 @@ pub mod Outcome
 pub mod Begun
 pub mod Founded
 pub mod Ran
-pub mod Plain
-pub mod ByAccesses

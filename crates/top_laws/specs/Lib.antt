@@ -1,0 +1,3 @@
+-- What the laws of the top call say, in words of images and texts.
+pub mod Plain
+pub mod ByAccesses
