@@ -8,15 +8,18 @@
 ghost use Rattle.std.specs.{Prelude.{◌≡◌, ◌≢◌, false, true}, Process.exit_status};
 
 use file_disk::FileDisk;
-use iso_io::{Sink, StdSink, StdSource, put_all};
+use iso_disk::{Image, Lookup};
+use iso_io::{Sink, Source, StdSink, StdSource, put_all};
 use iso_top::isotope;
 use kept_disk::Kept;
 use mirror_disk::Mirror;
 use par_runner::Gate;
-use std::alloc::AllocError;
+use std::alloc::{AllocError, Global};
 use std::io::BufWriter;
 use std::process::ExitCode;
 use std::rt::Env;
+use std::sync::Wait;
+use std::thread::Threads;
 use std::{env, io};
 
 /// The words of the command line. Words that are not UTF-8 are outside the grammar, as no words are.
@@ -59,6 +62,35 @@ fn without_memory<K: Sink>(output: &mut K) -> ExitCode {
     exit_of(8)
 }
 
+/// Makes the call over a disk that keeps pages of this one, and hands on what of the call's text still waits.
+fn run<I: Image + Send + Drop, S: Source, K: Sink, R: Threads + Wait + Sync>(
+    rt: &R,
+    alloc: Global,
+    words: &[String],
+    disk: I,
+    input: &mut S,
+    output: &mut K,
+) -> ExitCode {
+    let kept = Kept::new(alloc, disk);
+    let ended = isotope(rt, alloc, words, kept, input, output, &Open);
+    let is_cut = output.hand_on().is_err();
+    exit_of(status_of(ended.status, is_cut))
+}
+
+/// The same over a mirror of these two. A name without `+` uses the first alone. Cache, mirror and file are named one at a time: of a
+/// call at the type of all three the proof takes minutes.
+fn run_on<D: Image + Lookup + Send + Drop, S: Source, K: Sink, R: Threads + Wait + Sync>(
+    rt: &R,
+    alloc: Global,
+    words: &[String],
+    sides: (D, D),
+    input: &mut S,
+    output: &mut K,
+) -> ExitCode {
+    let mirror = Mirror::of(sides.0, sides.1);
+    run(rt, alloc, words, mirror, input, output)
+}
+
 fn main(rt: HostRuntime) -> ExitCode {
     let alloc = rt.alloc();
     let mut input = StdSource::new(rt.stdin());
@@ -75,9 +107,6 @@ fn main(rt: HostRuntime) -> ExitCode {
     let Ok(more) = rt.clone() else {
         return without_memory(&mut output);
     };
-    let sides = Mirror::of(FileDisk::new(files, alloc), FileDisk::new(more, alloc));
-    let disk = Kept::new(alloc, sides);
-    let ended = isotope(&rt, alloc, &words, disk, &mut input, &mut output, &Open);
-    let is_cut = output.hand_on().is_err();
-    exit_of(status_of(ended.status, is_cut))
+    let sides = (FileDisk::new(files, alloc), FileDisk::new(more, alloc));
+    run_on(&rt, alloc, &words, sides, &mut input, &mut output)
 }
