@@ -24,19 +24,16 @@ pub(crate) fn requests<D: Disk + Drop, O: Origin, P: OfDevice<D, O>>(
     count
 }
 
-/// Waits until as many have handed in at these desks as at the last time, and then for more while they come, but for none where that was
-/// one alone: it is likely to be alone again. Answers how many have.
+/// Waits until as many have handed in at these desks as at the last time, and then for more while they come. Who hands in has met another
+/// one, so two are waited for at least. Answers how many have.
 pub(crate) fn gather<D: Disk + Drop, O: Origin, P: OfDevice<D, O>>(
     desks: &[Desk<Ends<D, O, P>>],
     last: usize,
 ) -> usize {
     let mut count = requests(desks);
-    if last < 2 {
-        return count;
-    }
     // each turn but the last finds one more at least
     for _ in desks {
-        let found = look_for_more(desks, last, count);
+        let found = look_for_more(desks, last.max(2), count);
         if found <= count {
             break;
         }
