@@ -36,7 +36,8 @@ impl<D: Disk + Drop, O: Origin, P: OfDevice<D, O>> Leader<D, O, P> {
     }
 }
 
-/// Where threads end transactions together. It has a port with one unit, through which the entries are made.
+/// Where threads end transactions together. It has a port with one unit, through which the entries are made. Whoever serves looks for a
+/// moment whether those who ended last are back, so an end may wait for others, even where their syncs take nothing.
 pub struct Committer<D: Disk + Drop, O: Origin, P: OfDevice<D, O>> {
     leader: Mutex<Leader<D, O, P>>,
     // Whether somebody serves.
