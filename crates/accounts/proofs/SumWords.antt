@@ -8,5 +8,5 @@ pub use Rattle.store_laws.{proofs.TwoStores.both_commits, specs.Both.{AreMixed, 
 pub use Rattle.store_model.specs.HashRegion.{Pairs}
 pub use Rattle.store_scripts.{proofs.Blocks.{hash_blocks, tree_blocks}, proofs.Members.array_extends, specs.Stores.{image_hash, image_tree}}
 pub use Rattle.iso_image.{proofs.ImageLaws.image_opens, specs.Refusal.{Opened, recovered}}
-pub use Rattle.par_calls.{proofs.Listed.stores_answer_at, proofs.Since.live_is, specs.EntriesInOrder.{AreCallsInOrderAt, CommitsAreByCalls, StoresAreWell, commit_at, commits_as, world_at}}
+pub use Rattle.store_scripts.{proofs.Listed.stores_answer_at, proofs.Since.live_is, specs.EntriesInOrder.{AreCallsInOrderAt, CommitsAreByCalls, StoresAreWell, commit_at, commits_as, world_at}}
 pub use Rattle.accounts.specs.{Lists.{AreOfAccounts, IsOfAccountsAt, KeepsSumAt, KeepsSumIn, KeepsSumSince, OpensWithSum, commits_by}, Sums.{Accounts, HasFirst, KeepsSum, amount, amount_in, sum_of, total}, Transactions.{CommitsAccounts, IsOfAccounts, IsOpening, IsTransfer, opening_answers, opening_calls}}

@@ -10,7 +10,7 @@ pub use mathlib.Core.List.{IsPrefix}
 pub use Rattle.turn_lock.{proofs.Prefixes.{prefix_self, prefix_shorter, prefix_trans}, specs.Lists.{count_up, hit, times}, specs.declared.view.View.View}
 pub use Rattle.handle_pass.{proofs.Logs.next_prefix, proofs.Shapes.{block_shaped, length-shaped}, specs.Accesses.{accesses_of, tx_on}, specs.Calls.{EndsWith, HasAborted, HasBegun}, specs.Handles.{Released, TookOver}, specs.Held.{HandleState, IsReleased, held_state}, specs.Inside.own_in, specs.Logs.{AreNext, Next}, specs.Sessions.{DeviceId, IsPortAt, IsTxAt, Made, Own, SessionState, count, device_of}, specs.Visits.{Visited, base_in, begin_array, fetches, number_in, refusals, shaped, with_list}, specs.declared.errors.BeginError.BeginError, specs.declared.errors.EndError.EndError}
 pub use Rattle.iso_shared.{proofs.Begins.{began_last, began_own}, proofs.Follows.{Follows, follows_all, follows_prefix}, proofs.Trace.{legal_last, loose_is, opened_sound, sound_all}, specs.Groups.{answered, made_in, units_of}, specs.Legal.{AreLoose, IsLegal}, specs.Ports.{IsOwn, number_of, port_view, tx_view}, specs.Standing.{Came, Holds}, specs.States.{Start, commits_made, group_answers, is_live, live_of, lost_commits, member_numbers, members_of, opened, state_at, txs_of}, specs.Told.{cause_of, members_in}, specs.declared.entry.Cause.Cause, specs.declared.entry.Entry.Entry, specs.declared.entry.Member.Member, specs.declared.shared.Shared.Shared}
-pub use Rattle.par_calls.specs.EntriesInOrder.{commit_at, world_at}
+pub use Rattle.store_scripts.specs.EntriesInOrder.{commit_at, world_at}
 pub use Rattle.tx_table.specs.Work.{Doing}
 pub use Rattle.device_calls.specs.{Regions.area_in, Stores.HashPuts, Visits.HasCalled}
 pub use Rattle.group_commit.specs.Groups.{HasGrouped, HasMade, KnowsAll, aborts_after, aborts_of, count_all, found_in, group_of, refused_by}

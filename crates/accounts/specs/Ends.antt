@@ -5,7 +5,7 @@ use Rattle.iso_core.specs.{declared.core_itself.Core.Core, Core.disk_of}
 use Rattle.iso_disk.specs.Disk.{DiskState, LeavesOnly}
 use Rattle.iso_model.specs.History.{array_at, last}
 use Rattle.iso_shared.specs.{declared.entry.Entry.Entry, Legal.IsLegal, Standing.Holds, States.{Start, state_at}}
-use Rattle.par_calls.specs.EntriesInOrder.{StoresAreWell}
+use Rattle.store_scripts.specs.EntriesInOrder.{StoresAreWell}
 use Rattle.store_scripts.specs.Stores.{image_tree}
 
 -- The run began with stores that are well formed, on a disk that tells its bytes, and with accounts that have their sum, or with none.

@@ -4,7 +4,7 @@ use mathlib.Core.List.{IsPrefix}
 use Rattle.iso_model.specs.{declared.access.Mode.TheVariants.Serial, History.array_at, Worlds.IsWorld}
 use Rattle.iso_shared.specs.{declared.entry.Entry.Entry, declared.shared.Port.Port, declared.shared.Shared.Shared, declared.tx.Tx.Tx, Legal.IsLegal, Ports.{IsPort, port_view, tx_view}, States.Start}
 use Rattle.iso_shared.specs.declared.entry.Entry.TheVariants as entry
-use Rattle.par_calls.specs.EntriesInOrder.{world_at}
+use Rattle.store_scripts.specs.EntriesInOrder.{world_at}
 use Rattle.store_laws.specs.{Both.{AreMixed, firsts}, BothStores.StorePart, Calls.{KeyCall, StoreAnswer}, Parts.{accesses_in, answers_in, calls_in}}
 use Rattle.store_model.specs.declared.stores.Region.{Region}
 use Rattle.store_scripts.specs.Stores.{image_hash, image_tree}

@@ -6,7 +6,7 @@ use Rattle.iso_shared.specs.declared.entry.Call.TheVariants as call
 use Rattle.iso_shared.specs.declared.entry.Cause.TheVariants as cause
 use Rattle.iso_shared.specs.{declared.entry.Entry.Entry, Standing.whole, States.{Start, lost_commits, members_of, state_at}}
 use Rattle.iso_shared.specs.declared.entry.Entry.TheVariants as entry
-use Rattle.par_calls.specs.EntriesInOrder.{commit_at, world_at}
+use Rattle.store_scripts.specs.EntriesInOrder.{commit_at, world_at}
 use Rattle.store_scripts.specs.Stores.{image_hash}
 use Rattle.accounts.specs.{Sums.{Accounts, KeepsSum}, Transactions.CommitsAccounts}
 

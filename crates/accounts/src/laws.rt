@@ -2,7 +2,7 @@
 ghost use Rattle.std.specs.{Prelude.{◌≡◌, ◌+◌, [], List, ℕ}, FinMap.{insert, get}};
 ghost use Rattle.iso_model.specs.{History.{array_at, last}, Worlds.IsWorld, declared.access.Geometry.Geometry};
 ghost use Rattle.iso_shared.specs.{declared.entry.Entry.Entry, Legal.IsLegal, Standing.ShowsSince, States.Start};
-ghost use Rattle.par_calls.specs.EntriesInOrder.{StoresAreWell};
+ghost use Rattle.store_scripts.specs.EntriesInOrder.{StoresAreWell};
 ghost use Rattle.store_laws.specs.{Calls.{KeyCall, StoreAnswer}, Parts.run};
 ghost use Rattle.store_model.specs.HashRegion.{Pairs};
 ghost use Rattle.store_scripts.specs.Stores.{image_hash, image_tree};

@@ -1,6 +1,6 @@
 -- Which client is a desk's, and what each worker has before and after its part.
 use Rattle.std.specs.Prelude.{◌≡◌, ℕ, ◌<◌, List, Option, Some, None, length, slice_get, slice_index_or}
-use Rattle.ask_desk.specs.{declared.desk.Desk.Desk, Sides.{IsClient, Rests}}
+use Rattle.committer.specs.{declared.desk.Desk.Desk, Sides.{IsClient, Rests}}
 use Rattle.committer.specs.declared.ends.{Ends.Ends, Outcome.Outcome}
 use Rattle.iso_shared.specs.{declared.shared.Shared.Shared, declared.tx.Tx.Tx, Ports.{IsPort, port_view}}
 use Rattle.commit_load.specs.declared.seats.Worker.{Worker}

@@ -3,8 +3,7 @@ ghost use Rattle.std.specs.Prelude.{◌≡◌, ◌+◌, ◌*◌, ◌<◌, ◌≤
 ghost use Rattle.iso_shared.specs.Ports.{IsPort, port_view};
 ghost use Rattle.commit_load.specs.Seats.{AreSeated, IsWorker};
 
-use ask_desk::{Client, Desk};
-use committer::{Ends, OfDevice};
+use committer::{Client, Desk, Ends, OfDevice};
 use iso_disk::Disk;
 use iso_shared::{Origin, Port, Shared};
 use std::alloc::Global;
@@ -21,6 +20,7 @@ pub(crate) struct Worker<D: Disk + Drop, O: Origin, P: OfDevice<D, O>> {
 }
 
 /// Makes so many desks, with a worker at each. Answers whether there was memory for all.
+#[tactic(auto, using(crate::proofs::Seating::seated_more))]
 pub(crate) fn seat_all<D: Disk + Drop, O: Origin, P: OfDevice<D, O>>(
     alloc: Global,
     shared: &Shared<D, O>,

@@ -1,15 +1,14 @@
 // What the threads do.
 ghost use Rattle.std.specs.Prelude.{◌≡◌, Some, slice_get};
 ghost use denote.Param.Send.{IsSync};
-ghost use Rattle.ask_desk.specs.Sides.{IsClient, Rests};
+ghost use Rattle.committer.specs.Sides.{IsClient, Rests};
 ghost use Rattle.handle_pass.specs.Sessions.{device_of};
 ghost use Rattle.iso_shared.specs.Ports.{first_geometry};
 ghost use Rattle.commit_load.specs.Seats.{AreSeated, IsSeated};
 
 use crate::load::{Load, MOST_THREADS};
 use crate::seats::Worker;
-use ask_desk::{Client, Desk};
-use committer::{Committer, Ends, OfDevice, end_with};
+use committer::{Client, Committer, Desk, Ends, OfDevice, end_with};
 use device_calls::end_now;
 use handle_pass::{EndError, Session};
 use iso_disk::Disk;

@@ -1,3 +1,5 @@
+pub mod DeskWords
+pub mod Keeps
 pub mod Words
 pub mod Lasts
 pub mod Rejoined

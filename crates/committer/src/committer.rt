@@ -1,15 +1,15 @@
 // The threads that end transactions together: one at a time serves the desks, and the others wait for their outcomes.
 ghost use Rattle.std.specs.Prelude.{◌≡◌, IfSome, Some};
-ghost use Rattle.ask_desk.specs.Sides.{HasRequest, IsClient, Rests};
+ghost use Rattle.committer.specs.Sides.{HasRequest, IsClient, Rests};
 ghost use Rattle.iso_shared.specs.Ports.{IsPort, port_view};
 ghost use Rattle.iso_shared.specs.declared.tx.Tx.{Tx};
 ghost use Rattle.committer.specs.Outcomes.{IsOutcome, MayEnd};
 ghost use Rattle.turn_lock.specs.Props.{pass_props};
 
+use crate::desk::{Client, Desk};
 use crate::ends::{Ends, OfDevice, Outcome, hand_in, take_outcome};
 use crate::gather::{gather, requests};
 use crate::serve::serve_all;
-use ask_desk::{Client, Desk};
 use iso_disk::Disk;
 use iso_shared::{Origin, Port, Shared, Tx};
 use std::alloc::Global;

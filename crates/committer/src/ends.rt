@@ -1,11 +1,12 @@
 // Transactions that are handed in at desks, and what is answered of each.
 ghost use Rattle.std.specs.Prelude.{◌≡◌, ◌<◌, IfNone, IfSome, Some};
-ghost use Rattle.ask_desk.specs.Sides.{HasRequest, IsClient, IsJob, Rests};
+ghost use Rattle.committer.specs.Sides.{HasRequest, IsClient, IsJob, Rests};
 ghost use Rattle.iso_shared.specs.declared.tx.Tx.{Tx};
 ghost use Rattle.iso_shared.specs.Ports.{IsPort, port_view};
 ghost use Rattle.committer.specs.Outcomes.{IsOutcome, MayEnd, as_member};
 
-use ask_desk::{Client, Desk, Job, Protocol};
+use crate::desk::{Client, Desk, Job};
+use crate::protocol::Protocol;
 use counts::Steps;
 use group_commit::Ended;
 use iso_disk::Disk;

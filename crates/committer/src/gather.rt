@@ -1,6 +1,6 @@
 // How long whoever serves the desks waits for requests that may soon come. No contract speaks of it.
+use crate::desk::Desk;
 use crate::ends::{Ends, OfDevice};
-use ask_desk::Desk;
 use iso_disk::Disk;
 use iso_shared::Origin;
 use std::thread;

@@ -4,10 +4,10 @@ ghost use Rattle.iso_core.specs.declared.group_end.TheConstants.{MAX_GROUP};
 ghost use Rattle.iso_shared.specs.Ports.{IsPort, port_view};
 ghost use Rattle.committer.specs.{Outcomes.MayEnd, Serving.{AreTold, due}};
 
+use crate::desk::Desk;
 use crate::ends::{Ends, OfDevice, answer_tx, end_alone, take_tx};
 use crate::gather::requests;
 use crate::outcomes::{Outcomes, end_taken, finish, last_outcome};
-use ask_desk::Desk;
 use group_commit::{Ended, group_room, told_room};
 use iso_core::MAX_GROUP;
 use iso_disk::Disk;

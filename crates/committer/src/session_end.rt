@@ -1,12 +1,12 @@
 // The end of a session's transaction, together with those of other threads.
 ghost use Rattle.std.specs.Prelude.{◌≡◌, ◌<◌, ℕ, IsSome, None, Some};
-ghost use Rattle.ask_desk.specs.Sides.{IsClient, Rests};
+ghost use Rattle.committer.specs.Sides.{IsClient, Rests};
 ghost use Rattle.handle_pass.specs.{Handles.TookOver, Held.held_state, Sessions.device_of, Splits.port_units};
 ghost use Rattle.committer.specs.{Outcomes.MayEnd, Together.{HasEndedItself, HasEndedWith, IsHandedOut}};
 
 use crate::committer::Committer;
+use crate::desk::{Client, Desk};
 use crate::ends::{Ends, OfDevice, Outcome, member_reply};
-use ask_desk::{Client, Desk};
 use counts::Steps;
 use group_commit::Ended;
 use handle_pass::{EndError, Handle, Session};

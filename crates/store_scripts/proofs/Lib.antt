@@ -23,3 +23,29 @@ mod Rows
 mod AnswerRows
 mod Traps
 pub mod Whole
+pub mod EntryWords
+pub mod Since
+pub mod Numbers
+pub mod MemberPlaces
+pub mod Listed
+mod ListTraps
+pub mod ThreadWords
+pub mod Events
+pub mod Agree
+pub mod OnStores
+pub mod Sound
+pub mod Alike
+pub mod ThreadLines
+pub mod StoreLines
+pub mod Leaving
+pub mod OwnEntries
+pub mod Standing
+pub mod Running
+pub mod Histories
+pub mod Placed
+pub mod ThreadWhole
+pub mod Clients
+pub mod Merging
+pub mod Tracing
+mod HandedRows
+mod TraceRows

@@ -3,3 +3,7 @@ pub mod Stores
 pub mod Told
 pub mod Kept
 pub mod InOrder
+pub mod EntriesInOrder
+pub mod Trace
+pub mod Notes
+pub mod ThreadsInOrder

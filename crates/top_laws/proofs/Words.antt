@@ -14,5 +14,5 @@ pub use Rattle.par_script.specs.{Output.{IsFront, IsOutput}, Told.Told, declared
 pub use Rattle.script_model.{specs.Bench.{answers_to, bench_output, bench_text, bench_world, is_committed, is_conflict, recover_output}, specs.Operations.IsOp, specs.Script.{Script, after, replies, script}, specs.declared.script.BadLine.BadLine, specs.declared.script.Line.Line, specs.declared.script.Reply.Reply}
 pub use Rattle.script_runner.{proofs.Acknowledged.told_kept, proofs.Histories.shows_last, proofs.Replying.plain_same, proofs.Steps.{all_first, replies-append}, specs.Replies.{AreSameButShown, Replied, TellsCommit, text_of}, specs.Run.{Acknowledges, AreFirst, AreLinesOf, HasRun}, specs.Told.ArePlain, specs.declared.lines.ScriptError.ScriptError, specs.declared.run_end.RunEnd.RunEnd}
 pub use Rattle.sha2.specs.Sha256.{sha256}
-pub use Rattle.par_calls.{specs.InOrder.CallsAnswer, specs.Trace.{Event, IsTrace}}
+pub use Rattle.store_scripts.{specs.ThreadsInOrder.CallsAnswer, specs.Trace.{Event, IsTrace}}
 pub use Rattle.store_scripts.{specs.Kept.BeginsWell, specs.Stores.{SecondStore, the_files, the_tree}}

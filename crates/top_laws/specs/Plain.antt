@@ -6,7 +6,7 @@ use Rattle.iso_io.specs.{Sink.{SinkState, Wrote}, Source.{SourceState, Took}}
 use Rattle.iso_model.specs.{declared.access.Geometry.Geometry, History.{History, last}, Image.IsImage, Isolation.IsIsolated, World.{World, fresh}, Worlds.Extends}
 use Rattle.iso_image.specs.{declared.open_error.OpenError.OpenError, Refusal.{opened, refusal}}
 use Rattle.iso_shared.specs.{declared.entry.Entry.Entry, Plain.CommitsUpTo, States.Start}
-use Rattle.par_calls.specs.{InOrder.{AreInOrder, CommitsKeep}, Trace.{Event, IsTrace}}
+use Rattle.store_scripts.specs.{ThreadsInOrder.{AreInOrder, CommitsKeep}, Trace.{Event, IsTrace}}
 use Rattle.par_script.specs.{Output.{IsFront, IsOutput}, Told.Told, declared.part.Part.Part}
 use Rattle.script_model.specs.{declared.script.BadLine.BadLine, declared.script.Line.Line, declared.script.Reply.Reply, Bench.{answers_to, recover_output}, Script.{replies, script}}
 use Rattle.script_runner.specs.{Replies.{AreSameButShown, text_of}, Run.AreWholeLines}

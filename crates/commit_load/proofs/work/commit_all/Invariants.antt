@@ -1,5 +1,5 @@
 use Rattle.std.proofs.Common.{◌≡◌}
-use Rattle.ask_desk.specs.Sides.{IsClient, Rests}
+use Rattle.committer.specs.Sides.{IsClient, Rests}
 
 -- the session has its device and its units, and the client no request
 abbrev pub invariant-loop-turn : Rattle.commit_load.proofs.work.commit_all.Given.invariant-loop-turn

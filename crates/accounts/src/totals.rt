@@ -1,0 +1,77 @@
+// The accounts of an image, as a core shows them.
+ghost use Rattle.device_calls.specs.Beginnings.{BeginsAt};
+ghost use Rattle.iso_model.specs.World.{World};
+
+use crate::account::Account;
+use device_calls::{Job, end_now, hash_get, hash_region, with_device};
+use handle_pass::Session;
+use iso_core::Core;
+use iso_disk::Disk;
+use iso_model::Geometry;
+use iso_shared::Origin;
+use std::alloc::Global;
+use std::sync::Wait;
+
+/// How many accounts there are, and what they have together.
+#[derive(Clone, Copy)]
+pub(crate) struct Sum {
+    pub(crate) accounts: usize,
+    pub(crate) sum: u64,
+}
+
+// The amount that eight bytes are.
+fn amount_of(value: &[u8]) -> Option<u64> {
+    match value {
+        [a, b, c, d, e, f, g, h] => Some(u64::from_be_bytes([*a, *b, *c, *d, *e, *f, *g, *h])),
+        _ => None,
+    }
+}
+
+/// The sum by one transaction of a session.
+#[derive(Drop)]
+struct SumOf<'k> {
+    accounts: &'k [Account],
+}
+
+impl<'k> Job for SumOf<'k> {
+    type Answer = Option<Sum>;
+
+    ghost says = { λ job start before now sum. Unit {0} };
+
+    fn run<'a, D: Disk + Drop, O: Origin, R: Wait>(
+        self,
+        rt: &R,
+        alloc: Global,
+        session: &mut Session<'a, D, O>,
+        geometry: &Geometry,
+    ) -> Option<Sum> {
+        let region = hash_region(geometry)?;
+        session.begin_tx(rt, None).ok()?;
+        let mut found: usize = 0;
+        let mut sum: u64 = 0;
+        for account in self.accounts {
+            if let Some(value) = hash_get(rt, alloc, session, region, &account.name).ok()? {
+                found = found.checked_add(1)?;
+                sum = sum.checked_add(amount_of(value.as_slice())?)?;
+            }
+        }
+        end_now(rt, session).ok()?;
+        Some(Sum {
+            accounts: found,
+            sum,
+        })
+    }
+}
+
+/// The accounts of these that there are, over a core that was just made or opened; none where a call is refused.
+pub(crate) fn sum_of<D: Disk + Drop, R: Wait>(
+    rt: &R,
+    alloc: Global,
+    core: Core<D>,
+    accounts: &[Account],
+) -> Option<Sum>
+    requires { (W : World) × BeginsAt D.state core W }
+{
+    let (sum, _core) = with_device(rt, alloc, core, SumOf { accounts });
+    sum?
+}

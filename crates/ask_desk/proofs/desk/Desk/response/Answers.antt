@@ -1,8 +1,0 @@
-use Rattle.ask_desk.proofs.Words.{sym, ◌∙◌}
-use Rattle.ask_desk.proofs.desk.Desk.response.Goals as goal
-
-pub loop-preserved : goal.loop-preserved
-loop-preserved g c = (
-  c.in_default.ensures.client ∙ sym c.requires.client,
-  c.in_default.ensures.none c.requires.request.0 (c.loop.invariant.1 ∙ c.requires.request.1) ∙ sym c.requires.request.1,
-)

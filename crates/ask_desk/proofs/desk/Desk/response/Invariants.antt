@@ -1,5 +1,0 @@
-use Rattle.ask_desk.proofs.Words.{◌≡◌}
-
--- nothing was taken yet
-abbrev pub invariant-loop : Rattle.ask_desk.proofs.desk.Desk.response.Given.invariant-loop
-invariant-loop g l = (l.client.seat.table_id ≡ l.initial.client.seat.table_id) × (l.client.seat.me ≡ l.initial.client.seat.me)

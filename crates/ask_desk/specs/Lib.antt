@@ -1,4 +1,0 @@
-pub mod Rule
-pub mod Sides
-pub mod Steps
-pub mod Views

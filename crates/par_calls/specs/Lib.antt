@@ -1,4 +1,0 @@
-pub mod EntriesInOrder
-pub mod Trace
-pub mod Notes
-pub mod InOrder
