@@ -6,7 +6,7 @@ ghost use Rattle.iso_shared.specs.{Standing.{Came, Holds}, States.opened};
 ghost use Rattle.store_model.specs.{HashRegion.IsHashArea, TreeRegion.IsTreeArea};
 ghost use Rattle.device_calls.specs.{Beginnings.BeginsAt, Regions.area_in};
 
-use crate::runner_tests::same;
+use crate::same::same;
 use device_calls::{
     Beginning, Retry, RetryError, beginning_of, end_now, end_or_again, hash_delete, hash_get,
     hash_put, hash_region, tree_delete, tree_get, tree_put, tree_region, tree_scan,

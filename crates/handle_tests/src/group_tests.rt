@@ -6,7 +6,7 @@ ghost use Rattle.iso_shared.specs.{Ports.{IsPort, port_view}, TestImage.{small, 
 ghost use Rattle.handle_pass.specs.Sessions.{device_of};
 ghost use Rattle.group_commit.specs.Groups.{AreMembers};
 
-use crate::runner_tests::same;
+use crate::same::same;
 use crate::small_image::core_failing;
 use group_commit::commit_group;
 use handle_pass::Session;

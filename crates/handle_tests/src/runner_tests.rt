@@ -1,19 +1,14 @@
 //! Runs of two small clients beside each other: what no clause says.
 
+use crate::same::same;
 use par_runner::{Client, Flow, Gate, Job, run_all};
 use script_model::{Line, Op};
 use std::alloc::Global;
-use std::fmt::Debug;
 use std::process::Abort;
 use std::sync::Wait;
 use std::sync::atomic::{AtomicU64, Ordering};
 use std::test::Fail;
 use std::thread::Threads;
-
-// Two values that are to be the same. Each test that compared them itself would prove what is printed where they differ.
-pub(crate) fn same<T: PartialEq + Debug + Drop>(rt: &impl Abort, found: T, wanted: T) {
-    assert_eq!(rt; found, wanted);
-}
 
 // It keeps the number of each line that it was given as one more digit, and so how often the gate was called for it before that. It halts
 // at an `abort`.

@@ -5,7 +5,7 @@ ghost use Rattle.iso_memdisk.specs.MemDisk.{state_of};
 ghost use Rattle.iso_model.specs.Geometry.{is_valid};
 ghost use Rattle.iso_shared.specs.{Ports.{IsPort, first_geometry, port_view}, TestImage.{small, MayStart}};
 
-use crate::runner_tests::same;
+use crate::same::same;
 use crate::small_image::new_core;
 use device_calls::end_now;
 use handle_pass::{Handle, Left, PostTxError, Session, Visit};

@@ -1,10 +1,8 @@
-//! The tests of `ask_desk`, `turn_lock` and `iso_shared`.
+//! The tests of `turn_lock` and `iso_shared`.
 #![tactic(auto)]
 
 #[cfg(test)]
 mod clients;
-#[cfg(test)]
-mod desk_tests;
 #[cfg(test)]
 mod device_tests;
 #[cfg(test)]

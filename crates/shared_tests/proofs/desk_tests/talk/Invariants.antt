@@ -1,5 +1,0 @@
-use Rattle.ask_desk.specs.Sides.{IsClient, Rests}
-
--- one client, without a request
-abbrev pub invariant-loop-number : Rattle.shared_tests.proofs.desk_tests.talk.Given.invariant-loop-number
-invariant-loop-number g l = IsClient l.desk l.client × Rests l.client
