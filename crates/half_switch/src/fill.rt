@@ -1,11 +1,11 @@
 // The half that is not the current one, filled while its gate is closed.
-ghost use Rattle.std.specs.Prelude.{◌≡◌, ◌+◌, ◌*◌, ◌-◌, ◌<◌, ◌≤◌, ℕ, List, length, IsTrue, OnOk, OnErr, IfOk, IsErrOf};
+ghost use Rattle.std.specs.Prelude.{◌≡◌, ◌+◌, ◌-◌, ◌<◌, ◌≤◌, ℕ, List, length, IsTrue, OnOk, OnErr, IfOk, IsErrOf};
 ghost use Rattle.iso_model.specs.{declared.access.Geometry.Geometry, Geometry.{half_size, image_size, is_valid}};
 ghost use Rattle.iso_disk.specs.Disk.{IsSettled, LeavesOnly, StaysTold, TellsTorn, TornFrom};
-ghost use Rattle.counts.specs.Count.{HasCause, Rose};
+ghost use Rattle.counts.specs.Count.{Rose};
 ghost use Rattle.commit_gate.specs.Gate.{IsClosed};
 ghost use Rattle.iso_image.specs.Half.{Half, IsFilled, IsHeld};
-ghost use Rattle.half_switch.specs.{Plan.{AreHalves, Copies, IsFrom, IsReady, refilled}, Put.IsLaidOut};
+ghost use Rattle.half_switch.specs.{Plan.{AreHalves, Copies, IsFrom, IsReady, refilled}, Put.{FitsPlan, HasRoom, IsLaidOut, WritesHalf}};
 
 use crate::lay::lay_records;
 use crate::plan::{FillPlan, SwitchError};
@@ -84,20 +84,12 @@ fn fill_from<D: Disk>(
     base: &mut [u8],
     log: &mut [u8],
 ) -> Result<(), DiskFault>
-    requires valid { IsTrue (is_valid plan.now.geometry) }
+    requires bytes { FitsPlan plan.now base.old log.old }
     requires size { (D.state disk.old).size ≡ image_size plan.now.geometry }
     requires places { AreHalves plan.now.geometry from.now to.now }
-    requires numbers { plan.now.old_base ≤ plan.now.base }
-    requires base { length base.old ≡ plan.now.geometry.blocks * plan.now.geometry.block }
-    requires log { length log.old ≡ plan.now.used + 1 }
-    requires used { plan.now.used < plan.now.geometry.log }
-    ensures moments { LeavesOnly (D.state disk.old) (D.state disk.new) (TornFrom (to.now.header + 1) (half_size plan.now.geometry - 1) (D.state disk.old).now) }
+    ensures writes { WritesHalf (D.state disk.old) (D.state disk.new) to.now.header (half_size plan.now.geometry - 1) result }
     ensures filled { (g : Geometry) (x : Half) → Copies g x from.now plan.now → ((c : List ℕ) → (D.state disk.old).now c → IsHeld g x c)
         → OnOk result ((c : List ℕ) → (D.state disk.new).now c → IsFilled plan.now.geometry (refilled g plan.now.generation plan.now.base x) c) }
-    ensures settled { OnOk result (IsSettled (D.state disk.new)) }
-    ensures told { OnOk result (StaysTold (D.state disk.old) (D.state disk.new)) }
-    ensures failed { OnErr result (TellsTorn (to.now.header + 1) (half_size plan.now.geometry - 1) (D.state disk.old) (D.state disk.new)) }
-    ensures cause { HasCause (D.state disk.old).faults (D.state disk.new).faults result }
 {
     disk.read(from.base, base)?;
     disk.read(from.log, log)?;
@@ -112,19 +104,10 @@ fn put_filled<D: Disk>(
     base: &mut [u8],
     log: &mut [u8],
 ) -> Result<(), DiskFault>
-    requires valid { IsTrue (is_valid plan.now.geometry) }
-    requires numbers { plan.now.old_base ≤ plan.now.base }
-    requires places { (to.now.base ≡ to.now.header + 32) × (to.now.log ≡ to.now.base + length base.old) }
-    requires base { length base.old ≡ plan.now.geometry.blocks * plan.now.geometry.block }
-    requires fits { to.now.log + plan.now.geometry.log ≤ (D.state disk.old).size }
-    requires log { length log.old ≡ plan.now.used + 1 }
-    requires used { plan.now.used < plan.now.geometry.log }
-    ensures moments { LeavesOnly (D.state disk.old) (D.state disk.new) (TornFrom (to.now.header + 1) (half_size plan.now.geometry - 1) (D.state disk.old).now) }
+    requires bytes { FitsPlan plan.now base.old log.old }
+    requires room { HasRoom to.now (length base.old) plan.now.geometry.log (D.state disk.old).size }
+    ensures writes { WritesHalf (D.state disk.old) (D.state disk.new) to.now.header (half_size plan.now.geometry - 1) result }
     ensures laid_out { OnOk result ((c : List ℕ) → (D.state disk.new).now c → IsLaidOut to.now plan.now base.old log.old (D.state disk.old).contents c) }
-    ensures settled { OnOk result (IsSettled (D.state disk.new)) }
-    ensures told { OnOk result (StaysTold (D.state disk.old) (D.state disk.new)) }
-    ensures failed { OnErr result (TellsTorn (to.now.header + 1) (half_size plan.now.geometry - 1) (D.state disk.old) (D.state disk.new)) }
-    ensures cause { HasCause (D.state disk.old).faults (D.state disk.new).faults result }
 {
     let at = lay_records(
         &plan.geometry,

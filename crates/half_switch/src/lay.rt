@@ -1,11 +1,11 @@
 // Commits laid over the bytes of a base.
-ghost use Rattle.std.specs.{Prelude.{◌≡◌, ◌+◌, ◌*◌, ◌≤◌, ◌<◌, ◌^◌, List, length, take, IsTrue}, List.AllByRecursion};
-ghost use Rattle.iso_model.specs.{Geometry.is_valid, Image.{IsRecord, Written, records}};
+ghost use Rattle.std.specs.Prelude.{◌≡◌, ◌+◌, ◌*◌, ◌≤◌, ◌<◌, ◌^◌, length, IsTrue};
+ghost use Rattle.iso_model.specs.Geometry.{is_valid};
 ghost use Rattle.iso_disk.specs.Disk.{spliced};
-ghost use Rattle.half_switch.specs.Laid.{AreBytesOf, all_laid, laid};
+ghost use Rattle.half_switch.specs.Laid.{LaysRecords, laid};
 
 use iso_format::{PartIter, read_record, record_window};
-use iso_model::{Geometry, LAST};
+use iso_model::Geometry;
 
 // Lays the bytes of one run.
 fn lay_run(into: &mut [u8], at: usize, bytes: &[u8])
@@ -49,11 +49,7 @@ pub fn lay_records(
 ) -> usize
     requires valid { IsTrue (is_valid geometry.now) }
     requires numbers { number + count < 2 ^ 64 }
-    ensures within { result ≤ length log.now }
-    ensures length { length into.new ≡ length into.old }
-    ensures laid { (told : List Written) → AllByRecursion (IsRecord geometry.now) told → count ≤ length told → number + count ≤ LAST
-        → AreBytesOf geometry.now (number + 1) told log.now
-        → (into.new ≡ all_laid geometry.now.block (take count told) into.old) × (result ≡ length (records geometry.now (number + 1) (take count told))) }
+    ensures { LaysRecords geometry.now number count log.now into.old into.new result }
 {
     let mut at = 0;
     for i in 0..count {

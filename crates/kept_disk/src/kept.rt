@@ -2,7 +2,7 @@
 ghost use Rattle.std.specs.{Prelude.{◌≡◌, ◌+◌, ◌<◌, ◌≤◌, ℕ, List, Some, None, length, replicate, OnOk, OnErr, IfNone, IfSome, IsSome, IsOk}, List.slice_range, Option.ForSome};
 ghost use Rattle.iso_disk.specs.Disk.{TornFrom, Splices, TellsTorn, IsSettled, Elapses};
 ghost use Rattle.counts.specs.Count.{one_more, HasCause};
-ghost use Rattle.kept_disk.specs.Pages.{HoldsNone, HoldsRange, Stand};
+ghost use Rattle.kept_disk.specs.{Holding.{IsOver, WritesThrough}, Pages.{HoldsNone, HoldsRange, Stand}};
 
 use crate::pages::Pages;
 use crate::parts::{lay_parts, read_parts};
@@ -138,14 +138,8 @@ fn write_through<D: Disk>(
     at: u64,
     bytes: &[u8],
 ) -> Result<(), DiskFault>
-    requires fits { at + length bytes.now ≤ (D.state disk.old).size }
-    requires stand { ForSome (D.state disk.old).contents (Stand pages.old.numbers.items pages.old.ends.items pages.old.bytes.items) }
-    ensures written { OnOk result (Splices at bytes.now (D.state disk.old) (D.state disk.new)) }
-    ensures failed { OnErr result (TellsTorn at (length bytes.now) (D.state disk.old) (D.state disk.new)) }
-    ensures crash { Elapses (D.state disk.old) (D.state disk.new) (TornFrom at (length bytes.now) (D.state disk.old).now) }
-    ensures cause { HasCause (D.state disk.old).faults (D.state disk.new).faults result }
-    ensures stand { ForSome (D.state disk.new).contents (Stand pages.new.numbers.items pages.new.ends.items pages.new.bytes.items) }
-    ensures forgotten { OnErr result (HoldsNone pages.new.numbers.items) }
+    requires { IsOver (D.state disk.old) pages.old at (length bytes.now) }
+    ensures { WritesThrough (D.state disk.old) (D.state disk.new) pages.new at bytes.now result }
 {
     if let Err(fault) = disk.write(at, bytes) {
         pages.forget_all();

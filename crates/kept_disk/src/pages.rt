@@ -1,7 +1,7 @@
 // Pages: bytes of a disk that are kept in memory, and which of its pages these are.
-ghost use Rattle.std.specs.{Prelude.{◌≡◌, ◌+◌, ◌-◌, ◌*◌, ◌/◌, ◌%◌, ◌<◌, ◌≤◌, ◌^◌, ◌++◌, ◌↔◌, ℕ, List, Some, None, true, length, replicate, set, take, drop, IsTrue, IfOk, IsOk, OnOk, slice_index, vec_capacity}, Option.ForSome};
-ghost use Rattle.iso_disk.specs.Disk.{Torn, spliced};
-ghost use Rattle.kept_disk.specs.Pages.{AreLaid, HasFilled, HasLooked, HoldsNone, IsHeld, Stand, end_of, from_of, page_at, start_of};
+ghost use Rattle.std.specs.{Prelude.{◌≡◌, ◌+◌, ◌-◌, ◌%◌, ◌<◌, ◌≤◌, ◌^◌, ◌++◌, ◌↔◌, ℕ, List, Some, None, true, length, replicate, IsTrue, IfOk, IsOk, slice_index, vec_capacity}};
+ghost use Rattle.iso_disk.specs.Disk.{spliced};
+ghost use Rattle.kept_disk.specs.Pages.{AreHeld, AreLaid, AreWhole, Follow, HasAdded, HasFilled, HasPlace, HoldsNone, IsHeld, ReadsInto, Shows, byte_at, end_of, page_at, start_of};
 
 use iso_disk::{Disk, DiskFault};
 use std::alloc::{AllocError, Global};
@@ -35,6 +35,8 @@ pub struct Pages {
 }
 
 impl Pages {
+    ghost use Rattle.kept_disk.specs.Holding.{Follows, Forgets, GivesBytes, LaysOver};
+
     /// No place for a page. It takes no memory.
     pub(crate) fn none(alloc: Global) -> Pages
         ensures { HoldsNone result.numbers.items }
@@ -79,9 +81,7 @@ impl Pages {
 
     /// Lets go of all that is held.
     pub(crate) fn forget_all(&mut self)
-        ensures none { HoldsNone self.new.numbers.items }
-        ensures bytes { self.new.bytes ≡ self.old.bytes }
-        ensures places { length self.new.numbers.items ≡ length self.old.numbers.items }
+        ensures { Forgets self.old self.new }
     {
         clear(self.numbers.as_mut_slice());
     }
@@ -125,10 +125,8 @@ impl Pages {
 
     /// Gives bytes of a page that is held, from a place of the disk on.
     pub(crate) fn copy_out(&self, at: u64, into: &mut [u8])
-        requires held { IsHeld self.now.numbers.items (page_at at) }
-        requires inside { at + length into.old ≤ end_of (page_at at) }
-        ensures zeros { slice_index self.now.ends.items (page_at at % 2053) ≡ 0 → into.new ≡ replicate (length into.old) 0 }
-        ensures bytes { 0 < slice_index self.now.ends.items (page_at at % 2053) → into.new ≡ take (length into.old) (drop (from_of self.now.ends.items (page_at at % 2053) + (at - start_of (page_at at))) self.now.bytes.items) }
+        requires { AreHeld self.now.numbers.items at (length into.old) }
+        ensures { Shows self.now.ends.items self.now.bytes.items at (length into.old) into.new }
     {
         if self.ends[place_of(page_at(at))] == 0 {
             into.fill(0);
@@ -141,10 +139,8 @@ impl Pages {
     /// Holds the page of this number, all of which was written: the disk has these bytes there.
     pub(crate) fn hold_written(&mut self, number: u64, page: &[u8])
         requires place { number % 2053 < length self.old.numbers.items }
-        requires whole { length page.now ≡ 4096 }
-        requires full { start_of number + 4096 ≡ end_of number }
-        ensures { (c : List ℕ) → end_of number ≤ length c → Stand self.old.numbers.items self.old.ends.items self.old.bytes.items c
-            → Stand self.new.numbers.items self.new.ends.items self.new.bytes.items (spliced c (start_of number) page.now) }
+        requires whole { AreWhole number page.now }
+        ensures { Follows self.old self.new (start_of number) page.now }
     {
         lay_page(
             &mut self.numbers,
@@ -158,9 +154,7 @@ impl Pages {
     /// Has bytes for a page that is held.
     pub(crate) fn give_bytes(&mut self, number: u64)
         requires held { IsHeld self.old.numbers.items number }
-        ensures numbers { self.new.numbers ≡ self.old.numbers }
-        ensures has { 0 < slice_index self.new.ends.items (number % 2053) }
-        ensures stand { (c : List ℕ) → Stand self.old.numbers.items self.old.ends.items self.old.bytes.items c → Stand self.new.numbers.items self.new.ends.items self.new.bytes.items c }
+        ensures { GivesBytes self.old self.new number }
     {
         let place = place_of(number);
         if self.ends[place] != 0 {
@@ -172,12 +166,9 @@ impl Pages {
 
     /// Lays bytes over those of a page that is held and has bytes, from a place of the disk on.
     pub(crate) fn put(&mut self, at: u64, bytes: &[u8])
-        requires held { IsHeld self.old.numbers.items (page_at at) }
+        requires part { AreHeld self.old.numbers.items at (length bytes.now) }
         requires has { 0 < slice_index self.old.ends.items (page_at at % 2053) }
-        requires inside { at + length bytes.now ≤ end_of (page_at at) }
-        ensures numbers { self.new.numbers ≡ self.old.numbers }
-        ensures ends { self.new.ends ≡ self.old.ends }
-        ensures bytes { self.new.bytes.items ≡ spliced self.old.bytes.items (from_of self.old.ends.items (page_at at % 2053) + (at - start_of (page_at at))) bytes.now }
+        ensures { LaysOver self.old self.new at bytes.now }
     {
         let from = self.byte_of(at);
         lay_over(&mut self.bytes, from, bytes);
@@ -186,7 +177,7 @@ impl Pages {
     // Where the byte of a place of the disk lies among the bytes of the pages, which hold it.
     fn byte_of(&self, at: u64) -> usize
         requires { 0 < slice_index self.now.ends.items (page_at at % 2053) }
-        ensures is { result ≡ from_of self.now.ends.items (page_at at % 2053) + (at - start_of (page_at at)) }
+        ensures is { result ≡ byte_at self.now.ends.items at }
         ensures inside { result + 4096 ≤ length self.now.bytes.items + (at - start_of (page_at at)) }
     {
         let number = page_at(at);
@@ -197,7 +188,6 @@ impl Pages {
 // The place of the page of this number.
 fn place_of(number: u64) -> usize
     ensures is { result ≡ number % 2053 }
-    ensures small { result < 2053 }
 {
     (number % PAGES as u64) as usize
 }
@@ -259,8 +249,7 @@ pub(crate) fn page_at(at: u64) -> u64
 
 /// How many bytes its page has from a place of the disk on.
 pub(crate) fn left_in_page(at: u64) -> usize
-    ensures some { 0 < result }
-    ensures end { at + result ≡ end_of (page_at at) }
+    ensures { at + result ≡ end_of (page_at at) }
 {
     if at < FIRST {
         return (FIRST - at) as usize;
@@ -295,11 +284,10 @@ fn fill<D: Disk>(
     number: u64,
 ) -> Result<(), DiskFault>
     requires inside { start_of number < (D.state disk.old).size }
-    requires place { number % 2053 < length numbers.old.items }
+    requires at { HasPlace numbers.old.items ends.now bytes.old.items (vec_capacity bytes.old) number }
     requires has { 0 < slice_index ends.now (number % 2053) }
-    requires laid { AreLaid ends.now bytes.old.items (vec_capacity bytes.old) }
     ensures filled { HasFilled numbers.old.items ends.now bytes.old.items numbers.new.items ends.now bytes.new.items number (D.state disk.old) (D.state disk.new) result }
-    ensures laid { AreLaid ends.now bytes.new.items (vec_capacity bytes.new) }
+    ensures at { HasPlace numbers.new.items ends.now bytes.new.items (vec_capacity bytes.new) number }
 {
     let place = place_of(number);
     numbers[place] = None;
@@ -320,14 +308,11 @@ fn fill_first<D: Disk>(
     number: u64,
 ) -> Result<(), DiskFault>
     requires inside { start_of number < (D.state disk.old).size }
-    requires place { number % 2053 < length numbers.old.items }
-    requires places { length ends.old.items ≡ length numbers.old.items }
+    requires at { HasPlace numbers.old.items ends.old.items bytes.old.items (vec_capacity bytes.old) number }
     requires none { slice_index ends.old.items (number % 2053) ≡ 0 }
-    requires laid { AreLaid ends.old.items bytes.old.items (vec_capacity bytes.old) }
     requires page { length page.old.items ≡ 4096 }
     ensures filled { HasFilled numbers.old.items ends.old.items bytes.old.items numbers.new.items ends.new.items bytes.new.items number (D.state disk.old) (D.state disk.new) result }
-    ensures places { length ends.new.items ≡ length ends.old.items }
-    ensures laid { AreLaid ends.new.items bytes.new.items (vec_capacity bytes.new) }
+    ensures at { HasPlace numbers.new.items ends.new.items bytes.new.items (vec_capacity bytes.new) number }
     ensures page { length page.new.items ≡ 4096 }
 {
     let place = place_of(number);
@@ -350,16 +335,10 @@ fn lay_page(
     number: u64,
     page: &[u8],
 )
-    requires place { number % 2053 < length numbers.old.items }
-    requires places { length ends.old.items ≡ length numbers.old.items }
-    requires laid { AreLaid ends.old.items bytes.old.items (vec_capacity bytes.old) }
-    requires whole { length page.now ≡ 4096 }
-    requires full { start_of number + 4096 ≡ end_of number }
-    ensures stand { (c : List ℕ) → end_of number ≤ length c → Stand numbers.old.items ends.old.items bytes.old.items c
-        → Stand numbers.new.items ends.new.items bytes.new.items (spliced c (start_of number) page.now) }
-    ensures numbers { length numbers.new.items ≡ length numbers.old.items }
-    ensures places { length ends.new.items ≡ length ends.old.items }
-    ensures laid { AreLaid ends.new.items bytes.new.items (vec_capacity bytes.new) }
+    requires at { HasPlace numbers.old.items ends.old.items bytes.old.items (vec_capacity bytes.old) number }
+    requires whole { AreWhole number page.now }
+    ensures follow { Follow numbers.old.items ends.old.items bytes.old.items numbers.new.items ends.new.items bytes.new.items (start_of number) page.now }
+    ensures at { HasPlace numbers.new.items ends.new.items bytes.new.items (vec_capacity bytes.new) number }
 {
     let place = place_of(number);
     numbers[place] = Some(number);
@@ -392,9 +371,7 @@ fn add_page(ends: &mut Vec<usize>, bytes: &mut Vec<u8>, place: usize, page: &[u8
     requires none { slice_index ends.old.items place ≡ 0 }
     requires laid { AreLaid ends.old.items bytes.old.items (vec_capacity bytes.old) }
     requires page { length page.now ≡ 4096 }
-    ensures ends { ends.new.items ≡ set ends.old.items place (length bytes.old.items + 4096) }
-    ensures bytes { bytes.new.items ≡ bytes.old.items ++ page.now }
-    ensures laid { AreLaid ends.new.items bytes.new.items (vec_capacity bytes.new) }
+    ensures { HasAdded ends.old.items bytes.old.items ends.new.items bytes.new.items (vec_capacity bytes.new) place page.now }
 {
     append(bytes, page);
     ends[place] = bytes.len();
@@ -419,10 +396,8 @@ fn read_into<D: Disk>(
 ) -> Result<(), DiskFault>
     requires fits { at + len ≤ (D.state disk.old).size }
     requires within { from + len ≤ length bytes.old.items }
-    ensures read { OnOk result (ForSome (D.state disk.old).contents (λ c. take len (drop from bytes.new.items) ≡ take len (drop at c))) }
-    ensures others { Torn from len bytes.old.items bytes.new.items }
+    ensures read { ReadsInto (D.state disk.old) (D.state disk.new) at bytes.old.items bytes.new.items from len result }
     ensures room { vec_capacity bytes.new ≡ vec_capacity bytes.old }
-    ensures looked { HasLooked (D.state disk.old) (D.state disk.new) result }
 {
     disk.read(at, &mut bytes.as_mut_slice()[from..from + len])
 }

@@ -1,7 +1,6 @@
 // Reads and writes, one page at a time.
-ghost use Rattle.std.specs.{Prelude.{◌≡◌, ◌+◌, ◌/◌, ◌%◌, ◌^◌, ◌<◌, ◌≤◌, ℕ, List, length, take, drop, OnOk, IsOk, slice_get, true}, Option.ForSome};
-ghost use Rattle.iso_disk.specs.Disk.{spliced};
-ghost use Rattle.kept_disk.specs.Pages.{HasLooked, HoldsRange, IsHeld, Stand, end_of, page_at};
+ghost use Rattle.std.specs.{Prelude.{◌≡◌, ◌+◌, ◌%◌, ◌^◌, ◌<◌, ◌≤◌, length, OnOk, IsOk, true}};
+ghost use Rattle.kept_disk.specs.{Holding.{Follows, IsOver, ReadsBytes}, Pages.{ArePart, HoldsRange, IsHeld, KeepsOthers, end_of, page_at}};
 
 use crate::pages::{PAGE, Pages, left_in_page, page_at};
 use iso_disk::{Disk, DiskFault};
@@ -13,11 +12,8 @@ pub(crate) fn read_parts<D: Disk>(
     at: u64,
     into: &mut [u8],
 ) -> Result<(), DiskFault>
-    requires fits { at + length into.old ≤ (D.state disk.old).size }
-    requires stand { ForSome (D.state disk.old).contents (Stand pages.old.numbers.items pages.old.ends.items pages.old.bytes.items) }
-    ensures bytes { OnOk result (ForSome (D.state disk.old).contents (λ c. into.new ≡ take (length into.old) (drop at c))) }
-    ensures looked { HasLooked (D.state disk.old) (D.state disk.new) result }
-    ensures stand { ForSome (D.state disk.old).contents (Stand pages.new.numbers.items pages.new.ends.items pages.new.bytes.items) }
+    requires { IsOver (D.state disk.old) pages.old at (length into.old) }
+    ensures read { ReadsBytes (D.state disk.old) (D.state disk.new) pages.new at (length into.old) into.new result }
     ensures held { HoldsRange pages.old.numbers.items at (length into.old) → (IsOk result) × (disk.new ≡ disk.old) }
     ensures holds { OnOk result (2053 ≤ length pages.old.numbers.items → length into.old ≤ 65536 → HoldsRange pages.new.numbers.items at (length into.old)) }
 {
@@ -38,7 +34,7 @@ pub(crate) fn read_parts<D: Disk>(
 
 // Whether `len` bytes from a place on, at least one, lie in one page.
 fn is_in_one_page(at: u64, len: usize) -> bool
-    ensures { result ≡ true → (0 < len) × (at + len ≤ end_of (page_at at)) }
+    ensures { result ≡ true → ArePart at len }
 {
     len != 0 && len <= left_in_page(at)
 }
@@ -46,9 +42,8 @@ fn is_in_one_page(at: u64, len: usize) -> bool
 // How many of the `len` bytes from `at` on lie in the page of `at`.
 fn part_len(at: u64, len: usize) -> usize
     requires { 0 < len }
-    ensures inside { at + result ≤ end_of (page_at at) }
+    ensures part { ArePart at result }
     ensures within { result ≤ len }
-    ensures some { 0 < result }
 {
     left_in_page(at).min(len)
 }
@@ -60,17 +55,12 @@ fn read_part<D: Disk>(
     at: u64,
     into: &mut [u8],
 ) -> Result<(), DiskFault>
-    requires fits { at + length into.old ≤ (D.state disk.old).size }
-    requires inside { at + length into.old ≤ end_of (page_at at) }
-    requires some { 0 < length into.old }
-    requires stand { ForSome (D.state disk.old).contents (Stand pages.old.numbers.items pages.old.ends.items pages.old.bytes.items) }
-    ensures bytes { OnOk result (ForSome (D.state disk.old).contents (λ c. into.new ≡ take (length into.old) (drop at c))) }
-    ensures looked { HasLooked (D.state disk.old) (D.state disk.new) result }
-    ensures stand { ForSome (D.state disk.old).contents (Stand pages.new.numbers.items pages.new.ends.items pages.new.bytes.items) }
+    requires over { IsOver (D.state disk.old) pages.old at (length into.old) }
+    requires part { ArePart at (length into.old) }
+    ensures read { ReadsBytes (D.state disk.old) (D.state disk.new) pages.new at (length into.old) into.new result }
     ensures held { IsHeld pages.old.numbers.items (page_at at) → (IsOk result) × (disk.new ≡ disk.old) × (pages.new ≡ pages.old) }
     ensures holds { OnOk result (page_at at % 2053 < length pages.old.numbers.items → IsHeld pages.new.numbers.items (page_at at)) }
-    ensures places { length pages.new.numbers.items ≡ length pages.old.numbers.items }
-    ensures others { (k : ℕ) → (k ≡ page_at at % 2053 → ⊥) → slice_get pages.new.numbers.items k ≡ slice_get pages.old.numbers.items k }
+    ensures kept { KeepsOthers pages.old.numbers.items pages.new.numbers.items (page_at at) }
 {
     let number = page_at(at);
     if !pages.has_place(number) {
@@ -84,7 +74,7 @@ fn read_part<D: Disk>(
 /// Lays bytes over the pages that hold what they were written over, and holds those that were written as wholes.
 pub(crate) fn lay_parts(pages: &mut Pages, at: u64, bytes: &[u8])
     requires { at + length bytes.now < 2 ^ 64 }
-    ensures { (c : List ℕ) → at + length bytes.now ≤ length c → Stand pages.old.numbers.items pages.old.ends.items pages.old.bytes.items c → Stand pages.new.numbers.items pages.new.ends.items pages.new.bytes.items (spliced c at bytes.now) }
+    ensures { Follows pages.old pages.new at bytes.now }
 {
     if is_in_one_page(at, bytes.len()) {
         lay_part(pages, at, bytes);
@@ -102,7 +92,7 @@ pub(crate) fn lay_parts(pages: &mut Pages, at: u64, bytes: &[u8])
 // Lays bytes over the page that they lie in, where it is held or they are all of it.
 fn lay_part(pages: &mut Pages, at: u64, bytes: &[u8])
     requires { at + length bytes.now ≤ end_of (page_at at) }
-    ensures { (c : List ℕ) → at + length bytes.now ≤ length c → Stand pages.old.numbers.items pages.old.ends.items pages.old.bytes.items c → Stand pages.new.numbers.items pages.new.ends.items pages.new.bytes.items (spliced c at bytes.now) }
+    ensures { Follows pages.old pages.new at bytes.now }
 {
     let number = page_at(at);
     if bytes.len() == PAGE && pages.has_place(number) {

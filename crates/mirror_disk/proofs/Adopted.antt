@@ -1,5 +1,5 @@
 -- What is known of two sides that were adopted.
-use Rattle.mirror_disk.proofs.{Words.{◌≡◌, ◌≢◌, ◌⊎◌, inl, inr, ⊎_elim, ℕ, ◌+◌, ◌<◌, ◌≤◌, List, [], take, Option, Some, None, refl, sym, ◌∙◌, ap, subst, arith, IfSome, same_Some, DiskState, IsLawful, IsSettled, LeavesOnly, WritesNothing, at_end, joined_unwritten, Rose, Mark, Slot, Both, OnlyFirst, OnlySecond, FailsByChoice, AdoptsFrom, AreAlike, LeavesAlike, OfChosen, OfOther, TellsOn, IsHeader, body, chosen, epoch, last_epoch, rising_first, ChosenOf, chosen_told, HasEpoch, KeepsBody, other, ArePair, AreBoth, FirstLeads, SecondLeads, Stands}, Choosing.{adopts_first, adopts_second}, Done.rose_behind, Ended.keeps_on, Epochs.{chosen_first, chosen_second}, Stands.some_told}
+use Rattle.mirror_disk.proofs.{Words.{◌≡◌, ◌≢◌, ◌⊎◌, inl, inr, ⊎_elim, ℕ, ◌+◌, ◌<◌, ◌≤◌, List, [], take, Option, Some, None, refl, sym, ◌∙◌, ap, subst, arith, IfSome, same_Some, cases_lt, DiskState, IsLawful, IsSettled, LeavesOnly, WritesNothing, at_end, joined_unwritten, Rose, Mark, Slot, Both, OnlyFirst, OnlySecond, FailsByChoice, AdoptsFrom, AreAlike, LeavesAlike, OfChosen, OfOther, TellsOn, IsHeader, body, chosen, epoch, last_epoch, rising_first, ChosenOf, chosen_told, HasEpoch, KeepsBody, other, ArePair, AreBoth, FirstLeads, SecondLeads, Stands, HasMark, ShowsHeader, TellsNoHeader}, Choosing.{adopts_first, adopts_second}, Done.rose_behind, Ended.keeps_on, Epochs.{chosen_first, chosen_second}, Stands.some_told}
 
 pub body_tells : {old new : DiskState} → KeepsBody old new → TellsOn old new
 body_tells keeps = record { told = keeps_on keeps; untold = keeps.untold }
@@ -163,4 +163,31 @@ pub alike_behind : {a b mid_a mid_b new_a new_b : DiskState} → IsLawful mid_a 
 alike_behind law_a law_b still_a still_b later leaves x y told told' same alike = elim (leaves x y (still_a.same_contents ∙ told) (still_b.same_contents ∙ told') same alike) [
   | inl rose ↦ inl (rose_behind _ _ _ later rose)
   | inr nothing ↦ inr (joined_unwritten law_a still_a nothing.0, joined_unwritten law_b still_b nothing.1)
+]
+
+-- what was read of a header is so of the side that is given as well, and of a side that was only read since
+pub told_none : {a mid : DiskState} → WritesNothing a mid → TellsNoHeader mid → TellsNoHeader a
+told_none still none x told = none x (still.same_contents ∙ told)
+
+pub shows_behind : {d mid : DiskState} → IsLawful mid → WritesNothing d mid → (read : Option Mark) → ShowsHeader d read → ShowsHeader mid read
+shows_behind laws still (Some m) shows = record {
+  size = omega (arith, shows.size, still.moments.same_size);
+  mark = (shows.mark.0, λ x now. shows.mark.1 x (at_end laws still.moments x now));
+  none = λ is. absurd (cc is);
+}
+shows_behind laws still None shows = record { size = tt; mark = tt; none = λ is x told. shows.none is x (sym still.same_contents ∙ told) }
+
+pub mark_read : (d : DiskState) (o : Option Mark) (m : Mark) → o ≡ Some m → IfSome o (HasMark d) → HasMark d m
+mark_read d (Some k) m is read = subst (HasMark d) (same_Some k m is) read
+mark_read d None m is read = absurd (cc is)
+
+pub room_read : (n : ℕ) (o : Option Mark) (m : Mark) → o ≡ Some m → IfSome o (λ k. 64 ≤ n) → 64 ≤ n
+room_read n (Some k) m is room = room
+room_read n None m is room = absurd (cc is)
+
+-- a side failed, whichever was chosen
+pub either_failed : (a mid_a new_a b mid_b new_b one two : ℕ) → a ≤ mid_a → b ≤ mid_b → (two ≤ one → Rose mid_a new_a ⊎ ((last_epoch ≤ one) × Rose mid_b new_b)) → (one < two → Rose mid_b new_b ⊎ ((last_epoch ≤ two) × Rose mid_a new_a)) → Rose a new_a ⊎ Rose b new_b
+either_failed a mid_a new_a b mid_b new_b one two later_a later_b first second = elim (cases_lt one two) [
+  | inl less ↦ ⊎_elim (λ rose. inr (rose_behind b mid_b new_b later_b rose)) (λ (last : (last_epoch ≤ two) × Rose mid_a new_a). inl (rose_behind a mid_a new_a later_a last.1)) (second less)
+  | inr le ↦ ⊎_elim (λ rose. inl (rose_behind a mid_a new_a later_a rose)) (λ (last : (last_epoch ≤ one) × Rose mid_b new_b). inr (rose_behind b mid_b new_b later_b last.1)) (first le)
 ]

@@ -1,22 +1,10 @@
 -- What a call of one side has come to, and of both.
-use Rattle.mirror_disk.proofs.{Words.{◌≡◌, ℕ, ◌+◌, ◌≤◌, Bool, true, List, length, Option, Some, None, Result, Ok, Err, OnOk, OnErr, is_ok, refl, sym, ◌∙◌, ap, arith, option_map, same_Some, DiskState, IsLawful, TellsTorn, Splices, spliced, torn_same, length-contents, tells_spliced, Slot, BothAsked, SideCalled, body, ArePair, AreBoth}, Telling.{body-spliced, came_from}}
+use Rattle.mirror_disk.proofs.{Words.{◌≡◌, ℕ, ◌+◌, ◌≤◌, Bool, List, length, Result, Ok, Err, OnOk, OnErr, sym, ◌∙◌, ap, arith, DiskState, IsLawful, TellsTorn, Splices, torn_same, length-contents, tells_spliced, Slot, BothAsked, SideCalled, ArePair, AreBoth}, Telling.came_from}
 
 -- a write that was done or failed
 pub told_of : {T E : Type 0} (old new : DiskState) (k : ℕ) (bytes : List ℕ) → IsLawful old → k + length bytes ≤ old.size → (r : Result T E) → OnOk r (Splices k bytes old new) → OnErr r (TellsTorn k (length bytes) old new) → TellsTorn k (length bytes) old new
 told_of old new k bytes laws fits (Ok x) written failed = tells_spliced old new k bytes written (λ c is. let len = length-contents laws c is in omega (arith, fits, len))
 told_of old new k bytes laws fits (Err e) written failed = failed
-
--- what a write that was done has made of what was told
-pub laid : {T E : Type 0} (old new : DiskState) (at : ℕ) (bytes : List ℕ) → IsLawful old → 64 + at + length bytes ≤ old.size → (r : Result T E) → OnOk r (Splices (64 + at) bytes old new) → is_ok r ≡ true
-    → (x : List ℕ) → new.contents ≡ Some x → (c : List ℕ) × (old.contents ≡ Some c) × (body x ≡ spliced (body c) at bytes)
-laid old new at bytes laws fits (Err e) written is x told = absurd (cc is)
-laid old new at bytes laws fits (Ok r) written is x told = by_cases old.contents refl
-  where
-    by_cases : (o : Option (List ℕ)) → old.contents ≡ o → (c : List ℕ) × (old.contents ≡ Some c) × (body x ≡ spliced (body c) at bytes)
-    by_cases (Some c) here =
-        let now : new.contents ≡ Some (spliced c (64 + at) bytes) = written ∙ ap (option_map (λ (l : List ℕ). spliced l (64 + at) bytes)) here in
-        (c, here, ap body (same_Some x (spliced c (64 + at) bytes) (sym told ∙ now)) ∙ body-spliced c at bytes (let len = length-contents laws c here in omega (arith, fits, len)))
-    by_cases None here = absurd (cc (told, written ∙ ap (option_map (λ (l : List ℕ). spliced l (64 + at) bytes)) here))
 
 -- what a call that keeps the contents tells is torn in no byte
 pub told_same : (old new : DiskState) (k : ℕ) → new.contents ≡ old.contents → TellsTorn k 0 old new

@@ -1,5 +1,6 @@
 -- Two sides that were just made.
-use Rattle.mirror_disk.proofs.{Words.{◌≡◌, inl, inr, ℕ, ◌+◌, ◌-◌, List, [], ◌++◌, drop, replicate, Option, Some, None, sym, ◌∙◌, ap, subst, arith, IfNone, IfSome, ForSome, cases_lt, drop-replicate, DiskState, IsLawful, IsSettled, Splices, settled_write, First, Used, blank_header, body, chosen, epoch, both_tell, ChosenOf, chosen_told, mirrored, HasEpoch, ArePair, AreBoth, IsPair, state_in}, Adopted.both_alike, Alone.first_pair, Mirrored.state_pair, Epochs.{chosen_first, chosen_second}}
+use Rattle.mirror_disk.proofs.{Words.{◌≡◌, inl, inr, refl, ℕ, ◌+◌, ◌-◌, List, [], ◌++◌, drop, replicate, Option, Some, None, sym, ◌∙◌, ap, subst, arith, IfNone, IfSome, ForSome, cases_lt, drop-replicate, DiskState, IsLawful, IsSettled, Splices, settled_write, First, Used, blank_header, body, chosen, epoch, both_tell, ChosenOf, chosen_told, mirrored, HasEpoch, ArePair, AreBoth, IsPair, state_in}, Adopted.both_alike, Alone.first_pair, Mirrored.state_pair, Epochs.{chosen_first, chosen_second}}
+use Rattle.std.specs.Prelude.{IsSome, is_some}
 
 -- a blank header has epoch 1 in the first slot
 pub blank_mark : (rest : List ℕ) → HasEpoch First 1 (blank_header ++ rest)
@@ -48,6 +49,11 @@ module _ (a b : DiskState) (w : ℕ) (law_a : IsLawful a) (law_b : IsLawful b) (
 -- what both names name is what both sides tell, once they were bound and adopted
 pub named_taken : (o p m n q r : Option (List ℕ)) → ForSome o (λ c. m ≡ Some c) → ForSome p (λ c. n ≡ Some c) → chosen_told q r ≡ chosen_told m n → ForSome (chosen_told o p) (λ c. chosen_told q r ≡ Some c)
 named_taken o p m n q r first second same c told = grind arith
+
+-- so it is told where both names have bytes that are told
+pub told_taken : (o p : Option (List ℕ)) → ForSome o (λ c. p ≡ Some c) → IsSome o → IsSome p
+told_taken (Some x) p is some = ap is_some (is x refl)
+told_taken None p is some = absurd (cc some)
 
 module _ (used : Used) (is : IsPair used) (a b : DiskState) (past : List (ℕ × ℕ)) (f m : ℕ) where
   -- the state of a mirror that was bound, with a size or with none

@@ -1,8 +1,8 @@
 -- What an adopt makes of the side that it chose, and of the other one.
-use Rattle.std.specs.{Prelude.{◌≡◌, ◌≢◌, ◌⊎◌, ℕ, ◌+◌, ◌<◌, ◌≤◌, List, [], Bool, false, Option, Some, None, Result, IfOk, IfSome}, Option.ForSome}
+use Rattle.std.specs.{Prelude.{◌≡◌, ◌≢◌, ◌⊎◌, ℕ, ◌+◌, ◌<◌, ◌≤◌, List, [], length, Bool, false, Option, Some, None, Result, IfOk, IfSome, OnErr, OnOk}, Option.ForSome}
 use Rattle.counts.specs.Count.{HasCause, Rose}
 use Rattle.iso_disk.specs.Disk.{DiskState, IsSettled, LeavesOnly, TellsTorn, TornFrom, WritesNothing}
-use Rattle.mirror_disk.specs.{declared.marks.Marks.Marks, declared.slot.{Mark.Mark, Slot.Slot}, declared.used.Used.TheVariants.{Broken, OnlyFirst, OnlySecond}, Header.{IsHeader, body, chosen, epoch, last_epoch}, Pairs.{ChosenOf, chosen_told, mirrored}, Raised.{EachNow, HasEpoch}, Standing.{IsPair, StandsBy}}
+use Rattle.mirror_disk.specs.{declared.marks.Marks.Marks, declared.slot.{Mark.Mark, Slot.Slot}, declared.used.Used.TheVariants.{Broken, OnlyFirst, OnlySecond}, Header.{IsHeader, body, chosen, epoch, last_epoch}, Pairs.{ChosenOf, chosen_told, mirrored}, Raised.{EachNow, HasEpoch, HasMark, KeepsBody}, Slots.other, Standing.{IsPair, StandsBy}}
 
 -- an image of the side that was chosen: its epoch or a larger one, and the mirrored bytes that it told at the start
 pub record OfChosen (e : ℕ) (start : DiskState) (image : List ℕ) : Type 0 where
@@ -29,10 +29,21 @@ pub record TellsOn (old new : DiskState) : Type 0 where
   pub told : old.contents ≢ None → new.contents ≢ None
   pub untold : old.contents ≡ None → new.contents ≡ None
 
--- two stable sides with as many mirrored bytes, of which the one with this mark was chosen, as no epoch of the other is larger
-pub record AreChosen (a b : DiskState) (count : ℕ) (one two : Mark) : Type 0 where
+-- two sides with as many mirrored bytes
+pub record AreSized (a b : DiskState) (count : ℕ) : Type 0 where
   pub from : a.size ≡ 64 + count
   pub to : b.size ≡ 64 + count
+
+-- two stable ones, and what was read in their headers
+pub record AreMarked (a b : DiskState) (count : ℕ) (one two : Mark) : Type 0 where
+  pub sized : AreSized a b count
+  pub settled : IsSettled a × IsSettled b
+  pub first : HasMark a one
+  pub second : HasMark b two
+
+-- two stable ones, of which the one with this mark was chosen, as no epoch of the other is larger
+pub record AreChosen (a b : DiskState) (count : ℕ) (one two : Mark) : Type 0 where
+  pub sized : AreSized a b count
   pub settled : IsSettled a × IsSettled b
   pub chosen : EachNow a (HasEpoch one.slot one.epoch)
   pub behind : EachNow b (HasEpoch two.slot two.epoch)
@@ -49,6 +60,25 @@ pub record MakesOther {E : Type 0} (from to new_from new_to : DiskState) (chosen
 abbrev pub WhereSame : DiskState → DiskState → Type 0 → Type 0
 WhereSame a b P = (x y : List ℕ) → a.contents ≡ Some x → b.contents ≡ Some y → body x ≡ body y → P
 
+-- what a try to make the other side as the chosen one makes of both, which leaves nothing out: none is answered where the other side failed
+pub record MakesAlike {E : Type 0} (from to new_from new_to : DiskState) (chosen behind : Mark) (result : Result (Option Slot) E) : Type 0 where
+  pub made : MakesOther from to new_from new_to chosen behind result
+  pub unwritten : WritesNothing from new_from
+  pub still : behind.epoch ≡ chosen.epoch → WhereSame from to (WritesNothing to new_to)
+  pub cause : HasCause from.faults new_from.faults result
+  pub later : to.faults ≤ new_to.faults
+
+-- and what is made of both where the other side is left out then
+pub record TakesOver {E : Type 0} (from to new_from new_to : DiskState) (chosen behind : Mark) (result : Result (Option Slot) E) : Type 0 where
+  pub made : MakesOther from to new_from new_to chosen behind result
+  pub moments : LeavesOnly from new_from (OfChosen chosen.epoch from)
+  pub body : KeepsBody from new_from
+  pub settled : OnOk result (IsSettled new_from)
+  pub alone : IfOk result (λ slot. slot ≡ None → EachNow new_from (HasEpoch (other chosen.slot) (chosen.epoch + 1)))
+  pub still : behind.epoch ≡ chosen.epoch → WhereSame from to (Rose to.faults new_to.faults ⊎ (WritesNothing from new_from × WritesNothing to new_to))
+  pub cause : OnErr result (Rose from.faults new_from.faults ⊎ ((last_epoch ≤ chosen.epoch) × Rose to.faults new_to.faults))
+  pub later : (from.faults ≤ new_from.faults) × (to.faults ≤ new_to.faults)
+
 -- what a copy of n bytes from `at` on makes of the other side, where it writes what differs: false where that side failed
 pub record Copies {E : Type 0} (from to new_from new_to : DiskState) (at n : ℕ) (result : Result Bool E) : Type 0 where
   pub unwritten : WritesNothing from new_from
@@ -58,6 +88,16 @@ pub record Copies {E : Type 0} (from to new_from new_to : DiskState) (at n : ℕ
   pub cause : HasCause from.faults new_from.faults result
   pub later : to.faults ≤ new_to.faults
   pub failed : IfOk result (λ done. done ≡ false → Rose to.faults new_to.faults)
+
+-- a side, once the mirrored bytes of the other one were copied to it: it has them, and they are stable
+pub record IsCopied (from to : DiskState) : Type 0 where
+  pub settled : IsSettled to
+  pub alike : (x y : List ℕ) → from.contents ≡ Some x → to.contents ≡ Some y → body y ≡ body x
+
+-- a side with room for a piece from a place of the mirrored bytes on, and a buffer of the piece's length
+pub record HasPiece (d : DiskState) (at : ℕ) (piece buffer : List ℕ) : Type 0 where
+  pub fits : 64 + at + length piece ≤ d.size
+  pub there : length buffer ≡ length piece
 
 -- Sides that were given, that were made stable and read, and that were adopted. What is chosen at each moment is chosen of a
 -- pair of images of the stable sides, which were among those that the sides might leave as they were given.
@@ -99,6 +139,12 @@ TellsHeader d = ForSome d.contents (λ c. IsHeader c)
 
 abbrev pub TellsNoHeader : DiskState → Type 0
 TellsNoHeader d = ForSome d.contents (λ c. IsHeader c → ⊥)
+
+-- what was read of the header of a stable side: its mark, or none where it has no header
+pub record ShowsHeader (d : DiskState) (read : Option Mark) : Type 0 where
+  pub size : IfSome read (λ m. 64 ≤ d.size)
+  pub mark : IfSome read (HasMark d)
+  pub none : read ≡ None → TellsNoHeader d
 
 -- What becomes of two stable sides, whichever was chosen and whether the other one could be made as it.
 pub record Settles (a b new_a new_b : DiskState) : Type 0 where

@@ -1,8 +1,8 @@
 -- Why a mirror is not bound under a name of two sides, and what an Ok and a refusal have seen of the two names.
-use Rattle.std.specs.{Prelude.{◌≡◌, ◌≢◌, ◌⊎◌, ◌-◌, ◌^◌, ◌<◌, ◌≤◌, ℕ, Bool, true, false, List, Option, Some, None, Result, IfNone, IfOk, IfSome, IsSome, IsSomeAnd, OnOk, OnErr, length, replicate}, Option.ForSome}
-use Rattle.iso_disk.specs.Disk.{DiskState, IsSettled}
-use Rattle.counts.specs.Count.{Rose}
-use Rattle.mirror_disk.specs.{declared.marks.Marks.Marks, declared.used.Used.Used, declared.used.Used.TheVariants.{Both, Broken, OnlyFirst, OnlySecond, Plain, Unbound}, Adopting.{AdoptRefuses, AreAdopted, WasBound}, Pairs.{first_name, names_mirror, second_name}, Standing.IsPair}
+use Rattle.std.specs.{Prelude.{◌≡◌, ◌≢◌, ◌⊎◌, ◌-◌, ◌^◌, ◌<◌, ◌≤◌, ℕ, ◌+◌, Bool, true, false, List, [], Option, Some, None, Result, IfNone, IfOk, IfSome, IsSome, IsSomeAnd, OnOk, OnErr, length, replicate}, Option.ForSome}
+use Rattle.iso_disk.specs.Disk.{DiskState, IsSettled, Splices}
+use Rattle.counts.specs.Count.{HasCause, Rose}
+use Rattle.mirror_disk.specs.{declared.marks.Marks.Marks, declared.used.Used.Used, declared.used.Used.TheVariants.{Both, Broken, OnlyFirst, OnlySecond, Plain, Unbound}, Adopting.{AdoptRefuses, AreAdopted, WasBound}, Header.blank_header, Pairs.{chosen_told, first_name, mirrored, names_mirror, second_name}, Standing.IsPair}
 
 -- the name has no room for a byte more, or the size none for a header
 abbrev pub IsTooLarge : List ℕ → Option ℕ → Type 0
@@ -30,7 +30,7 @@ abbrev pub BindFails : {A B : Type 0} → (A → DiskState) → (B → DiskState
 BindFails first second sees sees' want old new name =
     EitherFailed first second old new ⊎ ((IsTooLarge name want ⊎ IsTaken sees sees' want old.0 old.1 name) ⊎ ((want ≡ None) × RefusesBound first second old name))
 
--- what a bind that is done makes of a disk, or of a mirror: zeros with a size, and what had the name with none
+-- what a bind makes of a disk, or of a mirror: zeros with a size, and what had the name with none; nothing is bound where it fails
 pub record BindsTo {T E : Type 0} (old new : DiskState) (name : List ℕ) (want : Option ℕ) (result : Result T E) : Type 0 where
   pub size : OnOk result (IfSome want (λ w. new.size ≡ w))
   pub blank : OnOk result (IfSome want (λ w. ForSome new.contents (λ c. c ≡ replicate w 0)))
@@ -39,6 +39,7 @@ pub record BindsTo {T E : Type 0} (old new : DiskState) (name : List ℕ) (want 
   pub settled : OnOk result (IfNone want (IsSettled new))
   pub told : OnOk result (IsSome (old.named name) → IsSome new.contents)
   pub bound : OnOk result (new.bound ≡ Some (new.clock, name))
+  pub unbound : OnErr result (new.bound ≡ None)
 
 -- What a bind of a mirror makes of its sides, and which of them are in use then.
 pub record BindsSides {T E A B : Type 0} (first : A → DiskState) (second : B → DiskState) (sees : A → List ℕ → Bool → Type 0) (sees' : B → List ℕ → Bool → Type 0) (want : Option ℕ) (old new : A × B) (name : List ℕ) (used : Used) (result : Result T E) : Type 0 where
@@ -53,8 +54,28 @@ pub record BindsSides {T E A B : Type 0} (first : A → DiskState) (second : B �
   pub first_fails : OnErr result (names_mirror name ≡ false → Rose (first old.0).faults (first new.0).faults)
   pub fails : OnErr result (names_mirror name ≡ true → BindFails first second sees sees' want old new name)
 
--- what becomes of two sides that are bound to be a mirror
-pub record BecomePair {E : Type 0} (a b new_a new_b : DiskState) (name : List ℕ) (result : Result Marks E) : Type 0 where
+-- What becomes of two sides that are bound to be a mirror: with a size both are in use and tell zeros, with none they tell what is chosen
+-- of what both names had.
+pub record BecomePair {E : Type 0} (a b new_a new_b : DiskState) (name : List ℕ) (want : Option ℕ) (result : Result Marks E) : Type 0 where
   pub adopted : IfOk result (AreAdopted a b new_a new_b)
   pub bound : OnOk result ((t : ℕ) × (new_a.bound ≡ Some (t, first_name name)))
   pub later : (a.faults ≤ new_a.faults) × (b.faults ≤ new_b.faults)
+  pub made : IfOk result (λ m. IfSome want (λ w. m.used ≡ Both))
+  pub size : OnOk result (IfSome want (λ w. new_a.size ≡ w + 64))
+  pub blank : OnOk result (IfSome want (λ w. ForSome (chosen_told new_a.contents new_b.contents) (λ c. c ≡ replicate w 0)))
+  pub blank_after_crash : OnOk result (IfSome want (λ w. (c : List ℕ) → (mirrored new_a new_b [] 0 0).now c → c ≡ replicate w 0))
+  pub existing : OnOk result (IfNone want (ForSome (chosen_told (a.named (first_name name)) (b.named (second_name name))) (λ c. chosen_told new_a.contents new_b.contents ≡ Some c)))
+  pub told : OnOk result (IsSome (chosen_told (a.named (first_name name)) (b.named (second_name name))) → IsSome (chosen_told new_a.contents new_b.contents))
+
+-- what a side is once it has the header of a blank one, which is stable
+pub record LaysHeader {T E : Type 0} (old new : DiskState) (result : Result T E) : Type 0 where
+  pub size : new.size ≡ old.size
+  pub bound : new.bound ≡ old.bound
+  pub written : OnOk result (Splices 0 blank_header old new)
+  pub settled : OnOk result (IsSettled new)
+  pub cause : HasCause old.faults new.faults result
+
+-- a name with room for a byte more, and that byte, which is ASCII
+pub record HasRoomFor (name : List ℕ) (byte : ℕ) : Type 0 where
+  pub short : length name ≤ 4095
+  pub digit : byte < 128

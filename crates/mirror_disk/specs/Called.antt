@@ -13,6 +13,12 @@ pub record SideCalled (at n : ℕ) (turn : List ℕ → List ℕ) (old new : Dis
   pub later : old.faults ≤ new.faults
   pub failed : done ≡ false → Rose old.faults new.faults
 
+-- one side that is read from `at` on: of the bytes that are in `into` then, where it was done
+pub record SideRead (at len : ℕ) (into : List ℕ) (old new : DiskState) (done : Bool) : Type 0 where
+  pub called : SideCalled 0 0 (λ c. c) old new done
+  pub contents : new.contents ≡ old.contents
+  pub bytes : done ≡ true → ForSome old.contents (λ c. into ≡ slice_range c (64 + at) (64 + at + len))
+
 -- the sides in use
 pub record Called {A B : Type 0} (first : A → DiskState) (second : B → DiskState) (marks : Marks) (past past' : List (ℕ × ℕ)) (at n : ℕ) (turn : List ℕ → List ℕ) (old new : A × B) (answer : Used × Bool) : Type 0 where
   pub stands : Stands (first new.0) (second new.1) answer.0 past' marks.epoch marks.first_slot marks.second_slot

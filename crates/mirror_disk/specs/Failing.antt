@@ -1,7 +1,7 @@
 -- Why a call of a mirror may fail, by the counts of its sides.
-use Rattle.std.specs.Prelude.{◌≡◌, ◌≢◌, ◌⊎◌, ℕ, ◌≤◌, Bool, true, false}
+use Rattle.std.specs.Prelude.{◌≡◌, ◌≢◌, ◌⊎◌, ℕ, ◌≤◌, Bool, true, false, Result, OnErr, OnOk}
 use Rattle.iso_disk.specs.Disk.{DiskState, IsSettled}
-use Rattle.counts.specs.Count.{Rose}
+use Rattle.counts.specs.Count.{HasCause, Rose, faults_after}
 use Rattle.mirror_disk.specs.{declared.used.Used.Used, declared.used.Used.TheVariants.{Plain, Both, OnlyFirst, OnlySecond, Broken, Unbound}, Raised.KeepsBody, Header.last_epoch}
 
 -- each side in use has failed; these are the counts of the first side before and after the call, and those of the second one
@@ -44,3 +44,10 @@ pub record HasLeft (a b new_a new_b : DiskState) (used : Used) (e : ℕ) (first_
   pub settled_b : (used ≡ Both) ⊎ (used ≡ OnlySecond) → IsSettled b → IsSettled new_b
   -- none is left where both failed, or where one did and the other failed in its raise or has no larger epoch
   pub broken : used ≡ Broken → ((first_done ≡ false) ⊎ (second_done ≡ false)) × ((last_epoch ≤ e) ⊎ (HasFailed first_done a new_a × HasFailed second_done b new_b))
+
+-- a count of faults after a call that was done, or was not
+pub record IsCounted {T E : Type 0} (old new : ℕ) (was_done : Bool) (result : Result T E) : Type 0 where
+  pub cause : HasCause old new result
+  pub exact : new ≡ faults_after old result
+  pub done : OnOk result (was_done ≡ true)
+  pub failed : OnErr result (was_done ≡ false)

@@ -43,6 +43,12 @@ pub record IsSlot (at : ℕ) (image : List ℕ) : Type 0 where
   pub least : IsOpen at image → 1 ≤ number_at (at + 8) image
   pub most : IsOpen at image → number_at (at + 8) image ≤ last_epoch
 
+-- the word of a header, and the zeros around its slots
+pub record IsFramed (image : List ℕ) : Type 0 where
+  pub begins : take 8 image ≡ word
+  pub gap : take 8 (drop 8 image) ≡ replicate 8 0
+  pub end : take 16 (drop 48 image) ≡ replicate 16 0
+
 -- the image of a side of a mirror: its first 64 bytes are a header
 pub record IsHeader (image : List ℕ) : Type 0 where
   pub size : 64 ≤ length image

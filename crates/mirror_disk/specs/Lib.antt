@@ -1,4 +1,5 @@
 pub mod Adopting
+pub mod Adopts
 pub mod Becoming
 pub mod Binding
 pub mod Called

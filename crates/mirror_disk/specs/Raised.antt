@@ -1,6 +1,7 @@
 -- What a crash may leave of a side while its epoch is raised.
-use Rattle.std.specs.Prelude.{◌≡◌, ◌⊎◌, ℕ, ◌+◌, ◌≤◌, List, take, drop, replicate, Some, None, Result, OnOk}
-use Rattle.counts.specs.Count.{HasCause}
+use Rattle.std.specs.Prelude.{◌≡◌, ◌⊎◌, ℕ, ◌+◌, ◌≤◌, Bool, true, false, List, take, drop, replicate, Some, None, Result, OnOk}
+use Rattle.counts.specs.Count.{HasCause, Rose}
+use Rattle.commit_gate.specs.Gate.{IsClosed}
 use Rattle.iso_disk.specs.Disk.{DiskState, IsSettled, LeavesOnly}
 use Rattle.mirror_disk.specs.{declared.slot.{Mark.Mark, Slot.Slot}, Header.{IsHeader, slot_epoch, epoch, body, last_epoch, number_at}, Slots.{other, place}}
 
@@ -61,3 +62,28 @@ pub record KeepsEpoch {T E : Type 0} (Was : ℕ → Type 0) (slot : Slot) (old n
   pub moments : (e : ℕ) → Was e → LeavesOnly old new (Still slot e old)
   pub body : KeepsBody old new
   pub cause : HasCause old.faults new.faults result
+
+-- of one that raises the epoch by one, if there is a larger one
+pub record RaisesByOne (slot : Slot) (e : ℕ) (old new : DiskState) (done : Bool) : Type 0 where
+  pub moments : LeavesOnly old new (Raising e (e + 1) old)
+  pub raised : done ≡ true → EachNow new (HasEpoch (other slot) (e + 1))
+  pub settled : done ≡ true → IsSettled new
+  pub body : KeepsBody old new
+  pub later : old.faults ≤ new.faults
+  pub cause : done ≡ false → (last_epoch ≤ e) ⊎ Rose old.faults new.faults
+
+-- a disk with room for a header, and the gate of its slot that is not this one
+pub record HasGate (d : DiskState) (slot : Slot) (at : ℕ) : Type 0 where
+  pub size : 64 ≤ d.size
+  pub gate : at ≡ place (other slot)
+
+-- an epoch that may come next: it is none above the last one, and none below the one so far, of which `Was` is known
+pub record Follows (Was : ℕ → Type 0) (next : ℕ) : Type 0 where
+  pub last : next ≤ last_epoch
+  pub marked : (e : ℕ) × Was e × (e ≤ next)
+
+-- the gate is closed and the epoch is after it, which is stable
+pub record IsLaid (gate e : ℕ) (d : DiskState) : Type 0 where
+  pub closed : EachNow d (IsClosed gate)
+  pub holds : EachNow d (HoldsEpoch gate e)
+  pub settled : IsSettled d

@@ -1,5 +1,5 @@
 -- What a mirror is, by which sides are in use.
-use Rattle.std.specs.Prelude.{Bool, true, false, ◌≡◌, ◌≢◌, ℕ, ◌<◌, ◌≤◌, List, take, Some, None}
+use Rattle.std.specs.Prelude.{Bool, true, false, ◌≡◌, ◌≢◌, ℕ, ◌+◌, ◌<◌, ◌≤◌, List, take, Some, None}
 use Rattle.iso_disk.specs.{Disk.DiskState, Untold.untold}
 use Rattle.mirror_disk.specs.{declared.slot.Slot.Slot, declared.marks.Marks.Marks, declared.used.Used.Used, declared.used.Used.TheVariants.{Plain, Both, OnlyFirst, OnlySecond, Broken, Unbound}, Header.{IsHeader, body, epoch, slot_epoch}, Pairs.{IsRising, mirrored, named_by, pair_at}, Slots.place}
 
@@ -76,3 +76,12 @@ pub record Stands (a b : DiskState) (used : Used) (past : List (ℕ × ℕ)) (e 
 
 abbrev pub StandsBy : DiskState → DiskState → Marks → (past : List (ℕ × ℕ)) → Type 0
 StandsBy a b marks past = Stands a b marks.used past marks.epoch marks.first_slot marks.second_slot
+
+-- sides that are so, of a mirror with room for n bytes from `at` on
+pub record HasRange (a b : DiskState) (marks : Marks) (past : List (ℕ × ℕ)) (at n : ℕ) : Type 0 where
+  pub stands : StandsBy a b marks past
+  pub fits : at + n ≤ (state_by marks a b past 0 0).size
+
+-- each image that a crash now may leave of the first of two disks has a larger epoch than each of the second one
+abbrev pub Leads : DiskState → DiskState → Type 0
+Leads a b = (x y : List ℕ) → a.now x → b.now y → epoch y < epoch x

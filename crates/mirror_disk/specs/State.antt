@@ -1,5 +1,6 @@
 -- The state of a mirror by its fields.
 use Rattle.std.{specs.Prelude.{◌≡◌, ◌≢◌, ◌⊎◌, ℕ, ◌<◌, ◌^◌, false, List, Option, None, Result, OnOk, OnErr}, proofs.Common.{arith, lit<}}
+use Rattle.counts.specs.Count.{Rose, faults_after}
 use Rattle.iso_disk.specs.{Disk.{DiskState, IsLawful}, declared.disk.Disk.Ghosts, Untold.{untold, untold_is_lawful}}
 use Rattle.mirror_disk.specs.{declared.slot.Slot.Slot, declared.used.Used.Used, declared.used.Used.TheVariants.{Plain, Both, OnlyFirst, OnlySecond, Broken, Unbound}, Failing.{AllFailed, CannotLeave, LeavesFailed}, Laws.lawful, declared.mirror.Mirror.Mirror, Pairs.named_by, Standing.{Stands, sides_in, state_in}}
 
@@ -17,15 +18,24 @@ CannotBeLeft {g = g} {h = h} old new = CannotLeave old.marks.used old.marks.epoc
 abbrev pub LeavesFailedOut : {A B : Type 0} {g : Ghosts A} {h : Ghosts B} → Mirror A B g h → Mirror A B g h → Type 0
 LeavesFailedOut {g = g} {h = h} old new = LeavesFailed old.marks.used new.marks.used (g.state old.first).faults (g.state new.first).faults (h.state old.second).faults (h.state new.second).faults
 
--- What every call on a mirror leaves: where it is done a side is in use, and one that is not in use is not called.
+-- What every call on a mirror leaves: where it is done a side is in use, one that is not in use is not called, and each fault is counted once.
 pub record HasCalled {T E A B : Type 0} {g : Ghosts A} {h : Ghosts B} (old new : Mirror A B g h) (result : Result T E) : Type 0 where
   pub unbound : OnOk result (old.marks.used ≢ Unbound)
   pub goes_on : OnOk result (new.marks.used ≢ Broken)
   pub first_idle : (sides_in old.marks.used).0 ≡ false → new.first ≡ old.first
   pub second_idle : (sides_in old.marks.used).1 ≡ false → new.second ≡ old.second
+  pub exact : (state_of new).faults ≡ faults_after (state_of old).faults result
 
--- and a write or a sync: a side that fails is left out, or the mirror breaks
+-- a read: it asks the second side only where the first one failed, and fails where each side in use has
+pub record HasRead {T E A B : Type 0} {g : Ghosts A} {h : Ghosts B} (old new : Mirror A B g h) (result : Result T E) : Type 0 where
+  pub called : HasCalled old new result
+  pub same : new.marks ≡ old.marks
+  pub second_last : old.marks.used ≡ Both → Rose (g.state old.first).faults (g.state new.first).faults ⊎ (new.second ≡ old.second)
+  pub counted : OnErr result (HasAllFailed old new)
+
+-- a write or a sync: a side that fails is left out, or the mirror breaks
 pub record HasChanged {T E A B : Type 0} {g : Ghosts A} {h : Ghosts B} (old new : Mirror A B g h) (result : Result T E) : Type 0 where
+  pub called : HasCalled old new result
   pub breaks : OnErr result (old.marks.used ≡ Both → new.marks.used ≡ Broken)
   pub same : new.marks ≡ record old.marks { used = new.marks.used }
   pub left : LeavesFailedOut old new

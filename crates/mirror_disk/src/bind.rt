@@ -1,8 +1,7 @@
 // Binding a mirror to a name.
-ghost use Rattle.std.specs.{Prelude.{◌≡◌, ◌⊎◌, ◌+◌, ◌^◌, ◌<◌, ◌≤◌, [], ℕ, List, Some, None, true, false, length, replicate, IfOk, OnOk, OnErr, IfNone, IfSome, IsSome}, Option.ForSome};
-ghost use Rattle.iso_disk.specs.Disk.{IsSettled};
+ghost use Rattle.std.specs.Prelude.{◌≡◌, ◌⊎◌, ◌+◌, ◌^◌, ◌<◌, ◌≤◌, ℕ, Some, None, true, false, length, OnErr};
 ghost use Rattle.counts.specs.Count.{HasCause, faults_after, one_more};
-ghost use Rattle.mirror_disk.specs.{Binding.{BecomePair, BindFails, BindsSides, BindsTo, EitherFailed, MakesOnFreeNames, RefusesBound}, declared.used.Used.TheVariants.Both, Pairs.{chosen_told, first_name, mirrored, second_name}, Standing.{StandsBy, state_by}};
+ghost use Rattle.mirror_disk.specs.{Binding.{BecomePair, BindFails, BindsSides, BindsTo, EitherFailed, MakesOnFreeNames, RefusesBound}, Pairs.{first_name, second_name}, Standing.{StandsBy, state_by}};
 
 use crate::adopt::adopt_sides;
 use crate::disk::count;
@@ -43,14 +42,7 @@ impl<A: Lookup, B: Lookup> Image for Mirror<A, B> {
     /// - the name has more than 4,095 bytes, or the size leaves no room for a header in a `u64`,
     /// - the sides, bound without a size, differ in size, or one of them has no header of a mirror.
     fn bind(&mut self, name: &str, want: Option<u64>) -> Result<(), DiskFault>
-        ensures size { OnOk result (IfSome want (λ w. (state_of self.new).size ≡ w)) }
-        ensures blank { OnOk result (IfSome want (λ w. ForSome (state_of self.new).contents (λ c. c ≡ replicate w 0))) }
-        ensures blank_after_crash { OnOk result (IfSome want (λ w. (c : List ℕ) → (state_of self.new).now c → c ≡ replicate w 0)) }
-        ensures existing { OnOk result (IfNone want (ForSome ((state_of self.old).named name.now) (λ c. (state_of self.new).contents ≡ Some c))) }
-        ensures settled { OnOk result (IfNone want (IsSettled (state_of self.new))) }
-        ensures told { OnOk result (IsSome ((state_of self.old).named name.now) → IsSome (state_of self.new).contents) }
-        ensures bound { OnOk result ((state_of self.new).bound ≡ Some ((state_of self.new).clock, name.now)) }
-        ensures unbound { OnErr result ((state_of self.new).bound ≡ None) }
+        ensures binds { BindsTo (state_of self.old) (state_of self.new) name.now want result }
         ensures counted { (state_of self.new).binds ≡ one_more (state_of self.old).binds }
         ensures cause { HasCause (state_of self.old).faults (state_of self.new).faults result }
         ensures exact { (state_of self.new).faults ≡ faults_after (state_of self.old).faults result }
@@ -78,12 +70,7 @@ fn make_sides<A: Image, B: Image>(
 ) -> Result<Marks, DiskFault>
     requires short { length name.now ≤ 4095 }
     requires room { size + 64 < 2 ^ 64 }
-    ensures pair { BecomePair (A.state first.old) (B.state second.old) (A.state first.new) (B.state second.new) name.now result }
-    ensures both { IfOk result (λ m. m.used ≡ Both) }
-    ensures size { OnOk result ((A.state first.new).size ≡ size + 64) }
-    ensures blank { OnOk result (ForSome (chosen_told (A.state first.new).contents (B.state second.new).contents) (λ c. c ≡ replicate size 0)) }
-    ensures blank_after_crash { OnOk result ((c : List ℕ) → (mirrored (A.state first.new) (B.state second.new) [] 0 0).now c → c ≡ replicate size 0) }
-    ensures told { OnOk result (IsSome (chosen_told ((A.state first.old).named (first_name name.now)) ((B.state second.old).named (second_name name.now))) → IsSome (chosen_told (A.state first.new).contents (B.state second.new).contents)) }
+    ensures pair { BecomePair (A.state first.old) (B.state second.old) (A.state first.new) (B.state second.new) name.now (Some size) result }
     ensures cause { OnErr result (EitherFailed A.state B.state (first.old, second.old) (first.new, second.new)) }
 {
     bind_side(first, name, FIRST, Some(size + HEADER))?;
@@ -100,8 +87,7 @@ fn take_sides<A: Image, B: Image>(
     name: &str,
 ) -> Result<Marks, DiskFault>
     requires { length name.now ≤ 4095 }
-    ensures pair { BecomePair (A.state first.old) (B.state second.old) (A.state first.new) (B.state second.new) name.now result }
-    ensures existing { OnOk result (ForSome (chosen_told ((A.state first.old).named (first_name name.now)) ((B.state second.old).named (second_name name.now))) (λ c. (chosen_told (A.state first.new).contents (B.state second.new).contents) ≡ Some c)) }
+    ensures pair { BecomePair (A.state first.old) (B.state second.old) (A.state first.new) (B.state second.new) name.now None result }
     ensures cause { OnErr result (EitherFailed A.state B.state (first.old, second.old) (first.new, second.new) ⊎ RefusesBound A.state B.state (first.old, second.old) name.now) }
 {
     bind_side(first, name, FIRST, None)?;
@@ -128,14 +114,8 @@ fn bind_sides<A: Lookup, B: Lookup>(
     name: &str,
     want: Option<u64>,
 ) -> Result<Marks, DiskFault>
-    ensures pair { BecomePair (A.state first.old) (B.state second.old) (A.state first.new) (B.state second.new) name.now result }
-    ensures made { IfOk result (λ m. IfSome want (λ w. m.used ≡ Both)) }
+    ensures pair { BecomePair (A.state first.old) (B.state second.old) (A.state first.new) (B.state second.new) name.now want result }
     ensures made_free { MakesOnFreeNames A.seen B.seen want first.old first.new second.old second.new name.now }
-    ensures size { OnOk result (IfSome want (λ w. (A.state first.new).size ≡ w + 64)) }
-    ensures blank { OnOk result (IfSome want (λ w. ForSome (chosen_told (A.state first.new).contents (B.state second.new).contents) (λ c. c ≡ replicate w 0))) }
-    ensures blank_after_crash { OnOk result (IfSome want (λ w. (c : List ℕ) → (mirrored (A.state first.new) (B.state second.new) [] 0 0).now c → c ≡ replicate w 0)) }
-    ensures existing { OnOk result (IfNone want (ForSome (chosen_told ((A.state first.old).named (first_name name.now)) ((B.state second.old).named (second_name name.now))) (λ c. (chosen_told (A.state first.new).contents (B.state second.new).contents) ≡ Some c))) }
-    ensures told { OnOk result (IsSome (chosen_told ((A.state first.old).named (first_name name.now)) ((B.state second.old).named (second_name name.now))) → IsSome (chosen_told (A.state first.new).contents (B.state second.new).contents)) }
     ensures cause { OnErr result (BindFails A.state B.state A.seen B.seen want (first.old, second.old) (first.new, second.new) name.now) }
 {
     if name.len() > LONGEST {
@@ -167,7 +147,6 @@ fn bind_parts<A: Lookup, B: Lookup>(
 ) -> Result<(), DiskFault>
     ensures stands { StandsBy (A.state first.new) (B.state second.new) marks.new past.new }
     ensures state { (was binds : ℕ) → BindsTo (state_by marks.old (A.state first.old) (B.state second.old) past.old faults.old was) (state_by marks.new (A.state first.new) (B.state second.new) past.new faults.new binds) name.now want result }
-    ensures unbound { (binds : ℕ) → OnErr result ((state_by marks.new (A.state first.new) (B.state second.new) past.new faults.new binds).bound ≡ None) }
     ensures cause { HasCause faults.old faults.new result }
     ensures exact { faults.new ≡ faults_after faults.old result }
     ensures sides { BindsSides A.state B.state A.seen B.seen want (first.old, second.old) (first.new, second.new) name.now marks.new.used result }

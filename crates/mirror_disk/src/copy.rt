@@ -1,8 +1,7 @@
 // Copying the mirrored bytes of one side to the other.
 ghost use Rattle.std.specs.Prelude.{◌≡◌, ◌≢◌, ◌+◌, ◌≤◌, ℕ, List, Some, length, take, drop, true, false, IfOk};
-ghost use Rattle.iso_disk.specs.Disk.{IsSettled, LeavesOnly, TellsTorn, TornFrom, WritesNothing};
-ghost use Rattle.counts.specs.Count.{Rose};
-ghost use Rattle.mirror_disk.specs.{Adopting.Copies, Header.body};
+ghost use Rattle.iso_disk.specs.Disk.{WritesNothing, spliced};
+ghost use Rattle.mirror_disk.specs.{Adopting.{AreSized, Copies, HasPiece, IsCopied}, Called.SideCalled, Header.body};
 
 use crate::sides::HEADER;
 use iso_disk::{Disk, DiskFault};
@@ -17,11 +16,9 @@ pub(crate) fn copy_body<C: Disk, O: Disk>(
     to: &mut O,
     count: u64,
 ) -> Result<bool, DiskFault>
-    requires from { (C.state from.old).size ≡ 64 + count }
-    requires to { (O.state to.old).size ≡ 64 + count }
+    requires { AreSized (C.state from.old) (O.state to.old) count }
     ensures copies { Copies (C.state from.old) (O.state to.old) (C.state from.new) (O.state to.new) 64 count result }
-    ensures settled { IfOk result (λ done. done ≡ true → IsSettled (O.state to.new)) }
-    ensures alike { IfOk result (λ done. done ≡ true → (x y : List ℕ) → (C.state from.old).contents ≡ Some x → (O.state to.new).contents ≡ Some y → body y ≡ body x) }
+    ensures copied { IfOk result (λ done. done ≡ true → IsCopied (C.state from.old) (O.state to.new)) }
 {
     let mut piece = [0; PIECE];
     let mut there = [0; PIECE];
@@ -51,8 +48,7 @@ fn copy_piece<C: Disk, O: Disk>(
     there: &mut [u8],
 ) -> Result<bool, DiskFault>
     requires from { 64 + at + length piece.old ≤ (C.state from.old).size }
-    requires to { 64 + at + length piece.old ≤ (O.state to.old).size }
-    requires there { length there.old ≡ length piece.old }
+    requires to { HasPiece (O.state to.old) at piece.old there.old }
     ensures copies { Copies (C.state from.old) (O.state to.old) (C.state from.new) (O.state to.new) (64 + at) (length piece.old) result }
     ensures copied { IfOk result (λ done. done ≡ true → (x y : List ℕ) → (C.state from.old).contents ≡ Some x → (O.state to.new).contents ≡ Some y
         → (z : List ℕ) × ((O.state to.old).contents ≡ Some z) × (take at (body y) ≡ take at (body z)) × (take (length piece.old) (drop at (body y)) ≡ take (length piece.old) (drop at (body x)))) }
@@ -63,15 +59,9 @@ fn copy_piece<C: Disk, O: Disk>(
 
 /// Writes a piece from a place of the mirrored bytes on, if others are there. False where the side fails.
 fn lay_piece<O: Disk>(to: &mut O, at: u64, piece: &[u8], there: &mut [u8]) -> bool
-    requires fits { 64 + at + length piece.now ≤ (O.state to.old).size }
-    requires there { length there.old ≡ length piece.now }
-    ensures moments { LeavesOnly (O.state to.old) (O.state to.new) (TornFrom (64 + at) (length piece.now) (O.state to.old).now) }
-    ensures torn { TellsTorn (64 + at) (length piece.now) (O.state to.old) (O.state to.new) }
-    ensures laid { result ≡ true → (y : List ℕ) → (O.state to.new).contents ≡ Some y
-        → (z : List ℕ) × ((O.state to.old).contents ≡ Some z) × (take at (body y) ≡ take at (body z)) × (take (length piece.now) (drop at (body y)) ≡ piece.now) }
+    requires { HasPiece (O.state to.old) at piece.now there.old }
+    ensures called { SideCalled at (length piece.now) (λ c. spliced c at piece.now) (O.state to.old) (O.state to.new) result }
     ensures still { (y : List ℕ) → (O.state to.old).contents ≡ Some y → take (length piece.now) (drop at (body y)) ≡ piece.now → WritesNothing (O.state to.old) (O.state to.new) }
-    ensures later { (O.state to.old).faults ≤ (O.state to.new).faults }
-    ensures failed { result ≡ false → Rose (O.state to.old).faults (O.state to.new).faults }
 {
     let Ok(()) = to.read(HEADER + at, there) else {
         return false;

@@ -1,8 +1,8 @@
 // A mirror as a disk.
-ghost use Rattle.std.specs.{Prelude.{◌≡◌, ◌⊎◌, ◌+◌, ◌≤◌, true, false, length, OnOk, OnErr}, List.slice_range, Option.ForSome};
+ghost use Rattle.std.specs.{Prelude.{◌≡◌, ◌+◌, ◌≤◌, length, OnOk, OnErr}, List.slice_range, Option.ForSome};
 ghost use Rattle.iso_disk.specs.Disk.{Elapses, IsSettled, Splices, TellsTorn, TornFrom};
-ghost use Rattle.counts.specs.Count.{HasCause, Rose, faults_after};
-ghost use Rattle.mirror_disk.specs.{declared.used.Used.TheVariants.Both};
+ghost use Rattle.counts.specs.Count.{HasCause};
+ghost use Rattle.mirror_disk.specs.Failing.{IsCounted};
 
 use crate::mirror::Mirror;
 use crate::sides::{HEADER, read_sides, sync_sides, write_sides};
@@ -11,7 +11,7 @@ use counts::raise;
 use iso_disk::{Disk, DiskFault, Image};
 
 impl<A: Image, B: Image> Disk for Mirror<A, B> {
-    ghost use Rattle.mirror_disk.specs.State.{HasAllFailed, HasCalled, HasChanged, mirror_lawful, mirror_size, state_of};
+    ghost use Rattle.mirror_disk.specs.State.{HasChanged, HasRead, mirror_lawful, mirror_size, state_of};
 
     ghost state = { state_of };
 
@@ -39,12 +39,8 @@ impl<A: Image, B: Image> Disk for Mirror<A, B> {
         ensures bytes { OnOk result (ForSome (state_of self.old).contents (λ c. into.new ≡ slice_range c at (at + length into.old))) }
         ensures contents { (state_of self.new).contents ≡ (state_of self.old).contents }
         ensures crash { Elapses (state_of self.old) (state_of self.new) (state_of self.old).now }
-        ensures called { HasCalled self.old self.new result }
-        ensures same { self.new.marks ≡ self.old.marks }
+        ensures asked { HasRead self.old self.new result }
         ensures cause { HasCause (state_of self.old).faults (state_of self.new).faults result }
-        ensures exact { (state_of self.new).faults ≡ faults_after (state_of self.old).faults result }
-        ensures second_last { self.old.marks.used ≡ Both → Rose (A.state self.old.first).faults (A.state self.new.first).faults ⊎ (self.new.second ≡ self.old.second) }
-        ensures counted { OnErr result (HasAllFailed self.old self.new) }
     {
         let done = read_sides(
             &mut self.first,
@@ -68,10 +64,8 @@ impl<A: Image, B: Image> Disk for Mirror<A, B> {
         ensures written { OnOk result (Splices at bytes.now (state_of self.old) (state_of self.new)) }
         ensures failed { OnErr result (TellsTorn at (length bytes.now) (state_of self.old) (state_of self.new)) }
         ensures crash { Elapses (state_of self.old) (state_of self.new) (TornFrom at (length bytes.now) (state_of self.old).now) }
-        ensures called { HasCalled self.old self.new result }
         ensures changed { HasChanged self.old self.new result }
         ensures cause { HasCause (state_of self.old).faults (state_of self.new).faults result }
-        ensures exact { (state_of self.new).faults ≡ faults_after (state_of self.old).faults result }
     {
         let (used, done) = write_sides(
             &mut self.first,
@@ -94,10 +88,8 @@ impl<A: Image, B: Image> Disk for Mirror<A, B> {
         ensures settled { OnOk result (IsSettled (state_of self.new)) }
         ensures contents { (state_of self.new).contents ≡ (state_of self.old).contents }
         ensures crash { Elapses (state_of self.old) (state_of self.new) (state_of self.old).now }
-        ensures called { HasCalled self.old self.new result }
         ensures changed { HasChanged self.old self.new result }
         ensures cause { HasCause (state_of self.old).faults (state_of self.new).faults result }
-        ensures exact { (state_of self.new).faults ≡ faults_after (state_of self.old).faults result }
     {
         let (used, done) = sync_sides(
             &mut self.first,
@@ -112,10 +104,7 @@ impl<A: Image, B: Image> Disk for Mirror<A, B> {
 
 /// Counts a fault where a call was not done.
 pub(crate) fn count(faults: &mut u64, done: bool) -> Result<(), DiskFault>
-    ensures cause { HasCause faults.old faults.new result }
-    ensures exact { faults.new ≡ faults_after faults.old result }
-    ensures done { OnOk result (done ≡ true) }
-    ensures failed { OnErr result (done ≡ false) }
+    ensures { IsCounted faults.old faults.new done result }
 {
     if done {
         return Ok(());

@@ -1,8 +1,8 @@
 // The first 64 bytes of a side.
-ghost use Rattle.std.specs.Prelude.{◌≡◌, ◌≢◌, ◌+◌, ◌≤◌, length, take, drop, replicate, true, false, IfOk, IfSome, IfNone, OnOk, None};
-ghost use Rattle.iso_disk.specs.Disk.{IsSettled, Splices, WritesNothing};
+ghost use Rattle.std.specs.Prelude.{◌≡◌, ◌≢◌, ◌+◌, ◌≤◌, length, take, drop, true, false, IfOk, IfSome, IfNone};
+ghost use Rattle.iso_disk.specs.Disk.{IsSettled, WritesNothing};
 ghost use Rattle.counts.specs.Count.{HasCause};
-ghost use Rattle.mirror_disk.specs.{Adopting.TellsNoHeader, Header.{IsHeader, IsSlot, blank_header, last_epoch, slot_epoch, word}, Raised.{HasEpoch, HasMark}};
+ghost use Rattle.mirror_disk.specs.{Adopting.ShowsHeader, Binding.LaysHeader, Header.{IsFramed, IsHeader, IsSlot, last_epoch, slot_epoch}, Raised.HasEpoch};
 
 use crate::raise::ZEROS;
 use crate::sides::{HEADER, LAST};
@@ -32,11 +32,7 @@ const BLANK: [u8; LENGTH] =
 /// Lays the header of a blank side, and makes it stable.
 pub(crate) fn lay_header<D: Disk>(disk: &mut D) -> Result<(), DiskFault>
     requires { 64 ≤ (D.state disk.old).size }
-    ensures size { (D.state disk.new).size ≡ (D.state disk.old).size }
-    ensures bound { (D.state disk.new).bound ≡ (D.state disk.old).bound }
-    ensures written { OnOk result (Splices 0 blank_header (D.state disk.old) (D.state disk.new)) }
-    ensures settled { OnOk result (IsSettled (D.state disk.new)) }
-    ensures cause { HasCause (D.state disk.old).faults (D.state disk.new).faults result }
+    ensures { LaysHeader (D.state disk.old) (D.state disk.new) result }
 {
     disk.write(0, &BLANK)?;
     disk.sync()
@@ -47,9 +43,7 @@ pub(crate) fn lay_header<D: Disk>(disk: &mut D) -> Result<(), DiskFault>
 pub(crate) fn read_header<D: Disk>(disk: &mut D) -> Result<Option<Mark>, DiskFault>
     requires { IsSettled (D.state disk.old) }
     ensures unwritten { WritesNothing (D.state disk.old) (D.state disk.new) }
-    ensures size { IfOk result (λ mark. IfSome mark (λ m. 64 ≤ (D.state disk.old).size)) }
-    ensures mark { IfOk result (λ mark. IfSome mark (HasMark (D.state disk.old))) }
-    ensures none { IfOk result (λ mark. mark ≡ None → TellsNoHeader (D.state disk.old)) }
+    ensures header { IfOk result (ShowsHeader (D.state disk.old)) }
     ensures cause { HasCause (D.state disk.old).faults (D.state disk.new).faults result }
 {
     if disk.size() < HEADER {
@@ -88,9 +82,7 @@ fn read_mark(header: &[u8; 64]) -> Option<Mark>
 
 /// Whether the bytes around the slots are those of a header.
 fn is_framed(header: &[u8; 64]) -> bool
-    ensures begins { result ≡ true → take 8 header.now ≡ word }
-    ensures gap { result ≡ true → take 8 (drop 8 header.now) ≡ replicate 8 0 }
-    ensures end { result ≡ true → take 16 (drop 48 header.now) ≡ replicate 16 0 }
+    ensures framed { result ≡ true → IsFramed header.now }
     ensures none { result ≡ false → IsHeader header.now → ⊥ }
 {
     has_bytes(header, 0, &WORD)

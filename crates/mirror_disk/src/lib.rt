@@ -9,6 +9,7 @@ mod adopt;
 mod bind;
 mod copy;
 mod disk;
+mod error;
 mod header;
 mod marks;
 mod mirror;
@@ -20,5 +21,5 @@ mod slot;
 mod take;
 mod used;
 
-pub use adopt::MirrorError;
+pub use error::MirrorError;
 pub use mirror::Mirror;

@@ -1,5 +1,5 @@
 // The mirror itself.
-ghost use Rattle.std.specs.Prelude.{◌≡◌, ◌<◌, ℕ, List};
+ghost use Rattle.std.specs.Prelude.{◌≡◌};
 ghost use Rattle.mirror_disk.specs.Standing.{StandsBy};
 
 use crate::marks::Marks;
@@ -24,7 +24,7 @@ pub struct Mirror<A: Image, B: Image> {
 }
 
 impl<A: Image, B: Image> Mirror<A, B> {
-    ghost use Rattle.mirror_disk.specs.{declared.used.Used.TheVariants.{OnlyFirst, OnlySecond, Plain}, Header.{IsHeader, epoch}, Standing.{FromA, FromB, IsPair, sides_in}};
+    ghost use Rattle.mirror_disk.specs.{declared.used.Used.TheVariants.{OnlyFirst, OnlySecond, Plain}, Standing.{ArePair, IsPair, Leads, sides_in}};
 
     /// A mirror that is not bound yet: until then it is its first side alone. It takes no memory.
     pub fn of(first: A, second: B) -> Mirror<A, B>
@@ -47,11 +47,10 @@ impl<A: Image, B: Image> Mirror<A, B> {
     pub fn sides(&self) -> (bool, bool)
         ensures used { result ≡ sides_in self.now.marks.used }
         // A side that was left out has the lower epoch, so a later adopt takes the other one.
-        ensures first_leads { self.now.marks.used ≡ OnlyFirst → (x y : List ℕ) → (A.state self.now.first).now x → (B.state self.now.second).now y → epoch y < epoch x }
-        ensures second_leads { self.now.marks.used ≡ OnlySecond → (x y : List ℕ) → (A.state self.now.first).now x → (B.state self.now.second).now y → epoch x < epoch y }
+        ensures first_leads { self.now.marks.used ≡ OnlyFirst → Leads (A.state self.now.first) (B.state self.now.second) }
+        ensures second_leads { self.now.marks.used ≡ OnlySecond → Leads (B.state self.now.second) (A.state self.now.first) }
         // Each image that a crash might have left of either side since the bind has a header, so an adopt takes the two.
-        ensures first_headers { IsPair self.now.marks.used → (x : List ℕ) → FromA (A.state self.now.first) (B.state self.now.second) self.now.past x → IsHeader x }
-        ensures second_headers { IsPair self.now.marks.used → (y : List ℕ) → FromB (A.state self.now.first) (B.state self.now.second) self.now.past y → IsHeader y }
+        ensures pair { IsPair self.now.marks.used → ArePair (A.state self.now.first) (B.state self.now.second) self.now.past }
     {
         match self.marks.used {
             Used::Both => (true, true),

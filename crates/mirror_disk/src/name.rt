@@ -1,7 +1,7 @@
 // The names of a mirror and of its sides.
-ghost use Rattle.std.specs.{Prelude.{◌≡◌, ◌+◌, ◌<◌, ◌≤◌, [], ◌∷◌, ◌++◌, length, take}, Str.IsUtf8};
+ghost use Rattle.std.specs.{Prelude.{◌≡◌, ◌+◌, ◌≤◌, [], ◌∷◌, ◌++◌, length, take}, Str.IsUtf8};
 ghost use Rattle.counts.specs.Count.{HasCause};
-ghost use Rattle.mirror_disk.specs.{Binding.BindsTo, Pairs.names_mirror};
+ghost use Rattle.mirror_disk.specs.{Binding.{BindsTo, HasRoomFor}, Pairs.names_mirror};
 
 use iso_disk::{DiskFault, Image, Lookup};
 use std::str;
@@ -29,8 +29,7 @@ pub(crate) fn bind_side<I: Image>(
     digit: u8,
     want: Option<u64>,
 ) -> Result<(), DiskFault>
-    requires short { length name.now ≤ 4095 }
-    requires digit { digit < 128 }
+    requires { HasRoomFor name.now digit }
     ensures binds { BindsTo (I.state side.old) (I.state side.new) (name.now ++ digit ∷ []) want result }
     ensures cause { HasCause (I.state side.old).faults (I.state side.new).faults result }
 {
@@ -41,8 +40,7 @@ pub(crate) fn bind_side<I: Image>(
 
 /// Whether a side sees that a name with one byte more is free.
 pub(crate) fn is_side_free<I: Lookup>(side: &I, name: &str, digit: u8) -> bool
-    requires short { length name.now ≤ 4095 }
-    requires digit { digit < 128 }
+    requires { HasRoomFor name.now digit }
     ensures { I.seen side.now (name.now ++ digit ∷ []) result }
 {
     let mut buffer = [0; LONGEST + 1];

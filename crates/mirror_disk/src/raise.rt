@@ -1,8 +1,7 @@
 // Raising the epoch of a side.
-ghost use Rattle.std.specs.Prelude.{◌≡◌, ◌<◌, ◌≤◌, ℕ, OnOk};
-ghost use Rattle.iso_disk.specs.Disk.{IsSettled};
+ghost use Rattle.std.specs.Prelude.{◌≡◌, ◌≤◌, ℕ, OnOk};
 ghost use Rattle.commit_gate.specs.Gate.{IsClosed};
-ghost use Rattle.mirror_disk.specs.{Slots.{other, place}, Header.{last_epoch, slot_body}, Raised.{EachNow, HasEpoch, HoldsEpoch, IsMarked, KeepsEpoch, RaisesTo}};
+ghost use Rattle.mirror_disk.specs.{Header.slot_body, Raised.{EachNow, Follows, HasEpoch, HasGate, IsLaid, IsMarked, KeepsEpoch, RaisesTo}};
 
 use crate::slot::Slot;
 use commit_gate::{open_gate, put_body, shut_gate, stands_closed};
@@ -17,8 +16,7 @@ const BODY: usize = 15;
 /// Puts an epoch into the slot that does not hold the one so far, and opens its gate.
 pub(crate) fn raise_epoch<D: Disk>(disk: &mut D, slot: Slot, next: u64) -> Result<(), DiskFault>
     requires size { 64 ≤ (D.state disk.old).size }
-    requires last { next ≤ last_epoch }
-    requires marked { (e : ℕ) × IsMarked slot e (D.state disk.old) × (e ≤ next) }
+    requires follows { Follows (λ e. IsMarked slot e (D.state disk.old)) next }
     ensures { RaisesTo (λ e. IsMarked slot e (D.state disk.old)) slot next (D.state disk.old) (D.state disk.new) result }
 {
     let gate = slot.other().place();
@@ -29,8 +27,7 @@ pub(crate) fn raise_epoch<D: Disk>(disk: &mut D, slot: Slot, next: u64) -> Resul
 
 /// Shuts the gate of the slot that is not this one, where it is open.
 fn shut_slot<D: Disk>(disk: &mut D, slot: Slot, gate: u64) -> Result<(), DiskFault>
-    requires size { 64 ≤ (D.state disk.old).size }
-    requires gate { gate ≡ place (other slot) }
+    requires { HasGate (D.state disk.old) slot gate }
     ensures kept { KeepsEpoch (λ e. IsMarked slot e (D.state disk.old)) slot (D.state disk.old) (D.state disk.new) result }
     ensures shut { (e : ℕ) → IsMarked slot e (D.state disk.old) → OnOk result (EachNow (D.state disk.new) (IsClosed gate)) }
 {
@@ -42,13 +39,10 @@ fn shut_slot<D: Disk>(disk: &mut D, slot: Slot, gate: u64) -> Result<(), DiskFau
 
 /// Puts an epoch after the closed gate of the slot that is not this one.
 fn put_epoch<D: Disk>(disk: &mut D, slot: Slot, gate: u64, next: u64) -> Result<(), DiskFault>
-    requires size { 64 ≤ (D.state disk.old).size }
-    requires gate { gate ≡ place (other slot) }
+    requires at { HasGate (D.state disk.old) slot gate }
     requires closed { EachNow (D.state disk.old) (IsClosed gate) }
     ensures kept { KeepsEpoch (λ e. EachNow (D.state disk.old) (HasEpoch slot e)) slot (D.state disk.old) (D.state disk.new) result }
-    ensures closed { OnOk result (EachNow (D.state disk.new) (IsClosed gate)) }
-    ensures holds { OnOk result (EachNow (D.state disk.new) (HoldsEpoch gate next)) }
-    ensures settled { OnOk result (IsSettled (D.state disk.new)) }
+    ensures laid { OnOk result (IsLaid gate next (D.state disk.new)) }
 {
     put_body(disk, gate, &spell(next))
 }
@@ -64,13 +58,9 @@ fn spell(epoch: u64) -> [u8; 15]
 
 /// Opens the gate of the slot that is not this one.
 fn open_slot<D: Disk>(disk: &mut D, slot: Slot, gate: u64, next: u64) -> Result<(), DiskFault>
-    requires size { 64 ≤ (D.state disk.old).size }
-    requires gate { gate ≡ place (other slot) }
-    requires closed { EachNow (D.state disk.old) (IsClosed gate) }
-    requires last { next ≤ last_epoch }
-    requires holds { EachNow (D.state disk.old) (HoldsEpoch gate next) }
-    requires settled { IsSettled (D.state disk.old) }
-    requires marked { (e : ℕ) × EachNow (D.state disk.old) (HasEpoch slot e) × (e ≤ next) }
+    requires at { HasGate (D.state disk.old) slot gate }
+    requires laid { IsLaid gate next (D.state disk.old) }
+    requires follows { Follows (λ e. EachNow (D.state disk.old) (HasEpoch slot e)) next }
     ensures { RaisesTo (λ e. EachNow (D.state disk.old) (HasEpoch slot e)) slot next (D.state disk.old) (D.state disk.new) result }
 {
     open_gate(disk, gate)

@@ -1,8 +1,7 @@
 // Calls on the sides of a mirror that are in use.
-ghost use Rattle.std.specs.{Prelude.{◌≡◌, ◌⊎◌, ◌+◌, ◌≤◌, ℕ, List, length, true, false}, List.slice_range, Option.ForSome};
-ghost use Rattle.iso_disk.specs.Disk.{IsSettled, LeavesOnly, spliced};
-ghost use Rattle.counts.specs.Count.{Rose};
-ghost use Rattle.mirror_disk.specs.{Called.{ChangesSides, ReadsSides, SideCalled, SyncsSides}, Ended.{BothAsked, HasEnded}, Failing.HasLeft, Header.last_epoch, Raised.{EachNow, HasEpoch, IsMarked, KeepsBody, Raising}, Slots.other, Standing.{StandsBy, state_by}};
+ghost use Rattle.std.specs.Prelude.{◌≡◌, ◌+◌, ◌≤◌, length, true};
+ghost use Rattle.iso_disk.specs.Disk.{IsSettled, spliced};
+ghost use Rattle.mirror_disk.specs.{Called.{ChangesSides, ReadsSides, SideCalled, SideRead, SyncsSides}, Ended.{EndsAsked, WereAsked}, Failing.HasLeft, Raised.{IsMarked, RaisesByOne}, Standing.{HasRange, StandsBy}};
 
 use crate::marks::Marks;
 use crate::past::Past;
@@ -26,8 +25,7 @@ pub(crate) fn write_sides<A: Disk, B: Disk>(
     at: u64,
     bytes: &[u8],
 ) -> (Used, bool)
-    requires stands { StandsBy (A.state first.old) (B.state second.old) marks past.old }
-    requires fits { at + length bytes.now ≤ (state_by marks (A.state first.old) (B.state second.old) past.old 0 0).size }
+    requires { HasRange (A.state first.old) (B.state second.old) marks past.old at (length bytes.now) }
     ensures { ChangesSides A.state B.state marks past.old past.new at (length bytes.now) (λ c. spliced c at bytes.now) (first.old, second.old) (first.new, second.new) result }
 {
     let next = Past::later(first, second, past);
@@ -99,8 +97,7 @@ pub(crate) fn read_sides<A: Disk, B: Disk>(
     at: u64,
     into: &mut [u8],
 ) -> bool
-    requires stands { StandsBy (A.state first.old) (B.state second.old) marks past.old }
-    requires fits { at + length into.old ≤ (state_by marks (A.state first.old) (B.state second.old) past.old 0 0).size }
+    requires { HasRange (A.state first.old) (B.state second.old) marks past.old at (length into.old) }
     ensures { ReadsSides A.state B.state marks past.old past.new at (length into.old) into.new (first.old, second.old) (first.new, second.new) result }
 {
     let next = Past::later(first, second, past);
@@ -138,9 +135,7 @@ fn sync_side<D: Disk>(side: &mut D) -> bool
 /// Reads behind the header of a side, and says whether it was done.
 fn read_side<D: Disk>(side: &mut D, at: u64, into: &mut [u8]) -> bool
     requires { 64 + at + length into.old ≤ (D.state side.old).size }
-    ensures called { SideCalled 0 0 (λ c. c) (D.state side.old) (D.state side.new) result }
-    ensures contents { (D.state side.new).contents ≡ (D.state side.old).contents }
-    ensures bytes { result ≡ true → ForSome (D.state side.old).contents (λ c. into.new ≡ slice_range c (64 + at) (64 + at + length into.old)) }
+    ensures { SideRead at (length into.old) into.new (D.state side.old) (D.state side.new) result }
 {
     side.read(HEADER + at, into).is_ok()
 }
@@ -153,11 +148,8 @@ fn leave_out<A: Disk, B: Disk>(
     first_done: bool,
     second_done: bool,
 ) -> Used
-    requires asked { (x : A) × (y : B) × (past : List (ℕ × ℕ)) × (at : ℕ) × (n : ℕ)
-        × BothAsked (A.state x) (B.state y) (A.state first.old) (B.state second.old) past marks.epoch marks.first_slot marks.second_slot at n first_done second_done }
-    ensures ended { (x : A) (y : B) (past : List (ℕ × ℕ)) (at n : ℕ)
-        → BothAsked (A.state x) (B.state y) (A.state first.old) (B.state second.old) past marks.epoch marks.first_slot marks.second_slot at n first_done second_done
-        → HasEnded (A.state x) (B.state y) (A.state first.new) (B.state second.new) result past marks.epoch marks.first_slot marks.second_slot at n }
+    requires asked { WereAsked A.state B.state marks (first.old, second.old) first_done second_done }
+    ensures ended { EndsAsked A.state B.state marks (first.old, second.old) (first.new, second.new) first_done second_done result }
     ensures left { HasLeft (A.state first.old) (B.state second.old) (A.state first.new) (B.state second.new) result marks.epoch first_done second_done }
 {
     if first_done {
@@ -182,12 +174,7 @@ fn leave_out<A: Disk, B: Disk>(
 pub(crate) fn raise_by_one<D: Disk>(disk: &mut D, slot: Slot, epoch: u64) -> bool
     requires size { 64 ≤ (D.state disk.old).size }
     requires marked { IsMarked slot epoch (D.state disk.old) }
-    ensures moments { LeavesOnly (D.state disk.old) (D.state disk.new) (Raising epoch (epoch + 1) (D.state disk.old)) }
-    ensures raised { result ≡ true → EachNow (D.state disk.new) (HasEpoch (other slot) (epoch + 1)) }
-    ensures settled { result ≡ true → IsSettled (D.state disk.new) }
-    ensures body { KeepsBody (D.state disk.old) (D.state disk.new) }
-    ensures later { (D.state disk.old).faults ≤ (D.state disk.new).faults }
-    ensures cause { result ≡ false → (last_epoch ≤ epoch) ⊎ Rose (D.state disk.old).faults (D.state disk.new).faults }
+    ensures { RaisesByOne slot epoch (D.state disk.old) (D.state disk.new) result }
 {
     if epoch >= LAST {
         return false;

@@ -1,7 +1,7 @@
-use Rattle.kept_disk.proofs.{Words.{rules, ◌+◌, ◌-◌, ◌≡◌, ℕ, List, length, take, drop, sym, ◌∙◌, ap, subst, arith, on_ok_weaker, spliced, spliced_torn, take-drop-spliced, Torn}, Slices.{length-slice, part_written}}
+use Rattle.kept_disk.proofs.{Words.{◌+◌, ◌-◌, ◌≡◌, ℕ, List, length, take, drop, sym, ◌∙◌, ap, subst, arith, on_ok_weaker, spliced, spliced_torn, take-drop-spliced, Torn}, Slices.{length-slice, part_written}}
 
-pub returns : Rattle.kept_disk.proofs.pages.read_into.Goals.returns
-returns g c =
+pub returns-clause-read : Rattle.kept_disk.proofs.pages.read_into.Goals.returns-clause-read
+returns-clause-read g c =
     let bytes = c.args.bytes.now in
     let from = c.args.from in
     let len = c.args.len in
@@ -21,6 +21,5 @@ returns g c =
           c.read.ensures.bytes;
       others = subst (λ (l : List ℕ). Torn from len bytes.items l) (sym part)
           (subst (λ (k : ℕ). Torn from k bytes.items (spliced bytes.items from into)) count (spliced_torn bytes.items from into (omega (arith, count, c.requires.within))));
-      room = search rules;
       looked = record { contents = c.read.ensures.contents; crash = c.read.ensures.crash; cause = c.read.ensures.cause };
     }

@@ -1,7 +1,10 @@
 use Rattle.kept_disk.proofs.{Words.{◌≡◌, ◌<◌, ◌+◌, ◌-◌, ◌%◌, ℕ, List, get_or, sym, subst, arith, spliced, IsHeld, Stand, from_of, page_at, start_of}, Paging.from_start, Standing.{stand_apart, stand_put}}
 
-pub put-requires-clause-held : Rattle.kept_disk.proofs.parts.lay_part.Goals.put-requires-clause-held
-put-requires-clause-held c = subst (λ (k : ℕ). IsHeld c.give_bytes.new.self.numbers.items k) c.page_at-number.ensures (subst (λ v. IsHeld v.items c.page_at-number.result) (sym c.give_bytes.ensures.numbers) (c.holds.ensures.0 c.if-holds.true))
+pub put-requires-clause-part : Rattle.kept_disk.proofs.parts.lay_part.Goals.put-requires-clause-part
+put-requires-clause-part c = record {
+  held = subst (λ (k : ℕ). IsHeld c.give_bytes.new.self.numbers.items k) c.page_at-number.ensures (subst (λ v. IsHeld v.items c.page_at-number.result) (sym c.give_bytes.ensures.numbers) (c.holds.ensures.0 c.if-holds.true));
+  inside = c.requires;
+}
 
 pub returns-then-holds : Rattle.kept_disk.proofs.parts.lay_part.Goals.returns-then-holds
 returns-then-holds c l fits stand =
@@ -31,4 +34,4 @@ returns-then-has_place c l fits stand =
     let number = c.page_at-number.result in
     let pages = c.hold_written.new.self in
     let same : start_of number ≡ c.args.at = omega (arith, c.page_at-number.ensures, from_start c.args.at, c.requires) in
-    subst (λ (a : ℕ). Stand pages.numbers.items pages.ends.items pages.bytes.items (spliced l a c.args.bytes.now)) same (c.hold_written.ensures l (omega (arith, c.page_at-number.ensures, fits, same, c.requires)) stand)
+    subst (λ (a : ℕ). Stand pages.numbers.items pages.ends.items pages.bytes.items (spliced l a c.args.bytes.now)) same (c.hold_written.ensures l (omega (arith, fits, same)) stand)

@@ -1,4 +1,4 @@
-use Rattle.mirror_disk.proofs.{Words.{◌≡◌, ◌≤◌, ◌+◌, ℕ, length, take, drop, sym, ◌∙◌, subst, arith, length-append, length-drop, length-take-le, joined_unwritten, lasts, runs_inside, body}, Copying.{copied_all, copied_more, length-body, torn_more, torn_stays}, Done.rose_behind, Handed.synced}
+use Rattle.mirror_disk.proofs.{Words.{◌≡◌, ◌≤◌, ◌+◌, ℕ, length, take, drop, sym, ◌∙◌, subst, arith, length-append, length-drop, length-take-le, joined_unwritten, lasts, runs_inside, body}, Copying.{copied_all, copied_more, length-body, torn_more, torn_stays}, Done.{by_done, rose_behind}, Handed.synced}
 use Rattle.std.proofs.{Common.rules, lemmas.Grind.common_steps}
 use Rattle.mirror_disk.proofs.copy.copy_body.Goals as goal
 
@@ -66,14 +66,17 @@ loop-done-preserved g c =
       later = omega (arith, so_far.later, c.copy_piece.ensures.copies.later);
     }
 
-pub returns-clause-alike : goal.returns-clause-alike
-returns-clause-alike g c done x y told told' =
-    let so_far = c.loop-done.invariant in
-    let all : c.loop-done.done ≡ c.args.count = omega (arith, so_far.within, c.loop-done-test.false) in
-    let here = sym c.sync.ensures.contents ∙ told' in
-    let one = length-body c.args.count (g.met.C.Disk.lawful c.args.from.now) c.requires.from x told in
-    let two = length-body c.args.count (g.met.O.Disk.lawful c.loop-done.to) (so_far.moments.same_size ∙ c.requires.to) y here in
-    copied_all (body x) (body y) c.args.count one two (subst (λ (m : ℕ). take m (body y) ≡ take m (body x)) all (so_far.alike x y told here))
+pub returns-clause-copied : goal.returns-clause-copied
+returns-clause-copied g c done = record {
+  settled = by_done c.sync.result (sym c.is_ok.ensures.value ∙ done) c.sync.ensures.settled;
+  alike = λ x y told told'.
+      let so_far = c.loop-done.invariant in
+      let all : c.loop-done.done ≡ c.args.count = omega (arith, so_far.within, c.loop-done-test.false) in
+      let here = sym c.sync.ensures.contents ∙ told' in
+      let one = length-body c.args.count (g.met.C.Disk.lawful c.args.from.now) c.requires.from x told in
+      let two = length-body c.args.count (g.met.O.Disk.lawful c.loop-done.to) (so_far.moments.same_size ∙ c.requires.to) y here in
+      copied_all (body x) (body y) c.args.count one two (subst (λ (m : ℕ). take m (body y) ≡ take m (body x)) all (so_far.alike x y told here));
+}
 
 pub returns-clause-copies : goal.returns-clause-copies
 returns-clause-copies g c =
@@ -89,3 +92,11 @@ returns-clause-copies g c =
       later = omega (arith, so_far.later, c.sync.ensures.cause.later);
       failed = first_of (search rules, grind (arith, common_steps));
     }
+
+pub copy_piece-requires-clause-to : goal.copy_piece-requires-clause-to
+copy_piece-requires-clause-to g c =
+    let so_far = c.loop-done.invariant in
+    let n = c.min-len.result in
+    let len : length (take n c.loop-done.piece) ≡ n = length-take-le n c.loop-done.piece (omega (arith, c.min-len.ensures, so_far.size)) in
+    let room : length (take n c.loop-done.there) ≡ n = length-take-le n c.loop-done.there (omega (arith, c.min-len.ensures, so_far.room)) in
+    record { fits = omega (arith, len, c.min-len.ensures, so_far.within, so_far.moments.same_size, c.requires.to); there = room ∙ sym len }

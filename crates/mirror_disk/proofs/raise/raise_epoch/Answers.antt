@@ -23,20 +23,27 @@ returns-in_err-put_epoch g c = record {
   cause = search rules;
 }
 
+pub shut_slot-requires : Rattle.mirror_disk.proofs.raise.raise_epoch.Goals.shut_slot-requires
+shut_slot-requires g c = record { size = c.requires.size; gate = search rules }
+
+pub put_epoch-requires : Rattle.mirror_disk.proofs.raise.raise_epoch.Goals.put_epoch-requires
+put_epoch-requires g c =
+    let e = c.requires.follows.marked in
+    record {
+      at = record { size = omega (arith, c.requires.size, (c.in_ok-shut_slot.ensures.kept.moments e.0 e.1).same_size); gate = search rules };
+      closed = c.in_ok-shut_slot.ensures.shut e.0 e.1;
+    }
+
 pub open_slot-requires : Rattle.mirror_disk.proofs.raise.raise_epoch.Goals.open_slot-requires
 open_slot-requires g c =
-    let e = c.requires.marked in
+    let e = c.requires.follows.marked in
     let mid = c.shut_slot.new.disk in
     let first = c.in_ok-shut_slot.ensures.kept.moments e.0 e.1 in
     let second = c.in_ok-put_epoch.ensures.kept.moments e.0 (λ x now. (at_end (g.met.D.Disk.lawful mid) first x now).marked) in
     record {
-      size = omega (arith, c.requires.size, first.same_size, second.same_size);
-      gate = search rules;
-      closed = search rules;
-      last = search rules;
-      holds = search rules;
-      settled = search rules;
-      marked = (e.0, (λ x now. (at_end (g.met.D.Disk.lawful c.put_epoch.new.disk) second x now).marked), e.2);
+      at = record { size = omega (arith, c.requires.size, first.same_size, second.same_size); gate = search rules };
+      laid = c.in_ok-put_epoch.ensures.laid;
+      follows = record { last = c.requires.follows.last; marked = (e.0, (λ x now. (at_end (g.met.D.Disk.lawful c.put_epoch.new.disk) second x now).marked), e.2) };
     }
 
 pub returns : Rattle.mirror_disk.proofs.raise.raise_epoch.Goals.returns

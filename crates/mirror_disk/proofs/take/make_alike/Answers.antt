@@ -1,43 +1,65 @@
-use Rattle.mirror_disk.proofs.{Words.{refl, subst, sym, Slot, HasEpoch}, Done.rose_behind, Taking.{alike_copied, alike_raised, copied_mark, copied_moments, raised_moments, tells_copied, tells_raised}}
+use Rattle.mirror_disk.proofs.{Words.{arith, refl, subst, sym, Slot, HasEpoch}, Done.rose_behind, Handed.later_twice, Taking.{alike_copied, alike_raised, copied_mark, copied_moments, raised_moments, tells_copied, tells_raised}}
 use Rattle.mirror_disk.proofs.take.make_alike.Goals as goal
-use Rattle.std.proofs.Common.{rules}
+use Rattle.std.proofs.{Common.rules, lemmas.Grind.common_steps}
 
-pub returns-in_err-copy_body-clause-made : goal.returns-in_err-copy_body-clause-made
-returns-in_err-copy_body-clause-made g c = record {
-  moments = copied_moments (g.C.Disk.state c.args.from.now) (g.O.Disk.state c.args.to.now) (g.O.Disk.state c.copy_body.new.to) c.args.count c.args.behind.slot c.args.behind.epoch c.args.chosen.epoch (g.met.O.Disk.lawful c.args.to.now) (g.met.O.Disk.lawful c.copy_body.new.to) c.requires.settled.1 c.requires.behind c.copy_body.ensures.copies.moments;
-  tells = tells_copied c.copy_body.ensures.copies.torn;
-  alike = search rules;
-  left = search rules;
+pub returns-in_err-copy_body : goal.returns-in_err-copy_body
+returns-in_err-copy_body g c = record {
+  made = record {
+    moments = copied_moments (g.C.Disk.state c.args.from.now) (g.O.Disk.state c.args.to.now) (g.O.Disk.state c.copy_body.new.to) c.args.count c.args.behind.slot c.args.behind.epoch c.args.chosen.epoch (g.met.O.Disk.lawful c.args.to.now) (g.met.O.Disk.lawful c.copy_body.new.to) c.requires.settled.1 c.requires.behind c.copy_body.ensures.copies.moments;
+    tells = tells_copied c.copy_body.ensures.copies.torn;
+    alike = search rules;
+    left = search rules;
+  };
+  unwritten = c.copy_body.ensures.copies.unwritten;
+  still = λ same. c.copy_body.ensures.copies.still;
+  cause = first_of (search rules, grind (arith, common_steps));
+  later = c.copy_body.ensures.copies.later;
 }
 
-pub returns-then-not-branch-clause-made : goal.returns-then-not-branch-clause-made
-returns-then-not-branch-clause-made g c = record {
-  moments = copied_moments (g.C.Disk.state c.args.from.now) (g.O.Disk.state c.args.to.now) (g.O.Disk.state c.copy_body.new.to) c.args.count c.args.behind.slot c.args.behind.epoch c.args.chosen.epoch (g.met.O.Disk.lawful c.args.to.now) (g.met.O.Disk.lawful c.copy_body.new.to) c.requires.settled.1 c.requires.behind c.copy_body.ensures.copies.moments;
-  tells = tells_copied c.copy_body.ensures.copies.torn;
-  alike = tt;
-  left = λ none. c.in_ok-copy_body.ensures.copies.failed c.if-not-branch.true;
+pub returns-then-not-branch : goal.returns-then-not-branch
+returns-then-not-branch g c = record {
+  made = record {
+    moments = copied_moments (g.C.Disk.state c.args.from.now) (g.O.Disk.state c.args.to.now) (g.O.Disk.state c.copy_body.new.to) c.args.count c.args.behind.slot c.args.behind.epoch c.args.chosen.epoch (g.met.O.Disk.lawful c.args.to.now) (g.met.O.Disk.lawful c.copy_body.new.to) c.requires.settled.1 c.requires.behind c.copy_body.ensures.copies.moments;
+    tells = tells_copied c.copy_body.ensures.copies.torn;
+    alike = tt;
+    left = λ none. c.in_ok-copy_body.ensures.copies.failed c.if-not-branch.true;
+  };
+  unwritten = c.copy_body.ensures.copies.unwritten;
+  still = λ same. c.copy_body.ensures.copies.still;
+  cause = first_of (search rules, grind (arith, common_steps));
+  later = c.copy_body.ensures.copies.later;
 }
 
-pub returns-then-behind-chosen-clause-made : goal.returns-then-behind-chosen-clause-made
-returns-then-behind-chosen-clause-made g c =
+pub returns-then-behind-chosen : goal.returns-then-behind-chosen
+returns-then-behind-chosen g c =
     let from = g.C.Disk.state c.args.from.now in
     let to = g.O.Disk.state c.args.to.now in
     let mid = g.O.Disk.state c.copy_body.new.to in
     let law = g.met.O.Disk.lawful c.copy_body.new.to in
     let run = c.copy_body.ensures.copies.moments in
+    let copied = c.in_ok-copy_body.ensures.copied c.if-not-branch.false in
     record {
-      moments = copied_moments from to mid c.args.count c.args.behind.slot c.args.behind.epoch c.args.chosen.epoch (g.met.O.Disk.lawful c.args.to.now) law c.requires.settled.1 c.requires.behind run;
-      tells = tells_copied c.copy_body.ensures.copies.torn;
-      alike = alike_copied from (g.C.Disk.state c.copy_body.new.from) mid c.args.chosen.slot c.args.behind.slot c.args.behind.epoch c.args.chosen.epoch c.if-behind-chosen.true
-          (g.met.C.Disk.lawful c.copy_body.new.from) c.copy_body.ensures.copies.unwritten c.requires.chosen (copied_mark from to mid c.args.count c.args.behind.slot c.args.behind.epoch c.args.chosen.epoch (g.met.O.Disk.lawful c.args.to.now) law c.requires.settled.1 c.requires.behind run c.copy_body.ensures.copies.torn) (c.in_ok-copy_body.ensures.settled c.if-not-branch.false) (c.in_ok-copy_body.ensures.alike c.if-not-branch.false);
-      left = λ none. absurd (cc none);
+      made = record {
+        moments = copied_moments from to mid c.args.count c.args.behind.slot c.args.behind.epoch c.args.chosen.epoch (g.met.O.Disk.lawful c.args.to.now) law c.requires.settled.1 c.requires.behind run;
+        tells = tells_copied c.copy_body.ensures.copies.torn;
+        alike = alike_copied from (g.C.Disk.state c.copy_body.new.from) mid c.args.chosen.slot c.args.behind.slot c.args.behind.epoch c.args.chosen.epoch c.if-behind-chosen.true
+            (g.met.C.Disk.lawful c.copy_body.new.from) c.copy_body.ensures.copies.unwritten c.requires.chosen (copied_mark from to mid c.args.count c.args.behind.slot c.args.behind.epoch c.args.chosen.epoch (g.met.O.Disk.lawful c.args.to.now) law c.requires.settled.1 c.requires.behind run c.copy_body.ensures.copies.torn) copied.settled copied.alike;
+        left = λ none. absurd (cc none);
+      };
+      unwritten = c.copy_body.ensures.copies.unwritten;
+      still = λ same. c.copy_body.ensures.copies.still;
+      cause = first_of (search rules, grind (arith, common_steps));
+      later = c.copy_body.ensures.copies.later;
     }
 
-pub raise_epoch-requires-clause-marked : goal.raise_epoch-requires-clause-marked
-raise_epoch-requires-clause-marked g c = (c.args.behind.epoch, copied_mark (g.C.Disk.state c.args.from.now) (g.O.Disk.state c.args.to.now) (g.O.Disk.state c.copy_body.new.to) c.args.count c.args.behind.slot c.args.behind.epoch c.args.chosen.epoch (g.met.O.Disk.lawful c.args.to.now) (g.met.O.Disk.lawful c.copy_body.new.to) c.requires.settled.1 c.requires.behind c.copy_body.ensures.copies.moments c.copy_body.ensures.copies.torn, c.requires.most.0)
+pub raise_epoch-requires-clause-follows : goal.raise_epoch-requires-clause-follows
+raise_epoch-requires-clause-follows g c = record {
+  last = c.requires.most.1;
+  marked = (c.args.behind.epoch, copied_mark (g.C.Disk.state c.args.from.now) (g.O.Disk.state c.args.to.now) (g.O.Disk.state c.copy_body.new.to) c.args.count c.args.behind.slot c.args.behind.epoch c.args.chosen.epoch (g.met.O.Disk.lawful c.args.to.now) (g.met.O.Disk.lawful c.copy_body.new.to) c.requires.settled.1 c.requires.behind c.copy_body.ensures.copies.moments c.copy_body.ensures.copies.torn, c.requires.most.0);
+}
 
-pub returns-in-Ok-clause-made : goal.returns-in-Ok-clause-made
-returns-in-Ok-clause-made g c =
+pub returns-in-Ok : goal.returns-in-Ok
+returns-in-Ok g c =
     let from = g.C.Disk.state c.args.from.now in
     let to = g.O.Disk.state c.args.to.now in
     let mid = g.O.Disk.state c.copy_body.new.to in
@@ -45,18 +67,25 @@ returns-in-Ok-clause-made g c =
     let law = g.met.O.Disk.lawful c.copy_body.new.to in
     let run = c.copy_body.ensures.copies.moments in
     let torn = c.copy_body.ensures.copies.torn in
+    let copied = c.in_ok-copy_body.ensures.copied c.if-not-branch.false in
     let mark = copied_mark from to mid c.args.count c.args.behind.slot c.args.behind.epoch c.args.chosen.epoch law_to law c.requires.settled.1 c.requires.behind run torn in
     record {
-      moments = raised_moments from to mid c.args.count c.args.behind.slot c.args.behind.epoch c.args.chosen.epoch law_to law c.requires.settled.1 c.requires.behind run
-          (g.O.Disk.state c.raise_epoch.new.disk) torn (c.raise_epoch.ensures.moments c.args.behind.epoch mark c.requires.most.0) (c.in_ok-copy_body.ensures.alike c.if-not-branch.false);
-      tells = tells_raised torn c.raise_epoch.ensures.body;
-      alike = alike_raised from (g.C.Disk.state c.copy_body.new.from) mid (g.O.Disk.state c.raise_epoch.new.disk) c.args.chosen.slot c.other.result c.args.chosen.epoch (g.met.C.Disk.lawful c.copy_body.new.from)
-          c.copy_body.ensures.copies.unwritten c.requires.chosen (λ y now. subst (λ (s : Slot). HasEpoch s c.args.chosen.epoch y) (sym c.other.ensures) (c.in-Ok.ensures.raised y now)) c.in-Ok.ensures.settled c.raise_epoch.ensures.body (c.in_ok-copy_body.ensures.alike c.if-not-branch.false);
-      left = λ none. absurd (cc none);
+      made = record {
+        moments = raised_moments from to mid c.args.count c.args.behind.slot c.args.behind.epoch c.args.chosen.epoch law_to law c.requires.settled.1 c.requires.behind run
+            (g.O.Disk.state c.raise_epoch.new.disk) torn (c.raise_epoch.ensures.moments c.args.behind.epoch mark c.requires.most.0) copied.alike;
+        tells = tells_raised torn c.raise_epoch.ensures.body;
+        alike = alike_raised from (g.C.Disk.state c.copy_body.new.from) mid (g.O.Disk.state c.raise_epoch.new.disk) c.args.chosen.slot c.other.result c.args.chosen.epoch (g.met.C.Disk.lawful c.copy_body.new.from)
+            c.copy_body.ensures.copies.unwritten c.requires.chosen (λ y now. subst (λ (s : Slot). HasEpoch s c.args.chosen.epoch y) (sym c.other.ensures) (c.in-Ok.ensures.raised y now)) c.in-Ok.ensures.settled c.raise_epoch.ensures.body copied.alike;
+        left = λ none. absurd (cc none);
+      };
+      unwritten = c.copy_body.ensures.copies.unwritten;
+      still = λ same. absurd (c.if-behind-chosen.false same);
+      cause = first_of (search rules, grind (arith, common_steps));
+      later = later_twice _ _ _ c.copy_body.ensures.copies.later c.raise_epoch.ensures.cause.later;
     }
 
-pub returns-in-Err-clause-made : goal.returns-in-Err-clause-made
-returns-in-Err-clause-made g c =
+pub returns-in-Err : goal.returns-in-Err
+returns-in-Err g c =
     let from = g.C.Disk.state c.args.from.now in
     let to = g.O.Disk.state c.args.to.now in
     let mid = g.O.Disk.state c.copy_body.new.to in
@@ -64,20 +93,18 @@ returns-in-Err-clause-made g c =
     let law = g.met.O.Disk.lawful c.copy_body.new.to in
     let run = c.copy_body.ensures.copies.moments in
     let torn = c.copy_body.ensures.copies.torn in
+    let copied = c.in_ok-copy_body.ensures.copied c.if-not-branch.false in
     let mark = copied_mark from to mid c.args.count c.args.behind.slot c.args.behind.epoch c.args.chosen.epoch law_to law c.requires.settled.1 c.requires.behind run torn in
     record {
-      moments = raised_moments from to mid c.args.count c.args.behind.slot c.args.behind.epoch c.args.chosen.epoch law_to law c.requires.settled.1 c.requires.behind run
-          (g.O.Disk.state c.raise_epoch.new.disk) torn (c.raise_epoch.ensures.moments c.args.behind.epoch mark c.requires.most.0) (c.in_ok-copy_body.ensures.alike c.if-not-branch.false);
-      tells = tells_raised torn c.raise_epoch.ensures.body;
-      alike = tt;
-      left = λ none. rose_behind _ _ _ c.copy_body.ensures.copies.later (c.in-Err.ensures.cause.failed refl);
+      made = record {
+        moments = raised_moments from to mid c.args.count c.args.behind.slot c.args.behind.epoch c.args.chosen.epoch law_to law c.requires.settled.1 c.requires.behind run
+            (g.O.Disk.state c.raise_epoch.new.disk) torn (c.raise_epoch.ensures.moments c.args.behind.epoch mark c.requires.most.0) copied.alike;
+        tells = tells_raised torn c.raise_epoch.ensures.body;
+        alike = tt;
+        left = λ none. rose_behind _ _ _ c.copy_body.ensures.copies.later (c.in-Err.ensures.cause.failed refl);
+      };
+      unwritten = c.copy_body.ensures.copies.unwritten;
+      still = λ same. absurd (c.if-behind-chosen.false same);
+      cause = first_of (search rules, grind (arith, common_steps));
+      later = later_twice _ _ _ c.copy_body.ensures.copies.later c.raise_epoch.ensures.cause.later;
     }
-
-pub returns-in_err-copy_body-clause-still : goal.returns-in_err-copy_body-clause-still
-returns-in_err-copy_body-clause-still g c same = c.copy_body.ensures.copies.still
-
-pub returns-then-not-branch-clause-still : goal.returns-then-not-branch-clause-still
-returns-then-not-branch-clause-still g c same = c.copy_body.ensures.copies.still
-
-pub returns-then-behind-chosen-clause-still : goal.returns-then-behind-chosen-clause-still
-returns-then-behind-chosen-clause-still g c same = c.copy_body.ensures.copies.still
