@@ -61,34 +61,36 @@ fs_since u few many before mid now (fs.Store e) le passed cause = store_since u 
 -- after reads that went well
 pub behaves_after : {R : Type 0} {late : Bool} (t u v : Tx) (writes : ℕ) (before mid now : Device) (result : Result R FsError) → HasRead t u → IsLater before mid → mid.faults ≡ before.faults
     → FsBehaves late u v writes mid now result → FsBehaves late t v writes before now result
-behaves_after t u v writes before mid now (Ok x) read later passed is = record { cause = tt; unwritten = tt; known = tt; later = later_than before mid now later is.later; passed = is.passed ∙ passed }
+behaves_after t u v writes before mid now (Ok x) read later passed is = record { leaves = record { cause = tt; unwritten = tt; later = later_than before mid now later is.leaves.later; passed = is.leaves.passed ∙ passed }; known = tt }
 behaves_after t u v writes before mid now (Err e) read later passed is = record {
-  cause = fs_since v writes writes before mid now e (omega arith) passed is.cause;
-  unwritten = λ other. read_join t u v read (is.unwritten other);
+  leaves = record {
+    cause = fs_since v writes writes before mid now e (omega arith) passed is.leaves.cause;
+    unwritten = λ other. read_join t u v read (is.leaves.unwritten other);
+    later = later_than before mid now later is.leaves.later;
+    passed = tt;
+  };
   known = is.known;
-  later = later_than before mid now later is.later;
-  passed = tt;
 }
 
 -- after writes that went well
 pub behaves_behind : {R : Type 0} {late : Bool} (t u v : Tx) (writes : ℕ) (before mid now : Device) (result : Result R FsError) → IfErr result (λ e. may_follow late e ≡ true) → IsLater before mid → mid.faults ≡ before.faults
     → FsBehaves late u v writes mid now result → FsBehaves late t v writes before now result
-behaves_behind t u v writes before mid now (Ok x) follows later passed is = record { cause = tt; unwritten = tt; known = tt; later = later_than before mid now later is.later; passed = is.passed ∙ passed }
+behaves_behind t u v writes before mid now (Ok x) follows later passed is = record { leaves = record { cause = tt; unwritten = tt; later = later_than before mid now later is.leaves.later; passed = is.leaves.passed ∙ passed }; known = tt }
 behaves_behind t u v writes before mid now (Err e) follows later passed is = grind (arith, fs_since, later_than) steps 100000
 
 -- a refusal of an access
 pub refused_access : {R : Type 0} {late : Bool} (t v : Tx) (writes : ℕ) (before now : Device) (e : TxError) → 1 ≤ writes → IsCause v 1 before now e → IsLater before now → FsBehaves {R = R} late t v writes before now (Err (fs.Store (store.Tx e)))
-refused_access t v writes before now e le cause later = record { cause = cause_earlier v 1 writes before before now e le refl cause; unwritten = λ other. absurd (false≢true (sym other)); known = λ x. cc; later = later; passed = tt }
+refused_access t v writes before now e le cause later = record { leaves = record { cause = cause_earlier v 1 writes before before now e le refl cause; unwritten = λ other. absurd (false≢true (sym other)); later = later; passed = tt }; known = λ x. cc }
 
 pub refused_store : {R : Type 0} {late : Bool} (t v : Tx) (writes : ℕ) (before now : Device) (e : TxError) → 1 ≤ writes → IsCause v 1 before now e → now ≡ before → FsBehaves {R = R} late t v writes before now (Err (fs.Store (store.Tx e)))
 refused_store t v writes before now e le cause same = refused_access t v writes before now e le cause (later_same before now same)
 
 -- a refusal after reads alone
 pub refused_so : {R : Type 0} {late : Bool} (t v : Tx) (writes : ℕ) (before now : Device) (e : FsError) → HasRead t v → IsFsCause v writes before now e → e ≢ fs.BadName → IsLater before now → FsBehaves {R = R} late t v writes before now (Err e)
-refused_so t v writes before now e read cause known later = record { cause = cause; unwritten = λ other. read; known = known; later = later; passed = tt }
+refused_so t v writes before now e read cause known later = record { leaves = record { cause = cause; unwritten = λ other. read; later = later; passed = tt }; known = known }
 
 pub done_so : {R : Type 0} {late : Bool} (t v : Tx) (writes : ℕ) (before now : Device) (r : R) → IsLater before now → now.faults ≡ before.faults → FsBehaves late t v writes before now (Ok r)
-done_so t v writes before now r later passed = record { cause = tt; unwritten = tt; known = tt; later = later; passed = passed }
+done_so t v writes before now r later passed = record { leaves = record { cause = tt; unwritten = tt; later = later; passed = passed }; known = tt }
 
 -- a call of the tree store was refused, which may make more than one write
 pub unwritten_tree : (late : Bool) (t v : Tx) (e : StoreError) → runs.IsUnwritten t v 66 e → IsUnwritten late t v (fs.Store e)

@@ -75,7 +75,7 @@ module _ {Y : Type 0} (a : FileAreas) (name : List ℕ) (none : Y) (next : ℕ �
       record {
         run = run_as whole call t v result (sym find_then)
             (run_from whole (on_found none next (Ok x)) t u v result (at_then whole (find_program a name) (on_found none next) t t u (Ok x) (at_start whole t) found.run) part.run);
-        behaves = behaves_after t u v writes before mid now result read found.behaves.later found.behaves.passed part.behaves;
+        behaves = behaves_after t u v writes before mid now result read found.behaves.leaves.later found.behaves.leaves.passed part.behaves;
       }
 
   -- the look-up was refused
@@ -84,5 +84,5 @@ module _ {Y : Type 0} (a : FileAreas) (name : List ℕ) (none : Y) (next : ℕ �
       let b = found.behaves in
       record {
         run = run_as (then_do (find_program a name) (on_found none next)) call t u (Err e) (sym find_then) (refused_in (find_program a name) (on_found none next) t u e refl found.run);
-        behaves = record { cause = b.cause; unwritten = b.unwritten; known = b.known; later = b.later; passed = tt };
+        behaves = record { leaves = record { cause = b.leaves.cause; unwritten = b.leaves.unwritten; later = b.leaves.later; passed = tt }; known = b.known };
       }

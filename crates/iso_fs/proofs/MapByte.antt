@@ -1,4 +1,4 @@
--- A free block of the map.
+-- What `lowest_free` finds is a free block.
 use Rattle.iso_fs.proofs.Words.{◌≡◌, ◌∙◌, sym, refl, ap, ℕ, zero, suc, ◌+◌, ◌-◌, ◌%◌, ◌<◌, ◌≤◌, Bool, true, false, not, ◌==◌, List, Some, arith, inl, inr, cases_Bool, Area, first_from, bytes_in, map_mark, map_bit, lowest_free, map_byte}
 
 first_is : (test : ℕ → Bool) (i n j : ℕ) → first_from test i n ≡ Some j → (i ≤ j) × (j < i + n) × (test j ≡ true)
@@ -15,7 +15,7 @@ first_is test i (suc n) j e = elim (cases_Bool (test i)) [
       (omega arith, omega arith, more.2))
 ]
 
--- the lowest free block
+-- a block of the area, not its first one, whose bit is clear
 pub record IsFree (a : Area) (first : List ℕ) (k : ℕ) : Type 0 where
   pub low : 1 ≤ k
   pub high : k < a.blocks

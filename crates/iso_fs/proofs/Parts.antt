@@ -74,7 +74,7 @@ pub put_stops : {X Y : Type 0} {late : Bool} {t u : Tx} {before now : Device} {e
     → (e ≡ store.Memory → HasAccess p) → HasEnded p t u (Err e) → runs.IsUnwritten t u 66 e → IsStoreCause u 66 before now e → IsLater before now → IsPart late 66 (in_tree p next) t u before now (Err (fs.Store e))
 put_stops {late = late} {t = t} {u = u} {e = e} p next has ended unwritten cause later = record {
   run = tree_refused (in_tree p next) p next t t u (at_start (in_tree p next) t) e has ended;
-  behaves = record { cause = cause; unwritten = unwritten_tree late t u e unwritten; known = λ x. cc; later = later; passed = tt };
+  behaves = record { leaves = record { cause = cause; unwritten = unwritten_tree late t u e unwritten; later = later; passed = tt }; known = λ x. cc };
 }
 
 -- AFTER A READ

@@ -1,7 +1,7 @@
 -- How a call of the file store ends, and what it leaves.
-use Rattle.std.specs.Prelude.{◌≡◌, ◌≢◌, ◌↔◌, ℕ, ◌+◌, ◌≤◌, Bool, true, false, IsFalse, IsTrue, Some, Result, Ok, Err, IfErr, OnOk}
+use Rattle.std.specs.Prelude.{◌≡◌, ◌≢◌, ◌↔◌, ℕ, ◌+◌, ◌≤◌, Bool, true, false, IsFalse, IsTrue, List, Some, Result, Ok, Err, IfErr, OnOk, length}
 use Rattle.iso_model.specs.{Array.Array, Effect.own}
-use Rattle.store_model.specs.{declared.stores.StoreError.StoreError, declared.files.FsError.FsError, declared.files.FsRegion.FsRegion, declared.stores.Area.Area, declared.files.FileAreas.FileAreas, FileCalls.Call, FileRegion.{AreFileRegions, files}, HashRegion.Pairs}
+use Rattle.store_model.specs.{declared.stores.StoreError.StoreError, declared.files.FsError.FsError, declared.files.FsRegion.FsRegion, declared.stores.Area.Area, declared.files.FileAreas.FileAreas, FileCalls.Call, FileRegion.{AreFileAreas, AreFileRegions, files}, HashRegion.Pairs}
 use Rattle.store_model.specs.declared.stores.StoreError.TheVariants as store
 use Rattle.store_model.specs.declared.files.FsError.TheVariants as fs
 use Rattle.tx_blocks.specs.{Tx.{Tx, Device, IsLater}, Runs.{area_of, Ran, Stopped, IsCut, IsStoreCause, HasRead, Passed}}
@@ -76,14 +76,40 @@ IsUnwritten tree_call t u e = IsFalse (may_follow tree_call e) → HasRead t u
 abbrev pub IsOfTx : FsError → Type 0
 IsOfTx e = may_follow false e ≡ true
 
--- What a part of a call leaves, whatever the bytes: why it is refused, what a refusal has written, and that it is not of the
--- arguments; that the disk's faults do not fall, and stand after Ok where they stood.
-pub record FsBehaves {R : Type 0} (tree_call : Bool) (t u : Tx) (writes : ℕ) (before now : Device) (result : Result R FsError) : Type 0 where
+-- What a call leaves, whatever the bytes: why it is refused, and what a refusal has written; that the disk's faults do not fall, and
+-- stand after Ok where they stood.
+pub record Leaves {R : Type 0} (tree_call : Bool) (t u : Tx) (writes : ℕ) (before now : Device) (result : Result R FsError) : Type 0 where
   pub cause : IfErr result (IsFsCause u writes before now)
   pub unwritten : IfErr result (IsUnwritten tree_call t u)
-  pub known : IfErr result (λ e. e ≢ fs.BadName)
   pub later : IsLater before now
   pub passed : OnOk result (Passed before now)
+
+-- What a part of a call leaves: its refusal is not of the arguments.
+pub record FsBehaves {R : Type 0} (tree_call : Bool) (t u : Tx) (writes : ℕ) (before now : Device) (result : Result R FsError) : Type 0 where
+  pub leaves : Leaves tree_call t u writes before now result
+  pub known : IfErr result (λ e. e ≢ fs.BadName)
+
+-- what a call of the tree store leaves: why it is refused, and so of the disk
+pub record TreeLeaves {R : Type 0} (u : Tx) (writes : ℕ) (before now : Device) (result : Result R StoreError) : Type 0 where
+  pub cause : IfErr result (IsStoreCause u writes before now)
+  pub later : IsLater before now
+  pub passed : OnOk result (Passed before now)
+
+-- the areas of a call, in blocks that the transaction has
+pub record HasFiles (t : Tx) (at : FsRegion) : Type 0 where
+  pub areas : AreFileAreas (areas_of t at)
+  pub fits : at.files.start + at.files.size ≤ t.blocks
+
+-- blocks of 256 to 4,096 bytes
+pub record IsSize (size : ℕ) : Type 0 where
+  pub least : 256 ≤ size
+  pub most : size ≤ 4096
+
+-- as many bytes as a block of the area has
+pub record IsBlockOf (a : Area) (bytes : List ℕ) : Type 0 where
+  pub least : 256 ≤ a.size
+  pub most : a.size ≤ 4096
+  pub long : length bytes ≡ a.size
 
 -- the transaction has the blocks of the area, of 256 to 4,096 bytes each
 pub record HasArea (t : Tx) (a : Area) : Type 0 where
@@ -92,7 +118,28 @@ pub record HasArea (t : Tx) (a : Area) : Type 0 where
   pub size : t.size ≡ a.size
   pub fits : a.start + a.blocks ≤ t.blocks
 
+-- so, and a buffer has as many bytes as a block
+pub record HasBuffer (t : Tx) (a : Area) (buffer : List ℕ) : Type 0 where
+  pub holds : HasArea t a
+  pub long : length buffer ≡ a.size
+
+-- so have two buffers
+pub record HasBuffers (t : Tx) (a : Area) (x y : List ℕ) : Type 0 where
+  pub holds : HasArea t a
+  pub one : length x ≡ a.size
+  pub other : length y ≡ a.size
+
 -- a part of a call that follows this program: how it ends, and what it leaves
 pub record IsPart {X : Type 0} (tree_call : Bool) (writes : ℕ) (p : Call X) (t u : Tx) (before now : Device) (result : Result X FsError) : Type 0 where
   pub run : HasRun p t u result
   pub behaves : FsBehaves tree_call t u writes before now result
+
+-- a part that writes nothing
+pub record IsReading {X : Type 0} (p : Call X) (t u : Tx) (before now : Device) (result : Result X FsError) : Type 0 where
+  pub part : IsPart false 1 p t u before now result
+  pub reads : HasRead t u
+
+-- a part that the transaction alone refuses
+pub record IsOwnPart {X : Type 0} (p : Call X) (t u : Tx) (before now : Device) (result : Result X FsError) : Type 0 where
+  pub part : IsPart false 1 p t u before now result
+  pub of_tx : IfErr result IsOfTx

@@ -1,8 +1,10 @@
 -- The file block of a name: what a look-up is, and what it leaves in the buffer.
-use Rattle.std.specs.Prelude.{ℕ, ◌+◌, ◌-◌, ◌<◌, ◌≤◌, cond, nat_lt, Bool, true, List, [], ◌∷◌, Option, Some, None, Result, Ok, Err, IfOk, IfSome, IsTrue, option_map, take}
+use Rattle.std.specs.Prelude.{ℕ, ◌+◌, ◌-◌, ◌<◌, ◌≤◌, cond, nat_lt, Bool, false, true, List, [], ◌∷◌, Option, Some, None, Result, Ok, Err, IfOk, IfSome, IsTrue, option_map, take}
 use Rattle.iso_model.specs.declared.access.Access.{Access}
 use Rattle.store_model.specs.{declared.stores.Area.Area, declared.stores.StoreError.TheVariants.NoBlocks, declared.files.FsError.FsError, Cells.block_with, FreeMap.{free_count, map_bytes}, declared.files.FileAreas.FileAreas, Stores.{Done, bytes_in, store_access}, TreeCalls.{del_program, first_write, free_list, get_program}, FileCalls.{Call, at_file, bits_mark, in_tree, low_place, refuse, remove_writes, without_bits}, FileNodes.is_file}
 use Rattle.store_model.specs.declared.files.FsError.TheVariants as fs
+use Rattle.tx_blocks.specs.{Tx.{Device, Tx}, Runs.HasRead}
+use Rattle.iso_fs.specs.Ends.{IsPart}
 
 -- the number of a file block, and its bytes; none where the name has no file
 abbrev pub Found : Type 0
@@ -29,6 +31,12 @@ on_found none next (Ok (Some x)) = next x.0 x.1
 -- where a file block is found, its number is one of the region, and the buffer has it, well formed
 abbrev pub IsFound : Area → (file : List ℕ) → Result (Option ℕ) FsError → Type 0
 IsFound a file result = IfOk result (λ o. IfSome o (λ number. (number < a.blocks) × IsTrue (is_file a file)))
+
+-- the program of a look-up ran so, and wrote nothing
+pub record HasFound (a : Area) (p : Call Found) (t u : Tx) (before now : Device) (file : List ℕ) (result : Result (Option ℕ) FsError) : Type 0 where
+  pub part : IsPart false 1 p t u before now (found_as file result)
+  pub found : IsFound a file result
+  pub reads : HasRead t u
 
 -- an answer with the first bytes of the buffer, as many as were read
 abbrev pub got_as : (room : List ℕ) → Result (Option ℕ) FsError → Result (Option (List ℕ)) FsError

@@ -1,6 +1,7 @@
 // The block of a file: its bytes, and the test of them.
 ghost use Rattle.std.specs.Prelude.{◌≡◌, ◌+◌, ◌*◌, ◌<◌, ◌≤◌, ◌==◌, IfNone, IfSome, false, length, true, nat_le, slice_index};
 ghost use Rattle.store_model.specs.{FileNodes.{are_entries, bytes_of, data_count, entry_at, has_zeros, is_file, is_handed, is_number, most_bytes, number_of}, TreeRegion.IsTreeArea};
+ghost use Rattle.iso_fs.specs.Ends.{IsBlockOf};
 
 use iso_alloc::{are_zero, piece, word_at};
 use store_model::Area;
@@ -75,9 +76,7 @@ fn is_kind(file: &[u8]) -> bool
 
 // Whether a file may have as many bytes as its block says.
 fn is_small(area: Area, file: &[u8]) -> bool
-    requires least { 256 ≤ area.size }
-    requires most { area.size ≤ 4096 }
-    requires size { length file.now ≡ area.size }
+    requires { IsBlockOf area file.now }
     ensures { result ≡ nat_le (bytes_of file.now) (most_bytes area.size) }
 {
     let size = area.size;
@@ -86,9 +85,7 @@ fn is_small(area: Area, file: &[u8]) -> bool
 
 /// How many data blocks the file has.
 pub fn data_count(area: Area, file: &[u8]) -> usize
-    requires least { 256 ≤ area.size }
-    requires most { area.size ≤ 4096 }
-    requires size { length file.now ≡ area.size }
+    requires block { IsBlockOf area file.now }
     requires small { bytes_of file.now ≤ most_bytes area.size }
     ensures count { result ≡ data_count area.size file.now }
     ensures fits { 64 + 4 * result ≤ area.size }
@@ -99,9 +96,7 @@ pub fn data_count(area: Area, file: &[u8]) -> usize
 
 /// Whether a block is a file block that is well formed.
 pub fn is_file(area: Area, file: &[u8]) -> bool
-    requires least { 256 ≤ area.size }
-    requires most { area.size ≤ 4096 }
-    requires size { length file.now ≡ area.size }
+    requires { IsBlockOf area file.now }
     ensures { result ≡ is_file area file.now }
 {
     if !is_kind(file) {

@@ -1,8 +1,7 @@
 // The file block of a name.
-ghost use Rattle.std.specs.Prelude.{false, ◌≡◌, ◌+◌, ◌<◌, length, true, None};
+ghost use Rattle.std.specs.Prelude.{◌+◌, ◌<◌, None};
 ghost use Rattle.store_model.specs.FileCalls.{at_file, numbered, with_file};
-ghost use Rattle.tx_blocks.specs.Runs.{HasRead};
-ghost use Rattle.iso_fs.specs.{Ends.{HasArea, IsPart}, Finds.{find_program, found_as, found_file, IsFound}};
+ghost use Rattle.iso_fs.specs.{Ends.HasBuffer, Finds.{find_program, found_file, HasFound}};
 
 use crate::file::{is_file, number_of};
 use crate::names::{FileName, value_of};
@@ -18,12 +17,9 @@ fn look_file<T: TxBlocks>(
     number: u32,
     file: &mut [u8],
 ) -> Result<Option<u32>, FsError>
-    requires holds { HasArea (T.state tx.old) area }
+    requires buffer { HasBuffer (T.state tx.old) area file.old }
     requires number { number < area.blocks }
-    requires file { length file.old ≡ area.size }
-    ensures part { IsPart false 1 (numbered area found_file number) (T.state tx.old) (T.state tx.new) (T.device tx.old) (T.device tx.new) (found_as file.new result) }
-    ensures found { IsFound area file.new result }
-    ensures reads { HasRead (T.state tx.old) (T.state tx.new) }
+    ensures { HasFound area (numbered area found_file number) (T.state tx.old) (T.state tx.new) (T.device tx.old) (T.device tx.new) file.new result }
 {
     if let Err(e) = look_whole(tx, area.start + number, file) {
         return Err(FsError::Store(StoreError::Tx(e)));
@@ -43,11 +39,8 @@ fn look_value<T: TxBlocks>(
     value: &[u8],
     file: &mut [u8],
 ) -> Result<Option<u32>, FsError>
-    requires holds { HasArea (T.state tx.old) a.files }
-    requires file { length file.old ≡ a.files.size }
-    ensures part { IsPart false 1 (with_file a found_file value.now) (T.state tx.old) (T.state tx.new) (T.device tx.old) (T.device tx.new) (found_as file.new result) }
-    ensures found { IsFound a.files file.new result }
-    ensures reads { HasRead (T.state tx.old) (T.state tx.new) }
+    requires { HasBuffer (T.state tx.old) a.files file.old }
+    ensures { HasFound a.files (with_file a found_file value.now) (T.state tx.old) (T.state tx.new) (T.device tx.old) (T.device tx.new) file.new result }
 {
     match number_of(a.files, value) {
         Some(number) => look_file(tx, a.files, number, file),
@@ -64,11 +57,8 @@ fn look_found<T: TxBlocks>(
     found: Option<Bytes>,
     file: &mut [u8],
 ) -> Result<Option<u32>, FsError>
-    requires holds { HasArea (T.state tx.old) a.files }
-    requires file { length file.old ≡ a.files.size }
-    ensures part { IsPart false 1 (at_file a None found_file found) (T.state tx.old) (T.state tx.new) (T.device tx.old) (T.device tx.new) (found_as file.new result) }
-    ensures found { IsFound a.files file.new result }
-    ensures reads { HasRead (T.state tx.old) (T.state tx.new) }
+    requires { HasBuffer (T.state tx.old) a.files file.old }
+    ensures { HasFound a.files (at_file a None found_file found) (T.state tx.old) (T.state tx.new) (T.device tx.old) (T.device tx.new) file.new result }
 {
     match found {
         Some(value) => look_value(tx, a, value.as_slice(), file),
@@ -89,11 +79,8 @@ pub fn find<T: TxBlocks>(
     name: &FileName,
     file: &mut [u8],
 ) -> Result<Option<u32>, FsError>
-    requires holds { HasArea (T.state tx.old) name.now.areas.files }
-    requires file { length file.old ≡ name.now.areas.files.size }
-    ensures part { IsPart false 1 (find_program name.now.areas name.now.bytes.now) (T.state tx.old) (T.state tx.new) (T.device tx.old) (T.device tx.new) (found_as file.new result) }
-    ensures found { IsFound name.now.areas.files file.new result }
-    ensures reads { HasRead (T.state tx.old) (T.state tx.new) }
+    requires { HasBuffer (T.state tx.old) name.now.areas.files file.old }
+    ensures { HasFound name.now.areas.files (find_program name.now.areas name.now.bytes.now) (T.state tx.old) (T.state tx.new) (T.device tx.old) (T.device tx.new) file.new result }
 {
     match value_of(alloc, tx, name.areas.tree, name.bytes) {
         Ok(found) => look_found(tx, name.areas, found, file),

@@ -2,7 +2,7 @@
 ghost use Rattle.std.specs.{Prelude.{◌≡◌, ◌+◌, ◌-◌, ◌*◌, ◌≤◌, length, map}, List.range_with_len};
 ghost use Rattle.store_model.specs.{FreeMap.map_mark, Stores.bytes_in, FileCalls.{high_place, low_place, without_bits}, FileNodes.{entries_of, entry_at}};
 ghost use Rattle.tx_blocks.specs.Runs.{HasStored};
-ghost use Rattle.iso_fs.specs.{Ends.HasArea, Finds.{ArePlaces, given_back}};
+ghost use Rattle.iso_fs.specs.{Ends.HasBuffers, Finds.{ArePlaces, given_back}};
 
 use crate::file::{FileBlock, entry_at};
 use iso_alloc::{give_back, lay_alone, piece, region_of};
@@ -56,9 +56,7 @@ pub fn store_left<T: TxBlocks>(
     map: &mut [u8],
     into: &mut [u8],
 ) -> Result<(), TxError>
-    requires holds { HasArea (T.state tx.old) file.now.area }
-    requires map { length map.old ≡ file.now.area.size }
-    requires into { length into.old ≡ file.now.area.size }
+    requires { HasBuffers (T.state tx.old) file.now.area map.old into.old }
     ensures { HasStored (given_back file.now.area file.now.number (entries_of file.now.area.size file.now.bytes.now) (bytes_in (map_mark file.now.area.blocks) map.old)) (T.state tx.old) (T.state tx.new) (T.device tx.old) (T.device tx.new) result }
 {
     let (low, high) = ends(file);

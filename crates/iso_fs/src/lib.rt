@@ -1,9 +1,9 @@
 //! Files over the tree store, in the blocks of a transaction.
 //!
-//! `create`, `write`, `read`, `rename` and `remove` make just the accesses of their program (`ended`); a call that is Ok is local on
-//! the map from names to bytes (`local`). `BadName`, `BadRange` and `Exists` come exactly where they should (`bad_name`, `bad_range`,
-//! `exists`), each refusal with its cause (`cause`). It has written nothing, but where an access is refused, or the second part of a
-//! `rename` fails (`unwritten`, `reads`).
+//! `create`, `write`, `read`, `rename` and `remove` make just the accesses of their program (`ended`); an Ok call is local on the
+//! map from names to bytes (`local`). `BadName` and `Exists` come exactly where they should (`bad_name`, `exists`), `BadRange` at once
+//! for a bad length (`bad_range`). Each refusal has its cause, and wrote nothing, but where an access is refused, or the second part of
+//! a `rename` fails (`leaves`, `reads`).
 #![tactic(auto)]
 
 mod buffers;

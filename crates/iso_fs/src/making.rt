@@ -1,8 +1,8 @@
 // A new file.
-ghost use Rattle.std.specs.{Prelude.{false, ◌≡◌, ◌↔◌, ◌+◌, ◌-◌, ◌<◌, ◌≤◌, Err, IsFalse, IsTrue, is_some, true, IfOk, IfErr, OnOk, length, slice_index, [], Ok, None}, FinMap.get};
-ghost use Rattle.store_model.specs.{FreeMap.bit_place, HashCalls.is_key, Stores.store_access, FileCalls.{create_op, create_program, name_file}, FileNodes.file_block, FileRegion.{files, AreFileAreas, AreFileRegions}};
-ghost use Rattle.tx_blocks.specs.{Tx.IsLater, Runs.{HasStored, IsLocalCall}};
-ghost use Rattle.iso_fs.specs.Ends.{areas_of, ExistsWhere, HasArea, HasRun, IsFsCause, IsPart, IsUnwritten};
+ghost use Rattle.std.specs.{Prelude.{false, ◌≡◌, ◌↔◌, ◌+◌, ◌<◌, Err, IsFalse, IsTrue, is_some, IfOk, slice_index, []}, FinMap.get};
+ghost use Rattle.store_model.specs.{FreeMap.bit_place, HashCalls.is_key, Stores.store_access, FileCalls.{create_op, create_program, name_file}, FileNodes.file_block, FileRegion.{files, AreFileRegions}};
+ghost use Rattle.tx_blocks.specs.Runs.{HasStored, IsLocalCall};
+ghost use Rattle.iso_fs.specs.Ends.{areas_of, ExistsWhere, HasBuffer, HasFiles, HasRun, IsPart, Leaves};
 
 use crate::buffers::{lay_empty, named_areas, spelled};
 use crate::names::{FileName, put_value, value_of};
@@ -19,8 +19,7 @@ fn store_empty<T: TxBlocks>(
     block: u32,
     buffer: &mut [u8],
 ) -> Result<(), TxError>
-    requires holds { HasArea (T.state tx.old) area }
-    requires buffer { length buffer.old ≡ area.size }
+    requires buffer { HasBuffer (T.state tx.old) area buffer.old }
     requires block { block < area.blocks }
     ensures { HasStored (store_access (area.start + block) [] (file_block area.size 0 [])) (T.state tx.old) (T.state tx.new) (T.device tx.old) (T.device tx.new) result }
 {
@@ -36,9 +35,8 @@ fn name_file<T: TxBlocks>(
     block: u32,
     buffer: &mut [u8],
 ) -> Result<(), FsError>
-    requires holds { HasArea (T.state tx.old) name.now.areas.files }
+    requires buffer { HasBuffer (T.state tx.old) name.now.areas.files buffer.old }
     requires block { block < name.now.areas.files.blocks }
-    requires buffer { length buffer.old ≡ name.now.areas.files.size }
     ensures { IsPart false 66 (name_file name.now.areas name.now.bytes.now block (slice_index buffer.old (bit_place block))) (T.state tx.old) (T.state tx.new) (T.device tx.old) (T.device tx.new) result }
 {
     let area = name.areas.files;
@@ -61,8 +59,7 @@ fn create_with<T: TxBlocks>(
     name: &FileName,
     buffer: &mut [u8],
 ) -> Result<(), FsError>
-    requires holds { HasArea (T.state tx.old) name.now.areas.files }
-    requires buffer { length buffer.old ≡ name.now.areas.files.size }
+    requires { HasBuffer (T.state tx.old) name.now.areas.files buffer.old }
     ensures { IsPart false 66 (create_program name.now.areas name.now.bytes.now) (T.state tx.old) (T.state tx.new) (T.device tx.old) (T.device tx.new) result }
 {
     let area = name.areas.files;
@@ -97,16 +94,12 @@ pub fn create<T: TxBlocks>(
     at: FsRegion,
     name: &[u8],
 ) -> Result<(), FsError>
-    requires areas { AreFileAreas (areas_of (T.state tx.old) at) }
-    requires fits { at.files.start + at.files.size ≤ (T.state tx.old).blocks }
+    requires { HasFiles (T.state tx.old) at }
     ensures ended { HasRun (create_program (areas_of (T.state tx.old) at) name.now) (T.state tx.old) (T.state tx.new) result }
     ensures local { IfOk result (IsLocalCall (AreFileRegions (areas_of (T.state tx.old) at)) (files (areas_of (T.state tx.old) at)) (create_op name.now) (T.state tx.old) (T.state tx.new)) }
     ensures bad_name { result ≡ Err FsError.BadName ↔ IsFalse (is_key name.now) }
     ensures exists { IsTrue (is_key name.now) → ExistsWhere (areas_of (T.state tx.old) at) (T.state tx.old) (λ m. is_some (get m name.now)) result }
-    ensures cause { IfErr result (IsFsCause (T.state tx.new) 66 (T.device tx.old) (T.device tx.new)) }
-    ensures unwritten { IfErr result (IsUnwritten false (T.state tx.old) (T.state tx.new)) }
-    ensures later { IsLater (T.device tx.old) (T.device tx.new) }
-    ensures passed { OnOk result ((T.device tx.new).faults ≡ (T.device tx.old).faults) }
+    ensures leaves { Leaves false (T.state tx.old) (T.state tx.new) 66 (T.device tx.old) (T.device tx.new) result }
 {
     let a = named_areas(tx, at, name)?;
     let mut block = match buffer(alloc, a.files.size as usize) {

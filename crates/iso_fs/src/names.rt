@@ -1,9 +1,9 @@
 // The name of a file, and the calls of the tree store, by its area.
-ghost use Rattle.std.specs.Prelude.{◌≡◌, ◌≢◌, IsTrue, IfErr, OnErr, OnOk, true};
+ghost use Rattle.std.specs.Prelude.{◌≡◌, ◌≢◌, IsTrue, IfErr, OnErr, true};
 ghost use Rattle.store_model.specs.{FileRegion.AreFileAreas, HashCalls.{is_key, is_value}, TreeCalls.{del_program, get_program, put_program}, TreeRegion.IsTreeArea};
-ghost use Rattle.tx_blocks.specs.{Tx.IsLater, Runs.{HasEnded, HasRead, IsStoreCause, IsUnwritten}};
+ghost use Rattle.tx_blocks.specs.Runs.{HasArea, HasEnded, HasRead, IsUnwritten};
 ghost use Rattle.iso_tree.specs.Walks.{TakesNoBlocks};
-ghost use Rattle.iso_fs.specs.Ends.{HasArea};
+ghost use Rattle.iso_fs.specs.Ends.{TreeLeaves};
 
 use iso_alloc::region_of;
 use iso_model::Bytes;
@@ -32,13 +32,10 @@ pub fn value_of<T: TxBlocks>(
     tree: Area,
     name: &[u8],
 ) -> Result<Option<Bytes>, StoreError>
-    requires area { IsTreeArea tree }
-    requires holds { HasArea (T.state tx.old) tree }
+    requires { HasArea IsTreeArea (T.state tx.old) tree }
     ensures ended { HasEnded (get_program tree name.now) (T.state tx.old) (T.state tx.new) result }
     ensures reads { HasRead (T.state tx.old) (T.state tx.new) }
-    ensures cause { IfErr result (IsStoreCause (T.state tx.new) 1 (T.device tx.old) (T.device tx.new)) }
-    ensures later { IsLater (T.device tx.old) (T.device tx.new) }
-    ensures passed { OnOk result ((T.device tx.new).faults ≡ (T.device tx.old).faults) }
+    ensures leaves { TreeLeaves (T.state tx.new) 1 (T.device tx.old) (T.device tx.new) result }
 {
     get(alloc, tx, region_of(tree), name)
 }
@@ -55,14 +52,11 @@ pub fn put_value<T: TxBlocks>(
     name: &[u8],
     value: &[u8],
 ) -> Result<(), StoreError>
-    requires area { IsTreeArea tree }
-    requires holds { HasArea (T.state tx.old) tree }
+    requires { HasArea IsTreeArea (T.state tx.old) tree }
     ensures ended { HasEnded (put_program tree name.now value.now) (T.state tx.old) (T.state tx.new) result }
     ensures value { IsTrue (is_key name.now) → IfErr result (λ e. e ≢ StoreError.BadValue → IsTrue (is_value value.now)) }
-    ensures cause { IfErr result (IsStoreCause (T.state tx.new) 66 (T.device tx.old) (T.device tx.new)) }
     ensures unwritten { IfErr result (IsUnwritten (T.state tx.old) (T.state tx.new) 66) }
-    ensures later { IsLater (T.device tx.old) (T.device tx.new) }
-    ensures passed { OnOk result ((T.device tx.new).faults ≡ (T.device tx.old).faults) }
+    ensures leaves { TreeLeaves (T.state tx.new) 66 (T.device tx.old) (T.device tx.new) result }
 {
     put(alloc, tx, region_of(tree), name, value)
 }
@@ -78,14 +72,11 @@ pub fn remove_name<T: TxBlocks>(
     tree: Area,
     name: &[u8],
 ) -> Result<bool, StoreError>
-    requires area { IsTreeArea tree }
-    requires holds { HasArea (T.state tx.old) tree }
+    requires { HasArea IsTreeArea (T.state tx.old) tree }
     ensures ended { HasEnded (del_program tree name.now) (T.state tx.old) (T.state tx.new) result }
     ensures known { IsTrue (is_key name.now) → IfErr result (λ e. (e ≢ StoreError.BadKey) × TakesNoBlocks e) }
-    ensures cause { IfErr result (IsStoreCause (T.state tx.new) 1 (T.device tx.old) (T.device tx.new)) }
     ensures unwritten { OnErr result (HasRead (T.state tx.old) (T.state tx.new)) }
-    ensures later { IsLater (T.device tx.old) (T.device tx.new) }
-    ensures passed { OnOk result ((T.device tx.new).faults ≡ (T.device tx.old).faults) }
+    ensures leaves { TreeLeaves (T.state tx.new) 1 (T.device tx.old) (T.device tx.new) result }
 {
     del(alloc, tx, region_of(tree), name)
 }

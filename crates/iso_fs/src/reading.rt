@@ -1,8 +1,8 @@
 // The read of a file.
-ghost use Rattle.std.specs.Prelude.{false, ◌≡◌, ◌↔◌, ◌+◌, ◌-◌, ◌/◌, ◌<◌, ◌≤◌, Err, IsFalse, IsTrue, None, Ok, true, IfOk, IfErr, IfSome, OnOk, cond, length, nat_lt, option_map, take, []};
-ghost use Rattle.store_model.specs.{HashCalls.is_key, FileCalls.{is_many, read_from, read_op, read_pieces, read_program}, FileNodes.{bytes_of, entry_at, piece_mark}, FileRegion.{files, AreFileAreas, AreFileRegions}};
-ghost use Rattle.tx_blocks.specs.{Tx.IsLater, Runs.{HasRead, IsLocalCall}};
-ghost use Rattle.iso_fs.specs.{Ends.{areas_of, HasArea, HasRun, IsFsCause, IsPart}, Finds.got_as};
+ghost use Rattle.std.specs.Prelude.{false, ◌≡◌, ◌↔◌, ◌+◌, ◌-◌, ◌/◌, ◌<◌, ◌≤◌, Err, IsFalse, IsTrue, true, IfOk, cond, length, nat_lt, option_map, take, []};
+ghost use Rattle.store_model.specs.{HashCalls.is_key, FileCalls.{is_many, read_from, read_op, read_pieces, read_program}, FileNodes.{bytes_of, entry_at, piece_mark}, FileRegion.{files, AreFileRegions}};
+ghost use Rattle.tx_blocks.specs.Runs.{HasRead, IsLocalCall};
+ghost use Rattle.iso_fs.specs.{Ends.{areas_of, HasBuffer, HasBuffers, HasFiles, HasRun, IsReading, Leaves}, Finds.got_as};
 
 use crate::buffers::{areas_of, buffers, is_many};
 use crate::file::{FileBlock, bytes_of, data_count, entry_at};
@@ -63,13 +63,11 @@ fn read_pieces<T: TxBlocks>(
     block: &mut [u8],
     room: &mut [u8],
 ) -> Result<Option<u32>, FsError>
-    requires holds { HasArea (T.state tx.old) file.now.area }
+    requires buffer { HasBuffer (T.state tx.old) file.now.area block.old }
     requires up { from ≤ to }
     requires inside { to ≤ bytes_of file.now.bytes.now }
-    requires block { length block.old ≡ file.now.area.size }
     requires room { to - from ≤ length room.old }
-    ensures part { IsPart false 1 (read_pieces file.now.area file.now.bytes.now (length room.old) from to []) (T.state tx.old) (T.state tx.new) (T.device tx.old) (T.device tx.new) (got_as room.new result) }
-    ensures reads { HasRead (T.state tx.old) (T.state tx.new) }
+    ensures { IsReading (read_pieces file.now.area file.now.bytes.now (length room.old) from to []) (T.state tx.old) (T.state tx.new) (T.device tx.old) (T.device tx.new) (got_as room.new result) }
 {
     let mut at = from;
     while at < to {
@@ -110,11 +108,9 @@ fn read_from<T: TxBlocks>(
     block: &mut [u8],
     room: &mut [u8],
 ) -> Result<Option<u32>, FsError>
-    requires holds { HasArea (T.state tx.old) file.now.area }
-    requires block { length block.old ≡ file.now.area.size }
+    requires buffer { HasBuffer (T.state tx.old) file.now.area block.old }
     requires room { length room.old ≡ range.now.len }
-    ensures part { IsPart false 1 (read_from file.now.area range.now.off range.now.len file.now.number file.now.bytes.now) (T.state tx.old) (T.state tx.new) (T.device tx.old) (T.device tx.new) (got_as room.new result) }
-    ensures reads { HasRead (T.state tx.old) (T.state tx.new) }
+    ensures { IsReading (read_from file.now.area range.now.off range.now.len file.now.number file.now.bytes.now) (T.state tx.old) (T.state tx.new) (T.device tx.old) (T.device tx.new) (got_as room.new result) }
 {
     let off = range.off;
     let bytes = bytes_of(file.bytes);
@@ -135,12 +131,9 @@ fn read_with<T: TxBlocks>(
     block: &mut [u8],
     room: &mut [u8],
 ) -> Result<Option<u32>, FsError>
-    requires holds { HasArea (T.state tx.old) name.now.areas.files }
-    requires file { length file.old ≡ name.now.areas.files.size }
-    requires block { length block.old ≡ name.now.areas.files.size }
+    requires buffers { HasBuffers (T.state tx.old) name.now.areas.files file.old block.old }
     requires room { length room.old ≡ range.now.len }
-    ensures part { IsPart false 1 (read_program name.now.areas name.now.bytes.now range.now.off range.now.len) (T.state tx.old) (T.state tx.new) (T.device tx.old) (T.device tx.new) (got_as room.new result) }
-    ensures reads { HasRead (T.state tx.old) (T.state tx.new) }
+    ensures { IsReading (read_program name.now.areas name.now.bytes.now range.now.off range.now.len) (T.state tx.old) (T.state tx.new) (T.device tx.old) (T.device tx.new) (got_as room.new result) }
 {
     match find(alloc, tx, name, file) {
         Ok(Some(number)) => {
@@ -186,16 +179,13 @@ pub fn read<T: TxBlocks>(
     off: u32,
     len: u32,
 ) -> Result<Option<Bytes>, FsError>
-    requires areas { AreFileAreas (areas_of (T.state tx.old) at) }
-    requires fits { at.files.start + at.files.size ≤ (T.state tx.old).blocks }
+    requires { HasFiles (T.state tx.old) at }
     ensures ended { HasRun (read_program (areas_of (T.state tx.old) at) name.now off len) (T.state tx.old) (T.state tx.new) result }
     ensures local { IfOk result (IsLocalCall (AreFileRegions (areas_of (T.state tx.old) at)) (files (areas_of (T.state tx.old) at)) (read_op name.now off len) (T.state tx.old) (T.state tx.new)) }
     ensures bad_name { result ≡ Err FsError.BadName ↔ IsFalse (is_key name.now) }
     ensures bad_range { IsTrue (is_key name.now) → IsFalse (is_many len) → (result ≡ Err FsError.BadRange) × (T.state tx.new ≡ T.state tx.old) }
-    ensures cause { IfErr result (IsFsCause (T.state tx.new) 1 (T.device tx.old) (T.device tx.new)) }
+    ensures leaves { Leaves false (T.state tx.old) (T.state tx.new) 1 (T.device tx.old) (T.device tx.new) result }
     ensures reads { HasRead (T.state tx.old) (T.state tx.new) }
-    ensures later { IsLater (T.device tx.old) (T.device tx.new) }
-    ensures passed { OnOk result ((T.device tx.new).faults ≡ (T.device tx.old).faults) }
 {
     if !is_key(name) {
         return Err(FsError::BadName);

@@ -1,8 +1,8 @@
 // The removal of a file.
-ghost use Rattle.std.specs.Prelude.{◌≡◌, ◌↔◌, ◌+◌, ◌≤◌, Err, IsFalse, false, IfOk, IfErr, OnOk, length};
-ghost use Rattle.store_model.specs.{HashCalls.is_key, FileCalls.{remove_file, remove_op, remove_program}, FileRegion.{files, AreFileAreas, AreFileRegions}};
-ghost use Rattle.tx_blocks.specs.{Tx.IsLater, Runs.IsLocalCall};
-ghost use Rattle.iso_fs.specs.Ends.{areas_of, HasArea, HasRun, IsFsCause, IsPart, IsUnwritten};
+ghost use Rattle.std.specs.Prelude.{◌≡◌, ◌↔◌, Err, IsFalse, false, IfOk, length};
+ghost use Rattle.store_model.specs.{HashCalls.is_key, FileCalls.{remove_file, remove_op, remove_program}, FileRegion.{files, AreFileRegions}};
+ghost use Rattle.tx_blocks.specs.Runs.{IsLocalCall};
+ghost use Rattle.iso_fs.specs.Ends.{areas_of, HasBuffers, HasFiles, HasRun, IsPart, Leaves};
 
 use crate::buffers::{buffers, named_areas};
 use crate::file::{FileBlock, data_count};
@@ -23,10 +23,8 @@ fn remove_file<T: TxBlocks>(
     map: &mut [u8],
     into: &mut [u8],
 ) -> Result<bool, FsError>
-    requires holds { HasArea (T.state tx.old) name.now.areas.files }
+    requires buffers { HasBuffers (T.state tx.old) name.now.areas.files map.old into.old }
     requires area { file.now.area ≡ name.now.areas.files }
-    requires map { length map.old ≡ name.now.areas.files.size }
-    requires into { length into.old ≡ name.now.areas.files.size }
     ensures { IsPart false 1 (remove_file name.now.areas name.now.bytes.now file.now.number file.now.bytes.now) (T.state tx.old) (T.state tx.new) (T.device tx.old) (T.device tx.new) result }
 {
     let area = name.areas.files;
@@ -51,10 +49,8 @@ fn remove_with<T: TxBlocks>(
     map: &mut [u8],
     into: &mut [u8],
 ) -> Result<bool, FsError>
-    requires holds { HasArea (T.state tx.old) name.now.areas.files }
+    requires buffers { HasBuffers (T.state tx.old) name.now.areas.files map.old into.old }
     requires file { length file.old ≡ name.now.areas.files.size }
-    requires map { length map.old ≡ name.now.areas.files.size }
-    requires into { length into.old ≡ name.now.areas.files.size }
     ensures { IsPart false 1 (remove_program name.now.areas name.now.bytes.now) (T.state tx.old) (T.state tx.new) (T.device tx.old) (T.device tx.new) result }
 {
     match find(alloc, tx, name, file) {
@@ -88,15 +84,11 @@ pub fn remove<T: TxBlocks>(
     at: FsRegion,
     name: &[u8],
 ) -> Result<bool, FsError>
-    requires areas { AreFileAreas (areas_of (T.state tx.old) at) }
-    requires fits { at.files.start + at.files.size ≤ (T.state tx.old).blocks }
+    requires { HasFiles (T.state tx.old) at }
     ensures ended { HasRun (remove_program (areas_of (T.state tx.old) at) name.now) (T.state tx.old) (T.state tx.new) result }
     ensures local { IfOk result (IsLocalCall (AreFileRegions (areas_of (T.state tx.old) at)) (files (areas_of (T.state tx.old) at)) (remove_op name.now) (T.state tx.old) (T.state tx.new)) }
     ensures bad_name { result ≡ Err FsError.BadName ↔ IsFalse (is_key name.now) }
-    ensures cause { IfErr result (IsFsCause (T.state tx.new) 1 (T.device tx.old) (T.device tx.new)) }
-    ensures unwritten { IfErr result (IsUnwritten false (T.state tx.old) (T.state tx.new)) }
-    ensures later { IsLater (T.device tx.old) (T.device tx.new) }
-    ensures passed { OnOk result ((T.device tx.new).faults ≡ (T.device tx.old).faults) }
+    ensures leaves { Leaves false (T.state tx.old) (T.state tx.new) 1 (T.device tx.old) (T.device tx.new) result }
 {
     let a = named_areas(tx, at, name)?;
     let size = a.files.size as usize;

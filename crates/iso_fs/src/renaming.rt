@@ -1,8 +1,8 @@
 // Another name for a file.
-ghost use Rattle.std.specs.{Prelude.{◌≡◌, ◌↔◌, ◌+◌, ◌≤◌, ◌&&◌, Err, IsFalse, IsTrue, is_some, true, IfOk, IfErr, OnOk, None}, FinMap.get};
-ghost use Rattle.store_model.specs.{HashCalls.is_key, FileCalls.{rename_free, rename_op, rename_program, in_tree}, TreeCalls.get_program, FileRegion.{files, AreFileAreas, AreFileRegions}};
-ghost use Rattle.tx_blocks.specs.{Tx.IsLater, Runs.IsLocalCall};
-ghost use Rattle.iso_fs.specs.Ends.{areas_of, ExistsWhere, HasArea, HasRun, IsFsCause, IsPart, IsUnwritten};
+ghost use Rattle.std.specs.{Prelude.{◌≡◌, ◌↔◌, ◌&&◌, Err, IsFalse, IsTrue, is_some, true, IfOk}, FinMap.get};
+ghost use Rattle.store_model.specs.{HashCalls.is_key, FileCalls.{rename_free, rename_op, rename_program, in_tree}, TreeCalls.get_program, FileRegion.{files, AreFileRegions}};
+ghost use Rattle.tx_blocks.specs.Runs.{IsLocalCall};
+ghost use Rattle.iso_fs.specs.Ends.{areas_of, ExistsWhere, HasArea, HasFiles, HasRun, IsPart, Leaves};
 
 use crate::buffers::areas_of;
 use crate::names::{FileName, put_value, remove_name, value_of};
@@ -75,16 +75,12 @@ pub fn rename<T: TxBlocks>(
     old: &[u8],
     new: &[u8],
 ) -> Result<bool, FsError>
-    requires areas { AreFileAreas (areas_of (T.state tx.old) at) }
-    requires fits { at.files.start + at.files.size ≤ (T.state tx.old).blocks }
+    requires { HasFiles (T.state tx.old) at }
     ensures ended { HasRun (rename_program (areas_of (T.state tx.old) at) old.now new.now) (T.state tx.old) (T.state tx.new) result }
     ensures local { IfOk result (IsLocalCall (AreFileRegions (areas_of (T.state tx.old) at)) (files (areas_of (T.state tx.old) at)) (rename_op old.now new.now) (T.state tx.old) (T.state tx.new)) }
     ensures bad_name { result ≡ Err FsError.BadName ↔ IsFalse (is_key old.now && is_key new.now) }
     ensures exists { IsTrue (is_key old.now && is_key new.now) → ExistsWhere (areas_of (T.state tx.old) at) (T.state tx.old) (λ m. is_some (get m old.now) && is_some (get m new.now)) result }
-    ensures cause { IfErr result (IsFsCause (T.state tx.new) 66 (T.device tx.old) (T.device tx.new)) }
-    ensures unwritten { IfErr result (IsUnwritten true (T.state tx.old) (T.state tx.new)) }
-    ensures later { IsLater (T.device tx.old) (T.device tx.new) }
-    ensures passed { OnOk result ((T.device tx.new).faults ≡ (T.device tx.old).faults) }
+    ensures leaves { Leaves true (T.state tx.old) (T.state tx.new) 66 (T.device tx.old) (T.device tx.new) result }
 {
     if !is_key(old) || !is_key(new) {
         return Err(FsError::BadName);

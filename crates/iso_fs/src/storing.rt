@@ -1,10 +1,10 @@
 // The writes of the data blocks of a file.
-ghost use Rattle.std.specs.Prelude.{◌≡◌, ◌+◌, ◌*◌, ◌<◌, ◌≤◌, ◌++◌, IfErr, cond, length, slice_index, [], ◌∷◌, false};
+ghost use Rattle.std.specs.Prelude.{◌≡◌, ◌+◌, ◌*◌, ◌<◌, ◌≤◌, ◌++◌, cond, length, slice_index, [], ◌∷◌};
 ghost use Rattle.store_model.specs.{Stores.store_access, FileCalls.write_pieces, FileNodes.entries_of};
 ghost use Rattle.iso_model.specs.Premises.{IsSpan};
 ghost use Rattle.tx_blocks.specs.Runs.{HasStored};
 ghost use Rattle.iso_tree.specs.Rows.{AreBlocks};
-ghost use Rattle.iso_fs.specs.{Ends.{HasArea, IsOfTx, IsPart}, Grows.write_end};
+ghost use Rattle.iso_fs.specs.{Ends.{HasBuffer, IsOwnPart}, Grows.write_end};
 
 use crate::file::{FileBlock, entry_at};
 use crate::patch::Writing;
@@ -54,12 +54,10 @@ pub(crate) fn write_pieces<T: TxBlocks>(
     news: &[u32],
     into: &mut [u8],
 ) -> Result<bool, FsError>
-    requires holds { HasArea (T.state tx.old) writing.now.file.area }
+    requires buffer { HasBuffer (T.state tx.old) writing.now.file.area into.old }
     requires news { AreBlocks writing.now.file.area news.now }
     requires covered { write_end writing.now ≤ (writing.now.file.count + length news.now) * writing.now.file.area.size }
-    requires into { length into.old ≡ writing.now.file.area.size }
-    ensures part { IsPart false 1 (write_pieces writing.now.file.area (entries_of writing.now.file.area.size writing.now.file.bytes.now ++ news.now) writing.now.file.count (length writing.now.bytes.now) writing.now.off (write_end writing.now) writing.now.bytes.now) (T.state tx.old) (T.state tx.new) (T.device tx.old) (T.device tx.new) result }
-    ensures of_tx { IfErr result IsOfTx }
+    ensures { IsOwnPart (write_pieces writing.now.file.area (entries_of writing.now.file.area.size writing.now.file.bytes.now ++ news.now) writing.now.file.count (length writing.now.bytes.now) writing.now.off (write_end writing.now) writing.now.bytes.now) (T.state tx.old) (T.state tx.new) (T.device tx.old) (T.device tx.new) result }
 {
     let area = writing.file.area;
     let old = writing.file.count;

@@ -1,9 +1,9 @@
 // The write of a file.
-ghost use Rattle.std.specs.Prelude.{◌≡◌, ◌↔◌, ◌+◌, ◌<◌, ◌≤◌, List, ℕ, Err, IsFalse, IsTrue, None, false, IfOk, IfErr, IfSome, OnOk, Ok, [], length, nat_le, take};
-ghost use Rattle.store_model.specs.{HashCalls.is_key, FreeMap.{map_bytes, map_mark}, Stores.bytes_in, TreeCalls.{first_write, with_used}, FileCalls.{is_many, with_new, write_op, write_program, write_to}, FileNodes.{blocks_for, bytes_of, most_bytes}, FileRegion.{files, AreFileAreas, AreFileRegions}};
-ghost use Rattle.tx_blocks.specs.{Tx.IsLater, Runs.IsLocalCall};
+ghost use Rattle.std.specs.Prelude.{◌≡◌, ◌↔◌, ◌+◌, ◌<◌, ◌≤◌, List, ℕ, Err, IsFalse, IsTrue, None, false, IfOk, IfErr, [], length, nat_le, take};
+ghost use Rattle.store_model.specs.{HashCalls.is_key, FreeMap.{map_bytes, map_mark}, Stores.bytes_in, TreeCalls.{first_write, with_used}, FileCalls.{is_many, with_new, write_op, write_program, write_to}, FileNodes.{blocks_for, bytes_of, most_bytes}, FileRegion.{files, AreFileRegions}};
+ghost use Rattle.tx_blocks.specs.Runs.{IsLocalCall};
 ghost use Rattle.iso_tree.specs.{FirstBlock.Up, Rows.AreBlocks};
-ghost use Rattle.iso_fs.specs.{Ends.{areas_of, HasArea, HasRun, IsFsCause, IsOfTx, IsPart, IsUnwritten}, Finds.with_taken, Grows.{write_end, sized_by, IsGrowth}};
+ghost use Rattle.iso_fs.specs.{Ends.{areas_of, HasBuffer, HasBuffers, HasFiles, HasRun, IsOfTx, IsOwnPart, IsPart, IsSize, Leaves}, Finds.with_taken, Grows.{write_end, sized_by, IsGrowth, NeedsBlocks}};
 
 use crate::buffers::{areas_of, buffers, is_many};
 use crate::file::{FileBlock, bytes_of, data_count};
@@ -25,12 +25,10 @@ fn write_grown<T: TxBlocks>(
     news: &[u32],
     into: &mut [u8],
 ) -> Result<bool, FsError>
-    requires holds { HasArea (T.state tx.old) writing.now.file.area }
+    requires buffer { HasBuffer (T.state tx.old) writing.now.file.area into.old }
     requires news { AreBlocks writing.now.file.area news.now }
     requires grows { IsGrowth writing.now (length news.now) }
-    requires into { length into.old ≡ writing.now.file.area.size }
-    ensures part { IsPart false 1 (sized_by writing.now news.now) (T.state tx.old) (T.state tx.new) (T.device tx.old) (T.device tx.new) result }
-    ensures of_tx { IfErr result IsOfTx }
+    ensures { IsOwnPart (sized_by writing.now news.now) (T.state tx.old) (T.state tx.new) (T.device tx.old) (T.device tx.new) result }
 {
     let file = &writing.file;
     let end = writing.off + writing.bytes.len() as u32;
@@ -48,13 +46,11 @@ fn write_sized<T: TxBlocks>(
     news: &[u32],
     into: &mut [u8],
 ) -> Result<bool, FsError>
-    requires holds { HasArea (T.state tx.old) writing.now.file.area }
+    requires buffer { HasBuffer (T.state tx.old) writing.now.file.area into.old }
     requires news { AreBlocks writing.now.file.area news.now }
     requires grows { bytes_of writing.now.file.bytes.now < write_end writing.now → IsGrowth writing.now (length news.now) }
     requires none { write_end writing.now ≤ bytes_of writing.now.file.bytes.now → news.now ≡ [] }
-    requires into { length into.old ≡ writing.now.file.area.size }
-    ensures part { IsPart false 1 (sized_by writing.now news.now) (T.state tx.old) (T.state tx.new) (T.device tx.old) (T.device tx.new) result }
-    ensures of_tx { IfErr result IsOfTx }
+    ensures { IsOwnPart (sized_by writing.now news.now) (T.state tx.old) (T.state tx.new) (T.device tx.old) (T.device tx.new) result }
 {
     let end = writing.off + writing.bytes.len() as u32;
     if bytes_of(writing.file.bytes) < end {
@@ -71,13 +67,11 @@ fn write_news<T: TxBlocks>(
     news: &[u32],
     into: &mut [u8],
 ) -> Result<bool, FsError>
-    requires holds { HasArea (T.state tx.old) writing.now.file.area }
-    requires map { length map.now ≡ writing.now.file.area.size }
+    requires buffers { HasBuffers (T.state tx.old) writing.now.file.area map.now into.old }
     requires some { 0 < length news.now }
     requires rising { Up 1 news.now }
     requires news { AreBlocks writing.now.file.area news.now }
     requires grows { IsGrowth writing.now (length news.now) }
-    requires into { length into.old ≡ writing.now.file.area.size }
     ensures part { (first : List ℕ) → take (64 + map_bytes writing.now.file.area.blocks) map.now ≡ with_used first news.now → IsPart false 1 (first_write writing.now.file.area first news.now None (sized_by writing.now news.now)) (T.state tx.old) (T.state tx.new) (T.device tx.old) (T.device tx.new) result }
     ensures of_tx { IfErr result IsOfTx }
 {
@@ -95,12 +89,8 @@ fn write_taken<T: TxBlocks>(
     map: &mut [u8],
     into: &mut [u8],
 ) -> Result<bool, FsError>
-    requires holds { HasArea (T.state tx.old) writing.now.file.area }
-    requires map { length map.old ≡ writing.now.file.area.size }
-    requires some { 1 ≤ need }
-    requires few { need ≤ 16 }
-    requires grows { IsGrowth writing.now need }
-    requires into { length into.old ≡ writing.now.file.area.size }
+    requires buffers { HasBuffers (T.state tx.old) writing.now.file.area map.old into.old }
+    requires need { NeedsBlocks writing.now need }
     ensures { IsPart false 1 (with_taken writing.now.file.area need (sized_by writing.now) (bytes_in (map_mark writing.now.file.area.blocks) map.old)) (T.state tx.old) (T.state tx.new) (T.device tx.old) (T.device tx.new) result }
 {
     let region = region_of(writing.file.area);
@@ -121,12 +111,8 @@ fn write_new<T: TxBlocks>(
     map: &mut [u8],
     into: &mut [u8],
 ) -> Result<bool, FsError>
-    requires holds { HasArea (T.state tx.old) writing.now.file.area }
-    requires map { length map.old ≡ writing.now.file.area.size }
-    requires some { 1 ≤ need }
-    requires few { need ≤ 16 }
-    requires grows { IsGrowth writing.now need }
-    requires into { length into.old ≡ writing.now.file.area.size }
+    requires buffers { HasBuffers (T.state tx.old) writing.now.file.area map.old into.old }
+    requires need { NeedsBlocks writing.now need }
     ensures { IsPart false 1 (with_new writing.now.file.area need (sized_by writing.now)) (T.state tx.old) (T.state tx.new) (T.device tx.old) (T.device tx.new) result }
 {
     let area = writing.file.area;
@@ -138,8 +124,7 @@ fn write_new<T: TxBlocks>(
 
 // How many blocks `bytes` bytes take.
 fn blocks_for(size: u32, bytes: u32) -> u32
-    requires least { 256 ≤ size }
-    requires most { size ≤ 4096 }
+    requires size { IsSize size }
     requires small { bytes ≤ 4128768 }
     ensures { result ≡ blocks_for size bytes }
 {
@@ -148,8 +133,7 @@ fn blocks_for(size: u32, bytes: u32) -> u32
 
 // Whether a file may have `bytes` bytes.
 fn is_fit(size: u32, bytes: u32) -> bool
-    requires least { 256 ≤ size }
-    requires most { size ≤ 4096 }
+    requires { IsSize size }
     ensures { result ≡ nat_le bytes (most_bytes size) }
 {
     bytes <= (size - 64) / 4 * size
@@ -163,9 +147,7 @@ fn write_to<T: TxBlocks>(
     map: &mut [u8],
     into: &mut [u8],
 ) -> Result<bool, FsError>
-    requires holds { HasArea (T.state tx.old) file.area }
-    requires map { length map.old ≡ file.area.size }
-    requires into { length into.old ≡ file.area.size }
+    requires { HasBuffers (T.state tx.old) file.area map.old into.old }
     ensures { IsPart false 1 (write_to file.entry.area patch.now.off patch.now.bytes.now file.entry.number file.entry.bytes.now) (T.state tx.old) (T.state tx.new) (T.device tx.old) (T.device tx.new) result }
 {
     let off = patch.off;
@@ -199,10 +181,8 @@ fn write_with<T: TxBlocks>(
     map: &mut [u8],
     into: &mut [u8],
 ) -> Result<bool, FsError>
-    requires holds { HasArea (T.state tx.old) name.now.areas.files }
+    requires buffers { HasBuffers (T.state tx.old) name.now.areas.files map.old into.old }
     requires file { length file.old ≡ name.now.areas.files.size }
-    requires map { length map.old ≡ name.now.areas.files.size }
-    requires into { length into.old ≡ name.now.areas.files.size }
     ensures { IsPart false 1 (write_program name.now.areas name.now.bytes.now patch.now.off patch.now.bytes.now) (T.state tx.old) (T.state tx.new) (T.device tx.old) (T.device tx.new) result }
 {
     match find(alloc, tx, name, file) {
@@ -241,16 +221,12 @@ pub fn write<T: TxBlocks>(
     off: u32,
     bytes: &[u8],
 ) -> Result<bool, FsError>
-    requires areas { AreFileAreas (areas_of (T.state tx.old) at) }
-    requires fits { at.files.start + at.files.size ≤ (T.state tx.old).blocks }
+    requires { HasFiles (T.state tx.old) at }
     ensures ended { HasRun (write_program (areas_of (T.state tx.old) at) name.now off bytes.now) (T.state tx.old) (T.state tx.new) result }
     ensures local { IfOk result (IsLocalCall (AreFileRegions (areas_of (T.state tx.old) at)) (files (areas_of (T.state tx.old) at)) (write_op name.now off bytes.now) (T.state tx.old) (T.state tx.new)) }
     ensures bad_name { result ≡ Err FsError.BadName ↔ IsFalse (is_key name.now) }
     ensures bad_range { IsTrue (is_key name.now) → IsFalse (is_many (length bytes.now)) → (result ≡ Err FsError.BadRange) × (T.state tx.new ≡ T.state tx.old) }
-    ensures cause { IfErr result (IsFsCause (T.state tx.new) 1 (T.device tx.old) (T.device tx.new)) }
-    ensures unwritten { IfErr result (IsUnwritten false (T.state tx.old) (T.state tx.new)) }
-    ensures later { IsLater (T.device tx.old) (T.device tx.new) }
-    ensures passed { OnOk result ((T.device tx.new).faults ≡ (T.device tx.old).faults) }
+    ensures leaves { Leaves false (T.state tx.old) (T.state tx.new) 1 (T.device tx.old) (T.device tx.new) result }
 {
     if !is_key(name) {
         return Err(FsError::BadName);

@@ -1,6 +1,7 @@
 // The buckets of an area, the one that a key has, and which blocks it has.
-ghost use Rattle.std.specs.Prelude.{◌≡◌, ◌<◌, length, true};
-ghost use Rattle.store_model.specs.{Cells.keys_end, HashCalls.is_key, HashRegion.{buckets, bucket_of, last_position, is_linked, IsHashArea}};
+ghost use Rattle.std.specs.Prelude.{◌≡◌, ◌<◌, true};
+ghost use Rattle.store_model.specs.{HashCalls.is_key, HashRegion.{buckets, bucket_of, last_position, is_linked, IsHashArea}};
+ghost use Rattle.iso_hash.specs.Walks.{HasKeys};
 
 use byteorder::{BigEndian, ByteOrder};
 use iso_alloc::{are_key_parts, are_zero, piece, word_at};
@@ -51,8 +52,7 @@ pub fn bucket_of(area: Area, key: &[u8]) -> u32
 /// Whether a block of which these are head and key parts is well formed at this position of the bucket.
 #[tactic(auto, unfolding(store_model::specs::HashRegion::is_linked))]
 pub fn is_linked(area: Area, bucket: u32, position: u32, keys: &[u8]) -> bool
-    requires area { IsHashArea area }
-    requires keys { length keys.now ≡ keys_end area.size }
+    requires { HasKeys area keys.now }
     ensures { result ≡ is_linked area bucket position keys.now }
 {
     let expected = if position == 0 { 0 } else { bucket };

@@ -1,8 +1,8 @@
 // The put of a key.
 ghost use Rattle.std.specs.Prelude.{◌≡◌, ◌↔◌, ◌+◌, ◌<◌, ◌≤◌, Err, IsFalse, IsTrue, true, IfOk, IfErr, IfSome, OnOk, length};
 ghost use Rattle.store_model.specs.{HashCalls.{is_key, is_value, put_at, put_program, AtEnd}, HashRegion.{hash_map, put_op, IsHashArea, IsHashRegion}};
-ghost use Rattle.tx_blocks.specs.{Tx.IsLater, Runs.{area_of, Behaves, HasArea, HasEnded, HasRun, IsLocalCall, IsStoreCause, IsUnwritten}};
-ghost use Rattle.iso_hash.specs.Walks.{IsSpot};
+ghost use Rattle.tx_blocks.specs.{Tx.IsLater, Runs.{area_of, HasBlock, HasEnded, IsLocalCall, IsStoreCause, IsUnwritten}};
+ghost use Rattle.iso_hash.specs.Walks.{HasBuffer, IsPart, IsSpot};
 
 use crate::bucket::{HashedKey, bucket_of};
 use crate::links::put_block;
@@ -23,14 +23,11 @@ fn put_missing<T: TxBlocks>(
     position: u32,
     block: &mut [u8],
 ) -> Result<(), StoreError>
-    requires within { HasArea IsHashArea (T.state tx.old) key.now.area }
+    requires last { HasBlock IsHashArea (T.state tx.old) key.now.area last block.old }
     requires value { length value.now ≤ 32 }
     requires spare { IfSome spare (IsSpot key.now.area) }
-    requires last { last < key.now.area.blocks }
     requires position { position < key.now.area.blocks }
-    requires block { length block.old ≡ key.now.area.size }
-    ensures run { HasRun (put_at key.now.area key.now.bytes.now value.now (AtEnd spare last position)) (T.state tx.old) (T.state tx.new) result }
-    ensures behaves { Behaves (T.state tx.old) (T.state tx.new) 3 (T.device tx.old) (T.device tx.new) result }
+    ensures { IsPart (put_at key.now.area key.now.bytes.now value.now (AtEnd spare last position)) (T.state tx.old) (T.state tx.new) 3 (T.device tx.old) (T.device tx.new) result }
 {
     match spare {
         Some(spot) => put_cell(tx, key.area, spot, key.bytes, value, block),
@@ -45,11 +42,9 @@ fn put_with<T: TxBlocks>(
     value: &[u8],
     block: &mut [u8],
 ) -> Result<(), StoreError>
-    requires within { HasArea IsHashArea (T.state tx.old) key.now.area }
+    requires buffer { HasBuffer (T.state tx.old) key.now.area block.old }
     requires value { is_value value.now ≡ true }
-    requires block { length block.old ≡ key.now.area.size }
-    ensures run { HasRun (put_program key.now.area key.now.bytes.now value.now) (T.state tx.old) (T.state tx.new) result }
-    ensures behaves { Behaves (T.state tx.old) (T.state tx.new) 3 (T.device tx.old) (T.device tx.new) result }
+    ensures { IsPart (put_program key.now.area key.now.bytes.now value.now) (T.state tx.old) (T.state tx.new) 3 (T.device tx.old) (T.device tx.new) result }
 {
     match walk(tx, key, false, block) {
         Ok(Walked::AtCell { spot, .. }) => put_value(tx, key.area, spot, value, block),

@@ -1,7 +1,8 @@
 // The writes that take a block into a chain, or out of it.
 ghost use Rattle.std.specs.{Prelude.{◌≡◌, ◌+◌, ◌-◌, ◌<◌, ◌≤◌, length, Ok, None, true, [], ◌∷◌, replicate, slice_index}, Int.{w32, to_be_bytes}};
 ghost use Rattle.store_model.specs.{Cells.{block_with, next_mark}, FreeMap.{bit_mark, bit_place, clear_bit, map_mark}, HashCalls.{new_block, put_at, AtEnd}, HashRegion.{bucket_of, IsHashArea}, Stores.{store_access, Done, Look, Reserve, Store}};
-ghost use Rattle.tx_blocks.specs.Runs.{Behaves, HasBlock, HasRun, HasStored};
+ghost use Rattle.tx_blocks.specs.Runs.{HasBlock, HasStored};
+ghost use Rattle.iso_hash.specs.Walks.{IsPart};
 
 use crate::bucket::{HashedKey, buckets};
 use crate::writes::lay_cell;
@@ -51,10 +52,9 @@ fn grow<T: TxBlocks>(
     requires is_open { (T.state tx.old).is_open ≡ true }
     requires last { last < key.now.area.blocks }
     requires value { length value.now ≤ 32 }
-    ensures run { HasRun (Reserve 3 (Store key.now.area.start (bit_mark block ∷ []) (block_with key.now.area.size (bit_place block) (slice_index buffer.old (bit_place block) ∷ []))
+    ensures { IsPart (Reserve 3 (Store key.now.area.start (bit_mark block ∷ []) (block_with key.now.area.size (bit_place block) (slice_index buffer.old (bit_place block) ∷ []))
         (Store (key.now.area.start + block) [] (new_block key.now.area.size (bucket_of key.now.area key.now.bytes.now) position key.now.bytes.now value.now)
-        (Store (key.now.area.start + last) (next_mark ∷ []) (block_with key.now.area.size 0 (to_be_bytes w32 block)) (Done (Ok tt)))))) (T.state tx.old) (T.state tx.new) result }
-    ensures behaves { Behaves (T.state tx.old) (T.state tx.new) 3 (T.device tx.old) (T.device tx.new) result }
+        (Store (key.now.area.start + last) (next_mark ∷ []) (block_with key.now.area.size 0 (to_be_bytes w32 block)) (Done (Ok tt)))))) (T.state tx.old) (T.state tx.new) 3 (T.device tx.old) (T.device tx.new) result }
 {
     if let Err(e) = reserve(tx, 3) {
         return Err(StoreError::Tx(e));
@@ -90,8 +90,7 @@ pub fn put_block<T: TxBlocks>(
     requires last { HasBlock IsHashArea (T.state tx.old) key.now.area last buffer.old }
     requires position { position < key.now.area.blocks }
     requires value { length value.now ≤ 32 }
-    ensures run { HasRun (put_at key.now.area key.now.bytes.now value.now (AtEnd None last position)) (T.state tx.old) (T.state tx.new) result }
-    ensures behaves { Behaves (T.state tx.old) (T.state tx.new) 3 (T.device tx.old) (T.device tx.new) result }
+    ensures { IsPart (put_at key.now.area key.now.bytes.now value.now (AtEnd None last position)) (T.state tx.old) (T.state tx.new) 3 (T.device tx.old) (T.device tx.new) result }
 {
     if let Err(e) = look(tx, key.area.start, map_span(key.area.blocks), buffer) {
         return Err(StoreError::Tx(e));
@@ -113,9 +112,8 @@ fn shrink<T: TxBlocks>(
     requires block { HasBlock IsHashArea (T.state tx.old) area block buffer.old }
     requires is_open { (T.state tx.old).is_open ≡ true }
     requires before { before < area.blocks }
-    ensures run { HasRun (Reserve 2 (Store area.start (bit_mark block ∷ []) (block_with area.size (bit_place block) (slice_index buffer.old (bit_place block) ∷ []))
-        (Store (area.start + before) (next_mark ∷ []) (replicate area.size 0) (Done (Ok true))))) (T.state tx.old) (T.state tx.new) result }
-    ensures behaves { Behaves (T.state tx.old) (T.state tx.new) 2 (T.device tx.old) (T.device tx.new) result }
+    ensures { IsPart (Reserve 2 (Store area.start (bit_mark block ∷ []) (block_with area.size (bit_place block) (slice_index buffer.old (bit_place block) ∷ []))
+        (Store (area.start + before) (next_mark ∷ []) (replicate area.size 0) (Done (Ok true))))) (T.state tx.old) (T.state tx.new) 2 (T.device tx.old) (T.device tx.new) result }
 {
     if let Err(e) = reserve(tx, 2) {
         return Err(StoreError::Tx(e));
@@ -145,11 +143,10 @@ pub fn del_block<T: TxBlocks>(
 ) -> Result<bool, StoreError>
     requires block { HasBlock IsHashArea (T.state tx.old) area block buffer.old }
     requires before { before < area.blocks }
-    ensures run { HasRun (Look area.start (map_mark area.blocks) (λ map. None) (λ map none.
+    ensures { IsPart (Look area.start (map_mark area.blocks) (λ map. None) (λ map none.
         Reserve 2
         (Store area.start (bit_mark block ∷ []) (block_with area.size (bit_place block) (clear_bit (slice_index map (bit_place block)) block ∷ []))
-        (Store (area.start + before) (next_mark ∷ []) (replicate area.size 0) (Done (Ok true)))))) (T.state tx.old) (T.state tx.new) result }
-    ensures behaves { Behaves (T.state tx.old) (T.state tx.new) 2 (T.device tx.old) (T.device tx.new) result }
+        (Store (area.start + before) (next_mark ∷ []) (replicate area.size 0) (Done (Ok true)))))) (T.state tx.old) (T.state tx.new) 2 (T.device tx.old) (T.device tx.new) result }
 {
     if let Err(e) = look(tx, area.start, map_span(area.blocks), buffer) {
         return Err(StoreError::Tx(e));

@@ -1,7 +1,8 @@
 // The look-up of a key.
 ghost use Rattle.std.specs.Prelude.{◌≡◌, ◌≢◌, ◌↔◌, ◌+◌, ◌<◌, ◌≤◌, Err, IsFalse, IfOk, IfErr, OnOk, length};
 ghost use Rattle.store_model.specs.{HashCalls.{get_program, is_key}, HashRegion.{get_op, hash_map, IsHashArea, IsHashRegion}};
-ghost use Rattle.tx_blocks.specs.{Tx.IsLater, Runs.{area_of, HasArea, HasEnded, HasRead, IsLocalCall, IsStoreCause}};
+ghost use Rattle.tx_blocks.specs.{Tx.IsLater, Runs.{area_of, HasEnded, HasRead, IsLocalCall, IsStoreCause}};
+ghost use Rattle.iso_hash.specs.Walks.{HasBuffer, OnlyReads};
 
 use crate::bucket::{HashedKey, bucket_of};
 use crate::walk::{Walked, walk};
@@ -18,15 +19,11 @@ fn get_with<T: TxBlocks>(
     block: &mut [u8],
     room: Vec<u8>,
 ) -> Result<Option<Bytes>, StoreError>
-    requires within { HasArea IsHashArea (T.state tx.old) key.now.area }
-    requires block { length block.old ≡ key.now.area.size }
+    requires buffer { HasBuffer (T.state tx.old) key.now.area block.old }
     requires room { length room.items ≡ 32 }
     ensures ended { HasEnded (get_program key.now.area key.now.bytes.now) (T.state tx.old) (T.state tx.new) result }
     ensures local { IfOk result (IsLocalCall (IsHashRegion key.now.area) (hash_map key.now.area) (get_op key.now.bytes.now) (T.state tx.old) (T.state tx.new)) }
-    ensures reads { HasRead (T.state tx.old) (T.state tx.new) }
-    ensures cause { IfErr result (IsStoreCause (T.state tx.new) 1 (T.device tx.old) (T.device tx.new)) }
-    ensures later { IsLater (T.device tx.old) (T.device tx.new) }
-    ensures passed { OnOk result ((T.device tx.new).faults ≡ (T.device tx.old).faults) }
+    ensures leaves { OnlyReads (T.state tx.old) (T.state tx.new) (T.device tx.old) (T.device tx.new) result }
     ensures known { IfErr result (λ e. e ≢ StoreError.BadKey) }
 {
     match walk(tx, key, true, block) {

@@ -1,7 +1,8 @@
-// The removal of a key.
-ghost use Rattle.std.specs.Prelude.{◌≡◌, ◌↔◌, ◌+◌, ◌<◌, ◌≤◌, Err, IsFalse, IfOk, IfErr, OnOk, length};
-ghost use Rattle.store_model.specs.{Cells.keys_end, HashCalls.{del_program, is_key, is_spent}, HashRegion.{del_op, hash_map, IsHashArea, IsHashRegion}};
-ghost use Rattle.tx_blocks.specs.{Tx.IsLater, Runs.{area_of, Behaves, HasArea, HasEnded, HasRun, IsLocalCall, IsStoreCause, IsUnwritten}};
+// The removal of a key. It makes at most two writes, the 2 of the clauses.
+ghost use Rattle.std.specs.Prelude.{◌≡◌, ◌↔◌, ◌+◌, ◌<◌, ◌≤◌, Err, IsFalse, IfOk, IfErr, OnOk};
+ghost use Rattle.store_model.specs.{HashCalls.{del_program, is_key, is_spent}, HashRegion.{del_op, hash_map, IsHashArea, IsHashRegion}};
+ghost use Rattle.tx_blocks.specs.{Tx.IsLater, Runs.{area_of, HasEnded, IsLocalCall, IsStoreCause, IsUnwritten}};
+ghost use Rattle.iso_hash.specs.Walks.{HasBuffer, HasKeys, IsPart};
 
 use crate::bucket::{HashedKey, bucket_of, buckets};
 use crate::links::del_block;
@@ -14,8 +15,7 @@ use tx_blocks::{TxBlocks, area_of};
 
 // Whether the block is an overflow block, the last of its chain, and has no other used cell.
 fn is_spent(area: Area, spot: Spot, keys: &[u8]) -> bool
-    requires area { IsHashArea area }
-    requires keys { length keys.now ≡ keys_end area.size }
+    requires { HasKeys area keys.now }
     ensures { result ≡ is_spent area spot keys.now }
 {
     buckets(area) < spot.block
@@ -25,10 +25,8 @@ fn is_spent(area: Area, spot: Spot, keys: &[u8]) -> bool
 
 // Removes a key, with a buffer for a block.
 fn del_with<T: TxBlocks>(tx: &mut T, key: &HashedKey, block: &mut [u8]) -> Result<bool, StoreError>
-    requires within { HasArea IsHashArea (T.state tx.old) key.now.area }
-    requires block { length block.old ≡ key.now.area.size }
-    ensures run { HasRun (del_program key.now.area key.now.bytes.now) (T.state tx.old) (T.state tx.new) result }
-    ensures behaves { Behaves (T.state tx.old) (T.state tx.new) 2 (T.device tx.old) (T.device tx.new) result }
+    requires { HasBuffer (T.state tx.old) key.now.area block.old }
+    ensures { IsPart (del_program key.now.area key.now.bytes.now) (T.state tx.old) (T.state tx.new) 2 (T.device tx.old) (T.device tx.new) result }
 {
     match walk(tx, key, false, block) {
         Ok(Walked::AtCell { spot, before }) => {

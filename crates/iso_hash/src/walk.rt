@@ -1,9 +1,8 @@
 // The walk over the blocks of a chain.
-ghost use Rattle.std.specs.Prelude.{◌≡◌, ◌+◌, ◌<◌, ◌≤◌, ◌^◌, IfOk, IfErr, IfSome, OnOk, length, true};
+ghost use Rattle.std.specs.Prelude.{◌≡◌, ◌<◌, ◌^◌, IfOk, IfSome};
 ghost use Rattle.iso_model.specs.Effect.{or_else};
-ghost use Rattle.store_model.specs.{HashCalls.spot_in, HashRegion.IsHashArea};
-ghost use Rattle.tx_blocks.specs.{Tx.IsLater, Runs.{HasArea, HasRead, IsStoreCause}};
-ghost use Rattle.iso_hash.specs.Walks.{HasWalked, IsInside};
+ghost use Rattle.store_model.specs.{HashCalls.spot_in};
+ghost use Rattle.iso_hash.specs.Walks.{HasBuffer, HasWalked, IsInside, OnlyReads};
 
 use crate::bucket::{HashedKey, is_linked, last_position};
 use iso_alloc::{cell_count, cell_with, unused_cell, word_at};
@@ -55,15 +54,10 @@ pub fn walk<T: TxBlocks>(
     with_value: bool,
     buffer: &mut [u8],
 ) -> Result<Walked, StoreError>
-    requires within { HasArea IsHashArea (T.state tx.old) key.now.area }
-    requires buffer { length buffer.old ≡ key.now.area.size }
+    requires { HasBuffer (T.state tx.old) key.now.area buffer.old }
     ensures walked { HasWalked key.now.area key.now.bytes.now with_value (T.state tx.old) (T.state tx.new) buffer.new result }
     ensures inside { IfOk result (IsInside key.now.area) }
-    ensures is_open { OnOk result ((T.state tx.new).is_open ≡ true) }
-    ensures reads { HasRead (T.state tx.old) (T.state tx.new) }
-    ensures cause { IfErr result (IsStoreCause (T.state tx.new) 1 (T.device tx.old) (T.device tx.new)) }
-    ensures later { IsLater (T.device tx.old) (T.device tx.new) }
-    ensures passed { OnOk result ((T.device tx.new).faults ≡ (T.device tx.old).faults) }
+    ensures leaves { OnlyReads (T.state tx.old) (T.state tx.new) (T.device tx.old) (T.device tx.new) result }
 {
     let size = key.area.size as usize;
     let end = 64 + 31 * cell_count(size);

@@ -1,8 +1,7 @@
 // The writes that puts and removals are made of.
 ghost use Rattle.std.specs.Prelude.{◌≡◌, ◌+◌, ◌*◌, ◌<◌, ◌≤◌, length, Ok, true, [], ◌∷◌, replicate};
 ghost use Rattle.store_model.specs.{Cells.{block_with, cell_count, key_mark, keys_end, value_mark, value_part}, HashCalls.with_cell, Stores.{Done, Store}};
-ghost use Rattle.tx_blocks.specs.Runs.{Behaves, HasRun};
-ghost use Rattle.iso_hash.specs.Walks.{HasSpot};
+ghost use Rattle.iso_hash.specs.Walks.{FitCell, HasSpot, IsPart, IsSize};
 
 use iso_alloc::{cell_count, lay, lay_alone, spell, value_part};
 use iso_model::Span;
@@ -11,11 +10,9 @@ use tx_blocks::{TxBlocks, last_store, store};
 
 /// Puts the key part and the value part of a cell in place.
 pub fn lay_cell(into: &mut [u8], cell: usize, key: &[u8], value: &[u8])
-    requires least { 256 ≤ length into.old }
-    requires most { length into.old ≤ 4096 }
+    requires size { IsSize (length into.old) }
     requires cell { cell < cell_count (length into.old) }
-    requires key { length key.now ≤ 28 }
-    requires value { length value.now ≤ 32 }
+    requires fits { FitCell key.now value.now }
     ensures { into.new ≡ with_cell (length into.old) cell key.now value.now into.old }
 {
     let end = 64 + 31 * cell_count(into.len());
@@ -39,9 +36,8 @@ pub fn put_value<T: TxBlocks>(
 ) -> Result<(), StoreError>
     requires spot { HasSpot (T.state tx.old) area spot buffer.old }
     requires value { length value.now ≤ 32 }
-    ensures run { HasRun (Store (area.start + spot.block) (value_mark area.size spot.cell ∷ []) (block_with area.size (keys_end area.size + 33 * spot.cell) (value_part value.now)) (Done (Ok tt)))
-        (T.state tx.old) (T.state tx.new) result }
-    ensures behaves { Behaves (T.state tx.old) (T.state tx.new) 1 (T.device tx.old) (T.device tx.new) result }
+    ensures { IsPart (Store (area.start + spot.block) (value_mark area.size spot.cell ∷ []) (block_with area.size (keys_end area.size + 33 * spot.cell) (value_part value.now)) (Done (Ok tt)))
+        (T.state tx.old) (T.state tx.new) 1 (T.device tx.old) (T.device tx.new) result }
 {
     let at = 64 + 31 * cell_count(area.size as usize) + 33 * spot.cell as usize;
     lay_alone(buffer, at, &value_part(value));
@@ -54,8 +50,7 @@ pub fn put_value<T: TxBlocks>(
 
 // The marks of a cell.
 fn cell_marks(size: usize, cell: u32) -> [Span; 2]
-    requires size { 256 ≤ size }
-    requires most { size ≤ 4096 }
+    requires size { IsSize size }
     requires cell { cell < cell_count size }
     ensures { result ≡ key_mark cell ∷ value_mark size cell ∷ [] }
 {
@@ -85,11 +80,9 @@ pub fn put_cell<T: TxBlocks>(
     buffer: &mut [u8],
 ) -> Result<(), StoreError>
     requires spot { HasSpot (T.state tx.old) area spot buffer.old }
-    requires key { length key.now ≤ 28 }
-    requires value { length value.now ≤ 32 }
-    ensures run { HasRun (Store (area.start + spot.block) (key_mark spot.cell ∷ value_mark area.size spot.cell ∷ []) (with_cell area.size spot.cell key.now value.now (replicate area.size 0)) (Done (Ok tt)))
-        (T.state tx.old) (T.state tx.new) result }
-    ensures behaves { Behaves (T.state tx.old) (T.state tx.new) 1 (T.device tx.old) (T.device tx.new) result }
+    requires fits { FitCell key.now value.now }
+    ensures { IsPart (Store (area.start + spot.block) (key_mark spot.cell ∷ value_mark area.size spot.cell ∷ []) (with_cell area.size spot.cell key.now value.now (replicate area.size 0)) (Done (Ok tt)))
+        (T.state tx.old) (T.state tx.new) 1 (T.device tx.old) (T.device tx.new) result }
 {
     buffer.fill(0);
     lay_cell(buffer, spot.cell as usize, key, value);
@@ -109,9 +102,8 @@ pub fn clear_cell<T: TxBlocks>(
     buffer: &mut [u8],
 ) -> Result<bool, StoreError>
     requires spot { HasSpot (T.state tx.old) area spot buffer.old }
-    ensures run { HasRun (Store (area.start + spot.block) (key_mark spot.cell ∷ value_mark area.size spot.cell ∷ []) (replicate area.size 0) (Done (Ok true)))
-        (T.state tx.old) (T.state tx.new) result }
-    ensures behaves { Behaves (T.state tx.old) (T.state tx.new) 1 (T.device tx.old) (T.device tx.new) result }
+    ensures { IsPart (Store (area.start + spot.block) (key_mark spot.cell ∷ value_mark area.size spot.cell ∷ []) (replicate area.size 0) (Done (Ok true)))
+        (T.state tx.old) (T.state tx.new) 1 (T.device tx.old) (T.device tx.new) result }
 {
     buffer.fill(0);
     let spans = cell_marks(area.size as usize, spot.cell);

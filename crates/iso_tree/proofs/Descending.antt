@@ -1,6 +1,7 @@
 -- A descent, step by step.
-use Rattle.iso_tree.proofs.Words.{arith, ◌≡◌, sym, subst, ℕ, zero, suc, ◌+◌, Bool, cond, List, [], ◌∷◌, take, Result, Ok, Err, IfOk, IfErr, Area, StoreError, Program, Done, Look, further_bytes, then_do, keys_end, keys_mark, Tx, Device, IsLater, Ran, IsCut, HasRun, HasRead, IsAt, at_then, ran_at, cut_then, later_than, cause_since, cut_from, read_join, Leaf, is_node, child_of, count_of, Descent, AtLeaf, AtBroken, descend, leaf_further, IsWalkError, OnlyReads, child_program, leaf_program, HasDescended, HasReadLeaf, at_as, at_start}
+use Rattle.iso_tree.proofs.Words.{arith, ◌≡◌, ◌≢◌, ◌∙◌, ap, refl, sym, subst, ℕ, zero, suc, ◌+◌, ◌≤◌, Bool, true, cond, List, [], ◌∷◌, take, Result, Ok, Err, IfOk, IfErr, Area, StoreError, Program, Done, Look, further_bytes, then_do, keys_end, keys_mark, Tx, Device, IsLater, Ran, IsCut, Behaves, HasRun, HasRead, IsAt, at_then, ran_at, cut_then, later_same, later_than, read_none, cause_since, cut_from, read_join, store_cause, Leaf, is_node, child_of, count_of, Descent, AtLeaf, AtBroken, descend, leaf_further, IsWalkError, OnlyReads, child_program, leaf_program, HasDescended, HasReadLeaf, at_as, at_start}
 use Rattle.store_model.specs.declared.stores.StoreError.TheVariants as store
+use Rattle.store_model.specs.declared.stores.TxError.TheVariants as error
 
 module _ (a : Area) (key : List ℕ) (with_value : Bool) where
   -- what follows a step, and the read of the leaf
@@ -109,3 +110,35 @@ descent_refused whole a key with_value root level f t u is broken path buffer st
 pub reads_after : {R : Type 0} (t u v : Tx) (before mid now : Device) (result : Result R StoreError) → HasRead t u → IsLater before mid → mid.faults ≡ before.faults → OnlyReads u v mid now result → OnlyReads t v before now result
 reads_after t u v before mid now (Ok x) read later passed is = grind (arith, read_join, later_than)
 reads_after t u v before mid now (Err e) read later passed is = grind (arith, read_join, cause_since, later_than)
+
+-- the same of another part: refused for the same cause, answered, or refused for what it has read
+pub reads_refused : {R S : Type 0} (t u : Tx) (before now : Device) (e : StoreError) → OnlyReads {R = R} t u before now (Err e) → OnlyReads {R = S} t u before now (Err e)
+reads_refused t u before now e is = record { reads = is.reads; cause = is.cause; known = is.known; later = is.later; passed = tt; is_open = tt }
+
+pub reads_answered : {R S : Type 0} (t u : Tx) (before now : Device) (x : R) (y : S) → OnlyReads t u before now (Ok x) → OnlyReads t u before now (Ok y)
+reads_answered t u before now x y is = record { reads = is.reads; cause = tt; known = tt; later = is.later; passed = is.passed; is_open = is.is_open }
+
+pub reads_broken : {R S : Type 0} (t u : Tx) (before now : Device) (x : R) (block : ℕ) → OnlyReads t u before now (Ok x) → OnlyReads {R = S} t u before now (Err (store.Broken block))
+reads_broken t u before now x block is = record { reads = is.reads; cause = is.passed; known = tt; later = is.later; passed = tt; is_open = tt }
+
+pub reads_ended : {R : Type 0} (t u : Tx) (before now : Device) (x : R) → HasRead t u → IsLater before now → now.faults ≡ before.faults → t.is_open ≡ true → OnlyReads t u before now (Ok x)
+reads_ended t u before now x read later passed is_open = record { reads = read; cause = tt; known = tt; later = later; passed = passed; is_open = ap (λ (w : Tx). w.is_open) read.is ∙ is_open }
+
+pub reads_memory : {R : Type 0} (t : Tx) (now : Device) (e : StoreError) → e ≡ store.Tx error.Memory → OnlyReads {R = R} t t now now (Err e)
+reads_memory {R = R} t now e is =
+    subst (λ (x : StoreError). OnlyReads {R = R} t t now now (Err x)) (sym is) (record { reads = read_none t; cause = refl; known = tt; later = later_same now now refl; passed = tt; is_open = tt })
+
+-- and of a part that might have written
+walk_known : (e : StoreError) → IsWalkError e → (e ≢ store.BadKey) × (e ≢ store.BadValue)
+walk_known (store.Broken block) known = (λ x. cc, λ x. cc)
+walk_known (store.Tx e) known = (λ x. cc, λ x. cc)
+walk_known store.BadKey known = absurd known
+walk_known store.BadValue known = absurd known
+walk_known (store.NoBlocks need free) known = absurd known
+walk_known store.Memory known = absurd known
+
+pub behaves_refused : {R S : Type 0} (t u : Tx) (writes : ℕ) (before now : Device) (e : StoreError) → 1 ≤ writes → OnlyReads {R = R} t u before now (Err e) → Behaves {R = S} t u writes before now (Err e)
+behaves_refused t u writes before now e le is = record { cause = store_cause u 1 writes before now e le is.cause; unwritten = λ other. is.reads; known = walk_known e is.known; later = is.later; passed = tt }
+
+pub behaves_answered : {R S : Type 0} (t u : Tx) (writes : ℕ) (before now : Device) (x : R) (y : S) → OnlyReads t u before now (Ok x) → Behaves t u writes before now (Ok y)
+behaves_answered t u writes before now x y is = record { cause = tt; unwritten = tt; known = tt; later = is.later; passed = is.passed }

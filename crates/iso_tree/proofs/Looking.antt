@@ -1,6 +1,7 @@
 -- One read of a call, and what follows from its bytes.
-use Rattle.iso_tree.proofs.Words.{arith, ◌≡◌, ◌∙◌, sym, ap, subst, ℕ, ◌+◌, ◌≤◌, ◌&&◌, Bool, true, false, cond, List, [], ◌∷◌, length, Option, Some, None, Ok, Err, option_map, ForSome, false_from_ne_true, Access, Span, Area, Region, own, is_write, block_at, Program, Done, Look, bytes_in, further_bytes, with_further, look_access, keys_mark, value_mark, word_at, Tx, Device, IsLater, with_accesses, Passed, Ran, own_reads, own_append, at_start, at_look, ran_at, read_none, read_more, Node, keys_in, value_in, is_node, is_child, child_of, count_of, place_of, cell_of, head_mark, is_head, leaf_further, inner_further, AreBytesOf, OnlyReads, head_program, child_program, leaf_program, marked, marked_access}
+use Rattle.iso_tree.proofs.Words.{arith, ◌≡◌, ◌∙◌, sym, ap, subst, ℕ, ◌+◌, ◌≤◌, ◌&&◌, Bool, true, false, cond, List, [], ◌∷◌, length, Option, Some, None, Ok, Err, option_map, ForSome, false_from_ne_true, Access, Span, Area, Region, own, is_write, block_at, Program, Done, Look, bytes_in, further_bytes, with_further, look_access, keys_mark, value_mark, word_at, Tx, Device, IsLater, with_accesses, IsCause, Passed, Ran, own_reads, own_append, at_start, at_look, ran_at, read_none, read_more, read_same, Node, keys_in, value_in, is_node, is_child, child_of, count_of, place_of, cell_of, head_mark, is_head, leaf_further, inner_further, AreBytesOf, OnlyReads, head_program, child_program, leaf_program, marked, marked_access}
 use Rattle.store_model.specs.declared.stores.StoreError.TheVariants as store
+use Rattle.store_model.specs.declared.stores.TxError.{TxError}
 pub use Rattle.tx_blocks.proofs.Progress.{at_as}
 
 -- a call that is one read
@@ -29,6 +30,9 @@ ok_read t v a before now x is read is_open later passed = grind (arith, read_mor
 pub broken_read : {R : Type 0} (t v : Tx) (a : Access) (before now : Device) (block : ℕ) → v ≡ with_accesses t (a ∷ []) → is_write a ≡ false → IsLater before now → Passed before now
     → OnlyReads {R = R} t v before now (Err (store.Broken block))
 broken_read t v a before now block is read later passed = grind (arith, read_more, read_none)
+
+pub refused_read : {R : Type 0} (t v : Tx) (before now : Device) (e : TxError) → v ≡ t → IsCause v 1 before now e → IsLater before now → OnlyReads {R = R} t v before now (Err (store.Tx e))
+refused_read t v before now e same cause later = record { reads = read_same t t v (read_none t) same; cause = cause; known = tt; later = later; passed = tt; is_open = tt }
 
 -- bytes that were read stay those of their block
 pub bytes_after : (t v : Tx) (a : Access) (block : ℕ) (bytes : List ℕ) → AreBytesOf t block bytes → v ≡ with_accesses t (a ∷ []) → is_write a ≡ false → AreBytesOf v block bytes

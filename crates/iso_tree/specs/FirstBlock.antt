@@ -1,8 +1,10 @@
 -- The write of a region's first block, where a put takes blocks.
-use Rattle.std.specs.{Prelude.{◌≡◌, ℕ, suc, ◌≤◌, List, [], ◌∷◌, ◌++◌, Option, Some, None}, Int.{w32, to_be_bytes}}
+use Rattle.std.specs.{Prelude.{◌≡◌, ℕ, suc, ◌+◌, ◌<◌, ◌≤◌, true, List, [], ◌∷◌, ◌++◌, Option, Some, None, Result, IfErr, OnErr, OnOk, length, take}, Int.{w32, to_be_bytes}}
 use Rattle.iso_model.specs.{declared.access.Access.Access, declared.access.Span.Span}
-use Rattle.store_model.specs.{declared.stores.Area.Area, Cells.laid_at, Stores.store_access, TreeNodes.head_mark, TreeCalls.{last_of, changed_mark, changed_map}}
-use Rattle.tx_blocks.specs.Tx.{Tx, with_accesses}
+use Rattle.store_model.specs.{declared.stores.Area.Area, declared.stores.TxError.TxError, Cells.laid_at, FreeMap.map_bytes, Stores.store_access, TreeNodes.head_mark, TreeCalls.{last_of, changed_mark, changed_map, with_used}}
+use Rattle.store_model.specs.declared.stores.TxError.TheVariants as error
+use Rattle.tx_blocks.specs.{Runs.IsCause, Tx.{Device, Tx, room_of, with_accesses}}
+use Rattle.iso_tree.specs.Rows.{AreBlocks}
 
 -- numbers that rise from one on
 abbrev pub Up : (low : ℕ) → List ℕ → Type 0
@@ -30,3 +32,19 @@ first_access a first taken root = store_access a.start (first_spans taken root) 
 pub record HasOneMore (t u : Tx) : Type 0 where
   pub access : Access
   pub is : u ≡ with_accesses t (access ∷ [])
+
+-- new blocks of an area, some of them, lowest first
+pub record AreNew (a : Area) (news : List ℕ) : Type 0 where
+  pub some : 0 < length news
+  pub rising : Up 1 news
+  pub inside : AreBlocks a news
+
+-- How the write ends, with these bytes of the map: the access is made, or nothing is; where it fits, memory alone may be wanted; the
+-- disk has no part in it.
+pub record HasStoredFirst (a : Area) (map news : List ℕ) (root : Option (ℕ × ℕ)) (t u : Tx) (before now : Device) (result : Result (Unit {0}) TxError) : Type 0 where
+  pub stored : OnOk result ((first : List ℕ) → take (64 + map_bytes a.blocks) map ≡ with_used first news → u ≡ with_accesses t (first_access a first news root ∷ []))
+  pub one : OnOk result (HasOneMore t u)
+  pub kept : OnErr result (u ≡ t)
+  pub cause : IfErr result (IsCause u 1 before now)
+  pub room : 0 < room_of t → t.is_open ≡ true → IfErr result (λ e. e ≡ error.Memory)
+  pub device : now ≡ before

@@ -1,3 +1,4 @@
+pub mod Sizes
 pub mod Walks
 pub mod Rows
 pub mod Props

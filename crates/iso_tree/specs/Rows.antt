@@ -1,9 +1,9 @@
 -- The cells of a node that gets one more.
-use Rattle.std.specs.{Prelude.{◌≡◌, ℕ, zero, suc, ◌+◌, ◌-◌, ◌<◌, ◌≤◌, ◌==◌, true, cond, List, [], ◌∷◌, nat_lt, length, take, drop, map}, List.{range_with_len, AllByRecursion}, Option.ForSome}
+use Rattle.std.specs.{Prelude.{◌≡◌, ℕ, zero, suc, ◌+◌, ◌-◌, ◌*◌, ◌<◌, ◌≤◌, ◌==◌, true, cond, List, [], ◌∷◌, nat_lt, length, take, drop, map}, List.{range_with_len, AllByRecursion}, Option.ForSome}
 use Rattle.store_model.specs.{declared.stores.Area.Area, Cells.{cell_count, keys_end, value_mark, key_at, are_key_parts}, Stores.bytes_in, TreeNodes.{before, Cell, cells_by, count_of, used_cells}}
 use Rattle.iso_model.specs.{Array.Array, Effect.own, Premises.block_at}
-use Rattle.store_model.specs.TreeCalls.{need_of}
-use Rattle.tx_blocks.specs.Tx.{Tx}
+use Rattle.store_model.specs.{TreeCalls.need_of, TreeRegion.IsTreeArea}
+use Rattle.tx_blocks.specs.{Runs.HasArea, Tx.Tx}
 
 -- how many cells in a row from cell i on, at most n of them, have a key that is not above this one
 abbrev pub upto_from : (key keys : List ℕ) → (i n : ℕ) → ℕ
@@ -64,3 +64,11 @@ pub record NeedsBlocks (a : Area) (t : Tx) (path : List (ℕ × ℕ)) : Type 0 w
   pub long : length path ≤ 32
   pub usable : AreShownUsable a t path
   pub some : 1 ≤ need_of (cell_count a.size) path
+
+-- the nodes of a path in an area of an open transaction, and room for their bytes
+pub record HasNodes (t : Tx) (a : Area) (way : List (ℕ × ℕ)) (buffer : List ℕ) : Type 0 where
+  pub within : HasArea IsTreeArea t a
+  pub is_open : t.is_open ≡ true
+  pub path : AreInside a way
+  pub usable : AreShownUsable a t way
+  pub nodes : length way * a.size ≤ length buffer

@@ -1,9 +1,11 @@
 -- What the parts of a call leave, and how a descent ends.
-use Rattle.std.specs.Prelude.{◌≡◌, ℕ, ◌+◌, ◌<◌, ◌≤◌, Bool, ◌&&◌, cond, true, List, [], Result, Ok, Err, IfErr, OnOk, take}
+use Rattle.std.specs.Prelude.{◌≡◌, ℕ, ◌+◌, ◌<◌, ◌≤◌, Bool, ◌&&◌, cond, true, List, [], Result, Ok, Err, IfErr, IfOk, OnOk, length, take}
 use Rattle.store_model.specs.{declared.stores.Area.Area, declared.stores.StoreError.StoreError, Cells.{keys_end, keys_mark}, Stores.{Program, Done, Look, further_bytes}, TreeNodes.{cell_of, count_of, is_node, is_child, child_of}, TreeCalls.{Answer, AtLeaf, AtBroken, descend, inner_further, leaf_further, with_head}}
 use Rattle.store_model.specs.declared.stores.StoreError.TheVariants as store
-use Rattle.tx_blocks.specs.{Tx.{Tx, Device, IsLater, room_of}, Runs.{Ran, IsCut, HasRead, HasRun, IsStoreCause}}
-use Rattle.iso_tree.specs.declared.descent.Leaf.{Leaf}
+use Rattle.store_model.specs.declared.stores.TxError.TheVariants as error
+use Rattle.store_model.specs.TreeRegion.{IsTreeArea}
+use Rattle.tx_blocks.specs.{Tx.{Tx, Device, IsLater, room_of}, Runs.{AreBytesOf, Behaves, HasArea, Ran, IsCut, HasRead, HasRun, IsStoreCause}}
+use Rattle.iso_tree.specs.{Rows.AreInside, declared.descent.Leaf.Leaf}
 
 -- a refusal of a walk: a block is not well formed, or the transaction refuses an access
 abbrev pub IsWalkError : StoreError → Type 0
@@ -33,6 +35,55 @@ pub record OnlyReads {R : Type 0} (t u : Tx) (before now : Device) (result : Res
   pub passed : OnOk result (now.faults ≡ before.faults)
   pub is_open : OnOk result (u.is_open ≡ true)
 
+-- an area of a tree in the transaction's blocks, and a buffer for one of them
+pub record HasBuffer (t : Tx) (a : Area) (buffer : List ℕ) : Type 0 where
+  pub within : HasArea IsTreeArea t a
+  pub long : length buffer ≡ a.size
+
+-- buffers for two of them
+pub record HasBuffers (t : Tx) (a : Area) (buffer other : List ℕ) : Type 0 where
+  pub within : HasArea IsTreeArea t a
+  pub long : length buffer ≡ a.size
+  pub into : length other ≡ a.size
+
+-- one, where the transaction is open
+pub record HasOpenBuffer (t : Tx) (a : Area) (buffer : List ℕ) : Type 0 where
+  pub within : HasArea IsTreeArea t a
+  pub long : length buffer ≡ a.size
+  pub is_open : t.is_open ≡ true
+
+-- a part of a call that follows this program: how it ends, and what it leaves
+pub record IsPart {X : Type 0} (p : Program (Result X StoreError)) (t u : Tx) (writes : ℕ) (before now : Device) (result : Result X StoreError) : Type 0 where
+  pub run : HasRun p t u result
+  pub behaves : Behaves t u writes before now result
+
+-- one that removes a key, with a write at most: it is refused as walks are
+pub record IsRemoval {X : Type 0} (p : Program (Result X StoreError)) (t u : Tx) (before now : Device) (result : Result X StoreError) : Type 0 where
+  pub run : HasRun p t u result
+  pub behaves : Behaves t u 1 before now result
+  pub known : IfErr result IsWalkError
+
+-- one that reads alone
+pub record IsReading {X : Type 0} (p : Program (Result X StoreError)) (t u : Tx) (before now : Device) (result : Result X StoreError) : Type 0 where
+  pub run : HasRun p t u result
+  pub reads : OnlyReads t u before now result
+
+-- one that reads alone, with what holds of its answer
+pub record IsStep {X : Type 0} (Inside : X → Type 0) (p : Program (Result X StoreError)) (t u : Tx) (before now : Device) (result : Result X StoreError) : Type 0 where
+  pub run : HasRun p t u result
+  pub inside : IfOk result Inside
+  pub reads : OnlyReads t u before now result
+
+-- a part without accesses, which memory alone may be wanted for
+pub record OrMemory {R : Type 0} (done : Type 0) (result : Result R StoreError) : Type 0 where
+  pub ok : OnOk result done
+  pub memory : IfErr result (λ e. e ≡ store.Tx error.Memory)
+
+-- a part for which there is room: memory alone may be wanted, and the disk has no part in it
+pub record WantsOnlyMemory {R : Type 0} (before now : Device) (result : Result R StoreError) : Type 0 where
+  pub memory : IfErr result (λ e. e ≡ store.Tx error.Memory)
+  pub device : now ≡ before
+
 -- the read of root and level
 abbrev pub head_program : Area → Program (Result (ℕ × ℕ) StoreError)
 head_program a = with_head a (λ root level. Done (Ok (root, level)))
@@ -59,6 +110,16 @@ pub record IsLeaf (a : Area) (key buffer : List ℕ) (leaf : Leaf) : Type 0 wher
   pub node : is_node a.size 0 (take (keys_end a.size) buffer) ≡ true
   pub cell : leaf.cell ≡ cell_of key (take (keys_end a.size) buffer)
   pub count : leaf.count ≡ count_of (take (keys_end a.size) buffer)
+
+-- the same, where the transaction shows the block so
+pub record HasLeaf (t : Tx) (a : Area) (key buffer : List ℕ) (l : Leaf) : Type 0 where
+  pub leaf : IsLeaf a key buffer l
+  pub bytes : AreBytesOf t (a.start + l.block) buffer
+
+-- the inner nodes that a descent from a root of this level has passed
+pub record ArePassed (a : Area) (level : ℕ) (path : List (ℕ × ℕ)) : Type 0 where
+  pub inside : AreInside a path
+  pub long : length path ≡ level
 
 -- the leaf's value part of a key, as far as it was read
 abbrev pub leaf_value : Area → (key : List ℕ) → (with_value : Bool) → (buffer : List ℕ) → List ℕ

@@ -1,15 +1,14 @@
 // The bytes of a node, made of its cells.
-ghost use Rattle.std.specs.{Prelude.{◌≡◌, ◌+◌, ◌*◌, ◌<◌, ◌≤◌, ℕ, List, length, [], ◌∷◌, ◌++◌, take, true, not, cond}, List.flat_map, Str.bytes_eq};
-ghost use Rattle.store_model.specs.{Cells.{are_key_parts, cell_count, key_part, keys_end}, TreeNodes.{is_node, node_bytes, used_cells, Cell, FitCells, IsBlock}, TreeCalls.without_key};
-ghost use Rattle.iso_tree.specs.Rows.{cells_from};
+ghost use Rattle.std.specs.{Prelude.{◌≡◌, ◌+◌, ◌≤◌, ℕ, List, length, [], ◌∷◌, ◌++◌, take, true, not, cond}, List.flat_map, Str.bytes_eq};
+ghost use Rattle.store_model.specs.{Cells.{cell_count, key_part, keys_end}, TreeNodes.{is_node, node_bytes, used_cells, Cell, FitCells}, TreeCalls.without_key};
+ghost use Rattle.iso_tree.specs.{Rows.cells_from, Sizes.{AddsCells, ArePartsOf, FitCell, HasNodeParts, HasSpace, IsNodeSize, IsWithin}};
 
 use crate::keys::{Keys, count_of, key_of};
 use iso_alloc::{cell_count, clear, lay, piece, spell};
 
 /// A node of a level without cells.
 pub fn empty_node(into: &mut [u8], level: u8)
-    requires least { 256 ≤ length into.old }
-    requires size { IsBlock (length into.old) }
+    requires { IsNodeSize (length into.old) }
     ensures { into.new ≡ node_bytes (length into.old) level [] }
 {
     clear(into);
@@ -19,11 +18,8 @@ pub fn empty_node(into: &mut [u8], level: u8)
 
 // Adds `many` cells after `count` others, by their key parts and their value parts.
 fn add_parts(into: &mut [u8], count: usize, many: usize, keys: &[u8], values: &[u8])
-    requires least { 256 ≤ length into.old }
-    requires most { length into.old ≤ 4096 }
-    requires room { count + many ≤ cell_count (length into.old) }
-    requires keys { length keys.now ≡ 31 * many }
-    requires values { length values.now ≡ 33 * many }
+    requires space { HasSpace (length into.old) count many }
+    requires parts { ArePartsOf many keys.now values.now }
     ensures added { (size level : ℕ) → (cs ds : List Cell) → into.old ≡ node_bytes size level cs → length cs ≡ count → FitCells cs → length into.old ≡ size → length ds ≡ many → FitCells ds → keys.now ≡ flat_map (λ d. key_part d.0) ds → values.now ≡ flat_map (λ d. d.1) ds → into.new ≡ node_bytes size level (cs ++ ds) }
 {
     let end = 64 + 31 * cell_count(into.len());
@@ -35,12 +31,9 @@ fn add_parts(into: &mut [u8], count: usize, many: usize, keys: &[u8], values: &[
 
 /// Adds a cell after `count` others.
 pub fn add_cell(into: &mut [u8], count: usize, key: &[u8], part: &[u8])
-    requires least { 256 ≤ length into.old }
-    requires most { length into.old ≤ 4096 }
-    requires count { count < cell_count (length into.old) }
-    requires key { length key.now ≤ 28 }
-    requires part { length part.now ≡ 33 }
-    ensures added { (size level : ℕ) → (cs : List Cell) → into.old ≡ node_bytes size level cs → length cs ≡ count → FitCells cs → length into.old ≡ size → into.new ≡ node_bytes size level (cs ++ (key.now, part.now) ∷ []) }
+    requires space { HasSpace (length into.old) count 1 }
+    requires cell { FitCell key.now part.now }
+    ensures added { AddsCells count into.old into.new ((key.now, part.now) ∷ []) }
 {
     let mut key_part = [0u8; 31];
     spell(&mut key_part, key);
@@ -49,10 +42,8 @@ pub fn add_cell(into: &mut [u8], count: usize, key: &[u8], part: &[u8])
 
 /// Adds `many` cells of a node, from cell `first` on, to the `count` that are there.
 pub fn add_cells(into: &mut [u8], count: usize, node: &[u8], first: usize, many: usize)
-    requires size { IsBlock (length node.now) }
-    requires least { 256 ≤ length node.now }
+    requires node { HasNodeParts node.now }
     requires into { length into.old ≡ length node.now }
-    requires parts { are_key_parts (length node.now) (take (keys_end (length node.now)) node.now) ≡ true }
     requires inside { first + many ≤ cell_count (length node.now) }
     requires room { count + many ≤ cell_count (length node.now) }
     ensures added { (level : ℕ) → (cs : List Cell) → into.old ≡ node_bytes (length node.now) level cs → length cs ≡ count → FitCells cs → into.new ≡ node_bytes (length node.now) level (cs ++ cells_from (length node.now) node.now first many) }
@@ -65,14 +56,10 @@ pub fn add_cells(into: &mut [u8], count: usize, node: &[u8], first: usize, many:
 
 // Adds a cell, unless it is that of a key; says how many cells there are then.
 fn add_other(into: &mut [u8], count: usize, key: &[u8], other: &[u8], part: &[u8]) -> usize
-    requires least { 256 ≤ length into.old }
-    requires most { length into.old ≤ 4096 }
-    requires count { count < cell_count (length into.old) }
-    requires other { length other.now ≤ 28 }
-    requires part { length part.now ≡ 33 }
-    ensures few { result ≤ count + 1 }
-    ensures count { result ≡ count + cond (not (bytes_eq other.now key.now)) 1 0 }
-    ensures added { (size level : ℕ) → (cs : List Cell) → into.old ≡ node_bytes size level cs → length cs ≡ count → FitCells cs → length into.old ≡ size → into.new ≡ node_bytes size level (cs ++ cond (not (bytes_eq other.now key.now)) ((other.now, part.now) ∷ []) []) }
+    requires space { HasSpace (length into.old) count 1 }
+    requires cell { FitCell other.now part.now }
+    ensures count { IsWithin result (count + cond (not (bytes_eq other.now key.now)) 1 0) (count + 1) }
+    ensures added { AddsCells count into.old into.new (cond (not (bytes_eq other.now key.now)) ((other.now, part.now) ∷ []) []) }
 {
     if other == key {
         return count;
@@ -83,8 +70,7 @@ fn add_other(into: &mut [u8], count: usize, key: &[u8], other: &[u8], part: &[u8
 
 /// The node of a leaf without the cells of a key.
 pub fn copy_without(key: &[u8], old: &[u8], into: &mut [u8])
-    requires least { 256 ≤ length old.now }
-    requires size { IsBlock (length old.now) }
+    requires size { IsNodeSize (length old.now) }
     requires into { length into.old ≡ length old.now }
     requires node { is_node (length old.now) 0 (take (keys_end (length old.now)) old.now) ≡ true }
     ensures { into.new ≡ node_bytes (length old.now) 0 (without_key key.now (used_cells (length old.now) old.now)) }

@@ -1,8 +1,7 @@
 // The way up of a put: the writes of nodes, from the leaf to the first one that is not full, or to a new root.
-ghost use Rattle.std.specs.Prelude.{◌≡◌, ◌+◌, ◌<◌, ◌≤◌, OnOk, IfErr, IfSome, IfNone, Ok, length, take, [], ◌∷◌, true};
-ghost use Rattle.store_model.specs.{Cells.{are_key_parts, cell_count, keys_end}, Stores.{Done, Program, Store}, TreeNodes.{count_of, used_cells, Cell}, TreeCalls.{Answer, placed, store_nodes}, TreeRegion.IsTreeArea};
-ghost use Rattle.tx_blocks.specs.{Tx.room_of, Runs.{HasArea, HasRun}};
-ghost use Rattle.iso_tree.specs.{Entries.row, Rows.row_from, Walks.{HasWritten, IsFollowed}, Ways.{climbed, halves_of}};
+ghost use Rattle.std.specs.Prelude.{◌≡◌, ◌+◌, ◌<◌, ◌≤◌, IfSome, IfNone, Ok, length, take, [], ◌∷◌};
+ghost use Rattle.store_model.specs.{Cells.{cell_count, keys_end}, Stores.{Done, Store}, TreeNodes.{count_of, used_cells, Cell}, TreeCalls.{placed, store_nodes}};
+ghost use Rattle.iso_tree.specs.{Entries.row, Rows.row_from, Sizes.HasKeyParts, Ways.{climbed, halves_of, HasRoom, MayStore, WritesFirst, WritesLast}};
 
 use crate::entry::Entry;
 use crate::fill::{empty_first, fill_root, fill_row, row_key, upto};
@@ -10,15 +9,12 @@ use crate::growth::Growth;
 use crate::keys::Keys;
 use crate::way::Way;
 use iso_alloc::cell_count;
-use store_model::{StoreError, TxError};
+use store_model::StoreError;
 use tx_blocks::{TxBlocks, store};
 
 // Where a new cell comes in a node: after the last one whose key is not above the searched one. An inner node's first cell stays.
 fn place_in(size: usize, level: u8, key: &[u8], node: &[u8]) -> usize
-    requires least { 256 ≤ size }
-    requires node { length node.now ≡ size }
-    requires parts { are_key_parts size (take (keys_end size) node.now) ≡ true }
-    requires few { count_of (take (keys_end size) node.now) ≤ cell_count size }
+    requires node { HasKeyParts size node.now }
     requires some { 1 ≤ count_of (take (keys_end size) node.now) }
     ensures row { (new : Cell) → row_from size node.now result new 0 (count_of (take (keys_end size) node.now) + 1) ≡ placed level key.now new (used_cells size node.now) }
     ensures most { result ≤ cell_count size }
@@ -54,14 +50,8 @@ fn first_new(news: &[u32]) -> Option<(u32, &[u32])>
 
 // Writes a node of a way up.
 fn store_next<T: TxBlocks>(tx: &mut T, block: u32, bytes: &[u8]) -> Result<(), StoreError>
-    requires bytes { length bytes.now ≡ (T.state tx.old).size }
-    requires block { block < (T.state tx.old).blocks }
-    requires room { 0 < room_of (T.state tx.old) }
-    requires is_open { (T.state tx.old).is_open ≡ true }
-    ensures run { (rest : Program Answer) → IsFollowed (Store block [] bytes.now rest) rest (T.state tx.old) (T.state tx.new) result }
-    ensures after { OnOk result (HasWritten 1 (T.state tx.old) (T.state tx.new)) }
-    ensures memory { IfErr result (λ e. e ≡ StoreError.Tx TxError.Memory) }
-    ensures device { T.device tx.new ≡ T.device tx.old }
+    requires { MayStore (T.state tx.old) block bytes.now }
+    ensures { WritesFirst (Store block [] bytes.now) 1 (T.state tx.old) (T.state tx.new) (T.device tx.old) (T.device tx.new) result }
 {
     match store(tx, block, &[], bytes) {
         Ok(()) => Ok(()),
@@ -78,16 +68,10 @@ fn store_halves<T: TxBlocks>(
     growth: &Growth,
     into: &mut [u8],
 ) -> Result<(), StoreError>
-    requires within { HasArea IsTreeArea (T.state tx.old) growth.now.area }
-    requires is_open { (T.state tx.old).is_open ≡ true }
-    requires room { 1 < room_of (T.state tx.old) }
+    requires writes { HasRoom (T.state tx.old) growth.now.area 2 into.old }
     requires block { block < growth.now.area.blocks }
     requires new { new < growth.now.area.blocks }
-    requires into { length into.old ≡ growth.now.area.size }
-    ensures run { (rest : Program Answer) → IsFollowed (store_nodes growth.now.area (halves_of level block new growth.now) rest) rest (T.state tx.old) (T.state tx.new) result }
-    ensures after { OnOk result (HasWritten 2 (T.state tx.old) (T.state tx.new)) }
-    ensures memory { IfErr result (λ e. e ≡ StoreError.Tx TxError.Memory) }
-    ensures device { T.device tx.new ≡ T.device tx.old }
+    ensures { WritesFirst (store_nodes growth.now.area (halves_of level block new growth.now)) 2 (T.state tx.old) (T.state tx.new) (T.device tx.old) (T.device tx.new) result }
 {
     let cells = cell_count(growth.area.size as usize);
     let half = (cells + 1) / 2;
@@ -109,15 +93,10 @@ fn store_grown<T: TxBlocks>(
     count: usize,
     into: &mut [u8],
 ) -> Result<(), StoreError>
-    requires within { HasArea IsTreeArea (T.state tx.old) growth.now.area }
-    requires room { 0 < room_of (T.state tx.old) }
-    requires is_open { (T.state tx.old).is_open ≡ true }
+    requires writes { HasRoom (T.state tx.old) growth.now.area 1 into.old }
     requires block { block < growth.now.area.blocks }
-    requires into { length into.old ≡ growth.now.area.size }
     requires count { count ≤ cell_count growth.now.area.size }
-    ensures run { HasRun (store_nodes growth.now.area ((block, level, row growth.now 0 count) ∷ []) (Done (Ok tt))) (T.state tx.old) (T.state tx.new) result }
-    ensures memory { IfErr result (λ e. e ≡ StoreError.Tx TxError.Memory) }
-    ensures device { T.device tx.new ≡ T.device tx.old }
+    ensures { WritesLast (store_nodes growth.now.area ((block, level, row growth.now 0 count) ∷ []) (Done (Ok tt))) (T.state tx.old) (T.state tx.new) (T.device tx.old) (T.device tx.new) result }
 {
     fill_row(into, level, growth, 0, count);
     store_next(tx, growth.area.start + block, into)
@@ -136,14 +115,9 @@ pub fn climb<T: TxBlocks>(
     way: &Way,
     into: &mut [u8],
 ) -> Result<(), StoreError>
-    requires within { HasArea IsTreeArea (T.state tx.old) way.now.area }
-    requires is_open { (T.state tx.old).is_open ≡ true }
+    requires writes { HasRoom (T.state tx.old) way.now.area (length (climbed way.now level entry.now below).writes) into.old }
     requires level { level + length way.now.path.now ≤ 255 }
-    requires room { length (climbed way.now level entry.now below).writes ≤ room_of (T.state tx.old) }
-    requires into { length into.old ≡ way.now.area.size }
-    ensures run { HasRun (store_nodes way.now.area (climbed way.now level entry.now below).writes (Done (Ok tt))) (T.state tx.old) (T.state tx.new) result }
-    ensures memory { IfErr result (λ e. e ≡ StoreError.Tx TxError.Memory) }
-    ensures device { T.device tx.new ≡ T.device tx.old }
+    ensures { WritesLast (store_nodes way.now.area (climbed way.now level entry.now below).writes (Done (Ok tt))) (T.state tx.old) (T.state tx.new) (T.device tx.old) (T.device tx.new) result }
 {
     let area = way.area;
     let size = area.size as usize;

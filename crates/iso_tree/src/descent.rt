@@ -1,8 +1,8 @@
 // The way from the root to the leaf of a key.
-ghost use Rattle.std.specs.Prelude.{◌≡◌, ◌+◌, ◌*◌, ◌<◌, ◌≤◌, [], IfOk, OnOk, length};
-ghost use Rattle.store_model.specs.{Cells.{cell_count, keys_mark, value_mark}, Stores.bytes_in, TreeNodes.is_head, TreeRegion.IsTreeArea};
-ghost use Rattle.tx_blocks.specs.Runs.{HasArea, HasBlock, AreBytesOf, HasRun};
-ghost use Rattle.iso_tree.specs.{Rows.AreInside, Walks.{child_program, head_program, HasDescended, HasReadLeaf, IsChild, IsHead, IsLeaf, OnlyReads}};
+ghost use Rattle.std.specs.Prelude.{◌≡◌, ◌+◌, ◌<◌, [], IfOk, OnOk, length};
+ghost use Rattle.store_model.specs.{Cells.{keys_mark, value_mark}, Stores.bytes_in, TreeNodes.is_head, TreeRegion.IsTreeArea};
+ghost use Rattle.tx_blocks.specs.Runs.{HasBlock, AreBytesOf};
+ghost use Rattle.iso_tree.specs.{Sizes.{HasCell, AreBytes, IsSize}, Walks.{child_program, head_program, ArePassed, HasBuffer, HasDescended, HasReadLeaf, IsChild, IsHead, IsLeaf, IsStep, OnlyReads}};
 
 use crate::node::NodeView;
 use crate::path::Path;
@@ -14,8 +14,7 @@ use tx_blocks::{TxBlocks, look, mark};
 
 /// The mark over head and key parts.
 pub fn keys_mark(size: u32) -> Span
-    requires least { 256 ≤ size }
-    requires most { size ≤ 4096 }
+    requires { IsSize size }
     ensures { result ≡ keys_mark size }
 {
     Span {
@@ -26,9 +25,7 @@ pub fn keys_mark(size: u32) -> Span
 
 /// The mark over the value part of a cell.
 pub fn value_mark(size: u32, cell: u32) -> Span
-    requires least { 256 ≤ size }
-    requires most { size ≤ 4096 }
-    requires cell { cell < cell_count size }
+    requires { HasCell size cell }
     ensures { result ≡ value_mark size cell }
 {
     Span {
@@ -49,12 +46,9 @@ fn is_head(area: Area, head: &[u8]) -> bool
 
 /// The value part of a cell.
 pub fn value_part(size: u32, block: &[u8], cell: u32) -> &[u8]
-    requires size { length block.now ≡ size }
-    requires least { 256 ≤ size }
-    requires most { size ≤ 4096 }
-    requires cell { cell < cell_count size }
-    ensures value { result.now ≡ bytes_in (value_mark size cell) block.now }
-    ensures length { length result.now ≡ 33 }
+    requires long { length block.now ≡ size }
+    requires cell { HasCell size cell }
+    ensures { AreBytes 33 result.now (bytes_in (value_mark size cell) block.now) }
 {
     let span = value_mark(size, cell);
     piece(block, span.off as usize, 33)
@@ -71,11 +65,8 @@ pub fn read_head<T: TxBlocks>(
     area: Area,
     buffer: &mut [u8],
 ) -> Result<(u32, u8), StoreError>
-    requires within { HasArea IsTreeArea (T.state tx.old) area }
-    requires buffer { length buffer.old ≡ area.size }
-    ensures run { HasRun (head_program area) (T.state tx.old) (T.state tx.new) result }
-    ensures inside { IfOk result (IsHead area) }
-    ensures reads { OnlyReads (T.state tx.old) (T.state tx.new) (T.device tx.old) (T.device tx.new) result }
+    requires { HasBuffer (T.state tx.old) area buffer.old }
+    ensures { IsStep (IsHead area) (head_program area) (T.state tx.old) (T.state tx.new) (T.device tx.old) (T.device tx.new) result }
 {
     let head_mark = Span { off: 0, len: 8 };
     if let Err(e) = look(tx, area.start, head_mark, buffer) {
@@ -99,9 +90,7 @@ fn enter<T: TxBlocks>(
 ) -> Result<(u32, u32), StoreError>
     requires block { HasBlock IsTreeArea (T.state tx.old) area block buffer.old }
     requires level { 0 < level }
-    ensures run { HasRun (child_program area key.now level block) (T.state tx.old) (T.state tx.new) result }
-    ensures inside { IfOk result (IsChild area) }
-    ensures reads { OnlyReads (T.state tx.old) (T.state tx.new) (T.device tx.old) (T.device tx.new) result }
+    ensures { IsStep (IsChild area) (child_program area key.now level block) (T.state tx.old) (T.state tx.new) (T.device tx.old) (T.device tx.new) result }
 {
     let image_block = area.start + block;
     if let Err(e) = look(tx, image_block, keys_mark(area.size), buffer) {
@@ -141,7 +130,6 @@ fn read_leaf<T: TxBlocks>(
     ensures bytes { OnOk result (AreBytesOf (T.state tx.new) (area.start + block) buffer.new) }
     ensures block { IfOk result (λ leaf. leaf.block ≡ block) }
     ensures reads { OnlyReads (T.state tx.old) (T.state tx.new) (T.device tx.old) (T.device tx.new) result }
-    ensures size { length buffer.new ≡ area.size }
 {
     let image_block = area.start + block;
     if let Err(e) = look(tx, image_block, keys_mark(area.size), buffer) {
@@ -179,16 +167,13 @@ pub fn descend<T: TxBlocks>(
     path: &mut Path,
     buffer: &mut [u8],
 ) -> Result<Leaf, StoreError>
-    requires within { HasArea IsTreeArea (T.state tx.old) root.area }
+    requires buffer { HasBuffer (T.state tx.old) root.area buffer.old }
     requires path { path.old ≡ [] }
-    requires buffer { length buffer.old ≡ root.area.size }
     ensures run { HasDescended root.area key.now with_value root.block root.level (T.state tx.old) (T.state tx.new) path.new buffer.new result }
     ensures leaf { IfOk result (IsLeaf root.area key.now buffer.new) }
-    ensures path { OnOk result (AreInside root.area path.new) }
-    ensures long { OnOk result (length path.new ≡ root.level) }
+    ensures path { OnOk result (ArePassed root.area root.level path.new) }
     ensures bytes { IfOk result (λ leaf. AreBytesOf (T.state tx.new) (root.area.start + leaf.block) buffer.new) }
     ensures reads { OnlyReads (T.state tx.old) (T.state tx.new) (T.device tx.old) (T.device tx.new) result }
-    ensures size { length buffer.new ≡ root.area.size }
 {
     let area = root.area;
     let mut block = root.block;

@@ -1,8 +1,8 @@
 // A put that takes new blocks, from the read of the map on.
 ghost use Rattle.std.specs.Prelude.{◌≡◌, ◌+◌, ◌*◌, ◌<◌, ◌≤◌, ◌==◌, ℕ, List, cond, get_or, length, take, suc, true, Some, None};
 ghost use Rattle.store_model.specs.{Cells.cell_count, FreeMap.{map_bytes, map_mark}, Stores.bytes_in, TreeCalls.{full_row, need_of, put_new, put_writes, with_map, with_used}, TreeRegion.IsTreeArea};
-ghost use Rattle.tx_blocks.specs.Runs.{HasArea, Behaves, HasRun};
-ghost use Rattle.iso_tree.specs.{FirstBlock.Up, Rows.NeedsBlocks, Ways.climbed};
+ghost use Rattle.tx_blocks.specs.Runs.{Behaves, HasRun};
+ghost use Rattle.iso_tree.specs.{FirstBlock.AreNew, Rows.NeedsBlocks, Sizes.IsWithin, Walks.{HasBuffer, HasBuffers, IsPart}, Ways.climbed};
 
 use crate::climb::{climb, first_node};
 use crate::entry::Entry;
@@ -18,8 +18,7 @@ use tx_blocks::{TxBlocks, look, reserve};
 // How many nodes in a row from the leaf up are full.
 fn full_row(size: usize, path: &[(u32, u32)]) -> usize
     requires { 64 ≤ size }
-    ensures value { result ≡ full_row (cell_count size) path.now }
-    ensures most { result ≤ length path.now }
+    ensures { IsWithin result (full_row (cell_count size) path.now) (length path.now) }
 {
     let Some(((_, count), rest)) = first_node(path) else {
         return 0;
@@ -74,13 +73,10 @@ fn put_writes<T: TxBlocks>(
     map: &[u8],
     into: &mut [u8],
 ) -> Result<(), StoreError>
-    requires within { HasArea IsTreeArea (T.state tx.old) way.now.area }
     requires is_open { (T.state tx.old).is_open ≡ true }
     requires long { length way.now.path.now ≤ 32 }
-    requires map { length map.now ≡ way.now.area.size }
-    requires rising { Up 1 way.now.news.now }
-    requires some { 0 < length way.now.news.now }
-    requires into { length into.old ≡ way.now.area.size }
+    requires buffers { HasBuffers (T.state tx.old) way.now.area map.now into.old }
+    requires news { AreNew way.now.area way.now.news.now }
     ensures run { (first : List ℕ) → take (64 + map_bytes way.now.area.blocks) map.now ≡ with_used first way.now.news.now → HasRun (put_writes way.now.area first way.now.news.now (climbed way.now 0 entry.now 0)) (T.state tx.old) (T.state tx.new) result }
     ensures behaves { Behaves (T.state tx.old) (T.state tx.new) 66 (T.device tx.old) (T.device tx.new) result }
 {
@@ -105,14 +101,11 @@ fn put_taken<T: TxBlocks>(
     nodes: &mut [u8],
     into: &mut [u8],
 ) -> Result<(), StoreError>
-    requires within { HasArea IsTreeArea (T.state tx.old) area }
     requires is_open { (T.state tx.old).is_open ≡ true }
     requires path { NeedsBlocks area (T.state tx.old) path.now }
-    requires map { length map.old ≡ area.size }
+    requires buffers { HasBuffers (T.state tx.old) area map.old into.old }
     requires nodes { length path.now * area.size ≤ length nodes.old }
-    requires into { length into.old ≡ area.size }
-    ensures run { HasRun (put_new area entry.now.key.now entry.now.value.now path.now (bytes_in (map_mark area.blocks) map.old) (need_of (cell_count area.size) path.now)) (T.state tx.old) (T.state tx.new) result }
-    ensures behaves { Behaves (T.state tx.old) (T.state tx.new) 66 (T.device tx.old) (T.device tx.new) result }
+    ensures { IsPart (put_new area entry.now.key.now entry.now.value.now path.now (bytes_in (map_mark area.blocks) map.old) (need_of (cell_count area.size) path.now)) (T.state tx.old) (T.state tx.new) 66 (T.device tx.old) (T.device tx.new) result }
 {
     let full = full_row(area.size as usize, path);
     let need = need_of(full, path.len());
@@ -164,11 +157,9 @@ pub fn put_new<T: TxBlocks>(
     path: &[(u32, u32)],
     map: &mut [u8],
 ) -> Result<(), StoreError>
-    requires within { HasArea IsTreeArea (T.state tx.old) area }
     requires path { NeedsBlocks area (T.state tx.old) path.now }
-    requires map { length map.old ≡ area.size }
-    ensures run { HasRun (with_map area entry.now.key.now entry.now.value.now path.now) (T.state tx.old) (T.state tx.new) result }
-    ensures behaves { Behaves (T.state tx.old) (T.state tx.new) 66 (T.device tx.old) (T.device tx.new) result }
+    requires map { HasBuffer (T.state tx.old) area map.old }
+    ensures { IsPart (with_map area entry.now.key.now entry.now.value.now path.now) (T.state tx.old) (T.state tx.new) 66 (T.device tx.old) (T.device tx.new) result }
 {
     let Ok(mut nodes) = buffer(alloc, path.len() * area.size as usize) else {
         return Err(StoreError::Tx(TxError::Memory));

@@ -1,7 +1,7 @@
 // The bytes of nodes that get a new cell.
-ghost use Rattle.std.specs.Prelude.{◌≡◌, ◌+◌, ◌-◌, ◌*◌, ◌<◌, ◌≤◌, ℕ, List, length, take, [], ◌∷◌, true};
-ghost use Rattle.store_model.specs.{Cells.cell_count, TreeNodes.{child_part, count_of, node_bytes, Cell, FitCells, IsBlock}, TreeCalls.root_cells, Trees.emptied};
-ghost use Rattle.iso_tree.specs.{Entries.{key_at_row, row, spelled}, Rows.upto_from};
+ghost use Rattle.std.specs.Prelude.{◌≡◌, ◌+◌, ◌-◌, ◌≤◌, ℕ, List, length};
+ghost use Rattle.store_model.specs.{Cells.cell_count, TreeNodes.{child_part, count_of, node_bytes, Cell, FitCells}, TreeCalls.root_cells, Trees.emptied};
+ghost use Rattle.iso_tree.specs.{Entries.{key_at_row, row, spelled}, Rows.upto_from, Sizes.{IsNodeSize, IsWithin}};
 
 use crate::build::{add_cell, add_cells, empty_node};
 use crate::entry::Entry;
@@ -12,8 +12,7 @@ use iso_alloc::{lay, spell, value_part};
 /// How many cells in a row from one on have a key that is not above this one.
 pub fn upto(key: &[u8], keys: &Keys, first: usize) -> usize
     requires { first ≤ count_of keys.now.bytes.now }
-    ensures value { result ≡ upto_from key.now keys.now.bytes.now first (count_of keys.now.bytes.now - first) }
-    ensures most { result ≤ count_of keys.now.bytes.now - first }
+    ensures { IsWithin result (upto_from key.now keys.now.bytes.now first (count_of keys.now.bytes.now - first)) (count_of keys.now.bytes.now - first) }
 {
     let count = count_of(keys.bytes);
     for cell in first..count {
@@ -90,8 +89,7 @@ fn child_part(block: u32) -> [u8; 33]
 
 /// A new root: of the first leaf, or over the old root and the new block.
 pub fn fill_root(into: &mut [u8], level: u8, below: u32, entry: &Entry)
-    requires size { IsBlock (length into.old) }
-    requires least { 256 ≤ length into.old }
+    requires { IsNodeSize (length into.old) }
     ensures { into.new ≡ node_bytes (length into.old) level (root_cells level below (spelled entry.now)) }
 {
     let part = value_part(entry.value);

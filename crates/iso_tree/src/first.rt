@@ -1,8 +1,7 @@
 // The write of a region's first block, where a put takes blocks.
-ghost use Rattle.std.specs.{Prelude.{◌≡◌, ◌+◌, ◌-◌, ◌/◌, ◌<◌, ◌≤◌, ◌++◌, ℕ, List, OnOk, OnErr, IfErr, length, take, drop, [], ◌∷◌, true}, Int.{w32, to_be_bytes}};
-ghost use Rattle.store_model.specs.{Cells.{block_with, laid_at}, FreeMap.map_bytes, TreeCalls.with_used, TreeRegion.IsTreeArea};
-ghost use Rattle.tx_blocks.specs.{Tx.{room_of, with_accesses}, Runs.IsCause};
-ghost use Rattle.iso_tree.specs.{FirstBlock.{ends, first_access, HasOneMore, Up}, Rows.AreBlocks};
+ghost use Rattle.std.specs.{Prelude.{◌≡◌, ◌+◌, ◌-◌, ◌/◌, ◌<◌, ◌≤◌, ◌++◌, length, take, drop}, Int.{w32, to_be_bytes}};
+ghost use Rattle.store_model.specs.Cells.{block_with, laid_at};
+ghost use Rattle.iso_tree.specs.{FirstBlock.{ends, AreNew, HasStoredFirst}, Walks.HasBuffers};
 
 use iso_alloc::{lay, piece};
 use iso_model::Span;
@@ -65,20 +64,9 @@ pub fn store_first<T: TxBlocks>(
     root: Option<(u32, u8)>,
     into: &mut [u8],
 ) -> Result<(), TxError>
-    requires area { IsTreeArea area }
-    requires size { (T.state tx.old).size ≡ area.size }
-    requires fits { area.start + area.blocks ≤ (T.state tx.old).blocks }
-    requires map { length map.now ≡ area.size }
-    requires some { 0 < length news.now }
-    requires rising { Up 1 news.now }
-    requires news { AreBlocks area news.now }
-    requires into { length into.old ≡ area.size }
-    ensures stored { OnOk result ((first : List ℕ) → take (64 + map_bytes area.blocks) map.now ≡ with_used first news.now → T.state tx.new ≡ with_accesses (T.state tx.old) (first_access area first news.now root ∷ [])) }
-    ensures one { OnOk result (HasOneMore (T.state tx.old) (T.state tx.new)) }
-    ensures kept { OnErr result (T.state tx.new ≡ T.state tx.old) }
-    ensures cause { IfErr result (IsCause (T.state tx.new) 1 (T.device tx.old) (T.device tx.new)) }
-    ensures room { 0 < room_of (T.state tx.old) → (T.state tx.old).is_open ≡ true → IfErr result (λ e. e ≡ TxError.Memory) }
-    ensures device { T.device tx.new ≡ T.device tx.old }
+    requires buffers { HasBuffers (T.state tx.old) area map.now into.old }
+    requires news { AreNew area news.now }
+    ensures { HasStoredFirst area map.now news.now root (T.state tx.old) (T.state tx.new) (T.device tx.old) (T.device tx.new) result }
 {
     let (low, high) = ends(news);
     fill_map(into, map, low, high);

@@ -1,8 +1,7 @@
 // A put that takes new blocks.
-ghost use Rattle.std.specs.{Prelude.{◌≡◌, ◌+◌, ◌-◌, ◌*◌, ◌<◌, ◌≤◌, ◌↔◌, IsTrue, not, List, ℕ, OnOk, IfErr, Err, length, map, take, true}, List.{filter, range_with_len}};
-ghost use Rattle.store_model.specs.{Cells.{are_key_parts, cell_count}, FreeMap.{free_count, map_bit, map_bytes}, Stores.Program, TreeNodes.{count_of, Cell, IsBlock}, TreeCalls.{look_again, with_used, Answer}, TreeRegion.IsTreeArea};
-ghost use Rattle.tx_blocks.{specs.Runs.{HasArea, HasRun}, proofs.Progress.IsAt};
-ghost use Rattle.iso_tree.specs.{Rows.{nodes_from, AreInside, AreShownUsable, AreUsable, IsUsable}, Walks.OnlyReads};
+ghost use Rattle.std.specs.{Prelude.{◌≡◌, ◌+◌, ◌-◌, ◌<◌, ◌≤◌, ◌↔◌, IsTrue, not, OnOk, IfErr, length, take}, List.{filter, range_with_len}};
+ghost use Rattle.store_model.specs.{FreeMap.{free_count, map_bit, map_bytes}, TreeCalls.with_used};
+ghost use Rattle.iso_tree.specs.{Rows.{AreUsable, HasNodes, IsUsable}, Sizes.IsNodeSize, Walks.OnlyReads, Ways.HasLookedAgain};
 
 use crate::climb::first_node;
 use crate::keys::count_of;
@@ -32,8 +31,7 @@ pub fn take_blocks(map: &mut [u8], region: Region, need: usize, news: &mut [u32]
 
 // Whether key parts and count are those of a node with `count` cells.
 fn is_usable(size: usize, block: &[u8], count: u32) -> bool
-    requires size { IsBlock size }
-    requires least { 256 ≤ size }
+    requires size { IsNodeSize size }
     requires block { length block.now ≡ size }
     ensures { IsTrue result ↔ IsUsable size block.now count }
 {
@@ -57,13 +55,8 @@ pub fn look_nodes<T: TxBlocks>(
     path: &[(u32, u32)],
     nodes: &mut [u8],
 ) -> Result<(), StoreError>
-    requires within { HasArea IsTreeArea (T.state tx.old) area }
-    requires is_open { (T.state tx.old).is_open ≡ true }
-    requires path { AreInside area path.now }
-    requires usable { AreShownUsable area (T.state tx.old) path.now }
-    requires nodes { length path.now * area.size ≤ length nodes.old }
-    ensures read { OnOk result ((f : List (ℕ × List Cell) → Program Answer) → IsAt (look_again area (map (λ p. p.0) path.now) f) (f (nodes_from area.size nodes.new path.now)) (T.state tx.old) (T.state tx.new)) }
-    ensures refused { IfErr result (λ e. (f : List (ℕ × List Cell) → Program Answer) → HasRun (look_again area (map (λ p. p.0) path.now) f) (T.state tx.old) (T.state tx.new) (Err e)) }
+    requires { HasNodes (T.state tx.old) area path.now nodes.old }
+    ensures run { HasLookedAgain area path.now nodes.new (T.state tx.old) (T.state tx.new) result }
     ensures unbroken { IfErr result (λ e. (refusal : TxError) × (e ≡ StoreError.Tx refusal)) }
     ensures usable { OnOk result (AreUsable area.size nodes.new path.now) }
     ensures reads { OnlyReads (T.state tx.old) (T.state tx.new) (T.device tx.old) (T.device tx.new) result }

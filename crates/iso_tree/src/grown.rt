@@ -1,7 +1,7 @@
 // The bytes of a node with a cell more, in a buffer of their own: each byte of it is written once.
-ghost use Rattle.std.specs.Prelude.{◌≡◌, ◌+◌, ◌-◌, ◌*◌, ◌/◌, ◌%◌, ◌<◌, ◌≤◌, ◌∷◌, ◌++◌, IfOk, OnOk, drop, length, replicate, take};
+ghost use Rattle.std.specs.Prelude.{◌≡◌, ◌+◌, ◌-◌, ◌/◌, ◌%◌, ◌<◌, ◌≤◌, ◌∷◌, ◌++◌, IfOk, OnOk, drop, length, replicate, take};
 ghost use Rattle.store_model.specs.{Cells.cell_count, TreeNodes.node_bytes};
-ghost use Rattle.iso_tree.specs.Entries.{row};
+ghost use Rattle.iso_tree.specs.{Entries.row, Sizes.AreBytes};
 
 use crate::growth::Growth;
 use iso_alloc::{cell_count, piece, spell, value_part};
@@ -69,8 +69,7 @@ pub fn grown_node(
 ) -> Result<Vec<u8>, Memory>
     requires place { growth.now.place ≤ count }
     requires room { count < cell_count growth.now.area.size }
-    ensures bytes { IfOk result (λ v. v.items ≡ node_bytes growth.now.area.size level (row growth.now 0 (count + 1))) }
-    ensures long { IfOk result (λ v. length v.items ≡ growth.now.area.size) }
+    ensures { IfOk result (λ v. AreBytes growth.now.area.size v.items (node_bytes growth.now.area.size level (row growth.now 0 (count + 1)))) }
 {
     let size = growth.area.size as usize;
     let place = growth.place;

@@ -1,7 +1,8 @@
 // The put of a key.
-ghost use Rattle.std.specs.Prelude.{◌≡◌, ◌↔◌, ◌+◌, ◌≤◌, Err, IsFalse, IsTrue, true, IfOk, IfErr, OnOk, length};
+ghost use Rattle.std.specs.Prelude.{◌≡◌, ◌↔◌, ◌+◌, ◌≤◌, Err, IsFalse, IsTrue, true, IfOk, IfErr, OnOk};
 ghost use Rattle.store_model.specs.{HashCalls.{is_key, is_value}, HashRegion.put_op, TreeCalls.{put_below_root, put_program}, TreeRegion.{tree_map, IsTreeArea, IsTreeRegion}};
-ghost use Rattle.tx_blocks.specs.{Tx.IsLater, Runs.{HasArea, area_of, Behaves, HasEnded, HasRun, IsLocalCall, IsStoreCause, IsUnwritten}};
+ghost use Rattle.tx_blocks.specs.{Tx.IsLater, Runs.{area_of, HasEnded, IsLocalCall, IsStoreCause, IsUnwritten}};
+ghost use Rattle.iso_tree.specs.Walks.{HasBuffer, IsPart};
 
 use crate::descent::{descend, read_head};
 use crate::enlarge::put_new;
@@ -22,10 +23,8 @@ fn put_below<T: TxBlocks>(
     entry: &Entry,
     block: &mut [u8],
 ) -> Result<(), StoreError>
-    requires within { HasArea IsTreeArea (T.state tx.old) root.area }
-    requires block { length block.old ≡ root.area.size }
-    ensures run { HasRun (put_below_root root.area entry.now.key.now entry.now.value.now root.block root.level) (T.state tx.old) (T.state tx.new) result }
-    ensures behaves { Behaves (T.state tx.old) (T.state tx.new) 66 (T.device tx.old) (T.device tx.new) result }
+    requires { HasBuffer (T.state tx.old) root.area block.old }
+    ensures { IsPart (put_below_root root.area entry.now.key.now entry.now.value.now root.block root.level) (T.state tx.old) (T.state tx.new) 66 (T.device tx.old) (T.device tx.new) result }
 {
     let area = root.area;
     if root.block == 0 {
@@ -55,12 +54,10 @@ fn put_with<T: TxBlocks>(
     value: &[u8],
     block: &mut [u8],
 ) -> Result<(), StoreError>
-    requires within { HasArea IsTreeArea (T.state tx.old) area }
+    requires block { HasBuffer (T.state tx.old) area block.old }
     requires key { is_key key.now ≡ true }
     requires value { is_value value.now ≡ true }
-    requires block { length block.old ≡ area.size }
-    ensures run { HasRun (put_program area key.now value.now) (T.state tx.old) (T.state tx.new) result }
-    ensures behaves { Behaves (T.state tx.old) (T.state tx.new) 66 (T.device tx.old) (T.device tx.new) result }
+    ensures { IsPart (put_program area key.now value.now) (T.state tx.old) (T.state tx.new) 66 (T.device tx.old) (T.device tx.new) result }
 {
     match read_head(tx, area, block) {
         Ok((number, level)) => {

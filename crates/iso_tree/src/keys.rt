@@ -1,6 +1,7 @@
 // Head and key parts of a node: tests, and the places of keys.
-ghost use Rattle.std.specs.{Prelude.{◌≡◌, ◌≢◌, ◌-◌, ◌<◌, ◌≤◌, ◌==◌, ◌||◌, ◌&&◌, true, length, take, IfSome}, Str.bytes_eq};
+ghost use Rattle.std.specs.{Prelude.{◌≡◌, ◌≢◌, ◌-◌, ◌<◌, ◌≤◌, ◌==◌, ◌||◌, ◌&&◌, true, length, IfSome}, Str.bytes_eq};
 ghost use Rattle.store_model.specs.{Cells.{cell_count, keys_end, are_key_parts, key_at, word_at}, TreeNodes.{are_cells, before, has_head, has_level, below_from, cell_of, count_of, is_node, place_of}};
+ghost use Rattle.iso_tree.specs.Sizes.{AreHeadAndKeys, AreKeysOf, HasKeyParts, IsBelow, IsWithin};
 
 use iso_alloc::{are_zero, cell_count, is_key_part, key_part, piece, text_of, word_at};
 
@@ -18,12 +19,8 @@ pub struct Keys<'a> {
 impl<'a> Keys<'a> {
     /// Head and key parts of a block.
     pub fn of(size: usize, block: &'a [u8]) -> Keys<'a>
-        requires least { 256 ≤ size }
-        requires long { length block.now ≡ size }
-        requires parts { are_key_parts size (take (keys_end size) block.now) ≡ true }
-        requires few { count_of (take (keys_end size) block.now) ≤ cell_count size }
-        ensures size { result.size ≡ size }
-        ensures bytes { result.bytes.now ≡ take (keys_end size) block.now }
+        requires { HasKeyParts size block.now }
+        ensures { AreKeysOf size block.now result.size result.bytes.now }
     {
         Keys {
             size,
@@ -89,8 +86,7 @@ fn has_level(level: u8, keys: &Keys, count: usize) -> bool
 
 // Whether the head is that of a node of this level.
 fn has_head(size: usize, level: u8, keys: &[u8]) -> bool
-    requires size { 256 ≤ size }
-    requires keys { length keys.now ≡ keys_end size }
+    requires { AreHeadAndKeys size keys.now }
     ensures { result ≡ has_head size level keys.now }
 {
     keys[0] == 1
@@ -109,8 +105,7 @@ fn may_follow(last: &[u8], key: &[u8], cell: usize) -> bool
 // Whether all key parts are well formed, those of the first `count` cells with keys that rise, and the others are not used, which
 // are zeros throughout.
 fn are_cells(size: usize, keys: &[u8], count: usize) -> bool
-    requires size { 256 ≤ size }
-    requires keys { length keys.now ≡ keys_end size }
+    requires keys { AreHeadAndKeys size keys.now }
     requires count { count ≤ cell_count size }
     ensures { result ≡ (are_key_parts size keys.now && are_cells size keys.now count) }
 {
@@ -132,8 +127,7 @@ fn are_cells(size: usize, keys: &[u8], count: usize) -> bool
 /// Whether head and key parts are those of a node of this level.
 #[tactic(auto, unfolding(store_model::specs::TreeNodes::is_node))]
 pub fn is_node(size: usize, level: u8, keys: &[u8]) -> bool
-    requires size { 256 ≤ size }
-    requires keys { length keys.now ≡ keys_end size }
+    requires { AreHeadAndKeys size keys.now }
     ensures { result ≡ is_node size level keys.now }
 {
     if !has_head(size, level, keys) {
@@ -169,8 +163,7 @@ pub fn cell_of(key: &[u8], keys: &Keys) -> Option<usize>
 /// How many cells have a key before this one.
 pub fn below(key: &[u8], keys: &Keys, first: usize) -> usize
     requires { first ≤ count_of keys.now.bytes.now }
-    ensures value { result ≡ below_from key.now keys.now.bytes.now first (count_of keys.now.bytes.now - first) }
-    ensures most { result ≤ count_of keys.now.bytes.now - first }
+    ensures { IsWithin result (below_from key.now keys.now.bytes.now first (count_of keys.now.bytes.now - first)) (count_of keys.now.bytes.now - first) }
 {
     let count = count_of(keys.bytes);
     for cell in first..count {
@@ -184,8 +177,7 @@ pub fn below(key: &[u8], keys: &Keys, first: usize) -> usize
 /// The last cell whose key is at most this one, the first cell where there is none.
 pub fn place_of(key: &[u8], keys: &Keys) -> usize
     requires { 0 < count_of keys.now.bytes.now }
-    ensures value { result ≡ place_of key.now keys.now.bytes.now }
-    ensures below { result < count_of keys.now.bytes.now }
+    ensures { IsBelow result (place_of key.now keys.now.bytes.now) (count_of keys.now.bytes.now) }
 {
     let count = count_of(keys.bytes);
     for cell in 1..count {

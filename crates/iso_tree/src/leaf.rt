@@ -1,8 +1,8 @@
 // Writes into one leaf, for puts and removals: a value, a new cell, or the whole leaf.
 ghost use Rattle.std.specs.Prelude.{◌≡◌, ◌+◌, ◌*◌, ◌<◌, ◌≤◌, ℕ, List, length, Ok, IfErr, IfOk, [], ◌∷◌};
 ghost use Rattle.store_model.specs.{Cells.{block_with, cell_count, keys_end, value_mark, value_part}, Stores.{Done, Store}, TreeNodes.{node_bytes, used_cells, Cell}, Trees.put_after, TreeCalls.edit_leaf, TreeRegion.IsTreeArea};
-ghost use Rattle.tx_blocks.specs.Runs.{HasArea, HasBlock, AreBytesOf, Behaves, HasRun};
-ghost use Rattle.iso_tree.specs.{Entries.spelled, Walks.{IsLeaf, IsWalkError}};
+ghost use Rattle.tx_blocks.specs.Runs.{HasBlock, AreBytesOf, Behaves, HasRun};
+ghost use Rattle.iso_tree.specs.{Entries.spelled, Sizes.AreBytes, Walks.{HasBuffer, HasLeaf, IsLeaf, IsPart, IsWalkError}};
 
 use crate::descent::{Leaf, value_mark};
 use crate::entry::Entry;
@@ -29,13 +29,10 @@ pub fn put_value<T: TxBlocks>(
     value: &[u8],
     into: &mut [u8],
 ) -> Result<(), StoreError>
-    requires within { HasArea IsTreeArea (T.state tx.old) area }
-    requires block { block < area.blocks }
+    requires block { HasBlock IsTreeArea (T.state tx.old) area block into.old }
     requires cell { cell < cell_count area.size }
     requires value { length value.now ≤ 32 }
-    requires into { length into.old ≡ area.size }
-    ensures run { HasRun (Store (area.start + block) (value_mark area.size cell ∷ []) (block_with area.size (keys_end area.size + 33 * cell) (value_part value.now)) (Done (Ok tt))) (T.state tx.old) (T.state tx.new) result }
-    ensures behaves { Behaves (T.state tx.old) (T.state tx.new) 1 (T.device tx.old) (T.device tx.new) result }
+    ensures { IsPart (Store (area.start + block) (value_mark area.size cell ∷ []) (block_with area.size (keys_end area.size + 33 * cell) (value_part value.now)) (Done (Ok tt))) (T.state tx.old) (T.state tx.new) 1 (T.device tx.old) (T.device tx.new) result }
 {
     let span = value_mark(area.size, cell);
     let part = value_part(value);
@@ -87,13 +84,10 @@ pub fn put_cell<T: TxBlocks>(
     leaf: Leaf,
     old: &mut [u8],
 ) -> Result<(), StoreError>
-    requires within { HasArea IsTreeArea (T.state tx.old) area }
-    requires leaf { IsLeaf area entry.now.key.now old.old leaf }
+    requires old { HasBuffer (T.state tx.old) area old.old }
+    requires leaf { HasLeaf (T.state tx.old) area entry.now.key.now old.old leaf }
     requires room { leaf.count < cell_count area.size }
-    requires bytes { AreBytesOf (T.state tx.old) (area.start + leaf.block) old.old }
-    requires old { length old.old ≡ area.size }
-    ensures run { HasRun (edit_leaf area leaf.block (put_after entry.now.key.now (spelled entry.now)) (Ok tt)) (T.state tx.old) (T.state tx.new) result }
-    ensures behaves { Behaves (T.state tx.old) (T.state tx.new) 1 (T.device tx.old) (T.device tx.new) result }
+    ensures { IsPart (edit_leaf area leaf.block (put_after entry.now.key.now (spelled entry.now)) (Ok tt)) (T.state tx.old) (T.state tx.new) 1 (T.device tx.old) (T.device tx.new) result }
 {
     let Ok(bytes) = leaf_with(alloc, area, old, entry, leaf) else {
         return Err(StoreError::Tx(TxError::Memory));
@@ -113,8 +107,7 @@ fn leaf_with(
     requires old { length old.now ≡ area.size }
     requires leaf { IsLeaf area entry.now.key.now old.now leaf }
     requires room { leaf.count < cell_count area.size }
-    ensures bytes { IfOk result (λ v. v.items ≡ node_bytes area.size 0 (put_after entry.now.key.now (spelled entry.now) (used_cells area.size old.now))) }
-    ensures long { IfOk result (λ v. length v.items ≡ area.size) }
+    ensures { IfOk result (λ v. AreBytes area.size v.items (node_bytes area.size 0 (put_after entry.now.key.now (spelled entry.now) (used_cells area.size old.now)))) }
 {
     let keys = Keys::of(area.size as usize, old);
     let place = upto(entry.key, &keys, 0);

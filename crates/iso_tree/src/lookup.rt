@@ -1,8 +1,8 @@
 // The look-up of a key.
 ghost use Rattle.std.specs.Prelude.{◌≡◌, ◌↔◌, ◌+◌, ◌≤◌, Err, IsFalse, true, IfOk, IfErr, OnOk, length};
 ghost use Rattle.store_model.specs.{HashCalls.is_key, HashRegion.get_op, TreeCalls.{get_below, get_program}, TreeRegion.{tree_map, IsTreeArea, IsTreeRegion}};
-ghost use Rattle.tx_blocks.specs.{Tx.IsLater, Runs.{HasArea, area_of, HasEnded, HasRead, HasRun, IsLocalCall, IsStoreCause}};
-ghost use Rattle.iso_tree.specs.Walks.{OnlyReads};
+ghost use Rattle.tx_blocks.specs.{Tx.IsLater, Runs.{area_of, HasEnded, HasRead, IsLocalCall, IsStoreCause}};
+ghost use Rattle.iso_tree.specs.Walks.{HasBuffer, HasOpenBuffer, IsReading};
 
 use crate::descent::{descend, read_head, value_part};
 use crate::path::Path;
@@ -21,12 +21,9 @@ fn get_below<T: TxBlocks>(
     block: &mut [u8],
     room: Vec<u8>,
 ) -> Result<Option<Bytes>, StoreError>
-    requires within { HasArea IsTreeArea (T.state tx.old) root.area }
-    requires block { length block.old ≡ root.area.size }
+    requires block { HasOpenBuffer (T.state tx.old) root.area block.old }
     requires room { length room.items ≡ 32 }
-    requires is_open { (T.state tx.old).is_open ≡ true }
-    ensures run { HasRun (get_below root.area key.now root.block root.level) (T.state tx.old) (T.state tx.new) result }
-    ensures reads { OnlyReads (T.state tx.old) (T.state tx.new) (T.device tx.old) (T.device tx.new) result }
+    ensures { IsReading (get_below root.area key.now root.block root.level) (T.state tx.old) (T.state tx.new) (T.device tx.old) (T.device tx.new) result }
 {
     if root.block == 0 {
         return Ok(None);
@@ -56,12 +53,10 @@ fn get_with<T: TxBlocks>(
     block: &mut [u8],
     room: Vec<u8>,
 ) -> Result<Option<Bytes>, StoreError>
-    requires within { HasArea IsTreeArea (T.state tx.old) area }
+    requires block { HasBuffer (T.state tx.old) area block.old }
     requires key { is_key key.now ≡ true }
-    requires block { length block.old ≡ area.size }
     requires room { length room.items ≡ 32 }
-    ensures run { HasRun (get_program area key.now) (T.state tx.old) (T.state tx.new) result }
-    ensures reads { OnlyReads (T.state tx.old) (T.state tx.new) (T.device tx.old) (T.device tx.new) result }
+    ensures { IsReading (get_program area key.now) (T.state tx.old) (T.state tx.new) (T.device tx.old) (T.device tx.new) result }
 {
     match read_head(tx, area, block) {
         Ok((number, level)) => {

@@ -1,6 +1,7 @@
 // A node of the tree, as the bytes of its block.
-ghost use Rattle.std.specs.Prelude.{◌≡◌, ◌↔◌, ◌+◌, ◌*◌, ◌<◌, ◌≤◌, IfSome, IsSome, IsTrue, length, true, Some, None};
+ghost use Rattle.std.specs.Prelude.{◌≡◌, ◌↔◌, ◌<◌, ◌≤◌, IfSome, IsSome, IsTrue, length, true};
 ghost use Rattle.store_model.specs.{Cells.{are_key_parts, cell_count, keys_end, keys_mark}, Stores.bytes_in, TreeNodes.{cell_of, child_of, count_of, find_in, is_child, is_node, keys_in, place_of, value_in}};
+ghost use Rattle.iso_tree.specs.Sizes.{IsBelow, AreBytes, IsSize, IsWithin};
 
 use crate::keys::{Keys, below, cell_of, count_of, is_node, place_of};
 use iso_alloc::{Cells, Region, are_zero, cell_count, piece, word_at};
@@ -27,10 +28,8 @@ impl<'a> Model for NodeView<'a> {
 
 // Head and key parts of a block.
 fn keys_of(block: &[u8]) -> &[u8]
-    requires least { 256 ≤ length block.now }
-    requires most { length block.now ≤ 4096 }
-    ensures value { result.now ≡ bytes_in (keys_mark (length block.now)) block.now }
-    ensures length { length result.now ≡ keys_end (length block.now) }
+    requires { IsSize (length block.now) }
+    ensures { AreBytes (keys_end (length block.now)) result.now (bytes_in (keys_mark (length block.now)) block.now) }
 {
     piece(block, 0, 64 + 31 * cell_count(block.len()))
 }
@@ -47,8 +46,7 @@ pub fn is_child(blocks: u32, part: &[u8]) -> bool
 impl<'a> NodeView<'a> {
     /// The node of a region at a level; none exactly where head and key parts are not well formed for that level.
     pub fn of(block: &'a [u8], level: u8, region: Region) -> Option<NodeView<'a>>
-        requires least { 256 ≤ length block.now }
-        requires most { length block.now ≤ 4096 }
+        requires { IsSize (length block.now) }
         ensures some { IsSome result ↔ IsTrue (is_node (length block.now) level (bytes_in (keys_mark (length block.now)) block.now)) }
         ensures value { IfSome result (λ v. v ≡ record { block = block.now; blocks = region.size }) }
     {
@@ -71,8 +69,7 @@ impl<'a> NodeView<'a> {
 
     /// How many cells are used.
     pub fn count(&self) -> u32
-        ensures value { result ≡ count_of (keys_in self.now) }
-        ensures few { result ≤ cell_count (length self.now.block) }
+        ensures { IsWithin result (count_of (keys_in self.now)) (cell_count (length self.now.block)) }
     {
         count_of(keys_of(self.block)) as u32
     }
@@ -110,8 +107,7 @@ impl<'a> NodeView<'a> {
     /// The last cell whose key is at most this one, the first where there is none.
     pub fn place(&self, key: &[u8]) -> u32
         requires { 0 < count_of (keys_in self.now) }
-        ensures value { result ≡ place_of key.now (keys_in self.now) }
-        ensures below { result < count_of (keys_in self.now) }
+        ensures { IsBelow result (place_of key.now (keys_in self.now)) (count_of (keys_in self.now)) }
     {
         place_of(key, &self.keys()) as u32
     }
@@ -119,8 +115,7 @@ impl<'a> NodeView<'a> {
     // The value part of a cell.
     fn value_part(&self, i: u32) -> &'a [u8]
         requires { i < cell_count (length self.now.block) }
-        ensures value { result.now ≡ value_in self.now i }
-        ensures length { length result.now ≡ 33 }
+        ensures { AreBytes 33 result.now (value_in self.now i) }
     {
         let at = 64 + 31 * cell_count(self.block.len()) + 33 * i as usize;
         piece(self.block, at, 33)

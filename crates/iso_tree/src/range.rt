@@ -1,8 +1,8 @@
 // The pairs of a range of keys.
 ghost use Rattle.std.specs.{Prelude.{◌≡◌, ◌⊎◌, ◌↔◌, ◌&&◌, ◌+◌, ◌-◌, ◌*◌, ◌<◌, ◌≤◌, ◌++◌, [], ◌∷◌, Err, IsFalse, true, IfOk, IfErr, OnOk, length, map, take}, List.list_all};
 ghost use Rattle.store_model.specs.{Cells.{cell_count, is_part}, HashCalls.is_key, TreeCalls.{pairs_with, parts_of, scan_below, scan_program}, TreeNodes.child_of, TreeRegion.{scan_op, tree_map, IsTreeArea, IsTreeRegion}};
-ghost use Rattle.tx_blocks.{proofs.Progress.IsAt, specs.Tx.IsLater, specs.Runs.{HasArea, HasBlock, area_of, HasEnded, HasRead, IsLocalCall, IsStoreCause, WantsMemory}};
-ghost use Rattle.iso_tree.specs.{Visits.{left_of, AreIn, HasScanned}, Walks.OnlyReads};
+ghost use Rattle.tx_blocks.specs.{Tx.IsLater, Runs.{HasBlock, area_of, HasEnded, HasRead, IsLocalCall, IsStoreCause, WantsMemory}};
+ghost use Rattle.iso_tree.specs.{Visits.{left_of, AreIn, HasStepped, IsScan}, Walks.{HasBuffer, HasOpenBuffer, OnlyReads, OrMemory}};
 
 use crate::descent::read_head;
 use crate::key_range::KeyRange;
@@ -35,8 +35,7 @@ fn copied(alloc: Global, text: &[u8]) -> Result<Bytes, StoreError>
 
 // Adds a pair at the end.
 fn add_pair(alloc: Global, key: &[u8], value: &[u8], found: &mut PairList) -> Result<(), StoreError>
-    ensures ok { OnOk result (found.new ≡ found.old ++ (key.now, value.now) ∷ []) }
-    ensures memory { IfErr result (λ e. e ≡ StoreError.Tx TxError.Memory) }
+    ensures { OrMemory (found.new ≡ found.old ++ (key.now, value.now) ∷ []) result }
 {
     let pair = (copied(alloc, key)?, copied(alloc, value)?);
     match found.push(pair) {
@@ -57,8 +56,7 @@ fn add_pairs(
     requires inside { visit.first + visit.many ≤ cell_count keys.now.size }
     requires values { length values.now ≡ 33 * visit.many }
     requires texts { list_all (is_part 32) (parts_of values.now visit.many) ≡ true }
-    ensures ok { OnOk result (found.new ≡ found.old ++ take (max - length found.old) (pairs_with keys.now.bytes.now visit.first (parts_of values.now visit.many))) }
-    ensures memory { IfErr result (λ e. e ≡ StoreError.Tx TxError.Memory) }
+    ensures { OrMemory (found.new ≡ found.old ++ take (max - length found.old) (pairs_with keys.now.bytes.now visit.first (parts_of values.now visit.many))) result }
 {
     for i in 0..visit.many {
         if max <= found.len() {
@@ -79,8 +77,7 @@ fn add_children(
     many: usize,
 ) -> Result<(), StoreError>
     requires { length values.now ≡ 33 * many }
-    ensures ok { OnOk result (unread.new ≡ map (λ part. (level, child_of part)) (parts_of values.now many) ++ unread.old) }
-    ensures memory { IfErr result (λ e. e ≡ StoreError.Tx TxError.Memory) }
+    ensures { OrMemory (unread.new ≡ map (λ part. (level, child_of part)) (parts_of values.now many) ++ unread.old) result }
 {
     let mut i = many;
     while 0 < i {
@@ -103,8 +100,7 @@ fn step<T: TxBlocks>(
     requires block { HasBlock IsTreeArea (T.state tx.old) range.now.area node.1 buffer.old }
     requires nodes { AreIn range.now.area unread.old }
     requires few { length found.old < range.now.max }
-    ensures run { OnOk result (IsAt (left_of range.now (node ∷ unread.old) found.old) (left_of range.now unread.new found.new) (T.state tx.old) (T.state tx.new)) }
-    ensures refused { IfErr result (λ e. HasScanned (left_of range.now (node ∷ unread.old) found.old) (T.state tx.old) (T.state tx.new) (Err e)) }
+    ensures run { HasStepped range.now (node ∷ unread.old) unread.new found.old found.new (T.state tx.old) (T.state tx.new) result }
     ensures nodes { OnOk result (AreIn range.now.area unread.new) }
     ensures more { OnOk result (length (T.state tx.new).accesses ≡ length (T.state tx.old).accesses + 1) }
     ensures reads { OnlyReads (T.state tx.old) (T.state tx.new) (T.device tx.old) (T.device tx.new) result }
@@ -132,12 +128,9 @@ fn walk<T: TxBlocks>(
     buffer: &mut [u8],
     unread: &mut Unread,
 ) -> Result<PairList, StoreError>
-    requires within { HasArea IsTreeArea (T.state tx.old) range.now.area }
-    requires buffer { length buffer.old ≡ range.now.area.size }
+    requires buffer { HasOpenBuffer (T.state tx.old) range.now.area buffer.old }
     requires nodes { AreIn range.now.area unread.old }
-    requires is_open { (T.state tx.old).is_open ≡ true }
-    ensures run { HasScanned (left_of range.now unread.old []) (T.state tx.old) (T.state tx.new) result }
-    ensures reads { OnlyReads (T.state tx.old) (T.state tx.new) (T.device tx.old) (T.device tx.new) result }
+    ensures { IsScan (left_of range.now unread.old []) (T.state tx.old) (T.state tx.new) (T.device tx.old) (T.device tx.new) result }
 {
     let mut found = Items::empty(alloc);
     while found.len() < range.max as usize {
@@ -160,12 +153,9 @@ fn scan_below<T: TxBlocks>(
     level: u8,
     buffer: &mut [u8],
 ) -> Result<PairList, StoreError>
-    requires within { HasArea IsTreeArea (T.state tx.old) range.now.area }
+    requires buffer { HasOpenBuffer (T.state tx.old) range.now.area buffer.old }
     requires root { root < range.now.area.blocks }
-    requires buffer { length buffer.old ≡ range.now.area.size }
-    requires is_open { (T.state tx.old).is_open ≡ true }
-    ensures run { HasScanned (scan_below range.now.area range.now.from.now range.now.to.now range.now.max root level) (T.state tx.old) (T.state tx.new) result }
-    ensures reads { OnlyReads (T.state tx.old) (T.state tx.new) (T.device tx.old) (T.device tx.new) result }
+    ensures { IsScan (scan_below range.now.area range.now.from.now range.now.to.now range.now.max root level) (T.state tx.old) (T.state tx.new) (T.device tx.old) (T.device tx.new) result }
 {
     let mut unread = Unread::empty(alloc);
     if root == 0 {
@@ -184,10 +174,8 @@ fn scan_with<T: TxBlocks>(
     range: &KeyRange,
     buffer: &mut [u8],
 ) -> Result<PairList, StoreError>
-    requires within { HasArea IsTreeArea (T.state tx.old) range.now.area }
-    requires buffer { length buffer.old ≡ range.now.area.size }
-    ensures run { HasScanned (scan_program range.now.area range.now.from.now range.now.to.now range.now.max) (T.state tx.old) (T.state tx.new) result }
-    ensures reads { OnlyReads (T.state tx.old) (T.state tx.new) (T.device tx.old) (T.device tx.new) result }
+    requires { HasBuffer (T.state tx.old) range.now.area buffer.old }
+    ensures { IsScan (scan_program range.now.area range.now.from.now range.now.to.now range.now.max) (T.state tx.old) (T.state tx.new) (T.device tx.old) (T.device tx.new) result }
 {
     match read_head(tx, range.area, buffer) {
         Ok((root, level)) => scan_below(alloc, tx, range, root, level, buffer),

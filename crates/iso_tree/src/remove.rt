@@ -1,8 +1,8 @@
 // The removal of a key.
-ghost use Rattle.std.specs.Prelude.{◌≡◌, ◌↔◌, ◌+◌, ◌≤◌, Err, Ok, IsFalse, true, IfOk, IfErr, OnErr, OnOk, length};
+ghost use Rattle.std.specs.Prelude.{◌≡◌, ◌↔◌, ◌+◌, ◌≤◌, Err, Ok, IsFalse, true, IfOk, IfErr, OnErr, OnOk};
 ghost use Rattle.store_model.specs.{HashCalls.is_key, HashRegion.del_op, TreeCalls.{del_below, del_program, edit_leaf, without_key}, TreeRegion.{tree_map, IsTreeArea, IsTreeRegion}};
-ghost use Rattle.tx_blocks.specs.{Tx.IsLater, Runs.{HasArea, AreBytesOf, area_of, Behaves, HasEnded, HasRun, HasRead, IsLocalCall, IsStoreCause}};
-ghost use Rattle.iso_tree.specs.Walks.{IsLeaf, IsWalkError, TakesNoBlocks};
+ghost use Rattle.tx_blocks.specs.{Tx.IsLater, Runs.{area_of, HasEnded, HasRead, IsLocalCall, IsStoreCause}};
+ghost use Rattle.iso_tree.specs.Walks.{HasBuffers, HasLeaf, IsRemoval, TakesNoBlocks};
 
 use crate::build::copy_without;
 use crate::descent::{Leaf, descend, read_head};
@@ -23,14 +23,9 @@ fn remove_cell<T: TxBlocks>(
     old: &mut [u8],
     into: &mut [u8],
 ) -> Result<bool, StoreError>
-    requires within { HasArea IsTreeArea (T.state tx.old) area }
-    requires leaf { IsLeaf area key.now old.old leaf }
-    requires bytes { AreBytesOf (T.state tx.old) (area.start + leaf.block) old.old }
-    requires old { length old.old ≡ area.size }
-    requires into { length into.old ≡ area.size }
-    ensures run { HasRun (edit_leaf area leaf.block (without_key key.now) (Ok true)) (T.state tx.old) (T.state tx.new) result }
-    ensures behaves { Behaves (T.state tx.old) (T.state tx.new) 1 (T.device tx.old) (T.device tx.new) result }
-    ensures known { IfErr result IsWalkError }
+    requires buffers { HasBuffers (T.state tx.old) area old.old into.old }
+    requires leaf { HasLeaf (T.state tx.old) area key.now old.old leaf }
+    ensures { IsRemoval (edit_leaf area leaf.block (without_key key.now) (Ok true)) (T.state tx.old) (T.state tx.new) (T.device tx.old) (T.device tx.new) result }
 {
     copy_without(key, old, into);
     store_leaf(tx, area, leaf.block, into, true, old)
@@ -44,12 +39,8 @@ fn remove_below<T: TxBlocks>(
     block: &mut [u8],
     into: &mut [u8],
 ) -> Result<bool, StoreError>
-    requires within { HasArea IsTreeArea (T.state tx.old) root.area }
-    requires block { length block.old ≡ root.area.size }
-    requires into { length into.old ≡ root.area.size }
-    ensures run { HasRun (del_below root.area key.now root.block root.level) (T.state tx.old) (T.state tx.new) result }
-    ensures behaves { Behaves (T.state tx.old) (T.state tx.new) 1 (T.device tx.old) (T.device tx.new) result }
-    ensures known { IfErr result IsWalkError }
+    requires { HasBuffers (T.state tx.old) root.area block.old into.old }
+    ensures { IsRemoval (del_below root.area key.now root.block root.level) (T.state tx.old) (T.state tx.new) (T.device tx.old) (T.device tx.new) result }
 {
     if root.block == 0 {
         return Ok(false);
@@ -73,13 +64,9 @@ fn remove_with<T: TxBlocks>(
     block: &mut [u8],
     into: &mut [u8],
 ) -> Result<bool, StoreError>
-    requires within { HasArea IsTreeArea (T.state tx.old) area }
+    requires buffers { HasBuffers (T.state tx.old) area block.old into.old }
     requires key { is_key key.now ≡ true }
-    requires block { length block.old ≡ area.size }
-    requires into { length into.old ≡ area.size }
-    ensures run { HasRun (del_program area key.now) (T.state tx.old) (T.state tx.new) result }
-    ensures behaves { Behaves (T.state tx.old) (T.state tx.new) 1 (T.device tx.old) (T.device tx.new) result }
-    ensures known { IfErr result IsWalkError }
+    ensures { IsRemoval (del_program area key.now) (T.state tx.old) (T.state tx.new) (T.device tx.old) (T.device tx.new) result }
 {
     match read_head(tx, area, block) {
         Ok((number, level)) => {

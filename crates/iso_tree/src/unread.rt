@@ -1,5 +1,6 @@
 // The nodes that a scan has still to read.
-ghost use Rattle.std.specs.Prelude.{◌≡◌, [], ◌∷◌, OnOk, IfErr, IfSome, IfNone};
+ghost use Rattle.std.specs.Prelude.{◌≡◌, [], ◌∷◌, IfSome, IfNone};
+ghost use Rattle.iso_tree.specs.Walks.{OrMemory};
 
 use std::alloc::Global;
 use std::marker::Model;
@@ -35,8 +36,7 @@ impl Unread {
     ///
     /// Want of memory, as that of the transaction.
     pub fn push(&mut self, level: u8, block: u32) -> Result<(), StoreError>
-        ensures ok { OnOk result (self.new ≡ (level, block) ∷ self.old) }
-        ensures memory { IfErr result (λ e. e ≡ StoreError.Tx TxError.Memory) }
+        ensures { OrMemory (self.new ≡ (level, block) ∷ self.old) result }
     {
         match self.nodes.push((level, block)) {
             Ok(()) => Ok(()),

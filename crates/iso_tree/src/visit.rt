@@ -1,9 +1,8 @@
 // The read of a node that a scan visits.
-ghost use Rattle.std.specs.{Prelude.{◌≡◌, ◌+◌, ◌*◌, ◌<◌, ◌≤◌, IfOk, IfErr, OnOk, Ok, Err, None, length, true}, List.list_all};
-ghost use Rattle.store_model.specs.{Cells.{are_key_parts, cell_count, keys_end}, Stores.bytes_in, TreeCalls.{first_in, many_in, parts_of}, TreeNodes.count_of, TreeRegion.{is_part_at, IsTreeArea}};
-ghost use Rattle.iso_model.specs.Marks.{marked};
-ghost use Rattle.tx_blocks.specs.{Runs.{HasBlock, HasRun, Ran}, Tx.mark_refusal};
-ghost use Rattle.iso_tree.specs.{Visits.{node_read, values_mark, visit_program, IsVisited}, Walks.OnlyReads};
+ghost use Rattle.std.specs.{Prelude.{◌≡◌, ◌+◌, ◌*◌, ◌<◌, IfOk, OnOk, None, length}, List.list_all};
+ghost use Rattle.store_model.specs.{Cells.keys_end, Stores.bytes_in, TreeCalls.parts_of, TreeNodes.count_of, TreeRegion.{is_part_at, IsTreeArea}};
+ghost use Rattle.tx_blocks.specs.{Runs.HasBlock, Tx.mark_refusal};
+ghost use Rattle.iso_tree.specs.{Sizes.AreBytes, Visits.{values_mark, AreBetween, HasMarked, HasVisited, IsVisitIn, IsVisited}, Walks.OnlyReads};
 
 use crate::descent::keys_mark;
 use crate::key_range::KeyRange;
@@ -24,9 +23,7 @@ pub struct Visit {
 // The cells of a node that a scan visits.
 fn cells_between(level: u8, from: &[u8], to: &[u8], keys: &Keys) -> Visit
     requires { 0 < level → 0 < count_of keys.now.bytes.now }
-    ensures first { result.first ≡ first_in level from.now keys.now.bytes.now }
-    ensures many { result.many ≡ many_in level from.now to.now keys.now.bytes.now }
-    ensures inside { result.first + result.many ≤ count_of keys.now.bytes.now }
+    ensures { AreBetween level from.now to.now keys.now.bytes.now result }
 {
     if level == 0 {
         let first = below(from, keys, 0);
@@ -40,9 +37,7 @@ fn cells_between(level: u8, from: &[u8], to: &[u8], keys: &Keys) -> Visit
 
 // The mark over the value parts of cells.
 fn values_mark(size: u32, visit: Visit) -> Span
-    requires least { 256 ≤ size }
-    requires most { size ≤ 4096 }
-    requires inside { visit.first + visit.many ≤ cell_count size }
+    requires { IsVisitIn size visit }
     ensures { result ≡ values_mark size visit.first visit.many }
 {
     Span {
@@ -53,13 +48,9 @@ fn values_mark(size: u32, visit: Visit) -> Span
 
 // Marks the value parts of cells, where there are any.
 fn mark_values<T: TxBlocks>(tx: &mut T, size: u32, visit: Visit)
-    requires least { 256 ≤ size }
-    requires most { size ≤ 4096 }
-    requires inside { visit.first + visit.many ≤ cell_count size }
+    requires visit { IsVisitIn size visit }
     requires open { 0 < visit.many → mark_refusal (T.state tx.old) (keys_end size + 33 * visit.first) (33 * visit.many) ≡ None }
-    ensures none { visit.many ≡ 0 → T.state tx.new ≡ T.state tx.old }
-    ensures some { 0 < visit.many → T.state tx.new ≡ record (T.state tx.old) { accesses = marked (values_mark size visit.first visit.many) (T.state tx.old).accesses } }
-    ensures device { T.device tx.new ≡ T.device tx.old }
+    ensures { HasMarked size visit (T.state tx.old) (T.state tx.new) (T.device tx.old) (T.device tx.new) }
 {
     if visit.many == 0 {
         return;
@@ -93,11 +84,8 @@ fn are_parts(area: Area, level: u8, values: &[u8], many: usize) -> bool
 
 /// The value parts of cells of a block.
 pub fn values(block: &[u8], visit: Visit) -> &[u8]
-    requires least { 256 ≤ length block.now }
-    requires most { length block.now ≤ 4096 }
-    requires inside { visit.first + visit.many ≤ cell_count (length block.now) }
-    ensures value { result.now ≡ bytes_in (values_mark (length block.now) visit.first visit.many) block.now }
-    ensures length { length result.now ≡ 33 * visit.many }
+    requires { IsVisitIn (length block.now) visit }
+    ensures { AreBytes (33 * visit.many) result.now (bytes_in (values_mark (length block.now) visit.first visit.many) block.now) }
 {
     let at = 64 + 31 * cell_count(block.len()) + 33 * visit.first;
     piece(block, at, 33 * visit.many)
@@ -118,13 +106,10 @@ pub fn read_node<T: TxBlocks>(
     buffer: &mut [u8],
 ) -> Result<Visit, StoreError>
     requires block { HasBlock IsTreeArea (T.state tx.old) range.now.area block buffer.old }
-    ensures run { OnOk result (Ran (visit_program range.now.area range.now.from.now range.now.to.now level block) (T.state tx.old) (T.state tx.new) (Ok (node_read range.now.area range.now.from.now range.now.to.now level buffer.new))) }
-    ensures refused { IfErr result (λ e. HasRun (visit_program range.now.area range.now.from.now range.now.to.now level block) (T.state tx.old) (T.state tx.new) (Err e)) }
+    ensures run { HasVisited range.now level block (T.state tx.old) (T.state tx.new) buffer.new result }
     ensures visited { IfOk result (IsVisited range.now.area range.now.from.now range.now.to.now level buffer.new) }
-    ensures inside { IfOk result (λ visit. visit.first + visit.many ≤ cell_count range.now.area.size) }
     ensures more { OnOk result (length (T.state tx.new).accesses ≡ length (T.state tx.old).accesses + 1) }
     ensures reads { OnlyReads (T.state tx.old) (T.state tx.new) (T.device tx.old) (T.device tx.new) result }
-    ensures size { length buffer.new ≡ range.now.area.size }
 {
     let area = range.area;
     let size = area.size as usize;

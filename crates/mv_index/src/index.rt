@@ -1,6 +1,6 @@
 // The versions of all blocks.
-ghost use Rattle.std.specs.Prelude.{◌≡◌, ◌≢◌, ◌+◌, ◌-◌, ◌*◌, ◌^◌, ◌<◌, ◌≤◌, [], ℕ, IfOk, IsOk, OnOk, count_by, length, slice_index_or};
-ghost use Rattle.mv_index.specs.{Moves.{AreSplit, moved_to}, Pieces.Follow, Shown.{AllLie, AllMeet, ShowTheSame, ShowTheSameIn}, Versions.{AreAtMost, IsAdded, Rise, block_of, count_of, has, no_version, room_of, shown_since, upto, versions_in}, Weights.bytes_above};
+ghost use Rattle.std.specs.Prelude.{◌≡◌, ◌≢◌, ◌+◌, ◌-◌, ◌*◌, ◌^◌, ◌<◌, ◌≤◌, [], ℕ, IfOk, IsOk, OnOk, length};
+ghost use Rattle.mv_index.specs.{Moves.{AreSplit, moved_to}, Ranges.AreShowing, Shown.{AllLie, AllMeet, ShowTheSameIn}, Versions.{AreAtMost, IsAdded, Rise, block_of, count_of, room_of, shown_since, upto, versions_in}, Weights.bytes_above};
 
 use crate::pieces::meeting;
 use crate::row::Row;
@@ -61,12 +61,7 @@ impl MvIndex {
     /// two of them.
     pub fn showing(&self, block: u32) -> &[Version]
         requires { block < length self.now }
-        ensures order { Follow 0 result.now }
-        ensures same { ShowTheSame result.now (versions_in self.now block) }
-        ensures once { (p : ℕ) → count_by (has p) result.now ≤ 1 }
-        ensures some { (i : ℕ) → i < length result.now → 0 < (slice_index_or result.now i no_version).len }
-        ensures few { length result.now ≤ 2 * length (versions_in self.now block) }
-        ensures within { (size area : ℕ) → AllLie size area (versions_in self.now block) → AllLie size area result.now }
+        ensures { AreShowing result.now (versions_in self.now block) }
     {
         self.rows[block as usize].showing()
     }

@@ -1,9 +1,9 @@
 //! The versions of each block: where in the image the bytes of each commit's parts are, without the bytes.
 //!
 //! `find`: exactly those at or below a number, rising, by halves (`exact`, `rising`, `cost`). `showing`: pieces that show what all
-//! versions show, no byte twice (`same`, `order`, `once`, `few`, `within`); `showing_in`: those that meet a range (`meet`). `add`
+//! versions show, no byte twice (`AreShowing`); `showing_in`: those that meet a range (`meet`). `add`
 //! takes no memory after `reserve` (`added`, `succeeds`). `trim_to`: those above the number and those that still show a byte (`kept`,
-//! `count`).
+//! `count`). `move_to` moves places (`moved`).
 #![tactic(auto)]
 
 mod index;

@@ -1,6 +1,6 @@
 // Versions whose bytes are elsewhere.
 ghost use Rattle.std.specs.Prelude.{◌≡◌, ◌+◌, ◌-◌, ◌^◌, ◌<◌, ◌≤◌, ℕ, length, slice_index_or, take, vec_capacity, vec_len};
-ghost use Rattle.mv_index.specs.{Moves.moved_to, Versions.no_version};
+ghost use Rattle.mv_index.specs.{Moves.moved_to, Ranges.DropsSome, Versions.no_version};
 
 use crate::Version;
 
@@ -30,8 +30,7 @@ fn gather_moved(versions: &mut [Version], from: u64, to: u64) -> usize
 pub(crate) fn move_list(versions: &mut Vec<Version>, from: u64, to: u64) -> u64
     requires room { (i : ℕ) → i < length versions.old.items → to + (slice_index_or versions.old.items i no_version).place < 2 ^ 64 }
     ensures moved { versions.new.items ≡ moved_to from to versions.old.items }
-    ensures count { result + length versions.new.items ≡ length versions.old.items }
-    ensures room { vec_capacity versions.old - vec_len versions.old ≤ vec_capacity versions.new - vec_len versions.new }
+    ensures drops { DropsSome (length versions.old.items) result (length versions.new.items) (vec_capacity versions.old - vec_len versions.old) (vec_capacity versions.new - vec_len versions.new) }
 {
     let before = versions.len();
     let kept = gather_moved(versions.as_mut_slice(), from, to);

@@ -1,6 +1,6 @@
 // The parts of a block's versions that show at the last number, in order.
 ghost use Rattle.std.specs.{Prelude.{◌≡◌, ◌+◌, ◌-◌, ◌^◌, ◌<◌, ◌≤◌, ◌++◌, [], ◌∷◌, ℕ, List, length, drop, slice_index_or, take, true, vec_capacity, vec_len}, List.insert};
-ghost use Rattle.mv_index.specs.{declared.version.Version.Version, Pieces.{ArePieces, ArePlaced, Follow, back_of, backs, begun, ended, front_of, fronts}, Shown.{AllLie, AllMeet, ShowTheSameIn}, Versions.no_version};
+ghost use Rattle.mv_index.specs.{declared.version.Version.Version, Pieces.{ArePieces, ArePlaced, Follow, back_of, backs, begun, ended, front_of, fronts}, Ranges.{AreCuts, HasBefore, HasEnded, IsRange, StaysIn}, Shown.{AllLie, AllMeet, Lies, ShowTheSameIn}, Versions.no_version};
 
 use crate::Version;
 
@@ -17,9 +17,8 @@ fn front(piece: &Version, to: u16) -> Version
 
 /// The part of a piece from a byte of its block on.
 fn back(piece: &Version, from: u16) -> Version
-    requires within { piece.now.off + piece.now.len ≤ 4096 }
+    requires placed { Lies 4096 (2 ^ 64 - 1) piece.now }
     requires inside { from < piece.now.off + piece.now.len }
-    requires place { piece.now.place + piece.now.len < 2 ^ 64 }
     ensures { result ≡ back_of from piece.now }
 {
     let skipped = from.saturating_sub(piece.off);
@@ -34,9 +33,7 @@ fn back(piece: &Version, from: u16) -> Version
 /// How many pieces begin before a byte of the block.
 fn begin_before(pieces: &[Version], byte: u16) -> usize
     requires { Follow 0 pieces.now }
-    ensures within { result ≤ length pieces.now }
-    ensures below { (k : ℕ) → k < result → (slice_index_or pieces.now k no_version).off < byte }
-    ensures above { (k : ℕ) → result ≤ k → k < length pieces.now → byte ≤ (slice_index_or pieces.now k no_version).off }
+    ensures { HasBefore pieces.now byte result }
 {
     pieces.partition_point(|piece| piece.off < byte)
 }
@@ -52,9 +49,7 @@ fn likely_place(pieces: &[Version], byte: u16) -> usize {
 /// How many pieces begin before a byte of the block, without a search where a piece begins there and is where it is likely to be.
 fn begin_near(pieces: &[Version], byte: u16) -> usize
     requires { Follow 0 pieces.now }
-    ensures within { result ≤ length pieces.now }
-    ensures below { (k : ℕ) → k < result → (slice_index_or pieces.now k no_version).off < byte }
-    ensures above { (k : ℕ) → result ≤ k → k < length pieces.now → byte ≤ (slice_index_or pieces.now k no_version).off }
+    ensures { HasBefore pieces.now byte result }
 {
     let near = likely_place(pieces, byte);
     if near < pieces.len() && pieces[near].off == byte {
@@ -66,9 +61,7 @@ fn begin_near(pieces: &[Version], byte: u16) -> usize
 /// How many pieces have no byte from one of the block on.
 fn end_before(pieces: &[Version], byte: u16) -> usize
     requires { Follow 0 pieces.now }
-    ensures within { result ≤ length pieces.now }
-    ensures below { (k : ℕ) → k < result → (slice_index_or pieces.now k no_version).off + (slice_index_or pieces.now k no_version).len ≤ byte }
-    ensures above { (k : ℕ) → result ≤ k → k < length pieces.now → byte < (slice_index_or pieces.now k no_version).off + (slice_index_or pieces.now k no_version).len }
+    ensures { HasEnded pieces.now byte result }
 {
     pieces.partition_point(|piece| u32::from(piece.off) + u32::from(piece.len) <= u32::from(byte))
 }
@@ -76,9 +69,7 @@ fn end_before(pieces: &[Version], byte: u16) -> usize
 /// The same, without a search where the piece that is likely to have the byte has it.
 fn end_likely(pieces: &[Version], byte: u16) -> usize
     requires { Follow 0 pieces.now }
-    ensures within { result ≤ length pieces.now }
-    ensures below { (k : ℕ) → k < result → (slice_index_or pieces.now k no_version).off + (slice_index_or pieces.now k no_version).len ≤ byte }
-    ensures above { (k : ℕ) → result ≤ k → k < length pieces.now → byte < (slice_index_or pieces.now k no_version).off + (slice_index_or pieces.now k no_version).len }
+    ensures { HasEnded pieces.now byte result }
 {
     let near = likely_place(pieces, byte);
     if near < pieces.len() && pieces[near].off <= byte && u32::from(byte) < end(pieces[near]) {
@@ -90,9 +81,7 @@ fn end_likely(pieces: &[Version], byte: u16) -> usize
 /// The same, without a search where the piece at a place of the list ends there: most versions have the bytes of an earlier one.
 fn end_near(pieces: &[Version], near: usize, byte: u16) -> usize
     requires { Follow 0 pieces.now }
-    ensures within { result ≤ length pieces.now }
-    ensures below { (k : ℕ) → k < result → (slice_index_or pieces.now k no_version).off + (slice_index_or pieces.now k no_version).len ≤ byte }
-    ensures above { (k : ℕ) → result ≤ k → k < length pieces.now → byte < (slice_index_or pieces.now k no_version).off + (slice_index_or pieces.now k no_version).len }
+    ensures { HasEnded pieces.now byte result }
 {
     if near < pieces.len() && end(pieces[near]) == u32::from(byte) {
         return near + 1;
@@ -105,9 +94,7 @@ fn end_near(pieces: &[Version], near: usize, byte: u16) -> usize
 fn begin_behind(pieces: &[Version], near: usize, byte: u16) -> usize
     requires order { Follow 0 pieces.now }
     requires near { near ≤ length pieces.now }
-    ensures within { result ≤ length pieces.now }
-    ensures below { (k : ℕ) → k < result → (slice_index_or pieces.now k no_version).off < byte }
-    ensures above { (k : ℕ) → result ≤ k → k < length pieces.now → byte ≤ (slice_index_or pieces.now k no_version).off }
+    ensures { HasBefore pieces.now byte result }
 {
     if pieces.len() - near > 1 && pieces[near].off < byte && byte <= pieces[near + 1].off {
         return near + 1;
@@ -141,9 +128,7 @@ pub(crate) fn meeting(pieces: &[Version], from: u16, to: u16) -> &[Version]
 fn find(pieces: &[Version], from: u16, to: u16) -> (usize, usize)
     requires order { Follow 0 pieces.now }
     requires rise { from ≤ to }
-    ensures first { result.0 ≤ length pieces.now }
-    ensures last { result.1 ≤ length pieces.now }
-    ensures around { result.1 < result.0 → result.1 + 1 ≡ result.0 }
+    ensures cuts { AreCuts (length pieces.now) result.0 result.1 }
     ensures below { (k : ℕ) → k < result.0 → (slice_index_or pieces.now k no_version).off < from }
     ensures above { (k : ℕ) → result.1 ≤ k → k < length pieces.now → to < (slice_index_or pieces.now k no_version).off + (slice_index_or pieces.now k no_version).len }
     ensures front { fronts from pieces.now ≡ ended from (take result.0 pieces.now) }
@@ -177,12 +162,10 @@ fn cut_first(pieces: &mut [Version], byte: u16)
 /// Cuts the last of the pieces before a place of the list at one byte of the block, and the first one from another place on
 /// at another byte.
 fn cut(pieces: &mut [Version], first: usize, last: usize, from: u16, to: u16)
-    requires order { first ≤ last }
-    requires within { last ≤ length pieces.old }
+    requires range { IsRange (length pieces.old) first last }
     requires below { (k : ℕ) → k < length (take first pieces.old) → (slice_index_or (take first pieces.old) k no_version).off < from }
     requires above { (k : ℕ) → k < length (drop last pieces.old) → to < (slice_index_or (drop last pieces.old) k no_version).off + (slice_index_or (drop last pieces.old) k no_version).len }
     requires placed { ArePlaced (drop last pieces.old) }
-    ensures length { length pieces.new ≡ length pieces.old }
     ensures front { take first pieces.new ≡ ended from (take first pieces.old) }
     ensures back { drop last pieces.new ≡ begun to (drop last pieces.old) }
 {
@@ -206,16 +189,12 @@ fn insert_reserved(pieces: &mut Vec<Version>, at: usize, piece: Version)
 /// Where one piece has bytes on both sides of a version, it is put twice, for both of them. It answers where the pieces
 /// after the version begin.
 fn part(pieces: &mut Vec<Version>, first: usize, last: usize) -> usize
-    requires within { first ≤ vec_len pieces.old }
-    requires last { last ≤ vec_len pieces.old }
-    requires around { last < first → last + 1 ≡ first }
+    requires cuts { AreCuts (vec_len pieces.old) first last }
     requires room { vec_len pieces.old < vec_capacity pieces.old }
-    ensures order { first ≤ result }
-    ensures inside { result ≤ vec_len pieces.new }
+    ensures range { IsRange (vec_len pieces.new) first result }
     ensures front { take first pieces.new.items ≡ take first pieces.old.items }
     ensures back { drop result pieces.new.items ≡ drop last pieces.old.items }
-    ensures few { vec_len pieces.new ≤ vec_len pieces.old + 1 }
-    ensures capacity { vec_capacity pieces.new ≡ vec_capacity pieces.old }
+    ensures stays { StaysIn (vec_capacity pieces.old) (vec_len pieces.old + 1) (vec_capacity pieces.new) (vec_len pieces.new) }
 {
     if first <= last {
         return last;
@@ -238,8 +217,7 @@ fn put_last(pieces: &mut [Version], at: usize, count: usize)
 fn take_out(pieces: &mut Vec<Version>, at: usize, count: usize)
     requires { at + count ≤ vec_len pieces.old }
     ensures items { pieces.new.items ≡ take at pieces.old.items ++ drop (at + count) pieces.old.items }
-    ensures len { vec_len pieces.new ≤ vec_len pieces.old }
-    ensures capacity { vec_capacity pieces.new ≡ vec_capacity pieces.old }
+    ensures stays { StaysIn (vec_capacity pieces.old) (vec_len pieces.old) (vec_capacity pieces.new) (vec_len pieces.new) }
 {
     let left = pieces.len() - count;
     put_last(pieces.as_mut_slice(), at, count);
@@ -248,12 +226,10 @@ fn take_out(pieces: &mut Vec<Version>, at: usize, count: usize)
 
 /// Puts a piece in the place of those from one place of the list up to another.
 fn replace(pieces: &mut Vec<Version>, first: usize, last: usize, piece: Version)
-    requires order { first ≤ last }
-    requires within { last ≤ vec_len pieces.old }
+    requires range { IsRange (vec_len pieces.old) first last }
     requires room { vec_len pieces.old < vec_capacity pieces.old }
     ensures items { pieces.new.items ≡ take first pieces.old.items ++ piece ∷ drop last pieces.old.items }
-    ensures len { vec_len pieces.new ≤ vec_len pieces.old + 1 }
-    ensures capacity { vec_capacity pieces.new ≡ vec_capacity pieces.old }
+    ensures stays { StaysIn (vec_capacity pieces.old) (vec_len pieces.old + 1) (vec_capacity pieces.new) (vec_len pieces.new) }
 {
     if first == last {
         insert_reserved(pieces, first, piece);
@@ -284,8 +260,7 @@ pub(crate) fn lay(pieces: &mut Vec<Version>, version: &Version)
     requires within { version.now.off + version.now.len ≤ 4096 }
     requires room { vec_len pieces.old + 2 ≤ vec_capacity pieces.old }
     ensures laid { (versions : List Version) → ArePieces pieces.old.items versions → ArePieces pieces.new.items (versions ++ version.now ∷ []) }
-    ensures room { vec_len pieces.new ≤ vec_len pieces.old + 2 }
-    ensures capacity { vec_capacity pieces.new ≡ vec_capacity pieces.old }
+    ensures stays { StaysIn (vec_capacity pieces.old) (vec_len pieces.old + 2) (vec_capacity pieces.new) (vec_len pieces.new) }
 {
     if version.len == 0 {
         return;

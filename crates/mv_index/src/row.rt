@@ -1,6 +1,6 @@
 // The versions of one block.
-ghost use Rattle.std.specs.Prelude.{◌≡◌, ◌+◌, ◌-◌, ◌*◌, ◌^◌, ◌<◌, ◌≤◌, ◌++◌, [], ◌∷◌, ℕ, IsOk, OnOk, count_by, length, slice_index_or};
-ghost use Rattle.mv_index.specs.{Moves.{AreSplit, moved_to}, Pieces.Follow, Shown.{AllLie, ShowTheSame}, Versions.{AreAtMost, Rise, has, no_version, shown_since, upto}, Weights.part_bytes_above};
+ghost use Rattle.std.specs.Prelude.{◌≡◌, ◌+◌, ◌-◌, ◌^◌, ◌<◌, ◌≤◌, ◌++◌, [], ◌∷◌, ℕ, IsOk, OnOk, length};
+ghost use Rattle.mv_index.specs.{Moves.{AreSplit, moved_to}, Ranges.{AreShowing, DropsSome, TakesHalves}, Shown.{AllLie, Lies}, Versions.{AreAtMost, Rise, shown_since, upto}, Weights.part_bytes_above};
 
 use crate::moving::move_list;
 use crate::pieces::lay;
@@ -46,8 +46,7 @@ impl Row {
     pub fn find<L: Ledger>(&self, at: u64, steps: &mut Steps<L>) -> &[Version]
         ensures exact { result.now ≡ upto at self.now.versions }
         ensures rising { Rise result.now }
-        ensures steps { steps.old ≤ steps.new }
-        ensures cost { 2 ^ (steps.new - steps.old) ≤ 2 * length self.now.versions + 1 }
+        ensures took { TakesHalves (length self.now.versions) steps.old steps.new }
     {
         let count = count_upto(self.versions.as_slice(), at, steps);
         &self.versions.as_slice()[..count]
@@ -55,12 +54,7 @@ impl Row {
 
     /// The pieces of the versions that show at the last number, in the order of their bytes.
     pub fn showing(&self) -> &[Version]
-        ensures order { Follow 0 result.now }
-        ensures same { ShowTheSame result.now self.now.versions }
-        ensures once { (p : ℕ) → count_by (has p) result.now ≤ 1 }
-        ensures some { (i : ℕ) → i < length result.now → 0 < (slice_index_or result.now i no_version).len }
-        ensures few { length result.now ≤ 2 * length self.now.versions }
-        ensures within { (block size : ℕ) → AllLie block size self.now.versions → AllLie block size result.now }
+        ensures { AreShowing result.now self.now.versions }
     {
         self.pieces.as_slice()
     }
@@ -86,8 +80,7 @@ impl Row {
     pub fn add(&mut self, version: Version)
         requires room { 0 < self.old.room }
         requires rising { AreAtMost version.number self.old.versions }
-        requires within { version.off + version.len ≤ 4096 }
-        requires place { version.place + version.len < 2 ^ 64 }
+        requires placed { Lies 4096 (2 ^ 64 - 1) version }
         ensures added { self.new.versions ≡ self.old.versions ++ version ∷ [] }
         ensures room { self.old.room ≤ self.new.room + 1 }
     {
@@ -99,8 +92,7 @@ impl Row {
     pub fn trim_to(&mut self, number: u64, seen: &mut [u64]) -> u64
         requires seen { length seen.old ≡ 64 }
         ensures kept { self.new.versions ≡ shown_since number self.old.versions }
-        ensures count { result + length self.new.versions ≡ length self.old.versions }
-        ensures room { self.old.room ≤ self.new.room }
+        ensures drops { DropsSome (length self.old.versions) result (length self.new.versions) self.old.room self.new.room }
     {
         trim_list(&mut self.versions, number, seen)
     }
@@ -111,8 +103,7 @@ impl Row {
         requires split { AreSplit from self.old.versions }
         requires room { (block size : ℕ) × AllLie block size self.old.versions × (to + size < 2 ^ 64) }
         ensures moved { self.new.versions ≡ moved_to from to self.old.versions }
-        ensures count { result + length self.new.versions ≡ length self.old.versions }
-        ensures room { self.old.room ≤ self.new.room }
+        ensures drops { DropsSome (length self.old.versions) result (length self.new.versions) self.old.room self.new.room }
     {
         move_list(&mut self.pieces, from, to);
         move_list(&mut self.versions, from, to)

@@ -1,6 +1,6 @@
 // The versions at or below a number.
-ghost use Rattle.std.specs.Prelude.{◌≡◌, ◌+◌, ◌-◌, ◌*◌, ◌^◌, ◌<◌, ◌≤◌, ℕ, length, take};
-ghost use Rattle.mv_index.specs.Versions.{upto, number_at, Rise};
+ghost use Rattle.std.specs.Prelude.{◌≡◌, ◌<◌, ◌≤◌, ℕ, length, take};
+ghost use Rattle.mv_index.specs.{Ranges.TakesHalves, Versions.{upto, number_at, Rise}};
 
 use crate::{Ledger, Steps, Version};
 
@@ -11,8 +11,7 @@ pub fn count_upto<L: Ledger>(versions: &[Version], at: u64, steps: &mut Steps<L>
     ensures below { (k : ℕ) → k < result → number_at versions.now k ≤ at }
     ensures above { (k : ℕ) → result ≤ k → k < length versions.now → at < number_at versions.now k }
     ensures exact { take result versions.now ≡ upto at versions.now }
-    ensures steps { steps.old ≤ steps.new }
-    ensures cost { 2 ^ (steps.new - steps.old) ≤ 2 * length versions.now + 1 }
+    ensures took { TakesHalves (length versions.now) steps.old steps.new }
 {
     let mut low = 0;
     let mut high = versions.len();

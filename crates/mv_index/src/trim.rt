@@ -1,6 +1,6 @@
 // The versions that still show a byte.
 ghost use Rattle.std.specs.{Prelude.{◌≡◌, ◌+◌, ◌-◌, ◌*◌, ◌<◌, ◌≤◌, ◌&&◌, ◌||◌, ℕ, false, not, length, drop, take, nat_le, nat_lt, vec_capacity, vec_len}, List.{list_any, range_with_len}};
-ghost use Rattle.mv_index.specs.{Versions.{has, shown_since, AreWithin}, Masks.is_seen};
+ghost use Rattle.mv_index.specs.{Versions.{has, shown_since, AreWithin}, Masks.is_seen, Ranges.DropsSome};
 
 use crate::Version;
 use crate::mask::see;
@@ -10,7 +10,6 @@ fn look(version: &Version, number: u64, seen: &mut [u64]) -> bool
     requires size { length seen.old ≡ 64 }
     requires fits { version.now.off + version.now.len ≤ 64 * length seen.old }
     ensures shows { result ≡ (nat_lt number version.now.number || list_any (λ p. not (is_seen seen.old p)) (range_with_len version.now.off version.now.len)) }
-    ensures len { length seen.new ≡ length seen.old }
     ensures marked { (p : ℕ) → p < 64 * length seen.old → is_seen seen.new p ≡ ((nat_le version.now.number number && has p version.now) || is_seen seen.old p) }
 {
     if version.number > number {
@@ -58,8 +57,7 @@ pub(crate) fn trim_list(versions: &mut Vec<Version>, number: u64, seen: &mut [u6
     requires seen { length seen.old ≡ 64 }
     requires within { AreWithin 4096 versions.old.items }
     ensures kept { versions.new.items ≡ shown_since number versions.old.items }
-    ensures count { result + length versions.new.items ≡ length versions.old.items }
-    ensures room { vec_capacity versions.old - vec_len versions.old ≤ vec_capacity versions.new - vec_len versions.new }
+    ensures drops { DropsSome (length versions.old.items) result (length versions.new.items) (vec_capacity versions.old - vec_len versions.old) (vec_capacity versions.new - vec_len versions.new) }
 {
     if versions.is_empty() {
         return 0;

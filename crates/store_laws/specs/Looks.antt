@@ -1,4 +1,5 @@
--- Transactions that call a store, and look into another one whose region is in the first one's.
+-- Transactions that call a store, and look into another one. The law looks_into_the_tree_beside_files_answer takes files, and the tree
+-- store of their names.
 use Rattle.std.specs.Prelude.{◌≡◌, ℕ, ◌-◌, [], ◌∷◌}
 use Rattle.iso_model.specs.{declared.access.Commit.Commit, declared.access.Mode.TheVariants.Serial, Array.Array, Effect.own, History.{History, array_at}}
 use Rattle.store_model.specs.Stores.{AreReads, IsLocal}

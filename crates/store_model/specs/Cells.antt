@@ -1,4 +1,4 @@
--- A block of cells: a head, the key parts of its cells, and their value parts.
+-- A block of cells as an image has it: a head of 64 bytes, key parts of 31, value parts of 33. Other numbers here are another format.
 use Rattle.std.specs.{Prelude.{ℕ, zero, suc, ◌+◌, ◌-◌, ◌*◌, ◌/◌, Bool, true, ◌&&◌, ◌==◌, List, ◌∷◌, ◌++◌, Option, nat_le, slice_index, take, drop, length, replicate}, List.list_all, Int.{w32, from_be_bytes}, Str.bytes_eq}
 use Rattle.iso_model.specs.{declared.access.Span.Span, Conflict.first_from}
 use Rattle.store_model.specs.Stores.{bytes_in}
@@ -62,7 +62,7 @@ abbrev pub all_from : (ℕ → Bool) → (i n : ℕ) → Bool
 all_from test i zero = true
 all_from test i (suc n) = test i && all_from test (i + 1) n
 
--- whether the key parts are well formed
+-- whether the key parts are well formed: keys of at most 28 bytes, though a part has room for 30
 abbrev pub are_key_parts : (size : ℕ) → List ℕ → Bool
 are_key_parts size keys = all_from (λ i. is_part 28 (bytes_in (key_mark i) keys)) 0 (cell_count size)
 

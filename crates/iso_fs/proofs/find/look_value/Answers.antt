@@ -2,11 +2,16 @@ use Rattle.iso_fs.proofs.{Words.{read_none}, Finding.{value_bad, value_named}, P
 use Rattle.store_model.specs.declared.stores.StoreError.TheVariants as store
 use Rattle.store_model.specs.declared.files.FsError.TheVariants as fs
 
-pub returns-in-Some-clause-part : Rattle.iso_fs.proofs.find.look_value.Goals.returns-in-Some-clause-part
-returns-in-Some-clause-part g c = part_as (value_named c.args.a c.args.value.now c.in-Some.number c.in-Some.ensures.some.1 c.in-Some.ensures.some.0) c.look_file.ensures.part
+pub returns-in-Some : Rattle.iso_fs.proofs.find.look_value.Goals.returns-in-Some
+returns-in-Some g c = record {
+  part = part_as (value_named c.args.a c.args.value.now c.in-Some.number c.in-Some.ensures.some.1 c.in-Some.ensures.some.0) c.look_file.ensures.part;
+  found = c.look_file.ensures.found;
+  reads = c.look_file.ensures.reads;
+}
 
-pub returns-in-None-clause-part : Rattle.iso_fs.proofs.find.look_value.Goals.returns-in-None-clause-part
-returns-in-None-clause-part g c = part_as (value_bad c.args.a c.args.value.now c.in-None.ensures.none) (part_refused (fs.Store (store.Broken c.args.a.tree.start)) (λ x. cc) tt)
-
-pub returns-in-None-clause-reads : Rattle.iso_fs.proofs.find.look_value.Goals.returns-in-None-clause-reads
-returns-in-None-clause-reads g c = read_none (g.T.TxBlocks.state c.args.tx.now)
+pub returns-in-None : Rattle.iso_fs.proofs.find.look_value.Goals.returns-in-None
+returns-in-None g c = record {
+  part = part_as (value_bad c.args.a c.args.value.now c.in-None.ensures.none) (part_refused (fs.Store (store.Broken c.args.a.tree.start)) (λ x. cc) tt);
+  found = tt;
+  reads = read_none (g.T.TxBlocks.state c.args.tx.now);
+}

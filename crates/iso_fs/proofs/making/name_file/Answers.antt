@@ -3,24 +3,24 @@ use Rattle.iso_fs.proofs.{Words.{get_or, bit_place, ap, arith, sym, refl, empty_
 pub returns-in-Err : Rattle.iso_fs.proofs.making.name_file.Goals.returns-in-Err
 returns-in-Err g c =
     part_as (ap (naming c.args.name.now.areas c.args.name.now.bytes.now c.args.block (get_or c.args.buffer.now (bit_place c.args.block) 0)) (sym c.spelled.ensures))
-    (put_stops (put_program c.args.name.now.areas.tree c.args.name.now.bytes.now c.spelled.result) (λ put. empty_writes c.args.name.now.areas c.args.block (get_or c.args.buffer.now (bit_place c.args.block) 0)) (λ memory. put_has c.args.name.now.areas.tree c.args.name.now.bytes.now c.spelled.result c.args.name.now.good (rw c.spelled.ensures refl)) c.in-Err.ensures.ended c.in-Err.ensures.unwritten c.in-Err.ensures.cause c.in-Err.ensures.later)
+    (put_stops (put_program c.args.name.now.areas.tree c.args.name.now.bytes.now c.spelled.result) (λ put. empty_writes c.args.name.now.areas c.args.block (get_or c.args.buffer.now (bit_place c.args.block) 0)) (λ memory. put_has c.args.name.now.areas.tree c.args.name.now.bytes.now c.spelled.result c.args.name.now.good (rw c.spelled.ensures refl)) c.in-Err.ensures.ended c.in-Err.ensures.unwritten c.in-Err.ensures.leaves.cause c.in-Err.ensures.leaves.later)
 
 pub returns-in-Err-store_bit : Rattle.iso_fs.proofs.making.name_file.Goals.returns-in-Err-store_bit
 returns-in-Err-store_bit g c =
     part_as (ap (naming c.args.name.now.areas c.args.name.now.bytes.now c.args.block (get_or c.args.buffer.now (bit_place c.args.block) 0)) (sym c.spelled.ensures))
-    (tree_wrote (put_program c.args.name.now.areas.tree c.args.name.now.bytes.now c.spelled.result) (λ put. empty_writes c.args.name.now.areas c.args.block (get_or c.args.buffer.now (bit_place c.args.block) 0)) c.in_default.ensures.ended c.in_default.ensures.later c.in_default.ensures.passed refl
+    (tree_wrote (put_program c.args.name.now.areas.tree c.args.name.now.bytes.now c.spelled.result) (λ put. empty_writes c.args.name.now.areas c.args.block (get_or c.args.buffer.now (bit_place c.args.block) 0)) c.in_default.ensures.ended c.in_default.ensures.leaves.later c.in_default.ensures.leaves.passed refl
     (store_stops c.in-Err-store_bit.ensures.stored.kept (omega arith) c.in-Err-store_bit.ensures.stored.cause c.in-Err-store_bit.ensures.stored.device))
 
 pub returns-in-Err-store_empty : Rattle.iso_fs.proofs.making.name_file.Goals.returns-in-Err-store_empty
 returns-in-Err-store_empty g c =
     part_as (ap (naming c.args.name.now.areas c.args.name.now.bytes.now c.args.block (get_or c.args.buffer.now (bit_place c.args.block) 0)) (sym c.spelled.ensures))
-    (tree_wrote (put_program c.args.name.now.areas.tree c.args.name.now.bytes.now c.spelled.result) (λ put. empty_writes c.args.name.now.areas c.args.block (get_or c.args.buffer.now (bit_place c.args.block) 0)) c.in_default.ensures.ended c.in_default.ensures.later c.in_default.ensures.passed refl
+    (tree_wrote (put_program c.args.name.now.areas.tree c.args.name.now.bytes.now c.spelled.result) (λ put. empty_writes c.args.name.now.areas c.args.block (get_or c.args.buffer.now (bit_place c.args.block) 0)) c.in_default.ensures.ended c.in_default.ensures.leaves.later c.in_default.ensures.leaves.passed refl
     (store_done (g.met.T.TxBlocks.limits c.store_bit.new.tx) c.in_default-store_bit.ensures.stored.stored c.in_default-store_bit.ensures.stored.device refl
     (store_stops c.in-Err-store_empty.ensures.kept (omega arith) c.in-Err-store_empty.ensures.cause c.in-Err-store_empty.ensures.device)))
 
 pub returns-in-Ok : Rattle.iso_fs.proofs.making.name_file.Goals.returns-in-Ok
 returns-in-Ok g c =
     part_as (ap (naming c.args.name.now.areas c.args.name.now.bytes.now c.args.block (get_or c.args.buffer.now (bit_place c.args.block) 0)) (sym c.spelled.ensures))
-    (tree_wrote (put_program c.args.name.now.areas.tree c.args.name.now.bytes.now c.spelled.result) (λ put. empty_writes c.args.name.now.areas c.args.block (get_or c.args.buffer.now (bit_place c.args.block) 0)) c.in_default.ensures.ended c.in_default.ensures.later c.in_default.ensures.passed tt
+    (tree_wrote (put_program c.args.name.now.areas.tree c.args.name.now.bytes.now c.spelled.result) (λ put. empty_writes c.args.name.now.areas c.args.block (get_or c.args.buffer.now (bit_place c.args.block) 0)) c.in_default.ensures.ended c.in_default.ensures.leaves.later c.in_default.ensures.leaves.passed tt
     (store_done (g.met.T.TxBlocks.limits c.store_bit.new.tx) c.in_default-store_bit.ensures.stored.stored c.in_default-store_bit.ensures.stored.device tt
     (store_done (g.met.T.TxBlocks.limits c.store_empty.new.tx) c.in-Ok.ensures.stored c.in-Ok.ensures.device tt part_done)))

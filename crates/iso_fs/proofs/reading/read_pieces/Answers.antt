@@ -40,24 +40,27 @@ loop-at-preserved g c =
       passed = c.in_default.ensures.passed ∙ c.loop-at.invariant.passed;
     }
 
-pub returns-in-Err-clause-part : goal.returns-in-Err-clause-part
-returns-in-Err-clause-part g c =
+pub returns-in-Err : goal.returns-in-Err
+returns-in-Err g c =
     let state = g.T.TxBlocks.state in
     let device = g.T.TxBlocks.device in
     let less = c.loop-at-test.true in
     record {
-      run = piece_stops (state c.look.new.tx) (fs.Store (store.Tx c.in-Err.e)) (omega (arith, less)) c.loop-at.invariant.left
-          (λ most. piece_refused c.args.file.now.area c.args.file.now.bytes.now most c.loop-at.at c.args.to (take (c.loop-at.at - c.args.from) c.loop-at.room) less (state c.loop-at.tx) (state c.look.new.tx) (device c.loop-at.tx) (device c.look.new.tx) c.in-Err.e c.in-Err.ensures.kept c.in-Err.ensures.cause);
-      behaves = behaves_after _ _ _ 1 _ _ _ (Err (fs.Store (store.Tx c.in-Err.e))) c.loop-at.invariant.reads c.loop-at.invariant.later c.loop-at.invariant.passed (refused_access _ _ 1 _ _ c.in-Err.e (omega arith) c.in-Err.ensures.cause c.in-Err.ensures.later);
+      part = record {
+        run = piece_stops (state c.look.new.tx) (fs.Store (store.Tx c.in-Err.e)) (omega (arith, less)) c.loop-at.invariant.left
+            (λ most. piece_refused c.args.file.now.area c.args.file.now.bytes.now most c.loop-at.at c.args.to (take (c.loop-at.at - c.args.from) c.loop-at.room) less (state c.loop-at.tx) (state c.look.new.tx) (device c.loop-at.tx) (device c.look.new.tx) c.in-Err.e c.in-Err.ensures.kept c.in-Err.ensures.cause);
+        behaves = behaves_after _ _ _ 1 _ _ _ (Err (fs.Store (store.Tx c.in-Err.e))) c.loop-at.invariant.reads c.loop-at.invariant.later c.loop-at.invariant.passed (refused_access _ _ 1 _ _ c.in-Err.e (omega arith) c.in-Err.ensures.cause c.in-Err.ensures.later);
+      };
+      reads = read_join _ _ _ c.loop-at.invariant.reads (read_kept c.in-Err.ensures.kept);
     }
 
-pub returns-in-Err-clause-reads : goal.returns-in-Err-clause-reads
-returns-in-Err-clause-reads g c = read_join _ _ _ c.loop-at.invariant.reads (read_kept c.in-Err.ensures.kept)
-
-pub returns-clause-part : goal.returns-clause-part
-returns-clause-part g c =
+pub returns : goal.returns
+returns g c =
     let same : c.loop-at.at - c.args.from ≡ c.args.to - c.args.from = omega (arith, c.loop-at.invariant.up, c.loop-at-test.false) in
     record {
-      run = all_done c.args.file.now.area c.args.file.now.bytes.now c.loop-at.at c.args.to (take (c.args.to - c.args.from) c.loop-at.room) (omega (arith, c.loop-at-test.false)) (rw same at c.loop-at.invariant.left);
-      behaves = done_so _ _ 1 _ _ _ c.loop-at.invariant.later c.loop-at.invariant.passed;
+      part = record {
+        run = all_done c.args.file.now.area c.args.file.now.bytes.now c.loop-at.at c.args.to (take (c.args.to - c.args.from) c.loop-at.room) (omega (arith, c.loop-at-test.false)) (rw same at c.loop-at.invariant.left);
+        behaves = done_so _ _ 1 _ _ _ c.loop-at.invariant.later c.loop-at.invariant.passed;
+      };
+      reads = c.loop-at.invariant.reads;
     }

@@ -8,7 +8,7 @@ loop-at-init g c = record {
   left = left_whole c.args.writing.now.file.area (entries_of c.args.writing.now.file.area.size c.args.writing.now.file.bytes.now ++ c.args.news.now) c.args.writing.now.file.count c.args.writing.now.off (c.args.writing.now.off + length c.args.writing.now.bytes.now) c.args.writing.now.bytes.now (g.T.TxBlocks.state c.args.tx.now) (omega arith);
   low = omega arith;
   up = omega arith;
-  long = c.requires.into;
+  long = c.requires.buffer.long;
   later = later_same _ _ refl;
   passed = refl;
 }
@@ -34,21 +34,27 @@ loop-at-preserved g c =
       passed = ap (λ (d : Device). d.faults) c.in_default.ensures.device ∙ c.loop-at.invariant.passed;
     }
 
-pub returns-in-Err-clause-part : goal.returns-in-Err-clause-part
-returns-in-Err-clause-part g c =
+pub returns-in-Err : goal.returns-in-Err
+returns-in-Err g c =
     let state = g.T.TxBlocks.state in
     let device = g.T.TxBlocks.device in
     let E = entries_of c.args.writing.now.file.area.size c.args.writing.now.file.bytes.now ++ c.args.news.now in
     let rest = rest_is c.args.writing.now.bytes.now c.piece-rest.result.now c.args.writing.now.off c.loop-at.at (c.args.writing.now.off + length c.args.writing.now.bytes.now) c.loop-at.invariant.low c.loop-at.invariant.up (omega arith) c.piece-rest.ensures.value in
     record {
-      run = piece_stops (state c.store_piece.new.tx) (fs.Store (store.Tx c.in-Err.e)) (omega (arith, c.loop-at-test.true)) c.loop-at.invariant.left
-          (λ most. subst (λ (xs : List ℕ). HasRun (write_pieces c.args.writing.now.file.area E c.args.writing.now.file.count (suc most) c.loop-at.at (c.args.writing.now.off + length c.args.writing.now.bytes.now) xs) (state c.loop-at.tx) (state c.store_piece.new.tx) (Err (fs.Store (store.Tx c.in-Err.e)))) rest
-          (piece_refused c.args.writing.now.file.area E c.args.writing.now.file.count c.loop-at.at (c.args.writing.now.off + length c.args.writing.now.bytes.now) c.piece-rest.result.now c.loop-at-test.true (state c.loop-at.tx) (state c.store_piece.new.tx) (device c.loop-at.tx) (device c.store_piece.new.tx) c.in-Err.e c.in-Err.ensures.kept c.in-Err.ensures.cause most));
-      behaves = behaves_behind _ _ _ 1 _ _ _ (Err (fs.Store (store.Tx c.in-Err.e))) refl c.loop-at.invariant.later c.loop-at.invariant.passed (refused_store (state c.loop-at.tx) (state c.store_piece.new.tx) 1 (device c.loop-at.tx) (device c.store_piece.new.tx) c.in-Err.e (omega arith) c.in-Err.ensures.cause c.in-Err.ensures.device);
+      part = record {
+        run = piece_stops (state c.store_piece.new.tx) (fs.Store (store.Tx c.in-Err.e)) (omega (arith, c.loop-at-test.true)) c.loop-at.invariant.left
+            (λ most. subst (λ (xs : List ℕ). HasRun (write_pieces c.args.writing.now.file.area E c.args.writing.now.file.count (suc most) c.loop-at.at (c.args.writing.now.off + length c.args.writing.now.bytes.now) xs) (state c.loop-at.tx) (state c.store_piece.new.tx) (Err (fs.Store (store.Tx c.in-Err.e)))) rest
+            (piece_refused c.args.writing.now.file.area E c.args.writing.now.file.count c.loop-at.at (c.args.writing.now.off + length c.args.writing.now.bytes.now) c.piece-rest.result.now c.loop-at-test.true (state c.loop-at.tx) (state c.store_piece.new.tx) (device c.loop-at.tx) (device c.store_piece.new.tx) c.in-Err.e c.in-Err.ensures.kept c.in-Err.ensures.cause most));
+        behaves = behaves_behind _ _ _ 1 _ _ _ (Err (fs.Store (store.Tx c.in-Err.e))) refl c.loop-at.invariant.later c.loop-at.invariant.passed (refused_store (state c.loop-at.tx) (state c.store_piece.new.tx) 1 (device c.loop-at.tx) (device c.store_piece.new.tx) c.in-Err.e (omega arith) c.in-Err.ensures.cause c.in-Err.ensures.device);
+      };
+      of_tx = refl;
     }
 
-pub returns-clause-part : goal.returns-clause-part
-returns-clause-part g c = record {
-  run = all_written c.args.writing.now.file.area (entries_of c.args.writing.now.file.area.size c.args.writing.now.file.bytes.now ++ c.args.news.now) c.args.writing.now.file.count c.loop-at.at (c.args.writing.now.off + length c.args.writing.now.bytes.now) (drop (c.loop-at.at - c.args.writing.now.off) c.args.writing.now.bytes.now) (omega (arith, c.loop-at-test.false)) c.loop-at.invariant.left;
-  behaves = done_so _ _ 1 _ _ _ c.loop-at.invariant.later c.loop-at.invariant.passed;
+pub returns : goal.returns
+returns g c = record {
+  part = record {
+    run = all_written c.args.writing.now.file.area (entries_of c.args.writing.now.file.area.size c.args.writing.now.file.bytes.now ++ c.args.news.now) c.args.writing.now.file.count c.loop-at.at (c.args.writing.now.off + length c.args.writing.now.bytes.now) (drop (c.loop-at.at - c.args.writing.now.off) c.args.writing.now.bytes.now) (omega (arith, c.loop-at-test.false)) c.loop-at.invariant.left;
+    behaves = done_so _ _ 1 _ _ _ c.loop-at.invariant.later c.loop-at.invariant.passed;
+  };
+  of_tx = tt;
 }

@@ -20,31 +20,30 @@ module _ (g : Rattle.iso_hash.proofs.remove.del_with.Given.Over) (c : After-is_s
       let state = g.T.TxBlocks.state in
       del_from c.args.key.now.area c.args.key.now.bytes.now (state c.args.tx.now) (state c.walk.new.tx) v _ result c.args.key.now.good walked (del_there c.args.key.now.area c.in-Ok-AtCell.spot c.in-Ok-AtCell.before keys [] b (state c.walk.new.tx) v result (spent ∙ is) run)
 
-pub returns-then-is_spent-clause-run : goal.returns-then-is_spent-clause-run
-returns-then-is_spent-clause-run g c =
-    goes_on g (goal.at.returns-then-is_spent-clause-run g c).After-is_spent true c.if-is_spent.true (g.T.TxBlocks.state c.del_block.new.tx) c.del_block.result c.del_block.ensures.run
+pub returns-then-is_spent : goal.returns-then-is_spent
+returns-then-is_spent g c = record {
+  run = goes_on g (goal.at.returns-then-is_spent g c).After-is_spent true c.if-is_spent.true (g.T.TxBlocks.state c.del_block.new.tx) c.del_block.result c.del_block.ensures.run;
+  behaves = behaves_next c.in-Ok-AtCell.ensures.leaves.reads c.in-Ok-AtCell.ensures.leaves.later c.in-Ok-AtCell.ensures.leaves.passed c.del_block.ensures.behaves (omega arith);
+}
 
-pub returns-then-is_spent-clause-behaves : goal.returns-then-is_spent-clause-behaves
-returns-then-is_spent-clause-behaves g c = behaves_next c.in-Ok-AtCell.ensures.reads c.in-Ok-AtCell.ensures.later c.in-Ok-AtCell.ensures.passed c.del_block.ensures.behaves (omega arith)
+pub returns-else-is_spent : goal.returns-else-is_spent
+returns-else-is_spent g c = record {
+  run = goes_on g (goal.at.returns-else-is_spent g c).After-is_spent false c.if-is_spent.false (g.T.TxBlocks.state c.clear_cell.new.tx) c.clear_cell.result c.clear_cell.ensures.run;
+  behaves = behaves_next c.in-Ok-AtCell.ensures.leaves.reads c.in-Ok-AtCell.ensures.leaves.later c.in-Ok-AtCell.ensures.leaves.passed c.clear_cell.ensures.behaves (omega arith);
+}
 
-pub returns-else-is_spent-clause-run : goal.returns-else-is_spent-clause-run
-returns-else-is_spent-clause-run g c =
-    goes_on g (goal.at.returns-else-is_spent-clause-run g c).After-is_spent false c.if-is_spent.false (g.T.TxBlocks.state c.clear_cell.new.tx) c.clear_cell.result c.clear_cell.ensures.run
+pub returns-in-Ok-AtEnd : goal.returns-in-Ok-AtEnd
+returns-in-Ok-AtEnd g c = record {
+  run = (let state = g.T.TxBlocks.state in
+      del_from c.args.key.now.area c.args.key.now.bytes.now (state c.args.tx.now) (state c.walk.new.tx) (state c.walk.new.tx) (hash.AtEnd c.in-Ok-AtEnd.field-0-0 c.in-Ok-AtEnd.field-0-1 c.in-Ok-AtEnd.field-0-2) (Ok false) c.args.key.now.good
+      (walked_end c.args.key.now.area c.args.key.now.bytes.now false (state c.args.tx.now) (state c.walk.new.tx) c.walk.new.buffer c.in-Ok-AtEnd.field-0 c.in-Ok-AtEnd.field-0-0 c.in-Ok-AtEnd.field-0-1 c.in-Ok-AtEnd.field-0-2 c.in-Ok-AtEnd.ensures.walked c.in-Ok-AtEnd.field-0-is)
+      (ran_done (Ok false) (state c.walk.new.tx)));
+  behaves = grind arith;
+}
 
-pub returns-else-is_spent-clause-behaves : goal.returns-else-is_spent-clause-behaves
-returns-else-is_spent-clause-behaves g c = behaves_next c.in-Ok-AtCell.ensures.reads c.in-Ok-AtCell.ensures.later c.in-Ok-AtCell.ensures.passed c.clear_cell.ensures.behaves (omega arith)
-
-pub returns-in-Ok-AtEnd-clause-run : goal.returns-in-Ok-AtEnd-clause-run
-returns-in-Ok-AtEnd-clause-run g c =
-    let state = g.T.TxBlocks.state in
-    del_from c.args.key.now.area c.args.key.now.bytes.now (state c.args.tx.now) (state c.walk.new.tx) (state c.walk.new.tx) (hash.AtEnd c.in-Ok-AtEnd.field-0-0 c.in-Ok-AtEnd.field-0-1 c.in-Ok-AtEnd.field-0-2) (Ok false) c.args.key.now.good
-    (walked_end c.args.key.now.area c.args.key.now.bytes.now false (state c.args.tx.now) (state c.walk.new.tx) c.walk.new.buffer c.in-Ok-AtEnd.field-0 c.in-Ok-AtEnd.field-0-0 c.in-Ok-AtEnd.field-0-1 c.in-Ok-AtEnd.field-0-2 c.in-Ok-AtEnd.ensures.walked c.in-Ok-AtEnd.field-0-is)
-    (ran_done (Ok false) (state c.walk.new.tx))
-
-pub returns-in-Err-clause-run : goal.returns-in-Err-clause-run
-returns-in-Err-clause-run g c =
-    let state = g.T.TxBlocks.state in
-    del_error c.args.key.now.area c.args.key.now.bytes.now (state c.args.tx.now) (state c.walk.new.tx) c.walk.new.buffer c.in-Err.e c.args.key.now.good c.in-Err.ensures.walked
-
-pub returns-in-Err-clause-behaves : goal.returns-in-Err-clause-behaves
-returns-in-Err-clause-behaves g c = walk_refuses c.args.key.now.area c.args.key.now.bytes.now c.walk.new.buffer c.in-Err.e c.in-Err.ensures.walked c.in-Err.ensures.reads c.in-Err.ensures.cause c.in-Err.ensures.later (omega arith)
+pub returns-in-Err : goal.returns-in-Err
+returns-in-Err g c = record {
+  run = (let state = g.T.TxBlocks.state in
+      del_error c.args.key.now.area c.args.key.now.bytes.now (state c.args.tx.now) (state c.walk.new.tx) c.walk.new.buffer c.in-Err.e c.args.key.now.good c.in-Err.ensures.walked);
+  behaves = walk_refuses c.args.key.now.area c.args.key.now.bytes.now c.walk.new.buffer c.in-Err.e c.in-Err.ensures.walked c.in-Err.ensures.leaves.reads c.in-Err.ensures.leaves.cause c.in-Err.ensures.leaves.later (omega arith);
+}

@@ -10,14 +10,14 @@ returns-in-Err-clause-walked g c =
     read_refused (walk c.args.key.now.area c.args.key.now.bytes.now c.args.with_value) c.args.key.now.area c.args.key.now.bytes.now c.args.key.now.bucket c.args.with_value (c.last_position-position-end.result + 1) c.loop-position.position c.loop-position.before c.loop-position.block c.loop-position.spare
     (state c.args.tx.now) (state c.loop-position.tx) (state c.look.new.tx) (g.T.TxBlocks.device c.loop-position.tx) (g.T.TxBlocks.device c.look.new.tx) c.in-Err.e c.loop-position.invariant.here c.loop-position-test.true c.in-Err.ensures.kept c.in-Err.ensures.cause
 
-pub returns-in-Err-clause-reads : goal.returns-in-Err-clause-reads
-returns-in-Err-clause-reads g c = let state = g.T.TxBlocks.state in read_same (state c.args.tx.now) (state c.loop-position.tx) (state c.look.new.tx) c.loop-position.invariant.reads c.in-Err.ensures.kept
-
-pub returns-in-Err-clause-cause : goal.returns-in-Err-clause-cause
-returns-in-Err-clause-cause g c = grind (arith, cause_earlier)
-
-pub returns-in-Err-clause-later : goal.returns-in-Err-clause-later
-returns-in-Err-clause-later g c = later_than (g.T.TxBlocks.device c.args.tx.now) (g.T.TxBlocks.device c.loop-position.tx) (g.T.TxBlocks.device c.look.new.tx) c.loop-position.invariant.later c.in-Err.ensures.later
+pub returns-in-Err-clause-leaves : goal.returns-in-Err-clause-leaves
+returns-in-Err-clause-leaves g c = record {
+  reads = (let state = g.T.TxBlocks.state in read_same (state c.args.tx.now) (state c.loop-position.tx) (state c.look.new.tx) c.loop-position.invariant.reads c.in-Err.ensures.kept);
+  is_open = tt;
+  cause = grind (arith, cause_earlier);
+  later = later_than (g.T.TxBlocks.device c.args.tx.now) (g.T.TxBlocks.device c.loop-position.tx) (g.T.TxBlocks.device c.look.new.tx) c.loop-position.invariant.later c.in-Err.ensures.later;
+  passed = tt;
+}
 
 pub returns-then-not-is_linked-clause-walked : goal.returns-then-not-is_linked-clause-walked
 returns-then-not-is_linked-clause-walked g c =
@@ -26,11 +26,14 @@ returns-then-not-is_linked-clause-walked g c =
     (state c.args.tx.now) (state c.loop-position.tx) c.look.new.into (record { here = c.loop-position.invariant.here; below = c.loop-position-test.true; bytes_are = c.in_default.ensures.bytes })
     (state c.look.new.tx) c.cell_count.result (g.met.T.TxBlocks.limits c.look.new.tx).count c.cell_count.ensures c.in_default.ensures.read (sym c.is_linked.ensures ∙ c.if-not-is_linked.true)
 
-pub returns-then-not-is_linked-clause-reads : goal.returns-then-not-is_linked-clause-reads
-returns-then-not-is_linked-clause-reads g c = let state = g.T.TxBlocks.state in read_more (state c.args.tx.now) (state c.loop-position.tx) (state c.look.new.tx) _ c.loop-position.invariant.reads c.in_default.ensures.read refl
-
-pub returns-then-not-is_linked-clause-later : goal.returns-then-not-is_linked-clause-later
-returns-then-not-is_linked-clause-later g c = later_than (g.T.TxBlocks.device c.args.tx.now) (g.T.TxBlocks.device c.loop-position.tx) (g.T.TxBlocks.device c.look.new.tx) c.loop-position.invariant.later c.in_default.ensures.later
+pub returns-then-not-is_linked-clause-leaves : goal.returns-then-not-is_linked-clause-leaves
+returns-then-not-is_linked-clause-leaves g c = record {
+  reads = (let state = g.T.TxBlocks.state in read_more (state c.args.tx.now) (state c.loop-position.tx) (state c.look.new.tx) _ c.loop-position.invariant.reads c.in_default.ensures.read refl);
+  is_open = tt;
+  cause = grind arith;
+  later = later_than (g.T.TxBlocks.device c.args.tx.now) (g.T.TxBlocks.device c.loop-position.tx) (g.T.TxBlocks.device c.look.new.tx) c.loop-position.invariant.later c.in_default.ensures.later;
+  passed = tt;
+}
 
 pub cell_with-requires-clause-parts : goal.cell_with-requires-clause-parts
 cell_with-requires-clause-parts g c = linked_parts c.args.key.now.area c.args.key.now.bucket c.loop-position.position _ (sym c.is_linked.ensures ∙ c.if-not-is_linked.false)
@@ -56,22 +59,18 @@ returns-in-Some-clause-walked g c =
           ap state w.tx-is ∙ without_value_mark c.args.key.now.area (state c.loop-position.tx) (state c.look.new.tx) (c.args.key.now.area.start + c.loop-position.block) c.cell_count.result c.in-Some.cell c.args.with_value w.if-with_value.false c.cell_count.ensures c.in_default.ensures.read
     ])
 
-pub returns-in-Some-clause-is_open : goal.returns-in-Some-clause-is_open
-returns-in-Some-clause-is_open g c = grind arith
-
-pub returns-in-Some-clause-reads : goal.returns-in-Some-clause-reads
-returns-in-Some-clause-reads g c =
-    let state = g.T.TxBlocks.state in
-    elim c.if-with_value.branch [
-      | then-with_value w ↦ read_more (state c.args.tx.now) (state c.loop-position.tx) (state c.if-with_value.tx) _ c.loop-position.invariant.reads (ap state w.tx-is ∙ marked_access (state c.loop-position.tx) (state c.look.new.tx) (state w.mark.new.tx) _ _ c.in_default.ensures.read w.mark.ensures.marked) refl
-      | else-with_value w ↦ read_more (state c.args.tx.now) (state c.loop-position.tx) (state c.if-with_value.tx) _ c.loop-position.invariant.reads (ap state w.tx-is ∙ c.in_default.ensures.read) refl
-    ]
-
-pub returns-in-Some-clause-later : goal.returns-in-Some-clause-later
-returns-in-Some-clause-later g c = grind (arith, later_than)
-
-pub returns-in-Some-clause-passed : goal.returns-in-Some-clause-passed
-returns-in-Some-clause-passed g c = grind arith
+pub returns-in-Some-clause-leaves : goal.returns-in-Some-clause-leaves
+returns-in-Some-clause-leaves g c = record {
+  reads = (let state = g.T.TxBlocks.state in
+      elim c.if-with_value.branch [
+        | then-with_value w ↦ read_more (state c.args.tx.now) (state c.loop-position.tx) (state c.if-with_value.tx) _ c.loop-position.invariant.reads (ap state w.tx-is ∙ marked_access (state c.loop-position.tx) (state c.look.new.tx) (state w.mark.new.tx) _ _ c.in_default.ensures.read w.mark.ensures.marked) refl
+        | else-with_value w ↦ read_more (state c.args.tx.now) (state c.loop-position.tx) (state c.if-with_value.tx) _ c.loop-position.invariant.reads (ap state w.tx-is ∙ c.in_default.ensures.read) refl
+      ]);
+  is_open = grind arith;
+  cause = tt;
+  later = grind (arith, later_than);
+  passed = grind arith;
+}
 
 pub returns-in-Some-clause-inside : goal.returns-in-Some-clause-inside
 returns-in-Some-clause-inside g c = (record { block = c.loop-position.invariant.inside; cell = c.in-Some.ensures.below }, c.loop-position.invariant.before)
@@ -85,14 +84,14 @@ returns-then-next-eq0-clause-walked g c =
     (state c.look.new.tx) c.cell_count.result (g.met.T.TxBlocks.limits c.look.new.tx).count c.cell_count.ensures c.in_default.ensures.read (sym c.is_linked.ensures ∙ c.if-not-is_linked.false)
     (missing _ _ c.cell_with.ensures.value c.in_default-cell_with.not-Some) (sym c.word_at-next.ensures ∙ c.if-next-eq0.true))
 
-pub returns-then-next-eq0-clause-is_open : goal.returns-then-next-eq0-clause-is_open
-returns-then-next-eq0-clause-is_open g c = ap (λ (t : Tx). t.is_open) c.in_default.ensures.read ∙ c.in_default.ensures.is_open
-
-pub returns-then-next-eq0-clause-reads : goal.returns-then-next-eq0-clause-reads
-returns-then-next-eq0-clause-reads g c = let state = g.T.TxBlocks.state in read_more (state c.args.tx.now) (state c.loop-position.tx) (state c.look.new.tx) _ c.loop-position.invariant.reads c.in_default.ensures.read refl
-
-pub returns-then-next-eq0-clause-later : goal.returns-then-next-eq0-clause-later
-returns-then-next-eq0-clause-later g c = later_than (g.T.TxBlocks.device c.args.tx.now) (g.T.TxBlocks.device c.loop-position.tx) (g.T.TxBlocks.device c.look.new.tx) c.loop-position.invariant.later c.in_default.ensures.later
+pub returns-then-next-eq0-clause-leaves : goal.returns-then-next-eq0-clause-leaves
+returns-then-next-eq0-clause-leaves g c = record {
+  reads = (let state = g.T.TxBlocks.state in read_more (state c.args.tx.now) (state c.loop-position.tx) (state c.look.new.tx) _ c.loop-position.invariant.reads c.in_default.ensures.read refl);
+  is_open = ap (λ (t : Tx). t.is_open) c.in_default.ensures.read ∙ c.in_default.ensures.is_open;
+  cause = tt;
+  later = later_than (g.T.TxBlocks.device c.args.tx.now) (g.T.TxBlocks.device c.loop-position.tx) (g.T.TxBlocks.device c.look.new.tx) c.loop-position.invariant.later c.in_default.ensures.later;
+  passed = c.in_default.ensures.passed ∙ c.loop-position.invariant.passed;
+}
 
 pub returns-then-next-eq0-clause-inside : goal.returns-then-next-eq0-clause-inside
 returns-then-next-eq0-clause-inside g c = grind (arith, spare_inside)

@@ -8,7 +8,7 @@ returns c = record {
       let first = c.args.first in
       let many = c.args.many in
       c.add_parts.ensures.added size level cs (cells_from size node first many) is count fit c.requires.into (length-cells _ _ first many)
-      (cells_fit_from size node c.requires.size refl c.requires.parts first many c.requires.inside)
-      (c.piece-keys.ensures.value ∙ keys_are size node c.requires.size refl c.requires.parts first many c.requires.inside)
-      (c.piece-values.ensures.value ∙ ap (λ (n : ℕ). take (33 * many) (drop (64 + 31 * n + 33 * first) node)) c.cell_count.ensures ∙ values_are size node c.requires.size refl first many);
+      (cells_fit_from size node c.requires.node.block refl c.requires.node.parts first many c.requires.inside)
+      (c.piece-keys.ensures.value ∙ keys_are size node c.requires.node.block refl c.requires.node.parts first many c.requires.inside)
+      (c.piece-values.ensures.value ∙ ap (λ (n : ℕ). take (33 * many) (drop (64 + 31 * n + 33 * first) node)) c.cell_count.ensures ∙ values_are size node c.requires.node.block refl first many);
 }

@@ -24,7 +24,4 @@ ok_so : {X E P : Type 0} (r : Rattle.std.proofs.Common.Result X E) → P → OnO
 ok_so r h = grind arith
 
 pub returns-clause-path : goal.returns-clause-path
-returns-clause-path g c = ok_so c.read_leaf.result c.loop-passed.invariant.path_in
-
-pub returns-clause-long : goal.returns-clause-long
-returns-clause-long g c = ok_so c.read_leaf.result (omega (arith, c.loop-passed.invariant.long, c.loop-passed-test.false, c.loop-passed.auto.passed-end))
+returns-clause-path g c = ok_so c.read_leaf.result (record { inside = c.loop-passed.invariant.path_in; long = omega (arith, c.loop-passed.invariant.long, c.loop-passed-test.false, c.loop-passed.auto.passed-end) })

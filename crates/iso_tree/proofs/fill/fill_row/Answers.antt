@@ -1,4 +1,4 @@
-use Rattle.iso_tree.proofs.{Words.{◌≡◌, ◌∙◌, sym, refl, ap, ℕ, ◌+◌, ◌-◌, ◌≤◌, ◌<◌, [], ◌∷◌, ◌++◌, length, length-append, length-part, arith, Cell, FitCells, IsBlock, node_bytes, cells_from, all_append, are_key_parts, keys_end, take, true, row_from, spelled, subst, Growth}, Copying.cells_fit_from, Filling.{row_behind, row_ahead, row_about}, Fits.{area_block, length-cells}}
+use Rattle.iso_tree.proofs.{Words.{◌≡◌, ◌∙◌, sym, refl, ap, ℕ, ◌+◌, ◌-◌, ◌≤◌, ◌<◌, [], ◌∷◌, ◌++◌, length, length-append, length-part, arith, Cell, FitCells, IsBlock, node_bytes, cell_count, cells_from, all_append, are_key_parts, keys_end, take, true, row_from, spelled, subst, Growth, HasNodeParts}, Copying.cells_fit_from, Filling.{row_behind, row_ahead, row_about}, Fits.{area_block, length-cells}}
 use Rattle.iso_tree.proofs.fill.fill_row.Goals as goal
 
 -- the node's bytes are those of a block
@@ -8,37 +8,35 @@ sized w = subst IsBlock (sym w.long) (area_block w.area w.kind)
 parted : (w : Growth) → are_key_parts (length w.node.now) (take (keys_end (length w.node.now)) w.node.now) ≡ true
 parted w = subst (λ (n : ℕ). are_key_parts n (take (keys_end n) w.node.now) ≡ true) (sym w.long) w.parts
 
-pub empty_node-requires-clause-size : goal.empty_node-requires-clause-size
-empty_node-requires-clause-size c = subst IsBlock (sym c.requires.into) (area_block c.args.growth.now.area c.args.growth.now.kind)
+with_parts : (w : Growth) → HasNodeParts w.node.now
+with_parts w = let least = w.kind.least_size in record { least = omega (arith, least, w.long); block = sized w; parts = parted w }
 
-pub add_cell-requires-clause-most : goal.add_cell-requires-clause-most
-add_cell-requires-clause-most c =
+pub empty_node-requires : goal.empty_node-requires
+empty_node-requires c =
+    let least = c.args.growth.now.kind.least_size in
+    record { least = omega (arith, least, c.requires.into); block = subst IsBlock (sym c.requires.into) (area_block c.args.growth.now.area c.args.growth.now.kind) }
+
+pub add_cell-requires-clause-space : goal.add_cell-requires-clause-space
+add_cell-requires-clause-space c =
     let sized = area_block c.args.growth.now.area c.args.growth.now.kind in
-    omega (arith, sized.most, c.add_cells-2.auto.into, c.empty_node.auto.into, c.requires.into)
+    let least = c.args.growth.now.kind.least_size in
+    let long : length c.add_cells-2.new.into ≡ c.args.growth.now.area.size = c.add_cells-2.auto.into ∙ c.empty_node.auto.into ∙ c.requires.into in
+    record {
+      size = record { least = omega (arith, least, long); most = omega (arith, sized.most, long) };
+      room = omega (arith, c.if-growth-from.false, c.if-from-count.false, c.requires.count, ap cell_count long);
+    }
 
-pub add_cells-requires-clause-size : goal.add_cells-requires-clause-size
-add_cells-requires-clause-size c = sized c.args.growth.now
+pub add_cells-requires-clause-node : goal.add_cells-requires-clause-node
+add_cells-requires-clause-node c = with_parts c.args.growth.now
 
-pub add_cells-requires-then-from-count-clause-size : goal.add_cells-requires-then-from-count-clause-size
-add_cells-requires-then-from-count-clause-size c = sized c.args.growth.now
+pub add_cells-requires-then-from-count-clause-node : goal.add_cells-requires-then-from-count-clause-node
+add_cells-requires-then-from-count-clause-node c = with_parts c.args.growth.now
 
-pub add_cells-requires-2-clause-size : goal.add_cells-requires-2-clause-size
-add_cells-requires-2-clause-size c = sized c.args.growth.now
+pub add_cells-requires-2-clause-node : goal.add_cells-requires-2-clause-node
+add_cells-requires-2-clause-node c = with_parts c.args.growth.now
 
-pub add_cells-requires-3-clause-size : goal.add_cells-requires-3-clause-size
-add_cells-requires-3-clause-size c = sized c.args.growth.now
-
-pub add_cells-requires-clause-parts : goal.add_cells-requires-clause-parts
-add_cells-requires-clause-parts c = parted c.args.growth.now
-
-pub add_cells-requires-then-from-count-clause-parts : goal.add_cells-requires-then-from-count-clause-parts
-add_cells-requires-then-from-count-clause-parts c = parted c.args.growth.now
-
-pub add_cells-requires-2-clause-parts : goal.add_cells-requires-2-clause-parts
-add_cells-requires-2-clause-parts c = parted c.args.growth.now
-
-pub add_cells-requires-3-clause-parts : goal.add_cells-requires-3-clause-parts
-add_cells-requires-3-clause-parts c = parted c.args.growth.now
+pub add_cells-requires-3-clause-node : goal.add_cells-requires-3-clause-node
+add_cells-requires-3-clause-node c = with_parts c.args.growth.now
 
 pub returns-then-growth-from : goal.returns-then-growth-from
 returns-then-growth-from c =

@@ -1,7 +1,7 @@
 use Rattle.iso_tree.proofs.{Words.{◌≡◌, ◌∙◌, ◌-◌, sym, ap, arith, key_at, before}, Filling.{upto_ends, upto_goes_on}}
 
-pub returns-then-is_before-clause-value : Rattle.iso_tree.proofs.fill.upto.Goals.returns-then-is_before-clause-value
-returns-then-is_before-clause-value c = grind (arith, upto_ends) steps 100000
+pub returns-then-is_before : Rattle.iso_tree.proofs.fill.upto.Goals.returns-then-is_before
+returns-then-is_before c = record { value = grind (arith, upto_ends) steps 100000; most = omega (arith, c.loop-cell-test.true, c.count_of-count.ensures) }
 
 pub loop-cell-preserved : Rattle.iso_tree.proofs.fill.upto.Goals.loop-cell-preserved
 loop-cell-preserved c =

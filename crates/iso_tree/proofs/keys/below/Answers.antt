@@ -1,7 +1,7 @@
 use Rattle.iso_tree.proofs.{Words.{◌≡◌, ◌∙◌, ◌-◌, sym, ap, ℕ, List, arith, key_at, before}, Facts.{below_ends, below_goes_on}}
 
-pub returns-then-not-is_before-clause-value : Rattle.iso_tree.proofs.keys.below.Goals.returns-then-not-is_before-clause-value
-returns-then-not-is_before-clause-value c = grind (arith, below_ends) steps 100000
+pub returns-then-not-is_before : Rattle.iso_tree.proofs.keys.below.Goals.returns-then-not-is_before
+returns-then-not-is_before c = record { value = grind (arith, below_ends) steps 100000; most = omega (arith, c.loop-cell-test.true, c.count_of-count.ensures) }
 
 pub loop-cell-preserved : Rattle.iso_tree.proofs.keys.below.Goals.loop-cell-preserved
 loop-cell-preserved c =

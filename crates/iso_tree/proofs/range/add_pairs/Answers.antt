@@ -4,11 +4,11 @@ use Rattle.iso_tree.proofs.range.add_pairs.Goals as goal
 pub loop-i-init : goal.loop-i-init
 loop-i-init c = grind (arith, pairs_begin, parts_first) steps 100000
 
-pub returns-then-max-len-clause-ok : goal.returns-then-max-len-clause-ok
-returns-then-max-len-clause-ok c = sym (pairs_full c.loop-i.found _ c.args.max (omega (arith, c.len.ensures, c.if-max-len.true))) ∙ c.loop-i.invariant.pairs
+pub returns-then-max-len : goal.returns-then-max-len
+returns-then-max-len c = record { ok = sym (pairs_full c.loop-i.found _ c.args.max (omega (arith, c.len.ensures, c.if-max-len.true))) ∙ c.loop-i.invariant.pairs; memory = tt }
 
-pub returns-clause-ok : goal.returns-clause-ok
-returns-clause-ok c = grind (arith, pairs_end) steps 100000
+pub returns : goal.returns
+returns c = record { ok = grind (arith, pairs_end) steps 100000; memory = tt }
 
 pub text_of-value-requires : goal.text_of-value-requires
 text_of-value-requires c =

@@ -1,4 +1,4 @@
-use Rattle.iso_tree.proofs.{Words.{◌∙◌, refl, sym, subst, ◌-◌, ℕ, List, [], ◌∷◌, Err, inl, length, arith, Program, Scanned, read_join, IsAt, at_join, at_start, later_than, left_of, read_none}, Scanning.{at_next, scanned_from, walk_full}, range.walk.Goals.In-Some}
+use Rattle.iso_tree.proofs.{Words.{◌∙◌, refl, sym, subst, ◌-◌, ℕ, List, [], ◌∷◌, Err, inl, length, arith, Program, Scanned, read_join, IsAt, at_join, at_start, later_than, left_of, read_none}, Descending.{reads_after, reads_ended, reads_refused}, Scanning.{at_next, scanned_from, walk_full}, range.walk.Goals.In-Some}
 use Rattle.iso_tree.proofs.range.walk.Goals as goal
 
 -- the next node is before the others, whether its step is refused or not
@@ -12,10 +12,13 @@ module _ (g : Rattle.iso_tree.proofs.range.walk.Given.Over) (c : In-Some g) wher
   here : IsAt whole next (g.T.TxBlocks.state c.args.tx.now) (g.T.TxBlocks.state c.loop-alloc.tx)
   here = grind (arith, at_next) steps 100000
 
-pub returns-in-Err-clause-run : goal.returns-in-Err-clause-run
-returns-in-Err-clause-run g c =
-    let s = (goal.at.returns-in-Err-clause-run g c).In-Some in
-    scanned_from (whole g s) (next g s) (g.T.TxBlocks.state c.args.tx.now) (g.T.TxBlocks.state c.loop-alloc.tx) (g.T.TxBlocks.state c.step.new.tx) (Err c.in-Err.e) (here g s) c.in-Err.ensures.refused
+pub returns-in-Err : goal.returns-in-Err
+returns-in-Err g c =
+    let s = (goal.at.returns-in-Err g c).In-Some in
+    record {
+      run = scanned_from (whole g s) (next g s) (g.T.TxBlocks.state c.args.tx.now) (g.T.TxBlocks.state c.loop-alloc.tx) (g.T.TxBlocks.state c.step.new.tx) (Err c.in-Err.e) (here g s) c.in-Err.ensures.run;
+      reads = reads_refused _ _ _ _ _ (reads_after _ _ _ _ _ _ (Err c.in-Err.e) c.loop-alloc.invariant.reads c.loop-alloc.invariant.later c.loop-alloc.invariant.passed c.in-Err.ensures.reads);
+    }
 
 pub loop-alloc-init : goal.loop-alloc-init
 loop-alloc-init g c =
@@ -41,8 +44,11 @@ loop-alloc-preserved g c =
       passed = c.in_default-step.ensures.reads.passed ∙ c.loop-alloc.invariant.passed;
     }
 
-pub returns-clause-run : goal.returns-clause-run
-returns-clause-run g c =
+pub returns : goal.returns
+returns g c =
     let state = g.T.TxBlocks.state in
     let r = c.args.range.now in
-    inl (walk_full r.area r.from.now r.to.now (left_of r c.args.unread.now []) (state c.args.tx.now) (state c.loop-alloc.tx) c.loop-alloc.unread (r.max - length c.loop-alloc.found) c.loop-alloc.found c.loop-alloc.invariant.here (omega (arith, c.loop-alloc-test.false)))
+    record {
+      run = inl (walk_full r.area r.from.now r.to.now (left_of r c.args.unread.now []) (state c.args.tx.now) (state c.loop-alloc.tx) c.loop-alloc.unread (r.max - length c.loop-alloc.found) c.loop-alloc.found c.loop-alloc.invariant.here (omega (arith, c.loop-alloc-test.false)));
+      reads = reads_ended _ _ _ _ _ c.loop-alloc.invariant.reads c.loop-alloc.invariant.later c.loop-alloc.invariant.passed c.requires.buffer.is_open;
+    }

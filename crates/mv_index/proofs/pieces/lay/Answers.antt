@@ -10,7 +10,7 @@ returns-then-is_over-clause-laid c versions were =
     let first : ℕ = c.find-first.result.0 in
     let off = subst (λ (l : List Version). (get_or l first no_version).off ≡ v.off) c.deref-2.ensures.value (c.is_over.ensures.off c.if-is_over.true) in
     let len = subst (λ (l : List Version). (get_or l first no_version).len ≡ v.len) c.deref-2.ensures.value (c.is_over.ensures.len c.if-is_over.true) in
-    let within = subst (λ (l : List Version). c.find-first.result.1 ≤ length l) c.deref.ensures.value c.find-first.ensures.last in
+    let within = subst (λ (l : List Version). c.find-first.result.1 ≤ length l) c.deref.ensures.value c.find-first.ensures.cuts.last in
     let front = subst (λ (l : List Version). fronts v.off l ≡ ended v.off (take first l)) c.deref.ensures.value c.find-first.ensures.front in
     let back = subst (λ (l : List Version). backs (v.off + v.len) l ≡ begun (v.off + v.len) (drop c.find-first.result.1 l)) c.deref.ensures.value c.find-first.ensures.back in
     let is = laid_over v first c.find-first.result.1 c.args.pieces.now.items were.order within (c.is_over.ensures.one c.if-is_over.true) off len front back in
@@ -21,7 +21,7 @@ returns-clause-laid c versions were =
     let v : Version = c.args.version.now in
     let end : ℕ = v.off + v.len in
     let first : ℕ = c.find-first.result.0 in
-    let whole = with_items_is c.part-behind.new.pieces c.cut.new.pieces (c.cut.ensures.length ∙ c.as_mut_slice.ensures.len) in
+    let whole = with_items_is c.part-behind.new.pieces c.cut.new.pieces (c.cut.auto.pieces ∙ c.as_mut_slice.ensures.len) in
     let front = c.cut.ensures.front ∙ ap (λ (l : List Version). ended v.off (take first l)) c.as_mut_slice.ensures.value ∙ ap (ended v.off) c.part-behind.ensures.front
     ∙ sym (subst (λ (l : List Version). fronts v.off l ≡ ended v.off (take first l)) c.deref.ensures.value c.find-first.ensures.front) in
     let back = c.cut.ensures.back ∙ ap (λ (l : List Version). begun end (drop c.part-behind.result l)) c.as_mut_slice.ensures.value ∙ ap (begun end) c.part-behind.ensures.back

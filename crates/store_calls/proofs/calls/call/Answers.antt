@@ -48,34 +48,34 @@ returns-in-TreeDelete g c =
 pub returns-in-FileNew : goal.returns-in-FileNew
 returns-in-FileNew g c =
     let t = g.T.TxBlocks.state c.args.tx.now in
-    let both = file_told t (g.T.TxBlocks.state c.create.new.tx) (λ done. reply.Done) (g.T.TxBlocks.device c.args.tx.now) (g.T.TxBlocks.device c.create.new.tx) 66 c.requires.is_open c.done-in-FileNew.result (create_program (areas_of t c.args.at) c.as_slice-in-FileNew.result.now) c.create.result c.done-in-FileNew.ensures c.create.ensures.ended c.create.ensures.cause c.create.ensures.passed in
+    let both = file_told t (g.T.TxBlocks.state c.create.new.tx) (λ done. reply.Done) (g.T.TxBlocks.device c.args.tx.now) (g.T.TxBlocks.device c.create.new.tx) 66 c.requires.is_open c.done-in-FileNew.result (create_program (areas_of t c.args.at) c.as_slice-in-FileNew.result.now) c.create.result c.done-in-FileNew.ensures c.create.ensures.ended c.create.ensures.leaves.cause c.create.ensures.leaves.passed in
     let said = rw c.as_slice-in-FileNew.ensures at both in
     rw c.in-FileNew.is (record { called = said.0; stops = said.1 })
 
 pub returns-in-FileWrite : goal.returns-in-FileWrite
 returns-in-FileWrite g c =
     let t = g.T.TxBlocks.state c.args.tx.now in
-    let both = file_told t (g.T.TxBlocks.state c.write.new.tx) removed_reply (g.T.TxBlocks.device c.args.tx.now) (g.T.TxBlocks.device c.write.new.tx) 1 c.requires.is_open c.removed-in-FileWrite.result (write_program (areas_of t c.args.at) c.as_slice-in-FileWrite.result.now c.in-FileWrite.off c.as_slice-in-FileWrite-2.result.now) c.write.result c.removed-in-FileWrite.ensures c.write.ensures.ended c.write.ensures.cause c.write.ensures.passed in
+    let both = file_told t (g.T.TxBlocks.state c.write.new.tx) removed_reply (g.T.TxBlocks.device c.args.tx.now) (g.T.TxBlocks.device c.write.new.tx) 1 c.requires.is_open c.removed-in-FileWrite.result (write_program (areas_of t c.args.at) c.as_slice-in-FileWrite.result.now c.in-FileWrite.off c.as_slice-in-FileWrite-2.result.now) c.write.result c.removed-in-FileWrite.ensures c.write.ensures.ended c.write.ensures.leaves.cause c.write.ensures.leaves.passed in
     let said = rw (c.as_slice-in-FileWrite.ensures, c.as_slice-in-FileWrite-2.ensures) at both in
     rw c.in-FileWrite.is (record { called = said.0; stops = said.1 })
 
 pub returns-in-FileRead : goal.returns-in-FileRead
 returns-in-FileRead g c =
     let t = g.T.TxBlocks.state c.args.tx.now in
-    let both = file_told t (g.T.TxBlocks.state c.read.new.tx) found_reply (g.T.TxBlocks.device c.args.tx.now) (g.T.TxBlocks.device c.read.new.tx) 1 c.requires.is_open c.found-in-FileRead.result (read_program (areas_of t c.args.at) c.as_slice-in-FileRead.result.now c.in-FileRead.off c.in-FileRead.len) c.read.result c.found-in-FileRead.ensures c.read.ensures.ended c.read.ensures.cause c.read.ensures.passed in
+    let both = file_told t (g.T.TxBlocks.state c.read.new.tx) found_reply (g.T.TxBlocks.device c.args.tx.now) (g.T.TxBlocks.device c.read.new.tx) 1 c.requires.is_open c.found-in-FileRead.result (read_program (areas_of t c.args.at) c.as_slice-in-FileRead.result.now c.in-FileRead.off c.in-FileRead.len) c.read.result c.found-in-FileRead.ensures c.read.ensures.ended c.read.ensures.leaves.cause c.read.ensures.leaves.passed in
     let said = rw c.as_slice-in-FileRead.ensures at both in
     rw c.in-FileRead.is (record { called = said.0; stops = said.1 })
 
 pub returns-in-FileMove : goal.returns-in-FileMove
 returns-in-FileMove g c =
     let t = g.T.TxBlocks.state c.args.tx.now in
-    let both = file_told t (g.T.TxBlocks.state c.rename.new.tx) removed_reply (g.T.TxBlocks.device c.args.tx.now) (g.T.TxBlocks.device c.rename.new.tx) 66 c.requires.is_open c.removed-in-FileMove.result (rename_program (areas_of t c.args.at) c.as_slice-in-FileMove.result.now c.as_slice-in-FileMove-2.result.now) c.rename.result c.removed-in-FileMove.ensures c.rename.ensures.ended c.rename.ensures.cause c.rename.ensures.passed in
+    let both = file_told t (g.T.TxBlocks.state c.rename.new.tx) removed_reply (g.T.TxBlocks.device c.args.tx.now) (g.T.TxBlocks.device c.rename.new.tx) 66 c.requires.is_open c.removed-in-FileMove.result (rename_program (areas_of t c.args.at) c.as_slice-in-FileMove.result.now c.as_slice-in-FileMove-2.result.now) c.rename.result c.removed-in-FileMove.ensures c.rename.ensures.ended c.rename.ensures.leaves.cause c.rename.ensures.leaves.passed in
     let said = rw (c.as_slice-in-FileMove.ensures, c.as_slice-in-FileMove-2.ensures) at both in
     rw c.in-FileMove.is (record { called = said.0; stops = said.1 })
 
 pub returns-in-FileDelete : goal.returns-in-FileDelete
 returns-in-FileDelete g c =
     let t = g.T.TxBlocks.state c.args.tx.now in
-    let both = file_told t (g.T.TxBlocks.state c.remove.new.tx) removed_reply (g.T.TxBlocks.device c.args.tx.now) (g.T.TxBlocks.device c.remove.new.tx) 1 c.requires.is_open c.removed-in-FileDelete.result (remove_program (areas_of t c.args.at) c.as_slice-in-FileDelete.result.now) c.remove.result c.removed-in-FileDelete.ensures c.remove.ensures.ended c.remove.ensures.cause c.remove.ensures.passed in
+    let both = file_told t (g.T.TxBlocks.state c.remove.new.tx) removed_reply (g.T.TxBlocks.device c.args.tx.now) (g.T.TxBlocks.device c.remove.new.tx) 1 c.requires.is_open c.removed-in-FileDelete.result (remove_program (areas_of t c.args.at) c.as_slice-in-FileDelete.result.now) c.remove.result c.removed-in-FileDelete.ensures c.remove.ensures.ended c.remove.ensures.leaves.cause c.remove.ensures.leaves.passed in
     let said = rw c.as_slice-in-FileDelete.ensures at both in
     rw c.in-FileDelete.is (record { called = said.0; stops = said.1 })
