@@ -2,7 +2,7 @@
 use Rattle.std.specs.Prelude.{ℕ, ◌+◌, ◌≤◌, ◌==◌, cond, filter, nat_lt, List, [], ◌∷◌, Option, Some, None}
 use Rattle.byte_marks.specs.declared.extent.Extent.{Extent}
 
--- a commit's number, and the bytes that it wrote
+-- a commit's number, and what it wrote: blocks, each with its bytes
 abbrev pub Note : Type 0
 Note = ℕ × List (ℕ × List Extent)
 

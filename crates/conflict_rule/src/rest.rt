@@ -28,7 +28,7 @@ impl<'a> Rest<'a> {
         Rest { notes }
     }
 
-    // Passes the first, and answers its number and what its commit wrote: one step.
+    // Passes the first, and answers its number and what its commit wrote: one step, and none at the end.
     #[inline(always)]
     pub(crate) fn pass<L: Ledger>(&mut self, steps: &mut Steps<L>) -> Option<(u64, &'a Touched)>
         ensures none { IfNone result ((self.old ≡ []) × (steps.new ≡ steps.old)) }

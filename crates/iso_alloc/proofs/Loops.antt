@@ -1,6 +1,7 @@
 -- The steps of a loop that tries numbers in turn.
 use Rattle.iso_alloc.proofs.Words.{◌≡◌, sym, refl, ap, subst, ℕ, zero, suc, ◌+◌, ◌-◌, ◌<◌, ◌≤◌, Bool, true, false, ◌&&◌, cond, Option, Some, None, arith, ◌∙◌, inl, inr, and_parts, cases_eq, all_from, first_from, free_count, map_bit, List, cases_Bool, and_from, lowest_free, map_mark, map_bytes, bit_place, bit_at, bytes_in, get_or-take, not, ◌%◌, ◌==◌}
 
+-- a step where i < n, and the end where n ≤ i; r is what the whole search answers
 pub all_step : (test : ℕ → Bool) (i n : ℕ) → i < n → all_from test i (n - i) ≡ (test i && all_from test (i + 1) (n - (i + 1)))
 all_step test i n below = let e : n - i ≡ suc (n - (i + 1)) = omega arith in rw e refl
 
@@ -25,7 +26,7 @@ first_found test i n r below so passes = let e = first_step test i n below in sy
 pub first_goes_on : (test : ℕ → Bool) (i n : ℕ) (r : Option ℕ) → i < n → first_from test i (n - i) ≡ r → test i ≡ false → first_from test (i + 1) (n - (i + 1)) ≡ r
 first_goes_on test i n r below so fails = let e = first_step test i n below in sym (rw fails at e) ∙ so
 
--- what all pass, one passes
+-- what all pass, each passes
 pub all_at : (test : ℕ → Bool) (from n i : ℕ) → all_from test from n ≡ true → from ≤ i → i < from + n → test i ≡ true
 all_at test from zero i all low high = absurd (omega arith)
 all_at test from (suc n) i all low high =
@@ -42,7 +43,7 @@ count_on map i n c d total below so here =
     let step : free_count map i (n - i) ≡ cond (map_bit map i) 0 1 + free_count map (i + 1) (n - (i + 1)) = rw e refl in
     omega arith
 
--- further blocks that are counted as the first of them, and numbers that fail as it does
+-- m blocks whose bits are all b are counted at once
 pub count_run : (map : List ℕ) (i m n c d total : ℕ) (b : Bool) → i + m ≤ n → c + free_count map i (n - i) ≡ total → ((k : ℕ) → i ≤ k → k < i + m → map_bit map k ≡ b) → d ≡ c + cond b 0 m
     → d + free_count map (i + m) (n - (i + m)) ≡ total
 count_run map i zero n c d total b fits so alike here =
@@ -57,6 +58,7 @@ count_run map i (suc m) n c d total b fits so alike here =
     subst (λ (j : ℕ). d + free_count map j (n - j) ≡ total) (sym next) (count_run map (i + 1) m n (c + cond b 0 1) d total b (omega arith)
     (count_on map i n c (c + cond b 0 1) total (omega arith) so (ap (λ (x : ℕ). c + x) (sym one))) (λ k low high. alike k (omega arith) (omega arith)) (omega (arith, here, more)))
 
+-- a search passes m numbers that fail
 pub first_run : (test : ℕ → Bool) (i m n : ℕ) (r : Option ℕ) → i + m ≤ n → first_from test i (n - i) ≡ r → ((k : ℕ) → i ≤ k → k < i + m → test k ≡ false) → first_from test (i + m) (n - (i + m)) ≡ r
 first_run test i zero n r fits so fails = let e : i + 0 ≡ i = omega arith in subst (λ (j : ℕ). first_from test j (n - j) ≡ r) (sym e) so
 first_run test i (suc m) n r fits so fails =

@@ -1,5 +1,5 @@
 -- How an end goes, step by step.
-use Rattle.iso_core.proofs.{Words.{◌≡◌, sym, refl, ap, true, false, Option, Some, None, ℕ, DiskState, Clash, clash, has_write, after_leaving, commit_step, end_step, World, Live, without, Doing, Kept, IsTx, AreOf, IsSettledOf, MayCommit, IsOf, CoreReply, subst, up}, Standings.stands_on}
+use Rattle.iso_core.proofs.{Words.{◌≡◌, sym, refl, ap, true, false, Option, Some, None, ℕ, DiskState, Clash, clash, has_write, after_leaving, commit_step, end_step, World, Live, without, Doing, Kept, IsTx, AreOf, Becomes, IsSettledOf, MayCommit, CoreReply, subst, up}, Standings.stands_as}
 use Rattle.iso_model.specs.declared.core_reply.CoreReply.TheVariants as reply
 
 module _ (W : World) (t : Live) where
@@ -16,11 +16,11 @@ module _ (W : World) (t : Live) where
   ends_in_conflict c write is = ends_by (Some c) write is
 
 -- the core without the transaction, where its end takes it out alone
-pub left_so : (d : DiskState) (kept new : Kept) (W : World) (t : Live) {r : CoreReply} → end_step W t ≡ (r, after_leaving W t) → AreOf d kept W up → IsOf new (after_leaving W t) → new.half ≡ kept.half → new.down ≡ kept.down
+pub left_so : (d : DiskState) (kept new : Kept) (W : World) (t : Live) {r : CoreReply} → end_step W t ≡ (r, after_leaving W t) → AreOf d kept W up → Becomes kept new (after_leaving W t)
     → ((end_step W t).0 ≡ r) × AreOf d new (end_step W t).1 up
-left_so d kept new W t step of is half down_is = (
+left_so d kept new W t step of is = (
   ap (λ (x : CoreReply × World). x.0) step,
-  subst (λ (x : CoreReply × World). AreOf d new x.1 up) (sym step) (stands_on d kept new W up (without t.number W.live) W.next W.trim of half down_is is),
+  subst (λ (x : CoreReply × World). AreOf d new x.1 up) (sym step) (stands_as d kept new W up (without t.number W.live) W.next W.trim of (record { of = is.of; half = is.half; down = is.down })),
 )
 
 -- a transaction that has a write and no clash may commit

@@ -1,5 +1,5 @@
 -- A core that ends a group.
-use Rattle.iso_core.proofs.{Words.{◌≡◌, ◌≢◌, ◌∙◌, ◌⊎◌, inl, inr, sym, refl, ap, ℕ, ◌+◌, ◌<◌, ◌≤◌, true, List, [], ◌∷◌, ◌++◌, drop, get_or, length, map, arith, subst, AllByRecursion, length-append, length-map, length_push, DiskState, IsLawful, IsSettled, LeavesOnly, at_end, Half, IsHeld, half_of_world, next_gate, with_records, extent_of, Commit, Geometry, image_size, History, last, with_commits, IsRecord, records, written, after_leaving, with_live, World, Live, used, IsWorld, length-records, sum_by-map, GroupReply, GroupEnd, Kept, Plan, AreOf, AreNextRecords, ahead, decided, group, leave_all, IsOf, AreEach, HasPlanned, HasStaged, IsAhead, IsLiveMember, IsReady, IsGrownWith, IsPlannedFor, IsReserved, IsTx, ShowsWith, up, down, ShowsEither, ShowsLast, unsettled, group_is, nothing_ahead}, Judging.{last_ahead, staged_count, used_ahead}, Moments.shows_world, Nexts.may_follow, Numbers.{log_room, log_used}, Staging.half_ahead, Standings.stands_on}
+use Rattle.iso_core.proofs.{Words.{◌≡◌, ◌≢◌, ◌∙◌, ◌⊎◌, inl, inr, sym, refl, ap, ℕ, ◌+◌, ◌<◌, ◌≤◌, true, List, [], ◌∷◌, ◌++◌, drop, get_or, length, map, arith, subst, AllByRecursion, length-append, length-map, length_push, DiskState, IsLawful, IsSettled, LeavesOnly, at_end, Half, IsHeld, half_of_world, next_gate, with_records, extent_of, Commit, Geometry, image_size, History, last, with_commits, IsRecord, records, written, after_leaving, with_live, World, Live, used, IsWorld, length-records, sum_by-map, GroupReply, GroupEnd, Kept, Plan, AreOf, Becomes, IsErrOf, Err, CoreError, Disk, EndsGroup, AreNextRecords, ahead, decided, group, leave_all, IsOf, AreEach, HasPlanned, HasStaged, IsAhead, IsLiveMember, IsReady, IsGrownWith, IsPlannedFor, IsReserved, IsTx, ShowsWith, up, down, ShowsEither, ShowsLast, unsettled, group_is, nothing_ahead}, Judging.{last_ahead, staged_count, used_ahead}, Moments.{shows_world, stays_shown}, Nexts.may_follow, Numbers.{log_room, log_used}, Staging.half_ahead, Standings.stands_as}
 
 -- a world that some have left differs in what is live alone
 pub leave_all_is : (members : List Live) (W : World) → leave_all members W ≡ with_live W (leave_all members W).live
@@ -83,27 +83,37 @@ module _ (W : World) (all : List Commit) (plan : Plan) (is : IsWorld W) (has : H
       go (inr after) = inr (shows_world (ahead W all) at has.world c (subst (λ (h : Half). IsHeld W.geometry h c) (sym (half_ahead W all at is)) after))
 
   -- a core that committed a group
-  pub group_core : (old new : DiskState) (kept mid taken fin : Kept) (members : List Live) → AreOf old kept W up → IsOf fin (leave_all members (ahead W all)) → new.size ≡ old.size → IsSettled new
-      → mid.half ≡ kept.half → taken.half ≡ mid.half → fin.half ≡ taken.half → fin.down ≡ taken.down → taken.down ≡ mid.down → mid.down ≡ kept.down
+  pub group_core : (old new : DiskState) (kept fin : Kept) (members : List Live) → AreOf old kept W up → Becomes kept fin (leave_all members (ahead W all)) → new.size ≡ old.size → IsSettled new
       → ((c : List ℕ) → new.now c → IsHeld W.geometry (with_records (map (written W.geometry) all) (half_of_world W kept.half)) c) → AreOf new fin (leave_all members (ahead W all)) up
-  group_core old new kept mid taken fin members of fin_of same settled mid_half taken_half fin_half fin_down taken_down mid_down held =
+  group_core old new kept fin members of is_fin same settled held =
       subst (λ (V : World). AreOf new fin V up) (sym (leave_all_is members (ahead W all)))
       (record {
-        kept_of = subst (IsOf fin) (leave_all_is members (ahead W all)) fin_of;
-        is_down = fin_down ∙ taken_down ∙ mid_down ∙ of.is_down;
+        kept_of = subst (IsOf fin) (leave_all_is members (ahead W all)) is_fin.of;
+        is_down = is_fin.down ∙ of.is_down;
         size = same ∙ of.size;
         images = record {
           settled = settled;
-          each = λ c image. subst (λ (n : ℕ). IsHeld W.geometry (half_of_world (ahead W all) n) c) (sym (fin_half ∙ taken_half ∙ mid_half))
+          each = λ c image. subst (λ (n : ℕ). IsHeld W.geometry (half_of_world (ahead W all) n) c) (sym is_fin.half)
               (subst (λ (h : Half). IsHeld W.geometry h c) (sym (half_ahead W all kept.half is)) (held c image));
         };
       })
 
+-- a group that failed before the first call of the disk
+pub group_refused : {D T : Type 0} (state : D → DiskState) (d : D) (laws : IsLawful (state d)) (kept new : Kept) (W : World) (members : List Live) (Told : List GroupReply → Type 0) (e : CoreError) → AreOf (state d) kept W up
+    → (IsErrOf {T = T} (Err e) Disk → ⊥) → EndsGroup {T = T} state W members Told d d new (Err e)
+group_refused state d laws kept new W members Told e of other = record {
+  ended = tt;
+  moments = stays_shown (state d) laws kept W (group W members).1 of;
+  lost = λ failed. absurd (other failed);
+  commits = λ failed. absurd (other failed);
+  unwritten = λ same. refl;
+}
+
 -- a core without its members
-pub left_all : (d : DiskState) (kept fin : Kept) (W : World) (members : List Live) → AreOf d kept W up → IsOf fin (leave_all members W) → fin.half ≡ kept.half → fin.down ≡ kept.down → AreOf d fin (leave_all members W) up
-left_all d kept fin W members of fin_of half down_is =
+pub left_all : (d : DiskState) (kept fin : Kept) (W : World) (members : List Live) → AreOf d kept W up → Becomes kept fin (leave_all members W) → AreOf d fin (leave_all members W) up
+left_all d kept fin W members of left =
     subst (λ (V : World). AreOf d fin V up) (sym (leave_all_is members W))
-    (stands_on d kept fin W up (leave_all members W).live W.next W.trim of half down_is (subst (IsOf fin) (leave_all_is members W) fin_of))
+    (stands_as d kept fin W up (leave_all members W).live W.next W.trim of (subst (Becomes kept fin) (leave_all_is members W) left))
 
 -- a core that a fault set down in a group
 pub lost_group : (old new : DiskState) (fin : Kept) (W : World) (all : List Commit) (members : List Live) → IsLawful new → old.size ≡ new.size → IsOf fin (leave_all members W) → fin.down ≡ true

@@ -1,5 +1,5 @@
 -- A member of a group, after those before it.
-use Rattle.iso_core.proofs.{Words.{none_behind, ◌≡◌, ◌≢◌, ◌∙◌, sym, refl, ap, ℕ, suc, ◌+◌, ◌-◌, ◌<◌, ◌≤◌, true, false, List, [], ◌∷◌, ◌++◌, length, map, drop, arith, subst, None, Option, sum_by, append-nil, transport, AllByRecursion, append_assoc, length-append, take-append-le, take_all, drop-append-le, drop_all, map-append, length-map, sum_by-append, sum_by-cons, AreTouched, AreNotes, AreNotesAfter, Bytes, IsAsked, up_to, Note, above, notes_appended, notes_rise, all_above, LieInAnImage, records-append, Access, Clash, Commit, Geometry, Read, Write, Mode, Run, LAST, CoreReply, clash, first_after, has_write, record_length, runs, last, kind_of, records, spell, written, AreAccesses, commit_step, end_step, need, commit_from, World, Live, logged_commits, used, IsWorld, limits, are_runs, length-records, sum_by-map, commit_is_record, runs_where_write, Doing, PartSpan, GroupReply, GroupEnd, Kept, Plan, Staged, IsCheckedOf, IsTx, AreNextRecords, IsSettledOf, MayCommit, written_of, ahead, decided, made_by, member_reply, with_first, IsOf, AreEach, AreStaged, HasPlanned, IfCommits, IsAhead, IsNextStaged, all_parts, is_commit, parts_of, stays_ahead}, Decides.asked, Endings.ends_by, Leaves.has_begun, Moments.{is_committed, is_full, is_worn}, Numbers.{log_last, log_used, log_room}}
+use Rattle.iso_core.proofs.{Words.{none_behind, ◌≡◌, ◌≢◌, ◌∙◌, sym, refl, ap, ℕ, suc, ◌+◌, ◌-◌, ◌<◌, ◌≤◌, true, false, List, [], ◌∷◌, ◌++◌, length, map, drop, arith, subst, None, Option, sum_by, append-nil, transport, AllByRecursion, append_assoc, length-append, take-append-le, take_all, drop-append-le, drop_all, map-append, length-map, sum_by-append, sum_by-cons, AreTouched, AreNotes, AreNotesAfter, Bytes, IsAsked, up_to, Note, above, notes_appended, notes_rise, all_above, records-append, Access, Clash, Commit, Geometry, Read, Write, LAST, CoreReply, clash, first_after, has_write, record_length, runs, last, records, written, AreAccesses, commit_step, end_step, need, commit_from, World, Live, logged_commits, used, IsWorld, limits, length-records, sum_by-map, Doing, PartSpan, GroupReply, GroupEnd, Kept, Plan, Staged, IsCheckedOf, IsTx, IsSettledOf, MayCommit, ahead, decided, made_by, member_reply, with_first, IsOf, AreEach, AreStaged, HasPlanned, IfCommits, IsAhead, IsNextStaged, all_parts, is_commit, parts_of, stays_ahead}, Decides.asked, Endings.ends_by, Leaves.has_begun, Moments.{is_committed, is_full, is_worn}, Numbers.{log_last, log_used, log_room}}
 use Rattle.iso_model.specs.declared.core_reply.CoreReply.TheVariants as reply
 use Rattle.iso_model.specs.declared.access.GroupReply.TheVariants as member
 
@@ -106,31 +106,8 @@ module _ (kept : Kept) (W : World) (more : List Commit) (plan : Plan) (of : IsOf
         later = subst (λ (n : ℕ). AreNotesAfter W.geometry (ahead W more).history n (above n plan.notes.notes)) (sym number) (ahead_notes W more of.world plan.notes.notes is.notes);
       }
 
--- a record that is spelled for a commit of a world
+-- how a transaction ends that may commit
 module _ (U : World) (tx : ℕ) (t : Live) (work : Doing) (is : IsWorld U) (may : MayCommit U tx t work) where
-  pub same_runs : runs U.geometry work.accesses ≡ runs U.geometry t.accesses
-  same_runs = ap (runs U.geometry) may.settled.is_work.accesses
-
-  pub some_runs : 0 < length (runs U.geometry work.accesses)
-  some_runs =
-      let size : 64 ≤ U.geometry.block = (limits U.geometry is.valid).least_block in
-      subst (λ (l : List Run). 0 < length l) (sym same_runs) (runs_where_write U.geometry t.accesses (omega arith) may.settled.accesses may.write)
-
-  pub runs_lie : LieInAnImage (runs U.geometry work.accesses)
-  runs_lie = (U.geometry, is.valid, are_runs U.geometry work.accesses)
-
-  pub spelled_so : (g : Geometry) (number kind : ℕ) (mode : Mode) (bytes : List ℕ) → g ≡ U.geometry → number ≡ last U.history + 1 → last U.history < LAST → mode ≡ work.mode → kind ≡ kind_of g mode
-      → bytes ≡ [] ++ spell 1 kind number (runs U.geometry work.accesses) → AreNextRecords U (written_of U t ∷ []) bytes
-  spelled_so g number kind mode bytes same number_is fresh mode_is kind_is bytes_is =
-      let kinds : kind ≡ kind_of U.geometry t.mode = kind_is ∙ (λ i. kind_of (same i) ((mode_is ∙ may.settled.is_work.mode) i)) in
-      let begun = has_begun U tx t is may.here in
-      record {
-        some = omega arith;
-        each = (commit_is_record U.geometry (commit_from t) (omega (arith, (limits U.geometry is.valid).least_block)) may.settled.accesses may.write begun.mode, tt);
-        numbers = omega (arith, fresh);
-        bytes_are = bytes_is ∙ (λ i. spell 1 (kinds i) (number_is i) (same_runs i)) ∙ sym (append-nil (spell 1 (kind_of U.geometry t.mode) (last U.history + 1) (runs U.geometry t.accesses)));
-      }
-
   pub ends_as : end_step U t ≡ commit_step U t None
   ends_as = ends_by U t None may.write (sym may.none)
 

@@ -1,10 +1,25 @@
 -- Records that follow the last one of a core.
-use Rattle.iso_core.proofs.{Words.{◌≡◌, ◌∙◌, sym, ap, ℕ, ◌+◌, ◌≤◌, List, [], ◌∷◌, ◌++◌, length, arith, subst, Half, MayFollow, half_of_world, last_told, told_bytes, with_records, world_bytes, records-append, IsNext, LAST, last, Written, records, World, used, IsWorld, Kept, AreNextRecords, IsOf}, Numbers.{last_is, log_last}}
+use Rattle.iso_core.proofs.{Words.{◌≡◌, ◌∙◌, sym, ap, ℕ, ◌+◌, ◌≤◌, List, [], ◌∷◌, ◌++◌, length, arith, subst, Half, MayFollow, half_of_world, last_told, told_bytes, with_records, world_bytes, records-append, HasTold, IsNext, LogExtent, extent_of, DiskState, held_log, AreOf, up, MayAppend, LAST, last, Written, records, World, used, IsWorld, Kept, AreNextRecords, IsOf}, Numbers.{last_is, log_last}}
 use Rattle.std.proofs.Common.{length-append}
 
 -- records that follow what is kept, with a closed gate after them
 pub next_all : (kept : Kept) (W : World) (more : List Written) (all : List ℕ) → IsOf kept W → AreNextRecords W more all → (bytes : List ℕ) → bytes ≡ all ++ 0 ∷ [] → IsNext kept.log W.geometry more bytes
 next_all kept W more all of next bytes is = grind (arith, log_last)
+
+-- the log of the images of a core
+pub told_so : (d : DiskState) (kept : Kept) (W : World) → AreOf d kept W up → HasTold kept.log W.geometry (W.base + 1) (half_of_world W kept.half).told d.now
+told_so d kept W of = grind (arith, held_log)
+
+-- what is to be appended follows the log
+module _ (d : DiskState) (log : LogExtent) (kept : Kept) (W : World) (more : List Written) (bytes : List ℕ) (may : MayAppend d log kept W more bytes) where
+  pub log_of : log ≡ extent_of W.geometry (half_of_world W kept.half)
+  log_of = may.log_is ∙ may.of.kept_of.keeps.log
+
+  pub next_of : IsNext log W.geometry more bytes
+  next_of = subst (λ (l : LogExtent). IsNext l W.geometry more bytes) (sym may.log_is) (next_all kept W more may.all may.of.kept_of may.next bytes may.bytes_are)
+
+  pub log_told : HasTold log W.geometry (W.base + 1) (half_of_world W kept.half).told d.now
+  log_told = subst (λ (l : LogExtent). HasTold l W.geometry (W.base + 1) (half_of_world W kept.half).told d.now) (sym may.log_is) (told_so d kept W may.of)
 
 -- with them the records take `length bytes` more bytes
 pub more_bytes : (W : World) (at : ℕ) (more : List Written) (bytes : List ℕ) → IsWorld W → AreNextRecords W more bytes

@@ -1,5 +1,5 @@
 -- The commits of a plan are taken in, and their transactions leave.
-use Rattle.iso_core.proofs.{Words.{Bool, true, false, IsSome, nat_eq, remove_entry, begin_of, Begun, leave_all, ◌≡◌, ◌≢◌, ◌∙◌, inl, inr, sym, refl, ap, ℕ, ◌+◌, ◌-◌, ◌<◌, ◌≤◌, ◌==◌, cond, List, [], ◌∷◌, ◌++◌, length, map, take, drop, arith, subst, eq-eqb, ne_eqb, Result, OnOk, transport, AllByRecursion, cases_eq, append_assoc, length-append, length_push, take-append-le, take_all, drop-append-le, drop_all, map-append, length-map, sum_by-append, AreNotes, AreNotesAfter, Held, Note, RisesFrom, above, dropped_after, notes_rise, Half, MayFollow, half_of_world, last_told, next_gate, told_bytes, with_records, Commit, Geometry, first_after, record_length, log_place, all_own, array_at, last, IsRecord, Written, written, after_leaving, World, Live, floor, without, IsWorld, floor_above, floor_below, length-records, floor_between, IsIndexOf, BlockVersions, PartSpan, HasRoom, HasTaken, MayTake, parts_in, index_more, may_take, GroupEnd, Kept, Plan, Staged, IsAmong, ahead, IsOf, IsMember, AreEach, IsGrownWith, IsLiveMember, IsReady, MayTakeAll, all_parts, parts_of, HasTold, DiskState, held_log, AreOf, up, LogExtent, extent_of, on_ok_weaker}, Commits.held_records, Leaves.{is_live, leaves_so}, Judging.staged_count, Numbers.last_is, Standings.kept_with}
+use Rattle.iso_core.proofs.{Words.{Bool, true, false, IsSome, nat_eq, remove_entry, begin_of, Begun, leave_all, ◌≡◌, ◌≢◌, ◌∙◌, inl, inr, sym, refl, ap, ℕ, ◌+◌, ◌-◌, ◌<◌, ◌≤◌, ◌==◌, cond, List, [], ◌∷◌, ◌++◌, length, map, take, drop, arith, subst, eq-eqb, ne_eqb, Result, OnOk, transport, AllByRecursion, cases_eq, append_assoc, length-append, length_push, take-append-le, take_all, drop-append-le, drop_all, map-append, length-map, sum_by-append, AreNotes, AreNotesAfter, Held, Note, RisesFrom, above, dropped_after, notes_rise, Half, MayFollow, half_of_world, last_told, next_gate, told_bytes, with_records, Commit, Geometry, first_after, record_length, log_place, all_own, array_at, last, IsRecord, Written, written, after_leaving, World, Live, floor, without, IsWorld, floor_above, floor_below, length-records, floor_between, IsIndexOf, BlockVersions, PartSpan, HasRoom, HasTaken, MayTake, parts_in, index_more, may_take, GroupEnd, Kept, Plan, Staged, IsAmong, ahead, IsOf, IsMember, AreEach, IsGrownWith, IsLiveMember, IsReady, MayTakeAll, all_parts, parts_of, LogExtent, extent_of, on_ok_weaker}, Commits.held_records, Leaves.{is_live, leaves_so}, Judging.staged_count, Numbers.last_is, Standings.kept_with}
 use Rattle.std.proofs.lemmas.List.{length-drop}
 
 -- parts of both lists
@@ -255,10 +255,6 @@ staged_parted g x t at commits number gate s all staged parts index are may = go
 pub none_staged : (g : Geometry) (x : Half) (t at : ℕ) (commits : List Commit) (number gate : ℕ) (parts : List PartSpan) (index : List BlockVersions) → MayTakeAll g x t at commits number gate [] parts index → commits ≡ []
 none_staged g x t at [] number gate parts index may = refl
 none_staged g x t at (c ∷ commits) number gate parts index may = absurd may.are
-
--- the log of the images of a core
-pub told_so : (d : DiskState) (kept : Kept) (W : World) → AreOf d kept W up → HasTold kept.log W.geometry (W.base + 1) (half_of_world W kept.half).told d.now
-told_so d kept W of = grind (arith, held_log)
 
 -- the notes above the floor are all that is needed
 pub notes_dropped : (kept : Kept) (W : World) (notes : Held) (to : ℕ) → IsOf kept W → to ≡ floor W → notes.notes ≡ above to kept.notes.notes → IsOf (record kept { notes = notes }) W

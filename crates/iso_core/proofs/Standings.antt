@@ -1,5 +1,5 @@
 -- A core whose images stay, while what it keeps in memory changes.
-use Rattle.iso_core.proofs.Words.{arith, ◌≡◌, ◌∙◌, ℕ, ◌+◌, IsIndexOf, NotesSince, Begun, IsWorld, at_work, bare, map, half_of_world, log_place, List, false, Result, Ok, Err, IfOk, DiskState, IsLawful, WritesNothing, at_end, stays, stays_settled, World, Live, Kept, AreImages, AreOf, IsOf, Standing, up, down}
+use Rattle.iso_core.proofs.Words.{arith, ◌≡◌, ◌∙◌, Becomes, ℕ, ◌+◌, IsIndexOf, NotesSince, Begun, IsWorld, at_work, bare, map, half_of_world, log_place, List, false, Result, Ok, Err, IfOk, DiskState, IsLawful, WritesNothing, at_end, stays, stays_settled, World, Live, Kept, AreImages, AreOf, IsOf, Standing, up, down}
 
 pub if_ok : {A E : Type 0} {P Q : A → Type 0} (result : Result A E) → ((x : A) → P x → Q x) → IfOk result P → IfOk result Q
 if_ok (Ok x) more is = more x is
@@ -15,6 +15,14 @@ pub stands_on : (d : DiskState) (kept new : Kept) (W : World) (standing : Standi
     → new.half ≡ kept.half → new.down ≡ kept.down → IsOf new (record W { live = live; next = next; trim = trim })
     → AreOf d new (record W { live = live; next = next; trim = trim }) standing
 stands_on d kept new W standing live next trim of half down_is is = grind (arith, images_stay)
+
+pub stands_as : (d : DiskState) (kept new : Kept) (W : World) (standing : Standing) (live : List Live) (next trim : ℕ) → AreOf d kept W standing
+    → Becomes kept new (record W { live = live; next = next; trim = trim }) → AreOf d new (record W { live = live; next = next; trim = trim }) standing
+stands_as d kept new W standing live next trim of is = stands_on d kept new W standing live next trim of is.half is.down is.of
+
+-- one change after another
+pub becomes_then : {old mid new : Kept} {V U : World} → Becomes old mid V → Becomes mid new U → Becomes old new U
+becomes_then first second = record { of = second.of; half = second.half ∙ first.half; down = second.down ∙ first.down }
 
 -- while nothing is written the core is as before
 pub stands_still : (old new : DiskState) (kept : Kept) (W : World) (standing : Standing) → IsLawful new → AreOf old kept W standing → WritesNothing old new → AreOf new kept W standing

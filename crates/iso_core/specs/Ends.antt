@@ -1,12 +1,15 @@
 -- What is between the steps of an end.
-use Rattle.std.specs.{Prelude.{◌≡◌, ℕ, ◌+◌, ◌<◌, ◌≤◌, true, List, [], ◌∷◌, length, map, None}, List.AllByRecursion}
+use Rattle.std.specs.{Prelude.{◌≡◌, ◌≢◌, ◌⊎◌, ℕ, ◌+◌, ◌<◌, ◌≤◌, true, List, [], ◌∷◌, ◌++◌, length, map, None, Result, OnOk, IfOk, IfErr, IsErrOf}, List.AllByRecursion}
 use Rattle.byte_marks.specs.{declared.extent.Extent.Extent, Touched.AreTouched}
-use Rattle.iso_image.specs.Half.{MayFollow, half_of_world, next_gate, with_records}
+use Rattle.iso_disk.specs.Disk.{DiskState, IsSettled, LeavesOnly, StaysTold}
+use Rattle.iso_image.specs.Half.{IsHeld, MayFollow, half_of_world, next_gate, with_records}
 use Rattle.iso_log.specs.Extent.{Extent as LogExtent, extent_of}
-use Rattle.iso_model.specs.{declared.access.Kind.TheVariants.Write, declared.limits.TheConstants.{LAST, MAX_ACCESSES}, Conflict.clash, Effect.has_write, History.last, Image.{IsRecord, Written, records, written}, Premises.AreAccesses, Step.{after_commit, commit_from}, World.{World, Live}, Worlds.IsWorld}
+use Rattle.iso_model.specs.{Between.ShowsEither, declared.access.EndReply.EndReply, declared.access.Geometry.Geometry, declared.core_error.CoreError.CoreError, declared.core_reply.CoreReply.CoreReply, declared.access.Kind.TheVariants.Write, declared.limits.TheConstants.{LAST, MAX_ACCESSES}, Conflict.clash, Effect.has_write, History.last, Image.{IsRecord, Written, records, written}, Premises.AreAccesses, Step.{after_commit, after_leaving, commit_from}, World.{World, Live}, Worlds.IsWorld}
+use Rattle.iso_model.specs.declared.core_error.CoreError.TheVariants as error
+use Rattle.iso_model.specs.declared.core_reply.CoreReply.TheVariants as reply
 use Rattle.tx_table.specs.Work.{Doing}
 use Rattle.version_read.specs.Parts.{HasRoom, part_of}
-use Rattle.iso_core.specs.{declared.kept.Kept.Kept, Calls.{IsTx, IsWorkOf}, Kept.IsOf}
+use Rattle.iso_core.specs.{declared.kept.Kept.Kept, Calls.{BlamesDisk, IsTx, IsWorkOf, Refuses, Writes, reply_of}, Core.AreOf, Kept.IsOf, Standing.{down, up}}
 
 -- the record that it becomes
 abbrev pub written_of : World → Live → Written
@@ -55,3 +58,48 @@ pub record IsGrownBy (W : World) (tx : ℕ) (t : Live) (kept : Kept) (gate : ℕ
   pub follows : MayFollow W.geometry (half_of_world W kept.half) (written_of W t ∷ [])
   pub log : kept.log ≡ extent_of W.geometry (with_records (written_of W t ∷ []) (half_of_world W kept.half))
   pub gate_is : gate ≡ next_gate W.geometry (half_of_world W kept.half)
+
+-- the bytes are the next records of a core that is up, with a closed gate after them, and fit its log
+pub record MayAppend (d : DiskState) (log : LogExtent) (kept : Kept) (W : World) (more : List Written) (bytes : List ℕ) : Type 0 where
+  pub of : AreOf d kept W up
+  pub log_is : log ≡ kept.log
+  pub all : List ℕ
+  pub next : AreNextRecords W more all
+  pub bytes_are : bytes ≡ all ++ 0 ∷ []
+  pub fits : log.used + length bytes ≤ log.room
+
+-- at each moment an image has all of the records or none; once they are there, this is the log, and the place of the first gate
+pub record Appends {E : Type 0} (old new : DiskState) (log : LogExtent) (half : ℕ) (W : World) (more : List Written) (result : Result ℕ E) : Type 0 where
+  pub moments : LeavesOnly old new (λ c. IsHeld W.geometry (half_of_world W half) c ⊎ IsHeld W.geometry (with_records more (half_of_world W half)) c)
+  pub held : OnOk result ((c : List ℕ) → new.now c → IsHeld W.geometry (with_records more (half_of_world W half)) c)
+  pub settled : OnOk result (IsSettled new)
+  pub told : OnOk result (StaysTold old new)
+  pub grown : OnOk result (log ≡ extent_of W.geometry (with_records more (half_of_world W half)))
+  pub gate : IfOk result (λ gate. gate ≡ next_gate W.geometry (half_of_world W half))
+
+-- The end goes as this step of the model: so the reply, a refusal, and the world. At each moment an image shows the history
+-- before or after. A fault of the disk takes the core down, and the transaction with it, whose commit is made or not.
+pub record EndsAs (W : World) (t : Live) (step : CoreReply × World) (old new : DiskState) (kept : Kept) (result : Result EndReply CoreError) : Type 0 where
+  pub ended : IfOk result (λ r. (step.0 ≡ reply_of r) × AreOf new kept step.1 up)
+  pub refused : IfErr result (λ e. (e ≡ error.Disk) ⊎ Refuses step.0 e)
+  pub lost : IsErrOf result error.Disk → (step.0 ≡ reply.Committed (last W.history + 1)) × AreOf new kept (after_leaving W t) (down (commit_from t ∷ []))
+  pub moments : LeavesOnly old new (ShowsEither W step.1)
+
+-- what an end does to the disk: it writes for a commit alone, and no other error blames it
+pub record EndsOn {D : Type 0} (state : D → DiskState) (old new : D) (result : Result EndReply CoreError) : Type 0 where
+  pub last : (at : ℕ) → IsErrOf result (error.Worn at) → at ≡ LAST
+  pub unwritten : Writes result ⊎ (new ≡ old)
+  pub told : OnOk result (StaysTold (state old) (state new))
+  pub cause : BlamesDisk (state old).faults (state new).faults result
+
+-- after any error but a fault of the disk the core is as before
+abbrev pub StaysUp : {T : Type 0} → (old new : DiskState) → (before now : Kept) → Result T CoreError → Type 0
+StaysUp old new before now result = (W : World) → AreOf old before W up → IfErr result (λ e. e ≢ error.Disk → AreOf new now W up)
+
+-- the transaction is the next commit of the world, which has this geometry, and this is its number
+pub record IsNextCommit (U : World) (tx : ℕ) (t : Live) (g : Geometry) (work : Doing) (number : ℕ) : Type 0 where
+  pub geometry : g ≡ U.geometry
+  pub world : IsWorld U
+  pub may : MayCommit U tx t work
+  pub number_is : number ≡ last U.history + 1
+  pub fresh : last U.history < LAST

@@ -5,7 +5,7 @@ use Rattle.iso_image.specs.Half.{half_of_world}
 use Rattle.iso_log.specs.Extent.{extent_of}
 use Rattle.iso_model.specs.{Geometry.log_place, World.{World, Live, floor, unattached}, Worlds.IsWorld}
 use Rattle.mv_index.specs.Placed.{IsIndexOf}
-use Rattle.tx_table.specs.Live.{at_work}
+use Rattle.tx_table.specs.{Live.at_work, Work.Doing}
 use Rattle.iso_core.specs.declared.kept.Kept.{Kept}
 
 -- the transaction without what a core does not know of it: its accesses and its place
@@ -39,3 +39,30 @@ pub record Keeps (kept : Kept) (W : World) : Type 0 where
 pub record IsOf (kept : Kept) (W : World) : Type 0 where
   pub world : IsWorld W
   pub keeps : Keeps kept W
+
+-- what is kept becomes that of this world, in the same half, and is down or not as before
+pub record Becomes (old new : Kept) (V : World) : Type 0 where
+  pub of : IsOf new V
+  pub half : new.half ≡ old.half
+  pub down : new.down ≡ old.down
+
+-- and has no note that no live transaction needs
+pub record BecomesTidy (old new : Kept) (V : World) : Type 0 where
+  pub becomes : Becomes old new V
+  pub needed : AreNeeded V new.notes
+
+-- it stays that of each world that it was of
+abbrev pub Stays : (old new : Kept) → Type 0
+Stays old new = (W : World) → IsOf old W → IsOf new W
+
+-- another record is spelled, and nothing else is changed
+abbrev pub SpellsOnly : (old new : Kept) → Type 0
+SpellsOnly old new = new ≡ record old { buffer = new.buffer; parts = new.parts }
+
+-- memory is taken for versions and notes, and nothing else is changed
+abbrev pub ReservesOnly : (old new : Kept) → Type 0
+ReservesOnly old new = new ≡ record old { index = new.index; notes = new.notes }
+
+-- the work is as before, however far it is settled
+abbrev pub SettlesOnly : (old new : Doing) → Type 0
+SettlesOnly old new = new ≡ record old { settled = new.settled }

@@ -1,14 +1,16 @@
 -- What is between the steps of a group.
-use Rattle.std.specs.{Prelude.{◌≡◌, ◌≢◌, ℕ, ◌+◌, ◌≤◌, Bool, true, false, IsTrue, List, [], ◌∷◌, ◌++◌, length, map, flat_map, Option, None}, List.AllByRecursion}
+use Rattle.std.specs.{Prelude.{◌≡◌, ◌≢◌, ℕ, ◌+◌, ◌≤◌, Bool, true, false, IsTrue, List, [], ◌∷◌, ◌++◌, length, map, flat_map, Option, None, Result, OnOk, IfErr, IsErrOf, ◌⊎◌}, List.AllByRecursion}
 use Rattle.conflict_rule.specs.Decision.{AreNotes}
-use Rattle.iso_model.specs.{declared.access.Commit.Commit, declared.access.Geometry.Geometry, Effect.record_length, History.last, Geometry.{is_valid, log_place}, Image.{IsRecord, records, written}, Step.{after_commit, end_step}, World.{World, Live}, Worlds.IsWorld, declared.access.GroupReply.GroupReply, Group.{ahead, decided}}
+use Rattle.iso_disk.specs.Disk.{DiskState, LeavesOnly, StaysTold}
+use Rattle.iso_model.specs.{Between.ShowsEither, declared.core_error.CoreError.CoreError, declared.access.Commit.Commit, declared.access.Geometry.Geometry, Effect.record_length, History.{last, with_commits}, Geometry.{is_valid, log_place}, Image.{IsRecord, records, written}, Step.{after_commit, end_step}, World.{World, Live}, Worlds.IsWorld, declared.access.GroupReply.GroupReply, Group.{ahead, decided, group, leave_all, member_reply}}
 use Rattle.iso_image.specs.Half.{Half, MayFollow, half_of_world, last_told, next_gate, with_records}
 use Rattle.iso_log.specs.Extent.{Extent as LogExtent, extent_of}
 use Rattle.mv_index.specs.{Placed.IsIndexOf, Versions.BlockVersions}
+use Rattle.iso_model.specs.declared.core_error.CoreError.TheVariants as error
 use Rattle.iso_model.specs.declared.core_reply.CoreReply.TheVariants as reply
 use Rattle.version_read.specs.{declared.part_span.PartSpan.PartSpan, Parts.{HasRoom, part_of}}
 use Rattle.iso_model.specs.declared.access.GroupReply.TheVariants as member
-use Rattle.iso_core.specs.{declared.group_end.GroupEnd.GroupEnd, declared.kept.Kept.Kept, declared.plan.Plan.Plan, declared.plan.Staged.Staged, Calls.{IsTx, IsWorkOf}, Ends.{AreNextRecords, IsSettledOf, written_of}, Kept.IsOf}
+use Rattle.iso_core.specs.{declared.group_end.GroupEnd.GroupEnd, declared.kept.Kept.Kept, declared.plan.Plan.Plan, declared.plan.Staged.Staged, Calls.{BlamesDisk, IsTx, IsWorkOf}, Core.AreOf, Ends.{AreNextRecords, IsSettledOf, written_of}, Kept.IsOf, Standing.{down, up}}
 
 -- a member is a live transaction with its work, and has no reply yet
 pub record IsMember (W : World) (m : GroupEnd) (t : Live) : Type 0 where
@@ -61,6 +63,20 @@ pub record IsAhead (W : World) (more : List Commit) (plan : Plan) : Type 0 where
   pub staged : AreStaged W.geometry 0 plan.staged.items more
   pub parts : plan.parts.items ≡ all_parts W.geometry more
 
+-- nothing is planned
+pub record IsEmpty (plan : Plan) : Type 0 where
+  pub bytes : plan.bytes.items ≡ []
+  pub staged : plan.staged.items ≡ []
+  pub parts : plan.parts.items ≡ []
+  pub notes : plan.notes.notes ≡ []
+
+-- the same is planned, whatever memory there is
+pub record PlansSame (old new : Plan) : Type 0 where
+  pub bytes : new.bytes.items ≡ old.bytes.items
+  pub staged : new.staged.items ≡ old.staged.items
+  pub parts : new.parts.items ≡ old.parts.items
+  pub notes : new.notes.notes ≡ old.notes.notes
+
 -- the transaction is the next commit of the world, and its record is spelled
 pub record IsNextStaged (U : World) (tx : ℕ) (t : Live) (kept : Kept) : Type 0 where
   pub answer : (end_step U t).0 ≡ reply.Committed (last U.history + 1)
@@ -83,6 +99,11 @@ is_commit member.ReadOnly = false
 is_commit (member.Conflict clash) = false
 is_commit (member.Full need free) = false
 is_commit member.Worn = false
+
+-- the reply is the model's, and where it is a commit, its record is spelled
+pub record IsJudged (U : World) (tx : ℕ) (t : Live) (kept : Kept) (r : GroupReply) : Type 0 where
+  pub answer : r ≡ member_reply (end_step U t).0
+  pub next : IfCommits r (IsNextStaged U tx t kept)
 
 -- all memory is at hand that the commits of the plan take
 pub record IsReserved (plan : Plan) (kept : Kept) : Type 0 where
@@ -146,3 +167,19 @@ pub record IsGrownWith (W : World) (more : List Commit) (plan : Plan) (kept : Ke
   pub follows : MayFollow W.geometry (half_of_world W kept.half) (map (written W.geometry) more)
   pub log : kept.log ≡ extent_of W.geometry (with_records (map (written W.geometry) more) (half_of_world W kept.half))
   pub gate_is : gate ≡ next_gate W.geometry (half_of_world W kept.half)
+
+-- The group ends as in the model, and is told so. At each moment an image shows the history before it or after the whole of it.
+-- The disk fails for a commit alone, which takes the core down; nothing is written where no member commits.
+pub record EndsGroup {D T : Type 0} (state : D → DiskState) (W : World) (members : List Live) (Told : List GroupReply → Type 0) (old new : D) (kept : Kept) (result : Result T CoreError) : Type 0 where
+  pub ended : OnOk result (Told (group W members).0 × AreOf (state new) kept (group W members).1 up)
+  pub moments : LeavesOnly (state old) (state new) (ShowsEither W (group W members).1)
+  pub lost : IsErrOf result error.Disk → (more : List Commit) × ((group W members).1.history ≡ with_commits more W.history) × AreOf (state new) kept (leave_all members W) (down more)
+  pub commits : IsErrOf result error.Disk → (group W members).1.history ≢ W.history
+  pub unwritten : (group W members).1.history ≡ W.history → new ≡ old
+
+-- a group fails for want of memory, where nothing is written, or by a fault of the disk
+pub record EndsGroupOn {D T : Type 0} (state : D → DiskState) (old new : D) (result : Result T CoreError) : Type 0 where
+  pub only : IfErr result (λ e. (e ≡ error.Disk) ⊎ (e ≡ error.Memory))
+  pub untouched : IfErr result (λ e. e ≢ error.Disk → new ≡ old)
+  pub told : OnOk result (StaysTold (state old) (state new))
+  pub cause : BlamesDisk (state old).faults (state new).faults result

@@ -3,7 +3,7 @@
 use conflict_rule::Notes;
 use iso_model::Mode;
 
-/// A transaction that has begun: its number, the number of the last commit then, and its mode.
+/// What `begin` answers: the number of the transaction, the number of the last commit then, and its mode.
 #[derive(Clone, Copy, Debug, PartialEq, Eq)]
 pub struct Begun {
     pub tx: u64,
@@ -11,7 +11,7 @@ pub struct Begun {
     pub mode: Mode,
 }
 
-/// The commits above a number up to the last one, each with the bytes that it wrote.
+/// What `recent` answers: the commits above a number up to the last one, each with the bytes that it wrote.
 #[derive(Drop)]
 pub struct Recent {
     pub after: u64,
@@ -19,8 +19,8 @@ pub struct Recent {
     pub notes: Notes,
 }
 
-/// The numbers of an image: the last commit's, the base and the trim number; how many transactions are live, how many bytes
-/// of the log records take, how many versions are kept; and whether an earlier fault set the core down.
+/// What `stat` answers: the last commit's, the base and the trim number; how many transactions are live, how many bytes
+/// of the log the records take, how many versions are kept; and whether an earlier fault set the core down.
 #[derive(Clone, Copy)]
 pub struct Stat {
     pub last: u64,

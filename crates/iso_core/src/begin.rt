@@ -2,7 +2,7 @@
 ghost use Rattle.std.specs.Prelude.{◌≡◌, ℕ, ◌+◌, ◌&&◌, ◌==◌, IfOk, IfErr, IsErrOf, OnErr, not};
 ghost use Rattle.iso_model.specs.{declared.limits.TheConstants.LAST, Geometry.same_mode, Step.{after_begin, begin_step, mode_named}, World.{World, unattached}};
 ghost use Rattle.iso_model.specs.declared.core_reply.CoreReply.TheVariants as reply;
-ghost use Rattle.iso_core.specs.{Calls.Refuses, Kept.IsOf};
+ghost use Rattle.iso_core.specs.{Calls.Refuses, Kept.{Becomes, IsOf}};
 
 use crate::answers::Begun;
 use crate::kept::Kept;
@@ -23,12 +23,10 @@ fn is_refused(geometry: &Geometry, mode: Mode) -> bool
 pub(crate) fn begin(kept: &mut Kept, mode: Option<Mode>) -> Result<Begun, CoreError>
     requires { (W : World) × IsOf kept.old W }
     ensures begun { (W : World) → IsOf kept.old W → IfOk result (λ b. (b.tx ≡ W.next) × (b.mode ≡ mode_named W mode)
-        × ((begin_step W unattached (mode_named W mode)).0 ≡ reply.Began b.at) × IsOf kept.new (after_begin W unattached (mode_named W mode))) }
+        × ((begin_step W unattached (mode_named W mode)).0 ≡ reply.Began b.at) × Becomes kept.old kept.new (after_begin W unattached (mode_named W mode))) }
     ensures refused { (W : World) → IsOf kept.old W → IfErr result (Refuses (begin_step W unattached (mode_named W mode)).0) }
     ensures last { (at : ℕ) → IsErrOf result (CoreError.Worn at) → at ≡ LAST }
     ensures kept { OnErr result (kept.new ≡ kept.old) }
-    ensures half { kept.new.half ≡ kept.old.half }
-    ensures down { kept.new.down ≡ kept.old.down }
 {
     let mode = mode.unwrap_or(kept.geometry.mode);
     if is_refused(&kept.geometry, mode) {

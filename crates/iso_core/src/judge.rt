@@ -1,19 +1,17 @@
 // How a member of a group ends, after those before it.
-ghost use Rattle.std.specs.Prelude.{◌≡◌, ℕ, ◌+◌, ◌<◌, ◌++◌, [], ◌∷◌, true, List, None, OnOk, IfOk, map};
+ghost use Rattle.std.specs.Prelude.{◌≡◌, ℕ, ◌<◌, ◌++◌, [], ◌∷◌, true, List, OnOk, IfOk, map};
 ghost use Rattle.byte_marks.specs.{declared.extent.Extent.Extent, Touched.AreTouched};
-ghost use Rattle.iso_model.specs.{declared.access.Kind.TheVariants.{Read, Write}, declared.access.Commit.Commit, declared.access.Geometry.Geometry, Conflict.clash, History.{History, last}, Step.{end_step, commit_from}, declared.limits.TheConstants.LAST, Worlds.IsWorld, World.{World, Live}, Group.{ahead, made_by, member_reply}};
+ghost use Rattle.iso_model.specs.{declared.access.Kind.TheVariants.{Read, Write}, declared.access.Commit.Commit, declared.access.Geometry.Geometry, Conflict.clash, History.History, Step.{end_step, commit_from}, World.{World, Live}, Group.{ahead, made_by, member_reply}};
 ghost use Rattle.conflict_rule.specs.Decision.{IsAsked};
-ghost use Rattle.version_read.specs.Parts.{part_of};
-ghost use Rattle.iso_core.specs.{Ends.{AreNextRecords, IsSettledOf, MayCommit, written_of}, Kept.IsOf, Calls.IsTx, Planned.{is_commit, IfCommits, IsAhead, AreEach, HasPlanned, IsNextStaged, IsReady, unsettled}};
+ghost use Rattle.iso_core.specs.{Ends.{IsSettledOf, MayCommit}, Kept.{IsOf, SettlesOnly, SpellsOnly}, Calls.IsTx, Planned.{is_commit, IfCommits, IsAhead, AreEach, HasPlanned, IsJudged, IsNextStaged, IsReady, unsettled}};
 
 use crate::group_end::GroupEnd;
 use crate::kept::Kept;
 use crate::plan::{Plan, Staged};
-use crate::spelling::spell;
+use crate::prepare::spell_as;
 use conflict_rule::{Checked, Notes, decide};
 use counts::Steps;
 use iso_format::RecordBuffer;
-use iso_image::kind_of;
 use iso_model::{Clash, GroupReply, LAST, Memory};
 use std::marker::Brand;
 use std::sync::ledger::{Blank, Ledger};
@@ -65,29 +63,12 @@ fn clash_in<L: Ledger>(blank: Blank, kept: &Kept, plan: &Plan, work: &Work) -> O
     clash_with(work, &so_far, &plan.notes, &mut steps)
 }
 
-// Spells the record of a transaction as that of a commit.
-fn spell_as(kept: &mut Kept, work: &Work, number: u64) -> Result<(), Memory>
-    requires { (W : World) × (U : World) × (tx : ℕ) × (t : Live) × IsOf kept.old W × (U.geometry ≡ W.geometry) × IsWorld U × MayCommit U tx t work.now × (number ≡ last U.history + 1) × (last U.history < LAST) }
-    ensures next { (W U : World) (tx : ℕ) (t : Live) → IsOf kept.old W → U.geometry ≡ W.geometry → IsWorld U → MayCommit U tx t work.now → number ≡ last U.history + 1 → last U.history < LAST
-        → OnOk result (AreNextRecords U (written_of U t ∷ []) kept.new.buffer.records) }
-    ensures parts { (W U : World) (tx : ℕ) (t : Live) → IsOf kept.old W → U.geometry ≡ W.geometry → IsWorld U → MayCommit U tx t work.now
-        → OnOk result (kept.new.parts.items ≡ map part_of (written_of U t).parts) }
-    ensures same { kept.new ≡ record kept.old { buffer = kept.new.buffer; parts = kept.new.parts } }
-{
-    kept.buffer.clear();
-    let kind = kind_of(&kept.geometry, work.mode());
-    spell(&mut kept.buffer, &mut kept.parts, work, number, kind)?;
-    Ok(())
-}
-
 /// How a transaction with a write and no clash ends. Where it is the next commit, its record is spelled.
 fn room_for(kept: &mut Kept, plan: &Plan, work: &Work) -> Result<GroupReply, Memory>
     requires { (W : World) × (more : List Commit) × (tx : ℕ) × (t : Live) × IsOf kept.old W × IsAhead W more plan.now × MayCommit (ahead W more) tx t work.now }
-    ensures answer { (W : World) (more : List Commit) (tx : ℕ) (t : Live) → IsOf kept.old W → IsAhead W more plan.now → MayCommit (ahead W more) tx t work.now
-        → IfOk result (λ r. r ≡ member_reply (end_step (ahead W more) t).0) }
-    ensures next { (W : World) (more : List Commit) (tx : ℕ) (t : Live) → IsOf kept.old W → IsAhead W more plan.now → MayCommit (ahead W more) tx t work.now
-        → IfOk result (λ r. IfCommits r (IsNextStaged (ahead W more) tx t kept.new)) }
-    ensures same { kept.new ≡ record kept.old { buffer = kept.new.buffer; parts = kept.new.parts } }
+    ensures judged { (W : World) (more : List Commit) (tx : ℕ) (t : Live) → IsOf kept.old W → IsAhead W more plan.now → MayCommit (ahead W more) tx t work.now
+        → IfOk result (IsJudged (ahead W more) tx t kept.new) }
+    ensures same { SpellsOnly kept.old kept.new }
 {
     let last = kept.log.last() + plan.staged.len() as u64;
     if last >= LAST {
@@ -105,11 +86,9 @@ fn room_for(kept: &mut Kept, plan: &Plan, work: &Work) -> Result<GroupReply, Mem
 /// How a member ends, after those of the plan. Where it is the next commit, its record is spelled.
 pub(crate) fn judge(kept: &mut Kept, plan: &Plan, member: &GroupEnd) -> Result<GroupReply, Memory>
     requires { (W : World) × (more : List Commit) × (t : Live) × IsOf kept.old W × IsAhead W more plan.now × IsReady W member.now t }
-    ensures answer { (W : World) (more : List Commit) (t : Live) → IsOf kept.old W → IsAhead W more plan.now → IsReady W member.now t
-        → IfOk result (λ r. r ≡ member_reply (end_step (ahead W more) t).0) }
-    ensures next { (W : World) (more : List Commit) (t : Live) → IsOf kept.old W → IsAhead W more plan.now → IsReady W member.now t
-        → IfOk result (λ r. IfCommits r (IsNextStaged (ahead W more) member.now.tx t kept.new)) }
-    ensures same { kept.new ≡ record kept.old { buffer = kept.new.buffer; parts = kept.new.parts } }
+    ensures judged { (W : World) (more : List Commit) (t : Live) → IsOf kept.old W → IsAhead W more plan.now → IsReady W member.now t
+        → IfOk result (IsJudged (ahead W more) member.now.tx t kept.new) }
+    ensures same { SpellsOnly kept.old kept.new }
 {
     if !member.work.has_write() {
         return Ok(GroupReply::ReadOnly);
@@ -155,7 +134,7 @@ fn stage(kept: &mut Kept, plan: &mut Plan, work: &mut Work) -> Result<(), Memory
     ensures same { kept.new ≡ kept.old }
     ensures ahead { (W : World) (more : List Commit) (tx : ℕ) (t : Live) → IsOf kept.old W → IsAhead W more plan.old → IsSettledOf W t work.old → IsNextStaged (ahead W more) tx t kept.old
         → OnOk result (IsAhead W (more ++ commit_from t ∷ []) plan.new) }
-    ensures work { work.new ≡ record work.old { settled = work.new.settled } }
+    ensures work { SettlesOnly work.old work.new }
 {
     let number = kept.log.last() + plan.staged.len() as u64 + 1;
     let at = plan.bytes.len() as u64;
@@ -187,7 +166,7 @@ fn stage_if(
     ensures same { kept.new ≡ kept.old }
     ensures ahead { (W : World) (more : List Commit) (tx : ℕ) (t : Live) → IsOf kept.old W → IsAhead W more plan.old → IsSettledOf W t work.old → IfCommits reply.now (IsNextStaged (ahead W more) tx t kept.old)
         → OnOk result (IsAhead W (more ++ made_by t reply.now) plan.new) }
-    ensures work { work.new ≡ record work.old { settled = work.new.settled } }
+    ensures work { SettlesOnly work.old work.new }
 {
     if !commits(reply) {
         return Ok(());
@@ -210,11 +189,10 @@ pub(crate) fn plan_member(
     member: &mut GroupEnd,
 ) -> Result<(), Memory>
     requires { (W : World) × (more : List Commit) × (t : Live) × IsOf kept.old W × IsAhead W more plan.old × IsReady W member.old t }
-    ensures ahead { (W : World) (more : List Commit) (t : Live) → IsOf kept.old W → IsAhead W more plan.old → IsReady W member.old t
-        → OnOk result (IsAhead W (more ++ made_by t (member_reply (end_step (ahead W more) t).0)) plan.new) }
-    ensures replies { (W : World) (more : List Commit) (t : Live) → IsOf kept.old W → IsAhead W more plan.old → IsReady W member.old t
-        → OnOk result (replies.new.items ≡ replies.old.items ++ member_reply (end_step (ahead W more) t).0 ∷ []) }
-    ensures same { kept.new ≡ record kept.old { buffer = kept.new.buffer; parts = kept.new.parts } }
+    ensures planned { (W : World) (more : List Commit) (t : Live) → IsOf kept.old W → IsAhead W more plan.old → IsReady W member.old t
+        → OnOk result (IsAhead W (more ++ made_by t (member_reply (end_step (ahead W more) t).0)) plan.new
+        × (replies.new.items ≡ replies.old.items ++ member_reply (end_step (ahead W more) t).0 ∷ [])) }
+    ensures same { SpellsOnly kept.old kept.new }
     ensures member { unsettled member.new ≡ unsettled member.old }
 {
     let reply = judge(kept, plan, member)?;
@@ -233,7 +211,7 @@ pub(crate) fn plan_members(
     requires { (W : World) × (more : List Commit) × (members : List Live) × IsOf kept.old W × IsAhead W more plan.old × AreEach (IsReady W) group.old members }
     ensures planned { (W : World) (more : List Commit) (members : List Live) → IsOf kept.old W → IsAhead W more plan.old → AreEach (IsReady W) group.old members
         → OnOk result (HasPlanned W more members plan.new replies.old.items replies.new.items) }
-    ensures same { kept.new ≡ record kept.old { buffer = kept.new.buffer; parts = kept.new.parts } }
+    ensures same { SpellsOnly kept.old kept.new }
     ensures members { map unsettled group.new ≡ map unsettled group.old }
 {
     let Some((member, rest)) = group.split_first_mut() else {

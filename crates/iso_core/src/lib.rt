@@ -1,8 +1,8 @@
 //! A core: one open image, its live transactions and its commits, for one thread. It represents a world of the model (`StandsFor`).
 //!
 //! `begin`, `end`, `end_group`, `abort`, `trim`, `compact`, `upgrade` are the model's steps (`begun`, `ended`, `left`, `trimmed`,
-//! `switched`); a refusal changes nothing (`refused`, `same`). Images always show the history before or after (`moments`). A fault
-//! takes the core down, its commits all or none (`lost`, `down`). `fetch` gives the block at the begin, unless the disk is opaque
+//! `switched`); a refusal leaves the world (`refused`, `same`). Images show the history before or after (`moments`). A fault outside
+//! a fetch takes it down, commits all or none (`lost`, `down`). `fetch` gives the block at the begin, unless the disk is opaque
 //! (`block`).
 #![tactic(auto)]
 

@@ -1,5 +1,5 @@
 // What a group is to append, and to take in once that is done.
-ghost use Rattle.std.specs.Prelude.{◌≡◌, []};
+ghost use Rattle.iso_core.specs.Planned.{IsEmpty};
 
 use conflict_rule::Notes;
 use std::alloc::Global;
@@ -34,7 +34,7 @@ impl Plan {
 
     /// Has no record any more. The memory stays for those that come.
     pub(crate) fn clear(&mut self, alloc: Global)
-        ensures { (self.new.bytes.items ≡ []) × (self.new.staged.items ≡ []) × (self.new.parts.items ≡ []) × (self.new.notes.notes ≡ []) }
+        ensures { IsEmpty self.new }
     {
         self.bytes.clear();
         self.staged.clear();

@@ -1,7 +1,7 @@
 // What a commit wants before the first call of the disk.
-ghost use Rattle.std.specs.Prelude.{◌≡◌, ◌+◌, ◌<◌, ◌≤◌, IfOk, OnOk, length};
-ghost use Rattle.iso_model.specs.{declared.limits.TheConstants.LAST, World.{World, Live}};
-ghost use Rattle.iso_core.specs.{Ends.{IsPrepared, IsSpelled, MayCommit}, Kept.IsOf};
+ghost use Rattle.std.specs.Prelude.{ℕ, ◌+◌, ◌≤◌, IfOk, OnOk, length};
+ghost use Rattle.iso_model.specs.World.{World, Live};
+ghost use Rattle.iso_core.specs.{Ends.{IsNextCommit, IsPrepared, IsSpelled, MayCommit}, Kept.{IsOf, ReservesOnly, SettlesOnly, SpellsOnly, Stays}};
 
 use crate::kept::Kept;
 use crate::spelling::spell;
@@ -11,16 +11,13 @@ use iso_model::Memory;
 use tx_table::Work;
 use version_read::reserve_parts;
 
-/// Spells the record of a transaction, as that of the next commit.
-pub(crate) fn spell_next(kept: &mut Kept, tx: u64, work: &Work) -> Result<(), Memory>
-    requires transaction { (W : World) × (t : Live) × IsOf kept.old W × MayCommit W tx t work.now }
-    requires number { kept.old.log.last < LAST }
-    ensures spelled { (W : World) (t : Live) → IsOf kept.old W → MayCommit W tx t work.now → OnOk result (IsSpelled W t kept.new) }
-    ensures same { kept.new ≡ record kept.old { buffer = kept.new.buffer; parts = kept.new.parts } }
+/// Spells the record of a transaction, as that of the next commit of a world.
+pub(crate) fn spell_as(kept: &mut Kept, work: &Work, number: u64) -> Result<(), Memory>
+    requires { (U : World) × (tx : ℕ) × (t : Live) × IsNextCommit U tx t kept.old.geometry work.now number }
+    ensures spelled { (U : World) (tx : ℕ) (t : Live) → IsNextCommit U tx t kept.old.geometry work.now number → OnOk result (IsSpelled U t kept.new) }
+    ensures same { SpellsOnly kept.old kept.new }
 {
-    let _ = tx;
     kept.buffer.clear();
-    let number = kept.log.last() + 1;
     let kind = kind_of(&kept.geometry, work.mode());
     spell(&mut kept.buffer, &mut kept.parts, work, number, kind)?;
     Ok(())
@@ -32,9 +29,9 @@ pub(crate) fn prepare(kept: &mut Kept, tx: u64, work: &mut Work) -> Result<Touch
     requires transaction { (W : World) × (t : Live) × IsOf kept.old W × MayCommit W tx t work.old × IsSpelled W t kept.old }
     requires fits { kept.old.log.used + length kept.old.buffer.records + 1 ≤ kept.old.log.room }
     ensures prepared { (W : World) (t : Live) → IsOf kept.old W → MayCommit W tx t work.old → IsSpelled W t kept.old → IfOk result (λ writes. IsPrepared W t kept.new writes) }
-    ensures same { (W : World) → IsOf kept.old W → IsOf kept.new W }
-    ensures rest { kept.new ≡ record kept.old { index = kept.new.index; notes = kept.new.notes } }
-    ensures work { work.new ≡ record work.old { settled = work.new.settled } }
+    ensures same { Stays kept.old kept.new }
+    ensures rest { ReservesOnly kept.old kept.new }
+    ensures work { SettlesOnly work.old work.new }
 {
     let _ = tx;
     reserve_parts(&mut kept.index, kept.parts.as_slice())?;

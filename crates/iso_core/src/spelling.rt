@@ -41,9 +41,7 @@ fn push_work(
     requires settled { work.now.settled ≡ true }
     ensures records { buffer.new.records ≡ buffer.old.records }
     ensures runs { (g : Geometry) → g.block ≡ work.now.size → g.blocks ≡ work.now.blocks
-        → OnOk result (buffer.new.parts ≡ buffer.old.parts ++ runs g work.now.accesses) }
-    ensures parts { (g : Geometry) → g.block ≡ work.now.size → g.blocks ≡ work.now.blocks
-        → OnOk result (parts.new.items ≡ parts.old.items ++ map part_of (runs g work.now.accesses)) }
+        → OnOk result ((buffer.new.parts ≡ buffer.old.parts ++ runs g work.now.accesses) × (parts.new.items ≡ parts.old.items ++ map part_of (runs g work.now.accesses))) }
 {
     for (block, patch) in work.patches() {
         push_patch(buffer, parts, block, patch)?;
@@ -65,10 +63,8 @@ pub(crate) fn spell(
     requires kind { (kind ≡ 1) ⊎ (kind ≡ 2) }
     requires runs { (g : Geometry) × (g.block ≡ work.now.size) × (g.blocks ≡ work.now.blocks) × (0 < length (runs g work.now.accesses))
         × LieInAnImage (runs g work.now.accesses) }
-    ensures record { (g : Geometry) → g.block ≡ work.now.size → g.blocks ≡ work.now.blocks
-        → OnOk result (buffer.new ≡ record { records = buffer.old.records ++ spell 1 kind number (runs g work.now.accesses); parts = [] }) }
-    ensures parts { (g : Geometry) → g.block ≡ work.now.size → g.blocks ≡ work.now.blocks
-        → OnOk result (parts.new.items ≡ map part_of (runs g work.now.accesses)) }
+    ensures { (g : Geometry) → g.block ≡ work.now.size → g.blocks ≡ work.now.blocks
+        → OnOk result ((buffer.new ≡ record { records = buffer.old.records ++ spell 1 kind number (runs g work.now.accesses); parts = [] }) × (parts.new.items ≡ map part_of (runs g work.now.accesses))) }
 {
     parts.clear();
     push_work(buffer, parts, work)?;

@@ -4,7 +4,7 @@ ghost use Rattle.iso_image.specs.Half.{Half};
 ghost use Rattle.iso_model.specs.{declared.access.Commit.Commit, declared.access.Geometry.Geometry, Geometry.log_place, Image.written, World.{World, Live}, Group.{ahead, leave_all}};
 ghost use Rattle.mv_index.specs.Placed.{IsIndexOf};
 ghost use Rattle.version_read.specs.Parts.{HasRoom};
-ghost use Rattle.iso_core.specs.{Kept.{AreNeeded, IsOf}, Planned.{AreEach, IsAhead, IsGrownWith, IsLiveMember, IsReserved, MayTakeAll}};
+ghost use Rattle.iso_core.specs.{Kept.{Becomes, BecomesTidy, IsOf, ReservesOnly, Stays}, Planned.{AreEach, IsAhead, IsGrownWith, IsLiveMember, IsReserved, MayTakeAll}};
 
 use crate::group_end::GroupEnd;
 use crate::kept::Kept;
@@ -47,8 +47,8 @@ fn sorted_parts(alloc: Global, parts: &[PartSpan]) -> Result<Vec<PartSpan>, Memo
 pub(crate) fn reserve_plan(kept: &mut Kept, plan: &Plan) -> Result<(), Memory>
     requires { (W : World) × (more : List Commit) × IsOf kept.old W × IsAhead W more plan.now }
     ensures reserved { (W : World) (more : List Commit) → IsOf kept.old W → IsAhead W more plan.now → OnOk result (IsReserved plan.now kept.new) }
-    ensures same { (W : World) → IsOf kept.old W → IsOf kept.new W }
-    ensures rest { kept.new ≡ record kept.old { index = kept.new.index; notes = kept.new.notes } }
+    ensures same { Stays kept.old kept.new }
+    ensures rest { ReservesOnly kept.old kept.new }
 {
     let all = sorted_parts(kept.alloc, plan.parts.as_slice())?;
     reserve_parts(&mut kept.index, all.as_slice())?;
@@ -75,9 +75,7 @@ fn take_staged(index: &mut MvIndex, number: u64, gate: u64, staged: &[Staged], p
 /// Takes in the commits of a plan, whose records were appended at a gate. All members are live still.
 pub(crate) fn take_plan(kept: &mut Kept, gate: u64, plan: &mut Plan)
     requires { (W : World) × (more : List Commit) × IsGrownWith W more plan.old kept.old gate }
-    ensures taken { (W : World) (more : List Commit) → IsGrownWith W more plan.old kept.old gate → IsOf kept.new (ahead W more) }
-    ensures half { kept.new.half ≡ kept.old.half }
-    ensures down { kept.new.down ≡ kept.old.down }
+    ensures { (W : World) (more : List Commit) → IsGrownWith W more plan.old kept.old gate → Becomes kept.old kept.new (ahead W more) }
 {
     let first = kept.log.last() - plan.staged.len() as u64 + 1;
     take_staged(
@@ -102,9 +100,7 @@ fn first_member(group: &[GroupEnd]) -> Option<(&GroupEnd, &[GroupEnd])>
 // Takes all members out, one after the other.
 fn leave_each(kept: &mut Kept, group: &[GroupEnd])
     requires { (W : World) × (members : List Live) × IsOf kept.old W × AreEach (IsLiveMember W) group.now members }
-    ensures left { (W : World) (members : List Live) → IsOf kept.old W → AreEach (IsLiveMember W) group.now members → IsOf kept.new (leave_all members W) }
-    ensures half { kept.new.half ≡ kept.old.half }
-    ensures down { kept.new.down ≡ kept.old.down }
+    ensures { (W : World) (members : List Live) → IsOf kept.old W → AreEach (IsLiveMember W) group.now members → Becomes kept.old kept.new (leave_all members W) }
 {
     let Some((member, rest)) = first_member(group) else {
         return;
@@ -116,9 +112,7 @@ fn leave_each(kept: &mut Kept, group: &[GroupEnd])
 // Takes all members out. Where no other is live, none is left.
 fn leave_all(kept: &mut Kept, group: &[GroupEnd])
     requires { (W : World) × (members : List Live) × IsOf kept.old W × AreEach (IsLiveMember W) group.now members }
-    ensures left { (W : World) (members : List Live) → IsOf kept.old W → AreEach (IsLiveMember W) group.now members → IsOf kept.new (leave_all members W) }
-    ensures half { kept.new.half ≡ kept.old.half }
-    ensures down { kept.new.down ≡ kept.old.down }
+    ensures { (W : World) (members : List Live) → IsOf kept.old W → AreEach (IsLiveMember W) group.now members → Becomes kept.old kept.new (leave_all members W) }
 {
     if group.len() == kept.live.len() as usize {
         kept.live.clear();
@@ -130,10 +124,7 @@ fn leave_all(kept: &mut Kept, group: &[GroupEnd])
 // Drops the notes that no live transaction needs any more.
 fn drop_notes(kept: &mut Kept)
     requires { (W : World) × IsOf kept.old W }
-    ensures dropped { (W : World) → IsOf kept.old W → IsOf kept.new W }
-    ensures needed { (W : World) → IsOf kept.old W → AreNeeded W kept.new.notes }
-    ensures half { kept.new.half ≡ kept.old.half }
-    ensures down { kept.new.down ≡ kept.old.down }
+    ensures { (W : World) → IsOf kept.old W → BecomesTidy kept.old kept.new W }
 {
     let floor = kept.live.floor(kept.log.last());
     kept.notes.drop_to(floor);
@@ -142,10 +133,7 @@ fn drop_notes(kept: &mut Kept)
 /// Takes all members out, and the notes that no live transaction needs any more. It takes no memory.
 pub(crate) fn leave_members(kept: &mut Kept, group: &[GroupEnd])
     requires { (W : World) × (members : List Live) × IsOf kept.old W × AreEach (IsLiveMember W) group.now members }
-    ensures left { (W : World) (members : List Live) → IsOf kept.old W → AreEach (IsLiveMember W) group.now members → IsOf kept.new (leave_all members W) }
-    ensures needed { (W : World) (members : List Live) → IsOf kept.old W → AreEach (IsLiveMember W) group.now members → AreNeeded (leave_all members W) kept.new.notes }
-    ensures half { kept.new.half ≡ kept.old.half }
-    ensures down { kept.new.down ≡ kept.old.down }
+    ensures { (W : World) (members : List Live) → IsOf kept.old W → AreEach (IsLiveMember W) group.now members → BecomesTidy kept.old kept.new (leave_all members W) }
 {
     leave_all(kept, group);
     drop_notes(kept);

@@ -1,4 +1,4 @@
--- How the bytes of an image change.
+-- How the bytes of an image change: what the laws of `laws` take of a change.
 use Rattle.std.specs.{Prelude.{◌≡◌, ◌⊎◌, ℕ, ◌+◌, ◌<◌, ◌≤◌, IsTrue, List, length}, List.AllByRecursion}
 use Rattle.iso_model.specs.{declared.access.Geometry.Geometry, declared.limits.TheConstants.LAST, Geometry.{half_size, header_place, is_valid, log_place}, Image.IsRecord}
 use Rattle.iso_disk.specs.Disk.{spliced, Torn}

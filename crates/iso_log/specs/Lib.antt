@@ -1,3 +1,4 @@
+pub mod Ahead
 pub mod Cause
 pub mod Extent
 pub mod Log

@@ -1,7 +1,6 @@
 // Bytes of a log that are read ahead of its scan.
 ghost use Rattle.std.specs.{Prelude.{◌≡◌, ◌+◌, ◌-◌, ◌≤◌, ◌++◌, ℕ, List, length, take, OnOk, IsErrOf}, List.slice_range, Option.ForSome};
-ghost use Rattle.iso_disk.specs.Disk.{WritesNothing};
-ghost use Rattle.iso_log.specs.Cause.{BlamesDisk};
+ghost use Rattle.iso_log.specs.Cause.{OnlyReads};
 
 use crate::log_error::LogError;
 use iso_disk::Disk;
@@ -36,11 +35,10 @@ impl Model for ReadAhead {
 }
 
 impl ReadAhead {
-    ghost use Rattle.std.specs.{Prelude.{◌≡◌, ◌+◌, ◌-◌, ◌≤◌, [], None, ℕ, length, take, drop, OnOk, IsErrOf}, Option.ForSome};
+    ghost use Rattle.std.specs.Prelude.{◌≡◌, ◌+◌, ◌≤◌, [], None, ℕ, length, take, drop};
     ghost use Rattle.iso_model.specs.{declared.access.Geometry.Geometry, Premises.AreBytes};
-    ghost use Rattle.iso_disk.specs.Disk.{WritesNothing};
     ghost use Rattle.iso_format.specs.Records.{fault_of, recorded};
-    ghost use Rattle.iso_log.specs.{Cause.BlamesDisk, Scan.StandAt};
+    ghost use Rattle.iso_log.specs.Ahead.{ReadsAhead};
 
     /// Nothing is read yet. Each read of the disk will ask for `piece` bytes, or for all of a longer record, and the first one
     /// for 69,632 at most.
@@ -93,14 +91,7 @@ impl ReadAhead {
         requires fits { gate + rest ≤ (D.state disk.old).size }
         requires within { length self.old ≤ rest }
         requires need { need ≤ rest }
-        ensures enough { OnOk result (need ≤ length self.new) }
-        ensures within { length self.new ≤ rest }
-        ensures front { take (length self.old) self.new ≡ self.old }
-        ensures told { ForSome (D.state disk.old).contents (λ c. StandAt gate self.old c → StandAt gate self.new c) }
-        ensures unwritten { WritesNothing (D.state disk.old) (D.state disk.new) }
-        ensures cause { BlamesDisk (D.state disk.old).faults (D.state disk.new).faults result }
-        ensures not_full { (need free : ℕ) → IsErrOf result (LogError.LogFull need free) → ⊥ }
-        ensures not_damaged { (at cause : ℕ) → IsErrOf result (LogError.Damaged at cause) → ⊥ }
+        ensures { ReadsAhead gate need rest self.old self.new (D.state disk.old) (D.state disk.new) result }
     {
         if self.as_slice().len() >= need as usize {
             return Ok(());
@@ -120,14 +111,7 @@ impl ReadAhead {
         requires fits { gate + rest ≤ (D.state disk.old).size }
         requires fewer { length self.old ≤ need }
         requires need { need ≤ rest }
-        ensures enough { OnOk result (need ≤ length self.new) }
-        ensures within { length self.new ≤ rest }
-        ensures front { take (length self.old) self.new ≡ self.old }
-        ensures told { ForSome (D.state disk.old).contents (λ c. StandAt gate self.old c → StandAt gate self.new c) }
-        ensures unwritten { WritesNothing (D.state disk.old) (D.state disk.new) }
-        ensures cause { BlamesDisk (D.state disk.old).faults (D.state disk.new).faults result }
-        ensures not_full { (need free : ℕ) → IsErrOf result (LogError.LogFull need free) → ⊥ }
-        ensures not_damaged { (at cause : ℕ) → IsErrOf result (LogError.Damaged at cause) → ⊥ }
+        ensures { ReadsAhead gate need rest self.old self.new (D.state disk.old) (D.state disk.new) result }
     {
         let have = self.end - self.from;
         move_up(&mut self.bytes, self.from, self.end);
@@ -181,9 +165,7 @@ fn read_more<D: Disk>(
     ensures within { have ≤ length bytes.new.items }
     ensures front { take have bytes.new.items ≡ take have bytes.old.items }
     ensures told { OnOk result (ForSome (D.state disk.old).contents (λ c. take want bytes.new.items ≡ take have bytes.old.items ++ slice_range c at (at + (want - have)))) }
-    ensures unwritten { WritesNothing (D.state disk.old) (D.state disk.new) }
-    ensures cause { BlamesDisk (D.state disk.old).faults (D.state disk.new).faults result }
-    ensures not_full { (need free : ℕ) → IsErrOf result (LogError.LogFull need free) → ⊥ }
+    ensures reads { OnlyReads (D.state disk.old) (D.state disk.new) result }
     ensures not_damaged { (at cause : ℕ) → IsErrOf result (LogError.Damaged at cause) → ⊥ }
 {
     if let Err(_) = reach(bytes, want) {

@@ -1,10 +1,9 @@
 // The next record of a log, found in the bytes that are read ahead.
 ghost use Rattle.std.specs.{Prelude.{◌≡◌, ◌+◌, ◌^◌, ◌≤◌, ◌<◌, None, Some, ℕ, List, drop, length, slice_index, take, IfErr, IfOk, IfSome, IsErrOf, IsTrue, OnOk}, Option.ForSome};
 ghost use Rattle.iso_model.specs.Geometry.{is_valid};
-ghost use Rattle.iso_disk.specs.Disk.{WritesNothing};
 ghost use Rattle.commit_gate.specs.Gate.{IsClosed, IsOpen};
 ghost use Rattle.iso_format.specs.{Faults.{offset_of, test_number}, Records.{fault_of, record_window}};
-ghost use Rattle.iso_log.specs.{Cause.BlamesDisk, Scan.{IsDamaged, IsFirst, IsFound, IsTestBefore, StandAt}};
+ghost use Rattle.iso_log.specs.{Cause.OnlyReads, Scan.{IsDamaged, IsFirst, IsFound, IsTestBefore, StandAt}};
 
 use crate::ahead::ReadAhead;
 use crate::log_error::LogError;
@@ -81,9 +80,7 @@ pub fn find_record<D: Disk>(
     ensures test { (at cause : ℕ) → IsErrOf result (LogError.Damaged at cause) → IsTestBefore (gate + rest) at cause }
     ensures within { length ahead.new ≤ rest }
     ensures ahead { ForSome (D.state disk.old).contents (StandAt gate ahead.new) }
-    ensures unwritten { WritesNothing (D.state disk.old) (D.state disk.new) }
-    ensures cause { BlamesDisk (D.state disk.old).faults (D.state disk.new).faults result }
-    ensures not_full { (need free : ℕ) → IsErrOf result (LogError.LogFull need free) → ⊥ }
+    ensures reads { OnlyReads (D.state disk.old) (D.state disk.new) result }
 {
     ahead.ask(disk, gate, rest.min(HEAD), rest)?;
     let bytes = ahead.as_slice();

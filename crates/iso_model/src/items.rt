@@ -126,4 +126,11 @@ impl<T> Items<T> {
     {
         self.items.as_slice()
     }
+
+    /// The items as a vector. It takes no memory.
+    pub fn into_vec(self) -> Vec<T>
+        ensures { result.items ≡ self }
+    {
+        self.items
+    }
 }

@@ -1,7 +1,7 @@
 -- What is under the lock after a call of the core that leaves the labels.
-use Rattle.iso_shared.{proofs.Words.{clock_of, ◌≡◌, ◌≤◌, inr, true, Access, IsTx, Live, Standing, StandsFor, standing_of, tx_of, Checked, Doing, IsAhead, IsOwn, IsPrefix, IsTxOf, Tx, live_of, tx_view, times, faults_of, is_live, ℕ, ◌<◌, List, [], ◌∷◌, ◌++◌, Option, None, Result, Ok, Err, refl, sym, ap, ◌∙◌, subst, Recent, Core, disk_of, DiskState, LeavesOnly, WritesNothing, weakened, Commit, World, ShowsBetween, ShowsLast, CoreError, AreHeld, held_after, Call, Entry, Posted, Answers, IsLegal, ended, handed, returned, tx_in, Holds, StandsAt, whole, with_lost, Start, State, after, after_fault, opened, state_at, cause_of, entry_of, fetch_entry, recent_entry}, proofs.Cores.{Did, is_tx}, proofs.Ends.{ahead_same, own_same}, proofs.Growing.{from_last, shows_now}, proofs.Mades.{ahead_on, held_same, own_on}, proofs.Trace.after_snoc, proofs.Standings.{HoldsOut, MayLeave, Moved, held_live, stands_next}, specs.declared.guarded.Guarded.Guarded}
+use Rattle.iso_shared.{proofs.Words.{clock_of, ◌≡◌, ◌≤◌, inr, true, Access, IsTx, Live, Standing, StandsFor, standing_of, tx_of, Checked, Doing, IsAhead, IsOwn, IsPrefix, IsTxOf, Tx, live_of, tx_view, times, faults_of, is_live, ℕ, ◌<◌, List, [], ◌∷◌, ◌++◌, Option, None, Result, Ok, Err, refl, sym, ap, ◌∙◌, subst, Recent, Core, disk_of, DiskState, LeavesOnly, WritesNothing, weakened, Commit, World, ShowsBetween, ShowsLast, CoreError, AreHeld, held_after, Call, Entry, Posted, Answers, IsLegal, ended, handed, returned, tx_in, Holds, StandsAt, whole, with_lost, Start, State, after, after_fault, opened, state_at, cause_of, entry_of, fetch_entry, recent_entry}, proofs.Cores.{Did, is_tx}, proofs.Ends.{ahead_same, own_same}, proofs.Growing.{from_last, shows_now}, proofs.Mades.{ahead_on, held_same, own_on}, proofs.Trace.after_snoc, proofs.Standings.{HoldsOut, MayLeave, Moved, held_live, stands_next}, specs.{Passes.TakesTurn, Turns.{moments, view}, declared.guarded.{Guarded.Guarded, Stamped.Stamped}}}
 use Rattle.iso_model.specs.declared.core_error.CoreError.TheVariants as error
-use Rattle.turn_lock.specs.Numbers.{without}
+use Rattle.turn_lock.specs.{Lock.turn_value, Numbers.without, Pass.PassOf, declared.turn.Turn.Turn}
 use Rattle.iso_shared.specs.declared.entry.Call.TheVariants as call
 use Rattle.iso_shared.specs.declared.entry.Entry.TheVariants as entry
 
@@ -67,8 +67,9 @@ pub record Lends {D : Type 0} (disk : D → DiskState) (A : Start) (first : Disk
   pub at : StandsAt disk A first lent items es ms
   pub out : HoldsOut holds es
 
-pub lends : {D O : Type 0} {disk : D → DiskState} {A : Start} {first : DiskState} {old lent : Guarded D O} {es : List Entry} {ms : List ℕ} {holds : List ℕ} → lent ≡ old → StandsAt disk A first old.core old.rack es ms → HoldsOut holds es → Lends disk A first lent.core lent.rack es ms holds
-lends {D} {O} {disk} {A} {first} {old} {lent} {es} {ms} {holds} same s out = record { at = subst (λ (v : Guarded D O). StandsAt disk A first v.core v.rack es ms) (sym same) s; out = out }
+pub lends : {D O : Type 0} {disk : D → DiskState} {A : Start} {first : DiskState} {p q : PassOf (Guarded D O) Stamped} {t : Turn (Guarded D O) Stamped} {lent : Guarded D O} → TakesTurn disk A first p q t → lent ≡ turn_value t
+    → Lends disk A first lent.core lent.rack (view q).seen (moments q) (view q).holds
+lends {D} {O} {disk} {A} {first} {p} {q} {t} {lent} taken same = record { at = subst (λ (v : Guarded D O). StandsAt disk A first v.core v.rack (view q).seen (moments q)) (sym same) taken.value; out = taken.out }
 
 -- what is known at its turn of the transaction whose pass it is
 pub record AtTurn (A : Start) (es : List Entry) (n : ℕ) (work : Doing) (checked : Checked) : Type 0 where

@@ -1,6 +1,6 @@
 -- Numbers of members that a port holds, of which no pass holds one twice.
-use Rattle.iso_shared.{proofs.Words.{view, ◌≡◌, ℕ, ◌<◌, ◌≤◌, ◌==◌, Bool, true, false, cond, nat_tests, List, [], ◌∷◌, map, refl, subst, arith, AllByRecursion, AreDistinct, AreHeld, hit, hit_same, times, total, ◌+◌, ◌||◌, is_among, ◌++◌, length, Some, ap, ◌∙◌, View, times_append, prefix_trans, Entry, Shared, Tx, IsJoined, IsNote, IsNoteOf, held_in, Start, IsPrefix, times_without, both, kept_part, sym, suc, length-map, prefix_more, Doing, GroupEnd, Member, MemberEnd, ArePaired, IsBack, IsPartOf, IsSameTx, IsTaken, Made, MadeAll, answered, bare_end, end_of, ends_at, made_in, members_at, members_in, numbers_in, replies_of, Checked, IsAhead, IsLegal, IsOwn, state_at, units_of, unwrap_or, tx_view}, specs.Ports.IsTx, proofs.Mades.{ahead_on, own_on}, proofs.Ends.{ahead_same, on_same, own_same}}
-use Rattle.turn_lock.specs.Numbers.{without}
+use Rattle.iso_shared.{proofs.Words.{view, ◌≡◌, ℕ, ◌<◌, ◌≤◌, ◌==◌, Bool, true, false, cond, nat_tests, List, [], ◌∷◌, map, refl, subst, arith, AllByRecursion, AreDistinct, AreHeld, hit, hit_same, times, total, ◌+◌, ◌||◌, is_among, ◌++◌, ◌-◌, length, Some, None, ap, ◌∙◌, View, times_append, prefix_trans, Entry, Shared, Tx, IsJoined, IsNote, IsNoteOf, held_in, Start, IsPrefix, times_without, both, kept_part, sym, suc, length-map, prefix_more, Doing, GroupEnd, Member, MemberEnd, ArePaired, IsBack, IsPartOf, IsSameTx, IsTaken, Made, MadeAll, answered, bare_end, end_of, ends_at, made_in, members_at, members_in, numbers_in, replies_of, Checked, IsAhead, IsLegal, IsOwn, state_at, units_of, unwrap_or, tx_view}, specs.{Groups.{Gathers, IsWithin, MayPart, PartsWith}, Passes.{HasJoined, IsSplit}, Ports.{IsPort, IsTx}, declared.guarded.{Guarded.Guarded, Stamped.Stamped}, declared.shared.Port.Port}, proofs.Mades.{ahead_on, own_on}, proofs.Ends.{ahead_same, on_same, own_same}}
+use Rattle.turn_lock.{proofs.Prefixes.longer_whole, specs.{Lists.merge, Numbers.without, Pass.PassOf}}
 use Rattle.iso_model.specs.declared.access.GroupReply.TheVariants as member
 
 pub distinct_by : (ns : List ℕ) → ((n : ℕ) → times n ns ≤ 1) → AreDistinct ns
@@ -56,6 +56,116 @@ module _ {D O : Type 0} (s : Shared D O) (A : Start) where
   pub alone_by : (rest : List (Tx D O)) (mid new : List ℕ) → ((n : ℕ) → times n mid ≤ 1) → ((n : ℕ) → times n new ≡ times n mid + held_in n rest) → (0 < length rest → (n : ℕ) → times n new ≤ 1) → (n : ℕ) → times n new ≤ 1
   alone_by [] mid new one sum more n = let a = one n in let b : times n new ≡ times n mid + 0 = sum n in omega (arith, a, b)
   alone_by (t ∷ rest) mid new one sum more n = more (omega arith) n
+
+  -- a port takes in the pass of a member, and a note that it gave before takes its place
+  pub gathers_one : (t : Tx D O) (mid other note left : PassOf (Guarded D O) Stamped) (old new : Port D O) → IsSplit s.lock None 0 old.pass mid note → HasJoined mid new.pass other → other ≡ t.pass → left ≡ note
+      → IsPort s old → IsTx s A t → IsWithin t.work → Gathers s A (t ∷ []) (record t { pass = left } ∷ []) old new
+  gathers_one t mid other note left old new split joined own after port tx within =
+      let told : IsPrefix (view t.pass).seen (view new.pass).seen = subst (λ (p : PassOf (Guarded D O) Stamped). IsPrefix (view p).seen (view new.pass).seen) own joined.seen.1 in
+      let begins : IsPrefix (view old.pass).seen (view new.pass).seen = subst (λ (v : View Entry). IsPrefix v.seen (view new.pass).seen) split.kept joined.seen.0 in
+      let units : (view new.pass).units ≡ (view old.pass).units + (view t.pass).units =
+      (let a : (view new.pass).units ≡ (view mid).units + (view other).units = ap (λ (v : View Entry). v.units) joined.view_is in
+      let b : (view mid).units ≡ (view old.pass).units - 0 = ap (λ (v : View Entry). v.units) split.kept in
+      let d : (view other).units ≡ (view t.pass).units = ap (λ (p : PassOf (Guarded D O) Stamped). (view p).units) own in
+      omega (arith, a, b, d)) in record {
+        port = (joined.lock.0 ∙ split.lock.0 ∙ port.0, joined.stays (split.stays port.1), omega (arith, units, port.2));
+        units = omega (arith, units);
+        seen = begins;
+        holds = λ n.
+            let a = holds_both n (view old.pass) (view mid) (view other) (view new.pass) (ap (λ (v : View Entry). v.holds) split.kept) joined.view_is in
+            let d : times n (view other).holds ≡ times n (view t.pass).holds = ap (λ (p : PassOf (Guarded D O) Stamped). times n (view p).holds) own in
+            omega (arith, a, d);
+        places = λ n.
+            let a = joined.places n in
+            let b : times n (view mid).mine ≡ times n (view old.pass).mine = ap (λ (v : View Entry). times n v.mine) split.kept in
+            let d : times n (view other).mine ≡ times n (view t.pass).mine = ap (λ (p : PassOf (Guarded D O) Stamped). times n (view p).mine) own in
+            omega (arith, a, b, d);
+        alone = λ some. joined.alone;
+        group = (
+          record {
+            joined = record {
+              note = subst (λ (p : PassOf (Guarded D O) Stamped). IsNote s (view new.pass).seen (record t { pass = p })) (sym after) (record {
+                lock = split.new;
+                seen_is = subst (λ (v : View Entry). IsPrefix v.seen (view new.pass).seen) (sym split.given) begins;
+                bare = (ap (λ (v : View Entry). v.mine) split.given, ap (λ (v : View Entry). v.holds) split.given, ap (λ (v : View Entry). v.units) split.given);
+              });
+              on = tx.1.on;
+              own = own_on A (view t.pass).seen (view new.pass).seen t.number t.work told tx.1.own;
+              ahead = ahead_on A (view t.pass).seen (view new.pass).seen t.work t.checked told tx.1.ahead;
+              within = within;
+            };
+            told = told;
+            number = refl;
+            work = refl;
+            checked = refl;
+          },
+          tt,
+        );
+      }
+
+  -- a port takes in the pass of one member, and then those of others
+  pub gathers_more : (t u : Tx D O) (ts us : List (Tx D O)) (p q r : Port D O) → Gathers s A (t ∷ []) (u ∷ []) p q → Gathers s A ts us q r → Gathers s A (t ∷ ts) (u ∷ us) p r
+  gathers_more t u ts us p q r one more = record {
+    port = more.port;
+    units = let a = one.units in let b = more.units in omega (arith, a, b);
+    seen = prefix_trans (view p.pass).seen (view q.pass).seen (view r.pass).seen one.seen more.seen;
+    holds = λ n. let a = one.holds n in let b = more.holds n in omega (arith, a, b);
+    places = λ n. let a = one.places n in let b = more.places n in omega (arith, a, b);
+    alone = λ some. alone_by ts (view q.pass).holds (view r.pass).holds (one.alone (omega arith)) more.holds more.alone;
+    group = (note_of_on (view q.pass).seen (view r.pass).seen t u more.seen one.group.0, more.group);
+  }
+
+module _ {D O : Type 0} (s : Shared D O) where
+  -- a port takes in the note of a member, and a pass that it gave before takes its place
+  pub parts_one : (t : Tx D O) (mid note part left : PassOf (Guarded D O) Stamped) (old new : Port D O) → IsSplit s.lock (Some t.number) 1 old.pass mid part → HasJoined mid new.pass note → note ≡ t.pass → left ≡ part
+      → MayPart s (t ∷ []) old → PartsWith s (t ∷ []) (record t { pass = left } ∷ []) old new
+  parts_one t mid note part left old new split joined own after may =
+      let bare = may.group.0.bare in
+      let kept : (view mid).units ≡ (view old.pass).units - 1 = ap (λ (v : View Entry). v.units) split.kept in
+      let both : (view new.pass).units ≡ (view mid).units + (view note).units = ap (λ (v : View Entry). v.units) joined.view_is in
+      let none : (view note).units ≡ 0 = ap (λ (p : PassOf (Guarded D O) Stamped). (view p).units) own ∙ bare.2 in
+      let one : (view part).units ≡ 1 = ap (λ (v : View Entry). v.units) split.given in
+      let told : IsPrefix (view note).seen (view mid).seen =
+      subst (λ (v : View Entry). IsPrefix (view note).seen v.seen) (sym split.kept) (subst (λ (p : PassOf (Guarded D O) Stamped). IsPrefix (view p).seen (view old.pass).seen) (sym own) may.group.0.seen_is) in record {
+        port = (joined.lock.0 ∙ split.lock.0 ∙ may.port.0, joined.stays (split.stays may.port.1), omega (arith, kept, both, none, may.units));
+        units = omega (arith, kept, both, none, may.units);
+        seen = ap (λ (v : View Entry). v.seen) joined.view_is ∙ longer_whole (view mid).seen (view note).seen told ∙ ap (λ (v : View Entry). v.seen) split.kept;
+        mine = ap (λ (v : View Entry). v.mine) joined.view_is ∙ ap (λ (l : List ℕ). merge l (view mid).mine) (ap (λ (p : PassOf (Guarded D O) Stamped). (view p).mine) own ∙ bare.0) ∙ ap (λ (v : View Entry). v.mine) split.kept;
+        group = (
+          subst (λ (p : PassOf (Guarded D O) Stamped). IsPartOf s (view old.pass).seen t (record t { pass = p })) (sym after) (record {
+            lock = (split.new.0, split.new.1, omega (arith, one));
+            seen_is = ap (λ (v : View Entry). v.seen) split.given;
+            has = (ap (λ (v : View Entry). v.mine) split.given, ap (λ (v : View Entry). v.holds) split.given, one);
+            number = refl;
+            work = refl;
+            checked = refl;
+          }),
+          tt,
+        );
+      }
+
+  -- a number and a unit are given to one member, and then to the others
+  pub part_first : (t : Tx D O) (ts : List (Tx D O)) (p : Port D O) → MayPart s (t ∷ ts) p → MayPart s (t ∷ []) p
+  part_first t ts p may = record { port = may.port; units = (let a = may.units in omega (arith, a)); held = (may.held.0, tt); distinct = (refl, tt); group = (may.group.0, tt) }
+
+  pub part_rest : (t u : Tx D O) (ts : List (Tx D O)) (p q : Port D O) → PartsWith s (t ∷ []) (u ∷ []) p q → ((ns : List ℕ) → times t.number ns ≡ 0 → AreHeld ns (view p.pass).holds → AreHeld ns (view q.pass).holds)
+      → MayPart s (t ∷ ts) p → MayPart s ts q
+  part_rest t u ts p q parts others may = record {
+    port = parts.port;
+    units = let a = parts.units in let b = may.units in omega (arith, a, b);
+    held = others (numbers_in ts) may.distinct.0 may.held.1;
+    distinct = may.distinct.1;
+    group = subst (λ (l : List Entry). AllByRecursion (IsNote s l) ts) (sym parts.seen) may.group.1;
+  }
+
+  pub parts_more : (t u : Tx D O) (ts us : List (Tx D O)) (p q r : Port D O) → PartsWith s (t ∷ []) (u ∷ []) p q → PartsWith s ts us q r → PartsWith s (t ∷ ts) (u ∷ us) p r
+  parts_more t u ts us p q r one more = record {
+    port = more.port;
+    units = let a = one.units in let b = more.units in omega (arith, a, b);
+    seen = more.seen ∙ one.seen;
+    mine = more.mine ∙ one.mine;
+    group = (one.group.0, subst (λ (l : List Entry). ArePaired (IsPartOf s l) ts us) one.seen more.group);
+  }
 
 -- numbers that others hold, once one of another number is split off
 still_one : (m n : ℕ) (ns : List ℕ) → (n == m) ≡ false → 0 < times m ns → 0 < times m (without (n ∷ []) ns)

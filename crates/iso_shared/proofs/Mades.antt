@@ -1,6 +1,6 @@
 -- What a call made, from what it took and gave.
-use Rattle.iso_shared.{proofs.{Words.{Stamped, view, zero, suc, Bool, true, false, cond, nat_lt, length-append, ◌≡◌, ℕ, ◌+◌, ◌<◌, List, [], ◌∷◌, ◌++◌, length, refl, sym, ap, ◌∙◌, subst, arith, Checked, Doing, times, longer, count_up, places, View, prefix_more, prefix_trans, prefix_whole, times_append, nat_tests, Entry, IsLegal, IsAhead, IsOwn, IsTxOf, Made, MadeBoth, Start, Tx, state_at, tx_view, IsPrefix}, Follows.{ahead_kept, follows_prefix, own_kept}}, specs.declared.guarded.Guarded.{Guarded}}
-use Rattle.turn_lock.specs.Pass.{PassOf}
+use Rattle.iso_shared.{proofs.{Words.{DiskState, Stamped, view, zero, suc, Bool, true, false, cond, nat_lt, length-append, ◌≡◌, ℕ, ◌+◌, ◌<◌, List, [], ◌∷◌, ◌++◌, length, refl, sym, ap, ◌∙◌, subst, arith, Checked, Doing, times, longer, count_up, places, View, prefix_more, prefix_trans, prefix_whole, times_append, nat_tests, Entry, IsLegal, IsAhead, IsOwn, IsTxOf, Made, MadeBoth, Start, Tx, state_at, tx_view, IsPrefix}, Follows.{ahead_kept, follows_prefix, own_kept}}, specs.{Passes.{IsGiven, TakesTurn}, declared.{guarded.Guarded.Guarded, turns.Turns.Turns}}}
+use Rattle.turn_lock.specs.{Pass.PassOf, declared.turn.Turn.Turn}
 
 -- t is the pass at its turn, w the pass after it
 pub made_by : (A : Start) (v u t w : View Entry) (e : Entry) → IsPrefix v.seen t.seen → IsPrefix u.seen t.seen → t.mine ≡ u.mine
@@ -17,6 +17,14 @@ made_by A v u t w e told begins same seen mine legal = record {
 -- one entry more
 pub one_more : (u t w : View Entry) (e : Entry) → IsPrefix u.seen t.seen → w.seen ≡ t.seen ++ e ∷ [] → IsPrefix u.seen w.seen
 one_more u t w e begins seen = subst (λ l. IsPrefix u.seen l) (sym seen) (prefix_more u.seen t.seen (e ∷ []) begins)
+
+-- what a turn made that the pass took and gave back
+module _ {D O : Type 0} {disk : D → DiskState} {A : Start} {first : DiskState} {l : Turns D O} {p q r : PassOf (Guarded D O) Stamped} {t : Turn (Guarded D O) Stamped} {s : Stamped} (taken : TakesTurn disk A first p q t) (given : IsGiven A l q r s) where
+  pub turn_seen : IsPrefix (view p).seen (view r).seen
+  turn_seen = one_more (view p) (view q) (view r) s.entry taken.seen given.seen
+
+  pub turn_made : Made A (view p) (view p) s.entry (view r)
+  turn_made = made_by A (view p) (view p) (view q) (view r) s.entry taken.seen taken.seen taken.same.0 given.seen given.mine given.legal
 
 pub held_same : (n : ℕ) (xs ys : List ℕ) → ys ≡ xs → 0 < times n xs → 0 < times n ys
 held_same n xs ys same h = subst (λ l. 0 < times n l) (sym same) h

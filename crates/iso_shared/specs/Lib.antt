@@ -3,6 +3,7 @@ pub mod Legal
 pub mod Standing
 pub mod Told
 pub mod Ports
+pub mod Passes
 pub mod Groups
 pub mod TestImage
 pub mod Plain

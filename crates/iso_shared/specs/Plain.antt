@@ -19,16 +19,18 @@ IsMemberUpTo at (member.Conflict c) = Unit {0}
 IsMemberUpTo at (member.Full need free) = Unit {0}
 IsMemberUpTo at member.Worn = Unit {0}
 
+-- each commit that the entry tells of has this number at most
 abbrev pub CommitsUpTo : ℕ → Entry → Type 0
 CommitsUpTo at (entry.End n accesses reply) = IsReplyUpTo at reply
 CommitsUpTo at (entry.EndGroup ends) = AllByRecursion (IsMemberUpTo at) (replies_of ends)
 CommitsUpTo at e = Unit {0}
 
--- the entry takes the transaction of this number from under its label
+-- whether there is a number, and it is this
 abbrev pub is_number : ℕ → Option ℕ → Bool
 is_number n None = false
 is_number n (Some k) = k == n
 
+-- the entry takes the transaction of this number from under its label
 abbrev pub takes_out : ℕ → Entry → Bool
 takes_out n (entry.Look label found) = is_number n (option_map (λ p. p.number) found)
 takes_out n (entry.Sweep found) = is_number n found

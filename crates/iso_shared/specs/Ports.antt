@@ -1,14 +1,19 @@
 -- What ports and transactions are between two calls, and what a call does to their views.
-use Rattle.std.specs.{Prelude.{◌≡◌, ℕ, ◌+◌, ◌-◌, ◌<◌, ◌≤◌, true, None, List, [], ◌∷◌, ◌++◌, length}, List.AllByRecursion}
+use Rattle.std.specs.{Prelude.{◌≡◌, ℕ, ◌+◌, ◌-◌, ◌<◌, ◌≤◌, true, Option, None, List, [], ◌∷◌, ◌++◌, length}, List.AllByRecursion}
 use mathlib.Core.List.{IsPrefix}
-use Rattle.conflict_rule.specs.{declared.decision.Checked.Checked, Decision.{AreNotesAfter, up_to}}
+use Rattle.byte_marks.specs.Touched.{AreTouched}
+use Rattle.conflict_rule.specs.{declared.decision.Checked.Checked, Decision.{AreNotesAfter, Bytes, IsAsked, up_to}, Notes.Note}
 use Rattle.iso_core.specs.declared.answers.Recent.{Recent}
-use Rattle.iso_model.specs.{declared.access.Geometry.Geometry, Conflict.clash, History.{History, last}, Isolation.IsIsolated}
+use Rattle.iso_model.specs.{declared.access.Clash.Clash, declared.access.Geometry.Geometry, declared.access.Kind.TheVariants.{Read, Write}, Conflict.clash, History.{History, last}, Isolation.IsIsolated}
 use Rattle.tx_table.specs.Work.{Doing}
-use Rattle.turn_lock.specs.{declared.view.View.View, Lists.{hit, longer, times, total}, Lock.lock_id, Numbers.held_after, Pass.PassOf}
-use Rattle.iso_shared.specs.{declared.entry.Entry.Entry, declared.guarded.Guarded.Guarded, declared.guarded.Stamped.Stamped, declared.shared.Port.Port, declared.shared.Shared.Shared, declared.turns.Turns.Turns, declared.tx.Tx.Tx, Legal.{IsLegal, handed, returned}, Standing.IsOn, States.{Start, State, is_live, live_of, state_at}, Turns.{HasNoTurn, moments, view}}
+use Rattle.turn_lock.specs.{declared.view.View.View, Lists.{hit, longer, times, total}, Lock.lock_id, Pass.PassOf}
+use Rattle.iso_shared.specs.{declared.entry.Entry.Entry, declared.guarded.Guarded.Guarded, declared.guarded.Stamped.Stamped, declared.shared.Port.Port, declared.shared.Shared.Shared, declared.turns.Turns.Turns, declared.tx.Tx.Tx, Legal.IsLegal, Standing.IsOn, States.{Start, State, is_live, live_of, state_at}, Turns.{HasNoTurn, moments, view}}
 
--- a pass of the lock, at rest, with a unit
+-- a pass of the lock that waits for nothing and has no turn
+abbrev pub IsIdle : {D O : Type 0} → Turns D O → PassOf (Guarded D O) Stamped → Type 0
+IsIdle l p = (p.table_id ≡ lock_id l.lock) × HasNoTurn p
+
+-- the same, with a unit
 abbrev pub IsOf : {D O : Type 0} → Turns D O → PassOf (Guarded D O) Stamped → Type 0
 IsOf l p = (p.table_id ≡ lock_id l.lock) × HasNoTurn p × (0 < (view p).units)
 
@@ -36,6 +41,13 @@ pub record IsRecent (S : State) (checked : Checked) (recent : Recent) : Type 0 w
   pub later : recent.after ≤ recent.upto
   pub to : recent.upto ≤ last S.world.history
   pub notes : AreNotesAfter S.world.geometry (up_to S.world.history recent.upto) recent.after recent.notes.notes
+
+-- this is how the work meets commits that were checked so far, or have these notes
+abbrev pub IsMeeting : Doing → Checked → List Note → Option Clash → Type 0
+IsMeeting work checked notes met = (g : Geometry) (H : History) → g.block ≡ work.size → g.blocks ≡ work.blocks
+    → ((reads writes : Bytes) → AreTouched work.size work.blocks Read work.accesses reads → AreTouched work.size work.blocks Write work.accesses writes
+    → IsAsked g H work.mode work.begin work.accesses checked.upto checked.clash reads writes notes)
+    → met ≡ clash g H work.mode work.begin work.accesses
 
 -- the history that the list leads to is isolated: each commit in it is serial or snapshot at its number, as its mode says
 abbrev pub IsIsolatedAt : Start → List Entry → Type 0
@@ -102,15 +114,6 @@ module _ {D O : Type 0} where
     pub number : u.number ≡ t.number
     pub work : u.work ≡ record t.work { settled = u.work.settled }
     pub checked : u.checked ≡ t.checked
-
-  -- the turn was given back, with this entry
-  pub record IsGiven (A : Start) (s : Shared D O) (old new : PassOf (Guarded D O) Stamped) (e : Entry) : Type 0 where
-    pub lock : (new.table_id ≡ lock_id s.lock.lock) × HasNoTurn new
-    pub seen : (view new).seen ≡ (view old).seen ++ e ∷ []
-    pub mine : (view new).mine ≡ (view old).mine ++ length (view old).seen ∷ []
-    pub holds : (view new).holds ≡ held_after handed returned e (view old).holds
-    pub units : (view new).units ≡ (view old).units
-    pub legal : IsLegal A (view new).seen
 
   -- a port that has taken in a pass of this view
   pub record TakesIn (s : Shared D O) (v : View Entry) (old new : Port D O) : Type 0 where

@@ -1,12 +1,9 @@
 // The check ahead of the turn of an end.
-ghost use Rattle.std.specs.{Prelude.{◌≡◌, ℕ, ◌<◌, ◌⊎◌, IfErr, IfOk, true, List}, Bool.OnTrue};
-ghost use Rattle.iso_model.specs.{declared.access.Geometry.Geometry, Conflict.clash, History.History, declared.access.Kind.TheVariants.{Read, Write}};
+ghost use Rattle.std.specs.{Prelude.{◌≡◌, ℕ, ◌<◌, ◌⊎◌, IfErr, IfOk, true}, Bool.OnTrue};
 ghost use Rattle.iso_model.specs.declared.core_error.CoreError.TheVariants.{Memory as OfMemory};
 ghost use Rattle.tx_table.specs.Work.{AreWithin};
 ghost use Rattle.iso_shared.specs.declared.entry.Call.TheVariants as TheCall;
-ghost use Rattle.byte_marks.specs.{declared.extent.Extent.Extent, Touched.AreTouched};
-ghost use Rattle.conflict_rule.specs.Decision.{IsAsked};
-ghost use Rattle.iso_shared.specs.{declared.entry.Entry.TheVariants.{Recent as OfRecent, Refused}, Ports.{CannotClash, IsRecent, IsSameTx, IsTx, Made, check_of, doing_of, number_of, state_of, tx_view}, Told.{cause_of, recent_entry}};
+ghost use Rattle.iso_shared.specs.{declared.entry.Entry.TheVariants.{Recent as OfRecent, Refused}, Ports.{CannotClash, IsMeeting, IsRecent, IsSameTx, IsTx, Made, check_of, doing_of, number_of, state_of, tx_view}, Told.{cause_of, recent_entry}};
 
 use crate::guarded::Origin;
 use crate::shared::Shared;
@@ -88,10 +85,7 @@ pub(crate) fn clashes_never(work: &Work) -> bool
 // How a transaction meets the commits that these notes tell, if it does.
 pub(crate) fn meeting(work: &Work, checked: &Checked, notes: &Notes) -> Option<Clash>
     requires { work.now.settled ≡ true }
-    ensures { (g : Geometry) (H : History) → g.block ≡ work.now.size → g.blocks ≡ work.now.blocks
-        → ((reads writes : List (ℕ × List Extent)) → AreTouched work.now.size work.now.blocks Read work.now.accesses reads → AreTouched work.now.size work.now.blocks Write work.now.accesses writes
-        → IsAsked g H work.now.mode work.now.begin work.now.accesses checked.now.upto checked.now.clash reads writes notes.now.notes)
-        → result ≡ clash g H work.now.mode work.now.begin work.now.accesses }
+    ensures { IsMeeting work.now checked.now notes.now.notes result }
 {
     meeting_in::<Brand>(Blank::new(1), work, checked, notes)
 }
@@ -107,10 +101,7 @@ fn meeting_in<L: Ledger>(
     requires parts { blank.parts ≡ L.parts }
     requires some { 0 < L.parts }
     requires settled { work.now.settled ≡ true }
-    ensures { (g : Geometry) (H : History) → g.block ≡ work.now.size → g.blocks ≡ work.now.blocks
-        → ((reads writes : List (ℕ × List Extent)) → AreTouched work.now.size work.now.blocks Read work.now.accesses reads → AreTouched work.now.size work.now.blocks Write work.now.accesses writes
-        → IsAsked g H work.now.mode work.now.begin work.now.accesses checked.now.upto checked.now.clash reads writes notes.now.notes)
-        → result ≡ clash g H work.now.mode work.now.begin work.now.accesses }
+    ensures { IsMeeting work.now checked.now notes.now.notes result }
 {
     let mut steps = Steps::<L>::start(blank);
     decide(

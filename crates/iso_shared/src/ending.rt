@@ -1,11 +1,9 @@
 // The end of a transaction, in one turn.
-ghost use Rattle.std.specs.Prelude.{◌≡◌, ◌≢◌, ◌+◌, ◌-◌, ◌<◌, ◌≤◌, ℕ, Some, None, Ok, Err, length, IfOk, IfErr, IfSome, IfNone, MatchOption, MatchResult};
+ghost use Rattle.std.specs.Prelude.{◌≡◌, ◌≢◌, ◌+◌, ℕ, IfOk, IfErr, IfSome, IfNone, MatchOption, MatchResult};
 ghost use mathlib.Core.List.{IsPrefix};
 ghost use Rattle.iso_model.specs.declared.core_error.CoreError.TheVariants.{Disk as OfDisk};
 ghost use Rattle.iso_shared.specs.declared.entry.Call.TheVariants as TheCall;
-ghost use Rattle.iso_shared.specs.{declared.entry.Entry.TheVariants.{End, Refused}, Ports.{IsPort, IsSameTx, IsTx, Made, MadeBoth, TookFew, check_of, doing_of, number_of, port_moments, port_view, tx_view}, Told.{cause_of, end_entry}, Turns.HasNoTurn};
-ghost use Rattle.turn_lock.specs.Lock.{lock_id};
-ghost use Rattle.tx_table.specs.Work.{AreWithin};
+ghost use Rattle.iso_shared.specs.{declared.entry.Entry.TheVariants.{End, Refused}, Groups.IsWithin, Ports.{IsIdle, IsPort, IsSameTx, IsTx, Made, MadeBoth, TookFew, check_of, doing_of, number_of, port_moments, port_view, tx_view}, Told.{cause_of, end_entry}};
 
 use crate::guarded::Origin;
 use crate::shared::{Port, Shared};
@@ -21,8 +19,7 @@ use tx_table::Work;
 // Settles the work ahead of the turn. Where memory is wanting, the end says so.
 fn settle(work: &mut Work)
     ensures work { work.new ≡ record work.old { settled = work.new.settled } }
-    ensures within { AreWithin work.new.size work.new.blocks work.new.accesses }
-    ensures count { length work.new.accesses ≤ 4096 }
+    ensures within { IsWithin work.new }
 {
     let _ = work.settle();
     let _ = work.room();
@@ -37,7 +34,7 @@ impl<D: Disk + Drop, O: Origin> Shared<D, O> {
         steps: &mut Steps<L>,
     ) -> Result<EndReply, CoreError>
         requires tx { IsTx self.now O.start tx.old }
-        ensures pass { (tx.new.pass.table_id ≡ lock_id self.now.lock.lock) × HasNoTurn tx.new.pass }
+        ensures pass { IsIdle self.now.lock tx.new.pass }
         ensures units { (tx_view tx.new).units ≡ (tx_view tx.old).units }
         ensures tx { IfErr result (λ e. e ≢ OfDisk → IsTx self.now O.start tx.new) }
         ensures same { IsSameTx tx.old tx.new }

@@ -1,11 +1,10 @@
 // The end of a group of transactions, in one turn.
-ghost use Rattle.std.specs.{Prelude.{◌≡◌, ◌≢◌, ◌⊎◌, ℕ, ◌+◌, ◌<◌, ◌≤◌, List, [], ◌∷◌, ◌++◌, None, IfErr, IfOk, IfSome, IfNone, MatchResult, OnOk, length, map, true, false, vec_capacity, vec_len}, List.AllByRecursion};
-ghost use mathlib.Core.List.{IsPrefix};
+ghost use Rattle.std.specs.{Prelude.{◌≡◌, ◌≢◌, ◌⊎◌, ℕ, ◌+◌, ◌<◌, ◌≤◌, List, [], IfErr, IfOk, IfSome, IfNone, MatchResult, OnOk, length, map, true, false, vec_capacity, vec_len}, List.AllByRecursion};
 ghost use Rattle.iso_core.specs.{declared.group_end.TheConstants.MAX_GROUP, Planned.bare_end};
 ghost use Rattle.iso_model.specs.declared.core_error.CoreError.TheVariants.{Disk as OfDisk, Down as OfDown, Memory as OfMemory};
 ghost use Rattle.iso_shared.specs.declared.entry.Call.TheVariants as TheCall;
-ghost use Rattle.iso_shared.specs.{declared.entry.Entry.TheVariants.{EndGroup, Refused}, Groups.{AreEnds, AreJoined, ArePaired, HasTurned, IsBack, IsNote, IsTaken, answered, end_of, units_of}, Ports.{IsGiven, IsPort, IsSameTx, IsTx, Made, MadeAll, port_view, tx_view}, Told.{cause_of, group_entry, members_at, members_in, wanting_entry}, Legal.{needed, returned}, Standing.StandsAt, Stamps.stamped, Turns.{moments, view}};
-ghost use Rattle.turn_lock.specs.{Lock.{lock_id, turn_value}, Numbers.AreHeld, Pass.HasTurn};
+ghost use Rattle.iso_shared.specs.{declared.entry.Entry.TheVariants.{EndGroup, Refused}, Groups.{AreEnds, AreJoined, ArePaired, HasRefused, HasTurned, IsBack, IsNote, IsRoom, IsTaken, MadeAt, MadeRefusal, answered, end_of, units_of}, Passes.{IsGiven, MayGive}, Ports.{IsPort, IsSameTx, IsTx, MadeAll, port_view, tx_view}, Told.{cause_of, group_entry, members_at, members_in, wanting_entry}, Stamps.stamped};
+ghost use Rattle.turn_lock.specs.Lock.{turn_value};
 
 use crate::guarded::{Guarded, Origin, Stamped};
 use crate::shared::{Port, Shared};
@@ -36,9 +35,7 @@ fn wanting(down: bool) -> CoreError
 
 // Room for the works and the replies of `count` members.
 fn room_for(alloc: Global, count: usize) -> Option<(Vec<GroupEnd>, Vec<GroupReply>)>
-    ensures empty { IfSome result (λ r. (r.0.items ≡ []) × (r.1.items ≡ [])) }
-    ensures none { IfSome result (λ r. (vec_len r.0 ≡ 0) × (vec_len r.1 ≡ 0)) }
-    ensures room { IfSome result (λ r. (count ≤ vec_capacity r.0) × (count ≤ vec_capacity r.1)) }
+    ensures { IfSome result (λ r. IsRoom count r.0.items (vec_len r.0) (vec_capacity r.0) × IsRoom count r.1.items (vec_len r.1) (vec_capacity r.1)) }
 {
     let Ok(ends) = Vec::with_capacity(alloc, count) else {
         return None;
@@ -57,11 +54,10 @@ impl<D: Disk + Drop, O: Origin> Shared<D, O> {
         port: &mut Port<D, O>,
         ends: &mut [GroupEnd],
     ) -> Result<(), CoreError>
-        requires port { IsPort self.now port.old }
-        requires group { AreEnds O.start (port_view port.old) ends.old }
+        requires { AreEnds self.now O.start port.old ends.old }
         ensures turn { HasTurned self.now port.old port.new result }
         ensures members { map bare_end ends.new ≡ map bare_end ends.old }
-        ensures made { (before : ℕ) × (now : ℕ) × Made O.start (port_view port.old) (port_view port.old) (group_entry before now ends.new result) (port_view port.new) }
+        ensures made { (before : ℕ) × (now : ℕ) × MadeAt O.start port.old (group_entry before now ends.new result) port.new }
     {
         let mut turn = self.lock.take(rt, &mut port.pass);
         let guarded = turn.value();
@@ -80,10 +76,8 @@ impl<D: Disk + Drop, O: Origin> Shared<D, O> {
         error: CoreError,
     )
         requires named { N.entry ≡ stamped D.state (turn_value turn).core (wanting_entry group.now error) }
-        requires lock { (pass.old.table_id ≡ lock_id self.now.lock.lock) × HasTurn pass.old turn }
-        requires value { StandsAt D.state O.start O.disk (turn_value turn).core (turn_value turn).rack ((view pass.old).seen ++ N.entry.entry ∷ []) (moments pass.old ++ N.entry.moment ∷ []) }
-        requires held { AreHeld (needed N.entry.entry) (view pass.old).holds × AreHeld (returned N.entry.entry) (view pass.old).holds }
-        ensures { IsGiven O.start self.now pass.old pass.new N.entry.entry }
+        requires may { MayGive D.state O.start O.disk self.now.lock pass.old turn N.entry }
+        ensures { IsGiven O.start self.now.lock pass.old pass.new N.entry }
     {
         let _ = group;
         let _ = error;
@@ -97,13 +91,9 @@ impl<D: Disk + Drop, O: Origin> Shared<D, O> {
         port: &mut Port<D, O>,
         group: &[Tx<D, O>],
     ) -> CoreError
-        requires port { IsPort self.now port.old }
-        requires group { AreJoined self.now O.start (port_view port.old) group.now }
-        ensures port { IsPort self.now port.new }
-        ensures units { (port_view port.new).units ≡ (port_view port.old).units }
-        ensures holds { (port_view port.new).holds ≡ (port_view port.old).holds }
-        ensures only { (result ≡ OfDown) ⊎ (result ≡ OfMemory) }
-        ensures made { Made O.start (port_view port.old) (port_view port.old) (wanting_entry group.now result) (port_view port.new) }
+        requires { AreJoined self.now O.start port.old group.now }
+        ensures turn { HasRefused self.now port.old port.new result }
+        ensures made { MadeAt O.start port.old (wanting_entry group.now result) port.new }
     {
         let mut turn = self.lock.take(rt, &mut port.pass);
         let guarded = turn.value();
@@ -121,15 +111,13 @@ impl<D: Disk + Drop, O: Origin> Shared<D, O> {
         ends: &mut [GroupEnd],
         replies: &mut Vec<GroupReply>,
     ) -> Result<(), CoreError>
-        requires port { IsPort self.now port.old }
-        requires group { AreEnds O.start (port_view port.old) ends.old }
+        requires group { AreEnds self.now O.start port.old ends.old }
         requires each { length group.old ≡ length ends.old }
         requires none { replies.old.items ≡ [] }
         requires room { vec_len replies.old + length ends.old ≤ vec_capacity replies.old }
         ensures turn { HasTurned self.now port.old port.new result }
-        ensures seen { IsPrefix (port_view port.old).seen (port_view port.new).seen }
-        ensures ok { OnOk result ((length replies.new.items ≡ length ends.old) × Made O.start (port_view port.old) (port_view port.old) (EndGroup (answered (members_at ends.old) replies.new.items)) (port_view port.new)) }
-        ensures err { IfErr result (λ e. (before : ℕ) × (now : ℕ) × Made O.start (port_view port.old) (port_view port.old) (Refused (TheCall.EndGroup (members_at ends.old)) (cause_of before now e)) (port_view port.new)) }
+        ensures ok { OnOk result ((length replies.new.items ≡ length ends.old) × MadeAt O.start port.old (EndGroup (answered (members_at ends.old) replies.new.items)) port.new) }
+        ensures err { IfErr result (λ e. MadeRefusal O.start port.old (members_at ends.old) e port.new) }
         ensures taken { (ts : List (Tx D O)) → ArePaired IsTaken ts group.old → ArePaired IsTaken ts group.new }
         ensures back { IfErr result (λ _. (ts : List (Tx D O)) → ends.old ≡ map end_of ts → ArePaired IsTaken ts group.old → ArePaired IsSameTx ts group.new) }
     {
@@ -152,11 +140,10 @@ impl<D: Disk + Drop, O: Origin> Shared<D, O> {
         port: &mut Port<D, O>,
         group: &mut [Tx<D, O>],
     ) -> Result<ReplyList, CoreError>
-        requires port { IsPort self.now port.old }
-        requires group { AreJoined self.now O.start (port_view port.old) group.old }
+        requires { AreJoined self.now O.start port.old group.old }
         ensures turn { HasTurned self.now port.old port.new result }
-        ensures ok { IfOk result (λ replies. (length replies ≡ length group.old) × Made O.start (port_view port.old) (port_view port.old) (EndGroup (answered (members_in group.old) replies)) (port_view port.new)) }
-        ensures err { IfErr result (λ e. (before : ℕ) × (now : ℕ) × Made O.start (port_view port.old) (port_view port.old) (Refused (TheCall.EndGroup (members_in group.old)) (cause_of before now e)) (port_view port.new)) }
+        ensures ok { IfOk result (λ replies. (length replies ≡ length group.old) × MadeAt O.start port.old (EndGroup (answered (members_in group.old) replies)) port.new) }
+        ensures err { IfErr result (λ e. MadeRefusal O.start port.old (members_in group.old) e port.new) }
         ensures notes { AllByRecursion (IsNote self.now (port_view port.new).seen) group.new }
         ensures many { length group.new ≡ length group.old }
         ensures back { IfErr result (λ e. e ≢ OfDisk → ArePaired IsSameTx group.old group.new) }
@@ -192,7 +179,6 @@ impl<D: Disk + Drop, O: Origin> Shared<D, O> {
         ensures notes { MatchResult result (λ _. AllByRecursion (IsNote self.now (port_view port.new).seen) group.new) (λ e. e ≡ OfDisk → AllByRecursion (IsNote self.now (port_view port.new).seen) group.new) }
         ensures back { IfErr result (λ e. e ≢ OfDisk → ((port_view port.new).units + length group.old ≡ (port_view port.old).units + units_of group.old)
             × ArePaired (IsBack self.now O.start (port_view port.new).seen) group.old group.new) }
-        ensures again { IfErr result (λ e. e ≢ OfDisk → AllByRecursion (IsTx self.now O.start) group.new × (units_of group.new ≡ length group.old)) }
     {
         self.join_members(port, group);
         match self.end_joined(rt, port, group) {

@@ -1,8 +1,8 @@
 // The passes of the members of a group: they are joined into a port, and split off again.
-ghost use Rattle.std.specs.{Prelude.{◌≡◌, ℕ, ◌+◌, ◌<◌, ◌≤◌, List, [], ◌∷◌, IfNone, IfSome, length, vec_len}, List.AllByRecursion};
-ghost use Rattle.iso_shared.specs.{declared.entry.Entry.Entry, Groups.{ArePaired, IsBack, IsNote, IsNoteOf, IsPartOf, held_in, made_in, numbers_in, units_of}, Ports.{IsPort, IsTx, number_of, port_view, tx_view}};
+ghost use Rattle.std.specs.{Prelude.{◌≡◌, ℕ, ◌+◌, ◌<◌, List, [], ◌∷◌, IfNone, IfSome, length, vec_len}, List.AllByRecursion};
+ghost use Rattle.iso_shared.specs.{declared.entry.Entry.Entry, Groups.{Gathers, IsBack, IsNote, MayPart, PartsWith, TakesNotes}, Ports.{IsPort, IsTx, number_of, port_view, tx_view}};
 ghost use mathlib.Core.List.{IsPrefix};
-ghost use Rattle.turn_lock.specs.{Lists.{AreDistinct, times}, Numbers.{AreHeld, without}};
+ghost use Rattle.turn_lock.specs.{Lists.times, Numbers.AreHeld};
 
 use crate::guarded::Origin;
 use crate::shared::{Port, Shared};
@@ -15,13 +15,7 @@ impl<D: Disk + Drop, O: Origin> Shared<D, O> {
     fn join_member(&self, port: &mut Port<D, O>, tx: &mut Tx<D, O>)
         requires port { IsPort self.now port.old }
         requires tx { IsTx self.now O.start tx.old }
-        ensures port { IsPort self.now port.new }
-        ensures units { (port_view port.new).units ≡ (port_view port.old).units + (tx_view tx.old).units }
-        ensures seen { IsPrefix (port_view port.old).seen (port_view port.new).seen }
-        ensures holds { (n : ℕ) → times n (port_view port.new).holds ≡ times n (port_view port.old).holds + times n (tx_view tx.old).holds }
-        ensures places { (p : ℕ) → times p (port_view port.new).mine ≡ times p (port_view port.old).mine + times p (tx_view tx.old).mine }
-        ensures alone { (n : ℕ) → times n (port_view port.new).holds ≤ 1 }
-        ensures tx { IsNoteOf self.now O.start (port_view port.new).seen tx.old tx.new }
+        ensures { Gathers self.now O.start (tx.old ∷ []) (tx.new ∷ []) port.old port.new }
     {
         let _ = tx.work.count();
         let _ = tx.work.room();
@@ -34,13 +28,7 @@ impl<D: Disk + Drop, O: Origin> Shared<D, O> {
     pub(crate) fn join_members(&self, port: &mut Port<D, O>, group: &mut [Tx<D, O>])
         requires port { IsPort self.now port.old }
         requires group { AllByRecursion (IsTx self.now O.start) group.old }
-        ensures port { IsPort self.now port.new }
-        ensures units { (port_view port.new).units ≡ (port_view port.old).units + units_of group.old }
-        ensures seen { IsPrefix (port_view port.old).seen (port_view port.new).seen }
-        ensures holds { (n : ℕ) → times n (port_view port.new).holds ≡ times n (port_view port.old).holds + held_in n group.old }
-        ensures places { (p : ℕ) → times p (port_view port.new).mine ≡ times p (port_view port.old).mine + made_in p group.old }
-        ensures alone { 0 < length group.old → (n : ℕ) → times n (port_view port.new).holds ≤ 1 }
-        ensures group { ArePaired (IsNoteOf self.now O.start (port_view port.new).seen) group.old group.new }
+        ensures { Gathers self.now O.start group.old group.new port.old port.new }
     {
         let Some((tx, rest)) = group.split_first_mut() else {
             return;
@@ -51,17 +39,9 @@ impl<D: Disk + Drop, O: Origin> Shared<D, O> {
 
     // Splits a member off again, with its number and one unit.
     fn split_member(&self, port: &mut Port<D, O>, tx: &mut Tx<D, O>)
-        requires port { IsPort self.now port.old }
-        requires units { 1 < (port_view port.old).units }
-        requires held { 0 < times (number_of tx.old) (port_view port.old).holds }
-        requires tx { IsNote self.now (port_view port.old).seen tx.old }
-        ensures port { IsPort self.now port.new }
-        ensures units { (port_view port.new).units + 1 ≡ (port_view port.old).units }
-        ensures seen { (port_view port.new).seen ≡ (port_view port.old).seen }
-        ensures mine { (port_view port.new).mine ≡ (port_view port.old).mine }
-        ensures holds { (port_view port.new).holds ≡ without (number_of tx.old ∷ []) (port_view port.old).holds }
+        requires { MayPart self.now (tx.old ∷ []) port.old }
+        ensures parts { PartsWith self.now (tx.old ∷ []) (tx.new ∷ []) port.old port.new }
         ensures others { (ns : List ℕ) → times (number_of tx.old) ns ≡ 0 → AreHeld ns (port_view port.old).holds → AreHeld ns (port_view port.new).holds }
-        ensures tx { IsPartOf self.now (port_view port.old).seen tx.old tx.new }
     {
         let pass = self.lock.split(&mut port.pass, Some(tx.number), 1);
         let note = mem::replace(&mut tx.pass, pass);
@@ -85,16 +65,8 @@ impl<D: Disk + Drop, O: Origin> Shared<D, O> {
 
     // Splits all members off again.
     pub(crate) fn split_members(&self, port: &mut Port<D, O>, group: &mut [Tx<D, O>])
-        requires port { IsPort self.now port.old }
-        requires units { length group.old < (port_view port.old).units }
-        requires held { AreHeld (numbers_in group.old) (port_view port.old).holds }
-        requires distinct { AreDistinct (numbers_in group.old) }
-        requires group { AllByRecursion (IsNote self.now (port_view port.old).seen) group.old }
-        ensures port { IsPort self.now port.new }
-        ensures units { (port_view port.new).units + length group.old ≡ (port_view port.old).units }
-        ensures seen { (port_view port.new).seen ≡ (port_view port.old).seen }
-        ensures mine { (port_view port.new).mine ≡ (port_view port.old).mine }
-        ensures group { ArePaired (IsPartOf self.now (port_view port.old).seen) group.old group.new }
+        requires { MayPart self.now group.old port.old }
+        ensures { PartsWith self.now group.old group.new port.old port.new }
     {
         let Some((tx, rest)) = group.split_first_mut() else {
             return;
@@ -117,11 +89,7 @@ impl<D: Disk + Drop, O: Origin> Shared<D, O> {
     fn spend_note(&self, port: &mut Port<D, O>, tx: Tx<D, O>)
         requires port { IsPort self.now port.old }
         requires tx { IsNote self.now (port_view port.old).seen tx }
-        ensures port { IsPort self.now port.new }
-        ensures units { (port_view port.new).units ≡ (port_view port.old).units }
-        ensures seen { (port_view port.new).seen ≡ (port_view port.old).seen }
-        ensures places { (p : ℕ) → times p (port_view port.new).mine ≡ times p (port_view port.old).mine }
-        ensures others { (group : List (Tx D O)) → AllByRecursion (IsNote self.now (port_view port.old).seen) group → AllByRecursion (IsNote self.now (port_view port.new).seen) group }
+        ensures { TakesNotes self.now port.old port.new }
     {
         let Tx {
             pass,
@@ -136,10 +104,7 @@ impl<D: Disk + Drop, O: Origin> Shared<D, O> {
     pub(crate) fn spend_members(&self, port: &mut Port<D, O>, mut group: Vec<Tx<D, O>>)
         requires port { IsPort self.now port.old }
         requires group { AllByRecursion (IsNote self.now (port_view port.old).seen) group.items }
-        ensures port { IsPort self.now port.new }
-        ensures units { (port_view port.new).units ≡ (port_view port.old).units }
-        ensures seen { (port_view port.new).seen ≡ (port_view port.old).seen }
-        ensures places { (p : ℕ) → times p (port_view port.new).mine ≡ times p (port_view port.old).mine }
+        ensures { TakesNotes self.now port.old port.new }
     {
         let Some(tx) = self.pop_note(&mut group) else {
             group.destroy_empty();

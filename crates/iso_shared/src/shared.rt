@@ -1,9 +1,9 @@
 // The shared device itself, and its ports.
-ghost use Rattle.std.specs.Prelude.{◌≡◌, ◌+◌, ◌<◌, ℕ, [], ◌∷◌, ◌++◌, None, length, IfOk, IfErr};
+ghost use Rattle.std.specs.Prelude.{◌≡◌, ◌+◌, ◌<◌, ℕ, [], None, length, IfOk, IfErr};
 ghost use mathlib.Core.List.{IsPrefix};
-ghost use Rattle.turn_lock.specs.{Lists.{places, times}, Lock.{lock_id, turn_value}, Numbers.AreHeld, Pass.{HasTurn, IsAlike}, Views.{fresh, given_part, kept_part}};
+ghost use Rattle.turn_lock.specs.{Lists.{places, times}, Lock.turn_value, Pass.IsAlike, Views.{fresh, given_part, kept_part}};
 ghost use Rattle.iso_core.specs.Core.{disk_of};
-ghost use Rattle.iso_shared.specs.{Legal.{IsLegal, needed, returned}, Standing.{Came, HaveEnded, Holds, StandsAt, faults_of}, States.{opened, state_at}, Stamps.{clock_of, stamped}, Told.told_entry, Turns.{moments, view}};
+ghost use Rattle.iso_shared.specs.{Legal.IsLegal, Passes.{IsGiven, IsTold, MayGive, told_turn}, Standing.{Came, HaveEnded, Holds}, States.{opened, state_at}, Turns.view};
 
 use crate::guarded::{Guarded, Origin, Stamped};
 use crate::told::Told;
@@ -16,7 +16,7 @@ use std::alloc::Global;
 use std::marker::{Brand, PhantomData};
 use std::snapshot::Snapshot;
 use turn_lock::{Names, Pass, Turn};
-use tx_table::Rack;
+use tx_table::{Rack, Work};
 
 /// A core and its labels under a turn lock. Each call of a core adds one entry to one legal list.
 #[derive(Drop)]
@@ -30,10 +30,12 @@ pub struct Shared<D: Disk + Drop, O: Origin> {
 #[derive(Drop)]
 pub struct Port<D: Disk + Drop, O: Origin> {
     pub(crate) pass: Pass<Guarded<D, O>>,
+    // the memory of the last transaction that was spent here, for the next one
+    pub(crate) spare: Option<Work>,
 }
 
 impl<D: Disk + Drop, O: Origin> Shared<D, O> {
-    ghost use Rattle.iso_shared.specs.Ports.{IsGiven, IsIsolatedAt, IsOf, IsPort, IsSameTx, IsTx, TakesIn, doing_of, first_geometry, port_moments, port_view, tx_view};
+    ghost use Rattle.iso_shared.specs.Ports.{IsIsolatedAt, IsOf, IsPort, IsSameTx, IsTx, TakesIn, doing_of, first_geometry, port_moments, port_view, tx_view};
 
     /// A device over a core that is up and has no live transaction, and its first port, which has all units. It takes
     /// all memory of the lock.
@@ -63,7 +65,7 @@ impl<D: Disk + Drop, O: Origin> Shared<D, O> {
                     alloc,
                     geometry,
                 },
-                Port { pass },
+                Port { pass, spare: None },
             )),
             Err((memory, guarded)) => {
                 let Guarded {
@@ -91,11 +93,9 @@ impl<D: Disk + Drop, O: Origin> Shared<D, O> {
         before: Snapshot<Core<D>>,
         told: Told,
     )
-        requires named { N.entry ≡ stamped D.state (turn_value turn).core (told_entry (faults_of D.state before.value) (faults_of D.state (turn_value turn).core) told) }
-        requires lock { (pass.old.table_id ≡ lock_id self.now.lock.lock) × HasTurn pass.old turn }
-        requires value { StandsAt D.state O.start O.disk (turn_value turn).core (turn_value turn).rack ((view pass.old).seen ++ N.entry.entry ∷ []) (moments pass.old ++ N.entry.moment ∷ []) }
-        requires held { AreHeld (needed N.entry.entry) (view pass.old).holds × AreHeld (returned N.entry.entry) (view pass.old).holds }
-        ensures { IsGiven O.start self.now pass.old pass.new N.entry.entry }
+        requires named { N.entry ≡ told_turn D.state before.value (turn_value turn).core told }
+        requires may { MayGive D.state O.start O.disk self.now.lock pass.old turn N.entry }
+        ensures { IsGiven O.start self.now.lock pass.old pass.new N.entry }
     {
         let _ = before;
         let _ = told;
@@ -110,12 +110,8 @@ impl<D: Disk + Drop, O: Origin> Shared<D, O> {
         before: Snapshot<Core<D>>,
         told: Told,
     )
-        requires lock { (pass.old.table_id ≡ lock_id self.now.lock.lock) × HasTurn pass.old turn }
-        requires value { StandsAt D.state O.start O.disk (turn_value turn).core (turn_value turn).rack
-            ((view pass.old).seen ++ told_entry (faults_of D.state before.value) (faults_of D.state (turn_value turn).core) told ∷ []) (moments pass.old ++ clock_of D.state (turn_value turn).core ∷ []) }
-        requires held { AreHeld (needed (told_entry (faults_of D.state before.value) (faults_of D.state (turn_value turn).core) told)) (view pass.old).holds
-            × AreHeld (returned (told_entry (faults_of D.state before.value) (faults_of D.state (turn_value turn).core) told)) (view pass.old).holds }
-        ensures { IsGiven O.start self.now pass.old pass.new (told_entry (faults_of D.state before.value) (faults_of D.state (turn_value turn).core) told.entry) }
+        requires { MayGive D.state O.start O.disk self.now.lock pass.old turn (told_turn D.state before.value (turn_value turn).core told) }
+        ensures { IsGiven O.start self.now.lock pass.old pass.new (told_turn D.state before.value (turn_value turn).core told.entry) }
     {
         self.give_as::<Brand>(pass, turn, before, told);
     }
@@ -124,12 +120,7 @@ impl<D: Disk + Drop, O: Origin> Shared<D, O> {
     pub(crate) fn tell(&self, from: &mut Pass<Guarded<D, O>>, to: &mut Pass<Guarded<D, O>>)
         requires from { IsOf self.now.lock from.old }
         requires to { IsOf self.now.lock to.old }
-        ensures from { IsOf self.now.lock from.new × (view from.new ≡ view from.old) }
-        ensures to { IsOf self.now.lock to.new }
-        ensures same { IsAlike (view to.old) (view to.new) }
-        ensures told { IsPrefix (view from.old).seen (view to.new).seen }
-        ensures begins { IsPrefix (view to.old).seen (view to.new).seen }
-        ensures past { moments from.new ≡ moments from.old }
+        ensures { IsTold self.now.lock from.old to.old from.new to.new }
     {
         let note = self.lock.split(from, None, 0);
         self.lock.join(to, note);
@@ -145,6 +136,7 @@ impl<D: Disk + Drop, O: Origin> Shared<D, O> {
     {
         Port {
             pass: self.lock.split(&mut from.pass, None, units),
+            spare: None,
         }
     }
 
@@ -158,7 +150,7 @@ impl<D: Disk + Drop, O: Origin> Shared<D, O> {
         ensures past { IsPrefix (port_moments into.old) (port_moments into.new) × IsPrefix (port_moments from) (port_moments into.new) }
         ensures places { (p : ℕ) → times p (port_view into.new).mine ≡ times p (port_view into.old).mine + times p (port_view from).mine }
     {
-        let Port { pass } = from;
+        let Port { pass, spare: _ } = from;
         self.lock.join(&mut into.pass, pass);
     }
 
@@ -199,7 +191,7 @@ impl<D: Disk + Drop, O: Origin> Shared<D, O> {
         self.lock.join(&mut port.pass, pass);
     }
 
-    // Spends a transaction that has ended: its pass goes to a port.
+    // Spends a transaction that has ended: its pass goes to a port, and its memory to the next one that begins there.
     pub(crate) fn spend(&self, port: &mut Port<D, O>, tx: Tx<D, O>)
         requires port { IsPort self.now port.old }
         requires pass { IsOf self.now.lock tx.pass }
@@ -208,9 +200,10 @@ impl<D: Disk + Drop, O: Origin> Shared<D, O> {
         let Tx {
             pass,
             number: _,
-            work: _,
+            work,
             checked: _,
         } = tx;
+        port.spare = Some(work);
         self.take_back(port, pass);
     }
 
@@ -232,7 +225,7 @@ impl<D: Disk + Drop, O: Origin> Shared<D, O> {
             alloc: _,
             geometry: _,
         } = self;
-        let Port { pass } = port;
+        let Port { pass, spare: _ } = port;
         let Guarded {
             core,
             rack: _,

@@ -1,6 +1,6 @@
 // The calls of a transaction: its begin, its fetches and its end.
-ghost use Rattle.std.specs.Prelude.{◌≡◌, ◌+◌, ◌-◌, ◌<◌, ℕ, [], Some, None, Ok, Err, length, IfOk, IfErr, MatchResult};
-ghost use Rattle.iso_model.specs.Step.{mode_named};
+ghost use Rattle.std.specs.Prelude.{◌≡◌, ◌+◌, ◌-◌, ◌<◌, ℕ, [], Some, None, Ok, Err, IsTrue, length, true, IfOk, IfErr, MatchResult};
+ghost use Rattle.iso_model.specs.{Geometry.is_block_size, Step.mode_named};
 ghost use Rattle.iso_shared.specs.declared.entry.Call.TheVariants as TheCall;
 ghost use Rattle.iso_shared.specs.{declared.entry.Entry.TheVariants.{Abort, Begin, Refused}, Ports.{IsPort, IsSameTx, IsTx, Made, MadeBoth, check_of, doing_of, number_of, port_view, tx_view}, Told.{cause_of, fetch_entry}};
 
@@ -11,9 +11,24 @@ use crate::tx::Tx;
 use conflict_rule::Checked;
 use iso_disk::Disk;
 use iso_model::{CoreError, Geometry, Mode};
+use std::alloc::Global;
 use std::snapshot::Snapshot;
 use std::sync::Wait;
 use tx_table::Work;
+
+// What a transaction that begins has done, nothing, in the memory of one that has left, where there is some for blocks of its size.
+fn begin_work(alloc: Global, spare: Option<Work>, begin: u64, image: &Geometry) -> Work
+    requires { IsTrue (is_block_size image.now.block) }
+    ensures { result ≡ record { begin = begin; mode = image.now.mode; size = image.now.block; blocks = image.now.blocks; accesses = []; ready = None; settled = true } }
+{
+    match spare {
+        Some(mut work) if work.block_size() == image.block => {
+            work.restart(begin, image);
+            work
+        }
+        _ => Work::begin(alloc, begin, image),
+    }
+}
 
 impl<D: Disk + Drop, O: Origin> Shared<D, O> {
     /// Begins a transaction in the mode that is named, or else in the image's. It gets one of the units of the port,
@@ -53,7 +68,7 @@ impl<D: Disk + Drop, O: Origin> Shared<D, O> {
                 Ok(Tx {
                     pass,
                     number: begun.tx,
-                    work: Work::begin(self.alloc, begun.at, &image),
+                    work: begin_work(self.alloc, port.spare.take(), begun.at, &image),
                     checked: Checked {
                         upto: begun.at,
                         clash: None,

@@ -1,9 +1,8 @@
 // The turn lock as this crate sees it: each entry is stamped, as its turn ends, with the moment that the disk has come to, and views
 // are of the entries alone.
-ghost use Rattle.std.specs.Prelude.{◌≡◌, ℕ, ◌+◌, ◌<◌, ◌≤◌, [], ◌∷◌, ◌++◌, IfErr, IfOk, IsSome, length, option_to_list};
-ghost use mathlib.Core.List.{IsPrefix};
-ghost use Rattle.turn_lock.specs.{Lists.{places, times}, Lock.{lock_id, turn_value}, Numbers.{AreHeld, IsOut, held_after}, Pass.{HasTurn, IsAlike, IsSamePass}, Views.{both, fresh, given_part, kept_part}};
-ghost use Rattle.iso_shared.specs.{Legal.{IsLegal, handed, needed, returned}, Standing.StandsAt, Turns.{HasNoTurn, moments, view}};
+ghost use Rattle.std.specs.Prelude.{◌≡◌, ◌<◌, [], IfErr, IfOk, IsSome, length, option_to_list};
+ghost use Rattle.turn_lock.specs.{Lists.places, Lock.lock_id, Numbers.AreHeld, Views.fresh};
+ghost use Rattle.iso_shared.specs.{Passes.{HasJoined, IsGiven, IsSplit, MayGive, TakesTurn}, Ports.{IsIdle, IsOf}, Standing.StandsAt, Turns.{moments, view}};
 
 use crate::guarded::{Guarded, Origin, Stamped};
 use iso_disk::Disk;
@@ -25,7 +24,7 @@ impl<D: Disk + Drop, O: Origin> Turns<D, O> {
         value: Guarded<D, O>,
     ) -> Result<(Turns<D, O>, Pass<Guarded<D, O>>), (Memory, Guarded<D, O>)>
         requires { StandsAt D.state O.start O.disk value.core value.rack [] [] }
-        ensures ok { IfOk result (λ r. (r.1.table_id ≡ lock_id r.0.lock) × HasNoTurn r.1 × (view r.1 ≡ fresh)) }
+        ensures ok { IfOk result (λ r. IsIdle r.0 r.1 × (view r.1 ≡ fresh)) }
         ensures err { IfErr result (λ e. e.1 ≡ value) }
     {
         match TurnLock::new(alloc, value) {
@@ -40,16 +39,8 @@ impl<D: Disk + Drop, O: Origin> Turns<D, O> {
         rt: &R,
         pass: &mut Pass<Guarded<D, O>>,
     ) -> Turn<Guarded<D, O>>
-        requires lock { pass.old.table_id ≡ lock_id self.now.lock }
-        requires free { HasNoTurn pass.old × (0 < (view pass.old).units) }
-        ensures lock { IsSamePass pass.old pass.new }
-        ensures turn { HasTurn pass.new result }
-        ensures same { IsAlike (view pass.old) (view pass.new) }
-        ensures value { StandsAt D.state O.start O.disk (turn_value result).core (turn_value result).rack (view pass.new).seen (moments pass.new) }
-        ensures seen { IsPrefix (view pass.old).seen (view pass.new).seen }
-        ensures past { IsPrefix (moments pass.old) (moments pass.new) }
-        ensures out { (n : ℕ) → 0 < times n (view pass.new).holds → IsOut handed returned n (view pass.new).seen }
-        ensures all { (view pass.new).units ≡ LAST → (view pass.new).mine ≡ places (length (view pass.new).seen) }
+        requires { IsOf self.now pass.old }
+        ensures { TakesTurn D.state O.start O.disk pass.old pass.new result }
     {
         self.lock.take(rt, pass)
     }
@@ -61,18 +52,8 @@ impl<D: Disk + Drop, O: Origin> Turns<D, O> {
         pass: &mut Pass<Guarded<D, O>>,
         turn: Turn<Guarded<D, O>>,
     )
-        requires lock { pass.old.table_id ≡ lock_id self.now.lock }
-        requires turn { HasTurn pass.old turn }
-        requires value { StandsAt D.state O.start O.disk (turn_value turn).core (turn_value turn).rack ((view pass.old).seen ++ N.entry.entry ∷ []) (moments pass.old ++ N.entry.moment ∷ []) }
-        requires held { AreHeld (needed N.entry.entry) (view pass.old).holds × AreHeld (returned N.entry.entry) (view pass.old).holds }
-        ensures lock { IsSamePass pass.old pass.new }
-        ensures free { HasNoTurn pass.new }
-        ensures seen { (view pass.new).seen ≡ (view pass.old).seen ++ N.entry.entry ∷ [] }
-        ensures past { moments pass.new ≡ moments pass.old ++ N.entry.moment ∷ [] }
-        ensures mine { (view pass.new).mine ≡ (view pass.old).mine ++ length (view pass.old).seen ∷ [] }
-        ensures holds { (view pass.new).holds ≡ held_after handed returned N.entry.entry (view pass.old).holds }
-        ensures units { (view pass.new).units ≡ (view pass.old).units }
-        ensures legal { IsLegal O.start (view pass.new).seen }
+        requires { MayGive D.state O.start O.disk self.now pass.old turn N.entry }
+        ensures { IsGiven O.start self.now pass.old pass.new N.entry }
     {
         self.lock.give::<N>(pass, turn);
     }
@@ -87,37 +68,23 @@ impl<D: Disk + Drop, O: Origin> Turns<D, O> {
         requires lock { pass.old.table_id ≡ lock_id self.now.lock }
         requires units { units < (view pass.old).units }
         requires number { AreHeld (option_to_list number) (view pass.old).holds × (IsSome number → 0 < units) }
-        ensures lock { IsSamePass pass.old pass.new }
-        ensures stays { HasNoTurn pass.old → HasNoTurn pass.new }
-        ensures kept { view pass.new ≡ kept_part number units (view pass.old) }
-        ensures new { (result.table_id ≡ lock_id self.now.lock) × HasNoTurn result }
-        ensures given { view result ≡ given_part number units (view pass.old) }
-        ensures past { (moments pass.new ≡ moments pass.old) × (moments result ≡ moments pass.old) }
+        ensures { IsSplit self.now number units pass.old pass.new result }
     {
         self.lock.split(pass, number, units)
     }
 
     // Takes another pass into this one. It waits for nobody.
     pub(crate) fn join(&self, pass: &mut Pass<Guarded<D, O>>, other: Pass<Guarded<D, O>>)
-        requires lock { (pass.old.table_id ≡ lock_id self.now.lock) × (other.table_id ≡ lock_id self.now.lock) }
-        requires units { 0 < (view pass.old).units }
-        requires free { HasNoTurn other }
-        ensures lock { IsSamePass pass.old pass.new }
-        ensures stays { HasNoTurn pass.old → HasNoTurn pass.new }
-        ensures both { view pass.new ≡ both (view pass.old) (view other) }
-        ensures seen { IsPrefix (view pass.old).seen (view pass.new).seen × IsPrefix (view other).seen (view pass.new).seen }
-        ensures past { IsPrefix (moments pass.old) (moments pass.new) × IsPrefix (moments other) (moments pass.new) }
-        ensures places { (p : ℕ) → times p (view pass.new).mine ≡ times p (view pass.old).mine + times p (view other).mine }
-        ensures alone { (n : ℕ) → times n (view pass.new).holds ≤ 1 }
-        ensures units { (view pass.new).units ≤ LAST }
+        requires pass { (pass.old.table_id ≡ lock_id self.now.lock) × (0 < (view pass.old).units) }
+        requires other { IsIdle self.now other }
+        ensures { HasJoined pass.old pass.new other }
     {
         self.lock.join(pass, other);
     }
 
     // Ends the lock, and gives its value back. It waits for nobody.
     pub(crate) fn close(self, pass: Pass<Guarded<D, O>>) -> Guarded<D, O>
-        requires lock { pass.table_id ≡ lock_id self.lock }
-        requires free { HasNoTurn pass }
+        requires pass { IsIdle self pass }
         requires all { (view pass).units ≡ LAST }
         ensures value { StandsAt D.state O.start O.disk result.core result.rack (view pass).seen (moments pass) }
         ensures all { (view pass).mine ≡ places (length (view pass).seen) }

@@ -1,6 +1,6 @@
 // A transaction's pass, with what it does.
-ghost use Rattle.std.specs.{Prelude.{◌≡◌, ℕ, ◌+◌, ◌<◌, [], ◌∷◌, ◌++◌, Some, None, Ok, Err, OnErr, OnOk, false, length}, Bool.OnTrue};
-ghost use Rattle.iso_model.specs.{Array.Array, Effect.own, Marks.{mark_fault, marked}, Premises.block_at, Step.{read_access, write_access}};
+ghost use Rattle.std.specs.{Prelude.{◌≡◌, ℕ, ◌+◌, ◌<◌, ◌≤◌, [], ◌∷◌, ◌++◌, Some, None, Ok, Err, OnErr, OnOk, false, length}, Bool.OnTrue};
+ghost use Rattle.iso_model.specs.{Array.Array, Effect.own, Marks.{mark_fault, marked}, Premises.block_at, Step.{put_access, read_access, write_access}};
 ghost use Rattle.tx_table.specs.Work.{span_at};
 
 use crate::ahead::{clashes_never, meeting};
@@ -106,6 +106,22 @@ impl<D: Disk + Drop, O: Origin> Tx<D, O> {
         ensures work { doing_of self.new ≡ record (doing_of self.old) { accesses = (doing_of self.old).accesses ++ write_access block bytes.now ∷ []; ready = None; settled = false } }
     {
         self.work.write(block, bytes);
+        self.uncheck();
+    }
+
+    /// A write of these bytes from `off` on in a block of zeros, with one mark over them, of the block for which room was made
+    /// last; fewer than `MAX_ACCESSES` accesses were made. It takes no memory.
+    pub fn put(&mut self, block: u32, off: u16, bytes: &[u8])
+        requires ready { (doing_of self.old).ready ≡ Some block }
+        requires room { length (doing_of self.old).accesses < 4096 }
+        requires some { 0 < length bytes.now }
+        requires fits { off + length bytes.now ≤ (doing_of self.old).size }
+        requires tx { IsTxOf O.start self.old }
+        ensures tx { IsTxOf O.start self.new }
+        ensures same { (pass_of self.new ≡ pass_of self.old) × (number_of self.new ≡ number_of self.old) × ((check_of self.new).upto ≡ (doing_of self.new).begin) }
+        ensures work { doing_of self.new ≡ record (doing_of self.old) { accesses = (doing_of self.old).accesses ++ put_access (doing_of self.old).size block off bytes.now ∷ []; ready = None; settled = false } }
+    {
+        self.work.put(block, off, bytes);
         self.uncheck();
     }
 

@@ -2,7 +2,7 @@
 //! contracts alone. Nothing of it is stored.
 //!
 //! What a pass has seen is a beginning of that list, and who holds which number is known (`new`, `take`, `give`, `split`, `join`,
-//! `close`). An entry may take back several numbers, and none is out afterwards (`taken`). `take` waits, maybe for ever.
+//! `close`). An entry may take back several numbers, and none is out afterwards (`taken` of `give`). `take` waits, maybe for ever.
 #![tactic(auto)]
 
 mod lock;

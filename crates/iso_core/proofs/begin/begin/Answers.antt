@@ -1,4 +1,4 @@
-use Rattle.iso_core.proofs.{Words.{◌≡◌, ◌∙◌, sym, ap, ◌<◌, ◌≤◌, ◌+◌, [], ◌∷◌, ◌++◌, length, arith, subst, unwrap_or, Geometry, Mode, LAST, MAX_LIVE, last, after_begin, begin_step, mode_named, unattached, all_weaker, may_have, IsOf}, Begins.{begins_so, fixed, is_begun, is_fixed, is_full, is_worn}, Numbers.log_last, Stats.live_is, Transactions.kept_before}
+use Rattle.iso_core.proofs.{Words.{◌≡◌, ◌∙◌, sym, ap, ◌<◌, ◌≤◌, ◌+◌, [], ◌∷◌, ◌++◌, length, arith, subst, unwrap_or, Geometry, Mode, LAST, MAX_LIVE, last, after_begin, begin_step, mode_named, unattached, all_weaker, may_have, refl, Becomes}, Begins.{begins_so, fixed, is_begun, is_fixed, is_full, is_worn}, Numbers.log_last, Stats.live_is, Transactions.kept_before}
 use Rattle.iso_model.specs.declared.core_reply.CoreReply.TheVariants as reply
 use Rattle.iso_core.proofs.begin.begin.Goals as goal
 
@@ -28,6 +28,6 @@ returns-clause-begun c W of =
       of.keeps.next,
       named,
       subst (λ (m : Mode). (begin_step W unattached m).0 ≡ reply.Began c.last-at.result) named (is_begun kept W mode of test few fresh ∙ ap reply.Began (sym at)),
-      subst (λ (m : Mode). IsOf (record kept { live = c.enter.new.self; next = kept.next + 1 }) (after_begin W unattached m)) named
-          (begins_so kept W mode c.enter.new.self of (may_have W.geometry mode test) few fresh entered),
+      subst (λ (m : Mode). Becomes kept (record kept { live = c.enter.new.self; next = kept.next + 1 }) (after_begin W unattached m)) named
+          (record { of = begins_so kept W mode c.enter.new.self of (may_have W.geometry mode test) few fresh entered; half = refl; down = refl }),
     )

@@ -1,4 +1,4 @@
-use Rattle.iso_core.proofs.{Words.{◌∙◌, ap, above, after_commit}, Commits.{commits_so, may_take_in, next_floor, notes_below}, Leaves.is_live, Trims.are_needed}
+use Rattle.iso_core.proofs.{Words.{◌∙◌, refl, ap, above, after_commit}, Commits.{commits_so, may_take_in, next_floor, notes_below}, Leaves.is_live, Trims.are_needed}
 
 pub add_parts-requires-clause-may : Rattle.iso_core.proofs.commit.take_in.Goals.add_parts-requires-clause-may
 add_parts-requires-clause-may c =
@@ -15,12 +15,14 @@ leave-requires c =
     let (W, t, grown) = c.requires in
     is_live _ W c.args.tx t grown.was grown.here
 
-pub returns-clause-committed : Rattle.iso_core.proofs.commit.take_in.Goals.returns-clause-committed
-returns-clause-committed c W t grown =
-    commits_so W c.args.tx t c.args.kept.now c.args.gate c.args.writes grown c.last-number.result c.floor-floor.result c.as_slice.result.now c.add_parts.new.index c.leave.new.self c.drop_to.new.self
-    c.last-number.ensures c.as_slice.ensures.value c.add_parts.ensures c.leave.ensures c.floor-floor.ensures (c.drop_to.ensures.notes ∙ ap (above c.floor-floor.result) c.add.ensures)
-
-pub returns-clause-needed : Rattle.iso_core.proofs.commit.take_in.Goals.returns-clause-needed
-returns-clause-needed c W t grown =
-    are_needed (after_commit W t) c.floor-floor.result _ c.drop_to.new.self
-    (c.floor-floor.ensures ∙ next_floor W c.args.tx t c.args.kept.now c.args.gate c.args.writes grown c.last-number.result c.leave.new.self c.last-number.ensures c.leave.ensures) c.drop_to.ensures.notes
+pub returns : Rattle.iso_core.proofs.commit.take_in.Goals.returns
+returns c W t grown = record {
+  becomes = record {
+    of = commits_so W c.args.tx t c.args.kept.now c.args.gate c.args.writes grown c.last-number.result c.floor-floor.result c.as_slice.result.now c.add_parts.new.index c.leave.new.self c.drop_to.new.self
+        c.last-number.ensures c.as_slice.ensures.value c.add_parts.ensures c.leave.ensures c.floor-floor.ensures (c.drop_to.ensures.notes ∙ ap (above c.floor-floor.result) c.add.ensures);
+    half = refl;
+    down = refl;
+  };
+  needed = are_needed (after_commit W t) c.floor-floor.result _ c.drop_to.new.self
+      (c.floor-floor.ensures ∙ next_floor W c.args.tx t c.args.kept.now c.args.gate c.args.writes grown c.last-number.result c.leave.new.self c.last-number.ensures c.leave.ensures) c.drop_to.ensures.notes;
+}

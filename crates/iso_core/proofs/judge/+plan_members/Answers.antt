@@ -17,7 +17,7 @@ plan_members-requires t c =
         more ++ made_by p.first (member_reply (end_step (ahead W more) p.first).0),
         p.others,
         buffer_on c.args.kept.now W c.plan_member.new.kept of c.plan_member.ensures.same,
-        c.in_ok-plan_member.ensures.ahead W more p.first of is p.is,
+        (c.in_ok-plan_member.ensures.planned W more p.first of is p.is).0,
         p.each,
       ),
     )
@@ -30,9 +30,9 @@ pub returns-clause-planned : Rattle.iso_core.proofs.judge.+plan_members.Goals.re
 returns-clause-planned t c W more members of is each =
     let p = parted (IsReady W) c.in-Some.member.now c.in-Some.rest.now members (subst (λ (l : List GroupEnd). AreEach (IsReady W) l members) c.in-Some.ensures.cases.0 each) in
     on_ok_weaker c.plan_members.result (planned_more W more p.first p.others members c.plan_members.new.plan c.args.replies.now.items c.plan_member.new.replies.items c.plan_members.new.replies.items p.are
-    (c.in_ok-plan_member.ensures.replies W more p.first of is p.is))
+    ((c.in_ok-plan_member.ensures.planned W more p.first of is p.is).1))
     (c.plan_members.ensures.planned W (more ++ made_by p.first (member_reply (end_step (ahead W more) p.first).0)) p.others (buffer_on c.args.kept.now W c.plan_member.new.kept of c.plan_member.ensures.same)
-    (c.in_ok-plan_member.ensures.ahead W more p.first of is p.is) p.each)
+    ((c.in_ok-plan_member.ensures.planned W more p.first of is p.is).0) p.each)
 
 pub returns-clause-members : Rattle.iso_core.proofs.judge.+plan_members.Goals.returns-clause-members
 returns-clause-members t c = grind arith

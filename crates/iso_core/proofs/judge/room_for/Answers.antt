@@ -1,4 +1,4 @@
-use Rattle.iso_core.proofs.{Words.{◌≡◌, ◌≢◌, ◌∙◌, sym, refl, ap, ℕ, ◌+◌, ◌-◌, ◌<◌, ◌≤◌, [], ◌∷◌, List, length, arith, length_push, LAST, last, need, World, Live, Commit, used, ahead, member_reply, AreNextRecords, IsAhead, IsOf, MayCommit, written_of}, Committing.{buffer_on, next_world}, Judging.{commits_as, fits_ahead, free_ahead, full_so, number_ahead, worn_so}, Moments.record_needs, judge.room_for.Goals.{After-len, After-len-2}}
+use Rattle.iso_core.proofs.{Words.{◌≡◌, ◌≢◌, ◌∙◌, sym, ap, ℕ, ◌+◌, ◌-◌, ◌<◌, ◌≤◌, List, length, arith, length_push, LAST, last, need, World, Live, Commit, used, ahead, member_reply, IsAhead, IsNextCommit, IsOf, IsSpelled, MayCommit}, Committing.{buffer_on, next_world}, Judging.{commits_as, fits_ahead, free_ahead, full_so, number_ahead, worn_so}, Moments.record_needs, judge.room_for.Goals.{After-len, After-len-2}}
 use Rattle.iso_model.specs.declared.access.GroupReply.TheVariants as member
 use Rattle.iso_core.proofs.judge.room_for.Goals as goal
 
@@ -11,16 +11,22 @@ overflow_add-last c =
     let (W, more, tx, t, of, is, may) = c.requires in
     omega (arith, number (goal.at.overflow_add-last c).After-len W more of is, is.world.numbers)
 
-pub returns-then-last-ge-LAST-clause-answer : goal.returns-then-last-ge-LAST-clause-answer
-returns-then-last-ge-LAST-clause-answer c W more tx t of is may =
-    let all = number (goal.at.returns-then-last-ge-LAST-clause-answer c).After-len W more of is in
-    worn_so (ahead W more) tx t c.args.work.now is.world may (omega (arith, all, is.world.numbers, c.if-last-ge-LAST.true))
+pub returns-then-last-ge-LAST-clause-judged : goal.returns-then-last-ge-LAST-clause-judged
+returns-then-last-ge-LAST-clause-judged c W more tx t of is may =
+    let all = number (goal.at.returns-then-last-ge-LAST-clause-judged c).After-len W more of is in
+    record { answer = worn_so (ahead W more) tx t c.args.work.now is.world may (omega (arith, all, is.world.numbers, c.if-last-ge-LAST.true)); next = tt }
+
+-- the record that is spelled is that of the next commit
+as_next : (c : After-len) (W : World) (more : List Commit) (tx : ℕ) (t : Live) → IsOf c.args.kept.now W → IsAhead W more c.args.plan.now → MayCommit (ahead W more) tx t c.args.work.now
+    → c.last.result + c.len.result < LAST → IsNextCommit (ahead W more) tx t c.args.kept.now.geometry c.args.work.now (c.last.result + c.len.result + 1)
+as_next c W more tx t of is may low =
+    let all = number c W more of is in
+    record { geometry = of.keeps.geometry; world = is.world; may = may; number_is = ap (λ (n : ℕ). n + 1) all; fresh = omega (arith, all, low) }
 
 pub spell_as-requires : goal.spell_as-requires
 spell_as-requires c =
     let (W, more, tx, t, of, is, may) = c.requires in
-    let all = number (goal.at.spell_as-requires c).After-len W more of is in
-    (W, ahead W more, tx, t, of, refl, is.world, may, omega (arith, all), omega (arith, all, c.if-last-ge-LAST.false))
+    (ahead W more, tx, t, as_next (goal.at.spell_as-requires c).After-len W more tx t of is may c.if-last-ge-LAST.false)
 
 pub overflow_sub-free : goal.overflow_sub-free
 overflow_sub-free c = grind (arith, fits_ahead, buffer_on)
@@ -33,37 +39,31 @@ module _ (c : After-len-2) (W : World) (more : List Commit) (tx : ℕ) (t : Live
   fresh : last (ahead W more).history < LAST
   fresh = omega (arith, all, c.if-last-ge-LAST.false)
 
-  next : AreNextRecords (ahead W more) (written_of (ahead W more) t ∷ []) c.spell_as.new.kept.buffer.records
-  next = c.in_ok-spell_as.ensures.next W (ahead W more) tx t of refl is.world may (omega (arith, all)) fresh
+  spelled : IsSpelled (ahead W more) t c.spell_as.new.kept
+  spelled = c.in_ok-spell_as.ensures.spelled (ahead W more) tx t
+      (record { geometry = of.keeps.geometry; world = is.world; may = may; number_is = ap (λ (n : ℕ). n + 1) all; fresh = fresh })
 
   needs : length c.with_closed_gate.result.now ≡ need (ahead W more) t
-  needs = ap (λ (l : List ℕ). length l) c.with_closed_gate.ensures ∙ length_push c.spell_as.new.kept.buffer.records 0 ∙ record_needs (ahead W more) t c.spell_as.new.kept.buffer.records next
+  needs = ap (λ (l : List ℕ). length l) c.with_closed_gate.ensures ∙ length_push c.spell_as.new.kept.buffer.records 0 ∙ record_needs (ahead W more) t c.spell_as.new.kept.buffer.records spelled.next
 
   left : c.from.result - c.len-2.result ≡ (ahead W more).geometry.log - used (ahead W more)
   left = grind (arith, free_ahead, buffer_on)
 
-pub returns-then-free-need-clause-answer : goal.returns-then-free-need-clause-answer
-returns-then-free-need-clause-answer c W more tx t of is may =
-    let s = (goal.at.returns-then-free-need-clause-answer c).After-len-2 in
+pub returns-then-free-need-clause-judged : goal.returns-then-free-need-clause-judged
+returns-then-free-need-clause-judged c W more tx t of is may =
+    let s = (goal.at.returns-then-free-need-clause-judged c).After-len-2 in
     let low = fresh s W more tx t of is may in
-    full_so (ahead W more) tx t c.args.work.now is.world may _ _ (λ e. absurd (omega (arith, low, e))) (needs s W more tx t of is may) (left s W more tx t of is may) (omega (arith, c.if-free-need.true))
+    record { answer = full_so (ahead W more) tx t c.args.work.now is.world may _ _ (λ e. absurd (omega (arith, low, e))) (needs s W more tx t of is may) (left s W more tx t of is may) (omega (arith, c.if-free-need.true)); next = tt }
 
-pub returns-clause-answer : goal.returns-clause-answer
-returns-clause-answer c W more tx t of is may =
-    let s = (goal.at.returns-clause-answer c).After-len-2 in
-    let low = fresh s W more tx t of is may in
-    ap (λ (n : ℕ). member.Committed (n + 1)) (all s W more tx t of is may)
-    ∙ ap member_reply (sym (commits_as (ahead W more) tx t c.args.work.now is.world may (λ e. absurd (omega (arith, low, e))) (omega (arith, needs s W more tx t of is may, left s W more tx t of is may, c.if-free-need.false))))
-
-pub returns-clause-next : goal.returns-clause-next
-returns-clause-next c W more tx t of is may =
-    let s = (goal.at.returns-clause-next c).After-len-2 in
+pub returns-clause-judged : goal.returns-clause-judged
+returns-clause-judged c W more tx t of is may =
+    let s = (goal.at.returns-clause-judged c).After-len-2 in
     let U : World = ahead W more in
     let fits : need U t ≤ U.geometry.log - used U = omega (arith, needs s W more tx t of is may, left s W more tx t of is may, c.if-free-need.false) in
     let unworn : last U.history ≢ LAST = λ e. absurd (omega (arith, fresh s W more tx t of is may, e)) in
+    let commits = commits_as U tx t c.args.work.now is.world may unworn fits in
+    let is_spelled = spelled s W more tx t of is may in
     record {
-      answer = commits_as U tx t c.args.work.now is.world may unworn fits;
-      world = next_world U tx t c.args.work.now is.world may unworn fits;
-      next = next s W more tx t of is may;
-      parts = c.in_ok-spell_as.ensures.parts W U tx t of refl is.world may;
+      answer = ap (λ (n : ℕ). member.Committed (n + 1)) (all s W more tx t of is may) ∙ ap member_reply (sym commits);
+      next = record { answer = commits; world = next_world U tx t c.args.work.now is.world may unworn fits; next = is_spelled.next; parts = is_spelled.parts };
     }

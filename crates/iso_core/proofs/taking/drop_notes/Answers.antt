@@ -1,9 +1,10 @@
-use Rattle.std.proofs.Common.{arith, ◌∙◌}
+use Rattle.std.proofs.Common.{◌∙◌, refl}
 use Rattle.iso_core.proofs.{Staging.notes_dropped, Trims.{are_needed, floor_is}}
 
-pub returns-clause-dropped : Rattle.iso_core.proofs.taking.drop_notes.Goals.returns-clause-dropped
-returns-clause-dropped c W of = grind (arith, notes_dropped, floor_is)
-
-pub returns-clause-needed : Rattle.iso_core.proofs.taking.drop_notes.Goals.returns-clause-needed
-returns-clause-needed c W of =
-    are_needed W c.floor-floor.result c.args.kept.now.notes.notes c.drop_to.new.self (c.floor-floor.ensures ∙ floor_is c.args.kept.now W of c.last.result c.last.ensures) c.drop_to.ensures.notes
+pub returns : Rattle.iso_core.proofs.taking.drop_notes.Goals.returns
+returns c W of =
+    let to = c.floor-floor.ensures ∙ floor_is c.args.kept.now W of c.last.result c.last.ensures in
+    record {
+      becomes = record { of = notes_dropped c.args.kept.now W c.drop_to.new.self c.floor-floor.result of to c.drop_to.ensures.notes; half = refl; down = refl };
+      needed = are_needed W c.floor-floor.result c.args.kept.now.notes.notes c.drop_to.new.self to c.drop_to.ensures.notes;
+    }

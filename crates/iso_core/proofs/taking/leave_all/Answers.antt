@@ -1,8 +1,9 @@
-use Rattle.iso_core.proofs.{Words.{arith, sym, subst, ℕ, List, Begun, IsOf, leave_all}, Staging.none_left}
+use Rattle.iso_core.proofs.{Words.{arith, refl, sym, subst, ℕ, List, Begun, Becomes, leave_all}, Staging.none_left}
 
 pub leave_each-requires : Rattle.iso_core.proofs.taking.leave_all.Goals.leave_each-requires
 leave_each-requires c = c.requires
 
-pub returns-then-group-len-clause-left : Rattle.iso_core.proofs.taking.leave_all.Goals.returns-then-group-len-clause-left
-returns-then-group-len-clause-left c W members of each =
-    subst (λ (l : List (ℕ × Begun)). IsOf (record c.args.kept.now { live = l }) (leave_all members W)) (sym c.clear.ensures) (none_left c.args.kept.now W c.args.group.now members of each (omega (arith, c.if-group-len.true, c.len.ensures)))
+pub returns-then-group-len : Rattle.iso_core.proofs.taking.leave_all.Goals.returns-then-group-len
+returns-then-group-len c W members of each =
+    subst (λ (l : List (ℕ × Begun)). Becomes c.args.kept.now (record c.args.kept.now { live = l }) (leave_all members W)) (sym c.clear.ensures)
+    (record { of = none_left c.args.kept.now W c.args.group.now members of each (omega (arith, c.if-group-len.true, c.len.ensures)); half = refl; down = refl })

@@ -1,4 +1,4 @@
-use Rattle.iso_core.proofs.{Words.{◌∙◌, ◌++◌, RisesFrom, sym, ap, ◌+◌, ◌-◌, arith, subst, transport, half_of_world, MayTakeAll, Held}, Staging.{few_first, number_first, rising_notes, taken_in, takes_all}}
+use Rattle.iso_core.proofs.{Words.{◌∙◌, refl, ◌++◌, RisesFrom, sym, ap, ◌+◌, ◌-◌, arith, subst, transport, half_of_world, MayTakeAll, Held}, Staging.{few_first, number_first, rising_notes, taken_in, takes_all}}
 use Rattle.iso_core.proofs.taking.take_plan.Goals as goal
 
 pub overflow_sub-first : goal.overflow_sub-first
@@ -30,11 +30,15 @@ take_all-requires-clause-rising c =
     let (W, more, grown) = c.requires in
     subst (λ (h : Held). RisesFrom 0 (c.args.kept.now.notes.notes ++ h.notes)) (sym c.replace-notes.ensures.value) (rising_notes W more c.args.plan.now c.args.kept.now c.args.gate grown)
 
-pub returns-clause-taken : goal.returns-clause-taken
-returns-clause-taken c W more grown =
+pub returns : goal.returns
+returns c W more grown =
     let number = number_first W more c.args.plan.now c.args.kept.now c.args.gate grown (c.last.result - c.len.result + 1) c.len.result (c.len.ensures ∙ c.args.plan.now.staged.ok.0) (ap (λ n. n - c.len.result + 1) c.last.ensures) in
-    taken_in W more c.args.plan.now c.args.kept.now c.args.gate grown c.take_staged.new.index c.take_all.new.self
-    (c.take_staged.ensures W.geometry (half_of_world W c.args.kept.now.half) W.trim 0 more
-    (transport (λ i. MayTakeAll W.geometry (half_of_world W c.args.kept.now.half) W.trim 0 more (c.last.result - c.len.result + 1) c.args.gate (sym c.as_slice.ensures.value i) (sym c.as_slice-2.ensures.value i) c.args.kept.now.index)
-    (takes_all W more c.args.plan.now c.args.kept.now c.args.gate grown (c.last.result - c.len.result + 1) number)))
-    (c.take_all.ensures ∙ ap (λ (h : Held). c.args.kept.now.notes.notes ++ h.notes) c.replace-notes.ensures.value)
+    record {
+      of = taken_in W more c.args.plan.now c.args.kept.now c.args.gate grown c.take_staged.new.index c.take_all.new.self
+          (c.take_staged.ensures W.geometry (half_of_world W c.args.kept.now.half) W.trim 0 more
+          (transport (λ i. MayTakeAll W.geometry (half_of_world W c.args.kept.now.half) W.trim 0 more (c.last.result - c.len.result + 1) c.args.gate (sym c.as_slice.ensures.value i) (sym c.as_slice-2.ensures.value i) c.args.kept.now.index)
+          (takes_all W more c.args.plan.now c.args.kept.now c.args.gate grown (c.last.result - c.len.result + 1) number)))
+          (c.take_all.ensures ∙ ap (λ (h : Held). c.args.kept.now.notes.notes ++ h.notes) c.replace-notes.ensures.value);
+      half = refl;
+      down = refl;
+    }

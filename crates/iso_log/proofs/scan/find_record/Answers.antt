@@ -1,11 +1,5 @@
-use Rattle.iso_log.proofs.{Handed.{blames_none, blames_record, damaged_not_full}, Words.{◌≡◌, ◌+◌, ◌≤◌, ◌<◌, ℕ, List, length, get_or, arith, ap, sym, ◌∙◌, length-contents, joined_unwritten, Short, record_window, StandAt}, Finds.{first_is, place_is, gate_later, window_later, no_head, no_body, test_before}}
+use Rattle.iso_log.proofs.{Handed.{blames_none, blames_record, damaged_not_full}, Words.{◌≡◌, ◌+◌, ◌≤◌, ◌<◌, ℕ, List, length, get_or, arith, ap, rules, sym, ◌∙◌, length-contents, joined_unwritten, Short, record_window, StandAt}, Finds.{first_is, place_is, gate_later, window_later, no_head, no_body, test_before}}
 use Rattle.iso_log.proofs.scan.find_record.Goals as goal
-
-pub returns-in-Ok-clause-unwritten : goal.returns-in-Ok-clause-unwritten
-returns-in-Ok-clause-unwritten g c = joined_unwritten (g.met.D.Disk.lawful c.ask.new.disk) c.ask.ensures.unwritten c.ask-2.ensures.unwritten
-
-pub returns-in-Err-clause-unwritten : goal.returns-in-Err-clause-unwritten
-returns-in-Err-clause-unwritten g c = joined_unwritten (g.met.D.Disk.lawful c.ask.new.disk) c.ask.ensures.unwritten c.ask-2.ensures.unwritten
 
 pub returns-then-rest-lt-HEAD-clause-damaged : goal.returns-then-rest-lt-HEAD-clause-damaged
 returns-then-rest-lt-HEAD-clause-damaged g c at cause is image told =
@@ -62,22 +56,16 @@ test_front-requires-clause-size g c = grind (arith, window_later)
 pub returns-in-Ok-clause-first : goal.returns-in-Ok-clause-first
 returns-in-Ok-clause-first g c image told =
     let size = length-contents (g.met.D.Disk.lawful c.args.disk.now) image told in
-    c.in-Ok.ensures.first c.args.gate c.args.rest image (c.ask-2.ensures.told image (c.ask.ensures.unwritten.same_contents ∙ told) (c.ask.ensures.told image told (c.requires.ahead image told)))
+    c.in-Ok.ensures.first c.args.gate c.args.rest image (c.ask-2.ensures.told image (c.ask.ensures.reads.unwritten.same_contents ∙ told) (c.ask.ensures.told image told (c.requires.ahead image told)))
     c.ask-2.ensures.within (omega (arith, size, c.requires.fits))
 
 pub returns-in-Err-clause-damaged : goal.returns-in-Err-clause-damaged
 returns-in-Err-clause-damaged g c at cause is image told =
     let size = length-contents (g.met.D.Disk.lawful c.args.disk.now) image told in
     let fails =
-    c.in-Err.ensures.opens c.args.gate c.args.rest image (c.ask-2.ensures.told image (c.ask.ensures.unwritten.same_contents ∙ told) (c.ask.ensures.told image told (c.requires.ahead image told)))
+    c.in-Err.ensures.opens c.args.gate c.args.rest image (c.ask-2.ensures.told image (c.ask.ensures.reads.unwritten.same_contents ∙ told) (c.ask.ensures.told image told (c.requires.ahead image told)))
     c.ask-2.ensures.within (omega (arith, size, c.requires.fits)) in
     record { opens = fails.0; fault = c.in-Err.fault; fails = fails.1; place_is = place_is c.args.gate c.in-Err.fault c.damaged-in-Err.result c.damaged-in-Err.ensures at cause is }
-
-pub returns-then-bytes-ne1-clause-cause : goal.returns-then-bytes-ne1-clause-cause
-returns-then-bytes-ne1-clause-cause g c = blames_none _ _ _ c.in_ok-ask.ensures.cause.passed
-
-pub returns-then-bytes-ne1-clause-unwritten : goal.returns-then-bytes-ne1-clause-unwritten
-returns-then-bytes-ne1-clause-unwritten g c = c.ask.ensures.unwritten
 
 pub returns-then-bytes-ne1-clause-ahead : goal.returns-then-bytes-ne1-clause-ahead
 returns-then-bytes-ne1-clause-ahead g c image told = c.ask.ensures.told image told (c.requires.ahead image told)
@@ -85,29 +73,11 @@ returns-then-bytes-ne1-clause-ahead g c image told = c.ask.ensures.told image to
 pub returns-then-bytes-ne1-clause-within : goal.returns-then-bytes-ne1-clause-within
 returns-then-bytes-ne1-clause-within g c = c.ask.ensures.within
 
-pub returns-then-rest-lt-HEAD-clause-cause : goal.returns-then-rest-lt-HEAD-clause-cause
-returns-then-rest-lt-HEAD-clause-cause g c = blames_record _ _ _ _ _ c.damaged.ensures c.in_ok-ask.ensures.cause.passed
-
-pub returns-then-rest-lt-HEAD-clause-not_full : goal.returns-then-rest-lt-HEAD-clause-not_full
-returns-then-rest-lt-HEAD-clause-not_full g c = damaged_not_full _ _ _ c.damaged.ensures
-
-pub returns-then-rest-lt-HEAD-clause-unwritten : goal.returns-then-rest-lt-HEAD-clause-unwritten
-returns-then-rest-lt-HEAD-clause-unwritten g c = c.ask.ensures.unwritten
-
 pub returns-then-rest-lt-HEAD-clause-ahead : goal.returns-then-rest-lt-HEAD-clause-ahead
 returns-then-rest-lt-HEAD-clause-ahead g c image told = c.ask.ensures.told image told (c.requires.ahead image told)
 
 pub returns-then-rest-lt-HEAD-clause-within : goal.returns-then-rest-lt-HEAD-clause-within
 returns-then-rest-lt-HEAD-clause-within g c = c.ask.ensures.within
-
-pub returns-then-from-window-clause-cause : goal.returns-then-from-window-clause-cause
-returns-then-from-window-clause-cause g c = blames_record _ _ _ _ _ c.damaged-then-from-window.ensures c.in_ok-ask.ensures.cause.passed
-
-pub returns-then-from-window-clause-not_full : goal.returns-then-from-window-clause-not_full
-returns-then-from-window-clause-not_full g c = damaged_not_full _ _ _ c.damaged-then-from-window.ensures
-
-pub returns-then-from-window-clause-unwritten : goal.returns-then-from-window-clause-unwritten
-returns-then-from-window-clause-unwritten g c = c.ask.ensures.unwritten
 
 pub returns-then-from-window-clause-ahead : goal.returns-then-from-window-clause-ahead
 returns-then-from-window-clause-ahead g c image told = c.ask.ensures.told image told (c.requires.ahead image told)
@@ -115,23 +85,60 @@ returns-then-from-window-clause-ahead g c image told = c.ask.ensures.told image 
 pub returns-then-from-window-clause-within : goal.returns-then-from-window-clause-within
 returns-then-from-window-clause-within g c = c.ask.ensures.within
 
-pub returns-in-Ok-clause-cause : goal.returns-in-Ok-clause-cause
-returns-in-Ok-clause-cause g c = blames_none _ _ _ (c.in_ok-ask-2.ensures.cause.passed ∙ c.in_ok-ask.ensures.cause.passed)
-
 pub returns-in-Ok-clause-ahead : goal.returns-in-Ok-clause-ahead
-returns-in-Ok-clause-ahead g c image told = c.ask-2.ensures.told image (c.ask.ensures.unwritten.same_contents ∙ told) (c.ask.ensures.told image told (c.requires.ahead image told))
+returns-in-Ok-clause-ahead g c image told = c.ask-2.ensures.told image (c.ask.ensures.reads.unwritten.same_contents ∙ told) (c.ask.ensures.told image told (c.requires.ahead image told))
 
 pub returns-in-Ok-clause-within : goal.returns-in-Ok-clause-within
 returns-in-Ok-clause-within g c = c.ask-2.ensures.within
 
-pub returns-in-Err-clause-cause : goal.returns-in-Err-clause-cause
-returns-in-Err-clause-cause g c = blames_record _ _ _ _ _ c.damaged-in-Err.ensures (c.in_ok-ask-2.ensures.cause.passed ∙ c.in_ok-ask.ensures.cause.passed)
-
-pub returns-in-Err-clause-not_full : goal.returns-in-Err-clause-not_full
-returns-in-Err-clause-not_full g c = damaged_not_full _ _ _ c.damaged-in-Err.ensures
-
 pub returns-in-Err-clause-ahead : goal.returns-in-Err-clause-ahead
-returns-in-Err-clause-ahead g c image told = c.ask-2.ensures.told image (c.ask.ensures.unwritten.same_contents ∙ told) (c.ask.ensures.told image told (c.requires.ahead image told))
+returns-in-Err-clause-ahead g c image told = c.ask-2.ensures.told image (c.ask.ensures.reads.unwritten.same_contents ∙ told) (c.ask.ensures.told image told (c.requires.ahead image told))
 
 pub returns-in-Err-clause-within : goal.returns-in-Err-clause-within
 returns-in-Err-clause-within g c = c.ask-2.ensures.within
+
+pub returns-then-bytes-ne1-clause-reads : goal.returns-then-bytes-ne1-clause-reads
+returns-then-bytes-ne1-clause-reads g c = record {
+  unwritten = c.ask.ensures.reads.unwritten;
+  cause = blames_none _ _ _ c.in_ok-ask.ensures.reads.cause.passed;
+  not_full = λ need free is. cc;
+}
+
+pub returns-then-rest-lt-HEAD-clause-reads : goal.returns-then-rest-lt-HEAD-clause-reads
+returns-then-rest-lt-HEAD-clause-reads g c = record {
+  unwritten = c.ask.ensures.reads.unwritten;
+  cause = blames_record _ _ _ _ _ c.damaged.ensures c.in_ok-ask.ensures.reads.cause.passed;
+  not_full = damaged_not_full _ _ _ c.damaged.ensures;
+}
+
+pub returns-then-from-window-clause-reads : goal.returns-then-from-window-clause-reads
+returns-then-from-window-clause-reads g c = record {
+  unwritten = c.ask.ensures.reads.unwritten;
+  cause = blames_record _ _ _ _ _ c.damaged-then-from-window.ensures c.in_ok-ask.ensures.reads.cause.passed;
+  not_full = damaged_not_full _ _ _ c.damaged-then-from-window.ensures;
+}
+
+pub returns-in-Ok-clause-reads : goal.returns-in-Ok-clause-reads
+returns-in-Ok-clause-reads g c = record {
+  unwritten = joined_unwritten (g.met.D.Disk.lawful c.ask.new.disk) c.ask.ensures.reads.unwritten c.ask-2.ensures.reads.unwritten;
+  cause = blames_none _ _ _ (c.in_ok-ask-2.ensures.reads.cause.passed ∙ c.in_ok-ask.ensures.reads.cause.passed);
+  not_full = λ need free is. cc;
+}
+
+pub returns-in-Err-clause-reads : goal.returns-in-Err-clause-reads
+returns-in-Err-clause-reads g c = record {
+  unwritten = joined_unwritten (g.met.D.Disk.lawful c.ask.new.disk) c.ask.ensures.reads.unwritten c.ask-2.ensures.reads.unwritten;
+  cause = blames_record _ _ _ _ _ c.damaged-in-Err.ensures (c.in_ok-ask-2.ensures.reads.cause.passed ∙ c.in_ok-ask.ensures.reads.cause.passed);
+  not_full = damaged_not_full _ _ _ c.damaged-in-Err.ensures;
+}
+
+pub returns-in_err-ask-2-clause-reads : goal.returns-in_err-ask-2-clause-reads
+returns-in_err-ask-2-clause-reads g c =
+    let same = c.in_ok-ask.ensures.reads.cause.passed in
+    let second = c.in_err-ask-2.ensures.reads.cause in
+    let full = c.in_err-ask-2.ensures.reads.not_full in
+    record {
+      unwritten = joined_unwritten (g.met.D.Disk.lawful c.ask.new.disk) c.ask.ensures.reads.unwritten c.ask-2.ensures.reads.unwritten;
+      cause = search (rules, arith, second, same);
+      not_full = search (rules, arith, full);
+    }

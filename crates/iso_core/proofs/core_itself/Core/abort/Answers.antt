@@ -1,10 +1,10 @@
 use Rattle.std.proofs.Common.{arith}
-use Rattle.iso_core.proofs.{Words.without, Standings.stands_on}
+use Rattle.iso_core.proofs.{Words.without, Standings.stands_as}
 
 pub leave-requires : Rattle.iso_core.proofs.core_itself.Core.abort.Goals.leave-requires
 leave-requires g c = grind arith
 
 pub returns-clause-left : Rattle.iso_core.proofs.core_itself.Core.abort.Goals.returns-clause-left
 returns-clause-left g c W standing t stands here =
-    stands_on (g.D.Disk.state c.args.self.now.disk) c.args.self.now.kept c.leave.new.kept W standing (without t.number W.live) W.next W.trim stands c.leave.ensures.half c.leave.ensures.down
-    (c.leave.ensures.left W t stands.kept_of here)
+    stands_as (g.D.Disk.state c.args.self.now.disk) c.args.self.now.kept c.leave.new.kept W standing (without t.number W.live) W.next W.trim stands
+    (let left = c.leave.ensures W t stands.kept_of here in record { of = left.of; half = left.half; down = left.down })

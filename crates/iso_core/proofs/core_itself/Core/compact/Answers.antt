@@ -1,4 +1,4 @@
-use Rattle.iso_core.proofs.{Words.{◌≡◌, ◌⊎◌, inl, inr, ap, subst, ℕ, IfOk, IfErr, weakened, Geometry, Disk, CoreReply, after_switch, switch_step, floor, Refuses, AreOf, up, HasForm}, Plans.own_form, Standings.up_of}
+use Rattle.iso_core.proofs.{Words.{inl, inr, ap, subst, ℕ, weakened, Geometry, World, AreOf, Switches, up}, Plans.own_form, Standings.up_of, core_itself.Core.compact.Goals.After-switch_half}
 use Rattle.iso_core.proofs.core_itself.Core.compact.Goals as goal
 
 pub switch_half-requires : goal.switch_half-requires
@@ -7,38 +7,50 @@ switch_half-requires g c =
     let is = up_of (g.D.Disk.state c.args.self.now.disk) c.args.self.now.kept W standing of c.if-self.false in
     (W, is, own_form W c.args.self.now.kept.geometry.form of.kept_of.world (ap (λ (h : Geometry). h.form) of.kept_of.keeps.geometry))
 
-pub returns-clause-switched : goal.returns-clause-switched
-returns-clause-switched g c W of =
+-- the form is the image's own
+own : (g : Rattle.iso_core.proofs.core_itself.Core.compact.Given.Over) (c : After-switch_half g) (W : World) → AreOf (g.D.Disk.state c.args.self.now.disk) c.args.self.now.kept W up
+    → Switches W W.geometry.form (g.D.Disk.state c.args.self.now.disk) (g.D.Disk.state c.switch_half.new.disk) c.switch_half.new.kept c.switch_half.result
+own g c W of =
     let same = ap (λ (h : Geometry). h.form) of.kept_of.keeps.geometry in
-    subst (λ (n : ℕ). IfOk c.switch_half.result (λ m. (m ≡ floor W) × ((answer : CoreReply) → switch_step W n answer ≡ (answer, after_switch W n))
-    × AreOf (g.D.Disk.state c.switch_half.new.disk) c.switch_half.new.kept (after_switch W n) up)) same
+    subst (λ (n : ℕ). Switches W n (g.D.Disk.state c.args.self.now.disk) (g.D.Disk.state c.switch_half.new.disk) c.switch_half.new.kept c.switch_half.result) same
     (c.switch_half.ensures.switched W of (own_form W c.args.self.now.kept.geometry.form of.kept_of.world same))
 
+pub returns-clause-switched : goal.returns-clause-switched
+returns-clause-switched g c W of = (own g (goal.at.returns-clause-switched g c).After-switch_half W of).switched
+
 pub returns-clause-refused : goal.returns-clause-refused
-returns-clause-refused g c W answer of =
-    let same = ap (λ (h : Geometry). h.form) of.kept_of.keeps.geometry in
-    subst (λ (n : ℕ). IfErr c.switch_half.result (λ e. (e ≡ Disk) ⊎ Refuses (switch_step W n answer).0 e)) same
-    (c.switch_half.ensures.refused W answer of (own_form W c.args.self.now.kept.geometry.form of.kept_of.world same))
+returns-clause-refused g c W answer of = (own g (goal.at.returns-clause-refused g c).After-switch_half W of).refused answer
 
 pub returns-clause-same : goal.returns-clause-same
-returns-clause-same g c W of = c.switch_half.ensures.same W of (own_form W c.args.self.now.kept.geometry.form of.kept_of.world (ap (λ (h : Geometry). h.form) of.kept_of.keeps.geometry))
+returns-clause-same g c W of = (own g (goal.at.returns-clause-same g c).After-switch_half W of).same
 
 pub returns-clause-lost : goal.returns-clause-lost
-returns-clause-lost g c W of = c.switch_half.ensures.lost W of (own_form W c.args.self.now.kept.geometry.form of.kept_of.world (ap (λ (h : Geometry). h.form) of.kept_of.keeps.geometry))
+returns-clause-lost g c W of = (own g (goal.at.returns-clause-lost g c).After-switch_half W of).lost
 
 pub returns-clause-moments : goal.returns-clause-moments
-returns-clause-moments g c W of = c.switch_half.ensures.moments W of (own_form W c.args.self.now.kept.geometry.form of.kept_of.world (ap (λ (h : Geometry). h.form) of.kept_of.keeps.geometry))
+returns-clause-moments g c W of = (own g (goal.at.returns-clause-moments g c).After-switch_half W of).moments
+
+pub returns-clause-unworn : goal.returns-clause-unworn
+returns-clause-unworn g c W answer of = (own g (goal.at.returns-clause-unworn g c).After-switch_half W of).unworn answer
 
 pub returns-clause-form : goal.returns-clause-form
 returns-clause-form g c W of =
-    let same = ap (λ (h : Geometry). h.form) of.kept_of.keeps.geometry in
-    weakened (c.switch_half.ensures.form W of (own_form W c.args.self.now.kept.geometry.form of.kept_of.world same)) (λ image form. elim form [
-      | inl own ↦ own
-      | inr other ↦ subst (λ (n : ℕ). HasForm W n image) same other
+    weakened (own g (goal.at.returns-clause-form g c).After-switch_half W of).form_is (λ image form. elim form [
+      | inl mine ↦ mine
+      | inr mine ↦ mine
     ])
 
-pub returns-clause-unworn : goal.returns-clause-unworn
-returns-clause-unworn g c W answer of failed =
-    let same = ap (λ (h : Geometry). h.form) of.kept_of.keeps.geometry in
-    subst (λ (n : ℕ). (switch_step W n answer).0 ≡ answer) same
-    (c.switch_half.ensures.unworn W answer of (own_form W c.args.self.now.kept.geometry.form of.kept_of.world same) failed)
+pub returns-clause-last : goal.returns-clause-last
+returns-clause-last g c = c.switch_half.ensures.disk.last
+
+pub returns-clause-worn : goal.returns-clause-worn
+returns-clause-worn g c = c.switch_half.ensures.disk.worn
+
+pub returns-clause-told : goal.returns-clause-told
+returns-clause-told g c = c.switch_half.ensures.disk.told
+
+pub returns-clause-still_told : goal.returns-clause-still_told
+returns-clause-still_told g c = c.switch_half.ensures.disk.still_told
+
+pub returns-clause-cause : goal.returns-clause-cause
+returns-clause-cause g c = c.switch_half.ensures.disk.cause

@@ -1,16 +1,16 @@
-use Rattle.iso_shared.proofs.{Words.{arith, rules}, Groupings.{ends_of_joined, many_end, members_end, numbers_end}, HandedBack.{all_same, joined_notes, made_seen, pairs_many, taken_notes}}
+use Rattle.iso_shared.proofs.{Words.{arith}, Groupings.{ends_of_joined, many_end, members_end, numbers_end}, HandedBack.{all_same, joined_notes, pairs_many, taken_notes}}
 use Rattle.iso_shared.proofs.shared.Shared.end_joined.Goals as goal
-use Rattle.std.proofs.lemmas.Grind.{common_steps}
 
 pub returns-in_default-clause-notes : goal.returns-in_default-clause-notes
 returns-in_default-clause-notes g c =
-    joined_notes c.args.self.now g.O.Origin.start _ _ c.args.group.now (made_seen g.O.Origin.start _ _ _ c.refuse_at_turn.ensures.made) c.requires.group.each
+    joined_notes c.args.self.now g.O.Origin.start _ _ c.args.group.now c.refuse_at_turn.ensures.turn.seen c.requires.each
 
 pub returns-in_default-clause-back : goal.returns-in_default-clause-back
 returns-in_default-clause-back g c other = all_same c.args.group.now
 
 pub end_works-requires-clause-group : goal.end_works-requires-clause-group
 end_works-requires-clause-group g c = record {
+  port = c.requires.port;
   each = grind (arith, ends_of_joined);
   some = grind (arith, many_end);
   most = grind (arith, many_end);
@@ -19,10 +19,11 @@ end_works-requires-clause-group g c = record {
 
 pub returns-in_default-clause-turn : goal.returns-in_default-clause-turn
 returns-in_default-clause-turn g c = record {
-  port = c.refuse_at_turn.ensures.port;
-  units = c.refuse_at_turn.ensures.units;
-  holds = λ other. c.refuse_at_turn.ensures.holds;
-  only = first_of (search rules, grind (arith, common_steps));
+  port = c.refuse_at_turn.ensures.turn.port;
+  units = c.refuse_at_turn.ensures.turn.units;
+  seen = c.refuse_at_turn.ensures.turn.seen;
+  holds = c.refuse_at_turn.ensures.turn.holds;
+  only = c.refuse_at_turn.ensures.turn.only;
 }
 
 pub returns-in-Ok-clause-ok : goal.returns-in-Ok-clause-ok

@@ -1,17 +1,18 @@
-use Rattle.iso_shared.proofs.{Words.{view, ap, sym, refl, ◌∙◌, subst, arith, List, ℕ, AreDistinct, AreHeld, CoreError, ArePaired, IsBack, times, Entry, Made, answered, cause_of, members_in, numbers_in}, HandedBack.{back_all, back_are, joined_all, made_joined, made_seen, many_units, members_held, noted_numbers, noted_many, parts_many, same_numbers}}
+use Rattle.iso_shared.proofs.{Words.{view, ap, sym, refl, ◌∙◌, subst, arith, List, ℕ, AreDistinct, AreHeld, CoreError, ArePaired, IsBack, times, Entry, Made, answered, cause_of, members_in, numbers_in}, HandedBack.{back_all, joined_all, made_joined, many_units, members_held, noted_numbers, noted_many, parts_many, same_numbers}}
 use Rattle.iso_model.specs.declared.core_error.CoreError.TheVariants as error
 use Rattle.iso_shared.specs.declared.entry.Call.TheVariants as call
 use Rattle.iso_shared.specs.declared.entry.Entry.TheVariants as entry
 use Rattle.iso_shared.proofs.shared.Shared.end_members.Goals as goal
 
-pub end_joined-requires-clause-group : goal.end_joined-requires-clause-group
-end_joined-requires-clause-group g c =
+pub end_joined-requires : goal.end_joined-requires
+end_joined-requires g c =
     let s = c.args.self.now in
     let A = g.O.Origin.start in
     let group = c.args.group.now in
     let holds = (view c.join_members.new.port.pass).holds in
     let noted = c.join_members.ensures.group in
     let many = noted_many s A _ group c.join_members.new.group noted in record {
+      port = c.join_members.ensures.port;
       each = joined_all s A _ group c.join_members.new.group noted;
       some = omega (arith, many, c.requires.some);
       most = omega (arith, many, c.requires.most);
@@ -67,7 +68,7 @@ returns-in_default g c =
     let noted = c.join_members.ensures.group in
     let parts = c.split_members.ensures.group in
     let many = noted_many s A _ group _ noted in
-    let back = back_all s A m.seen w.seen group _ _ _ (made_seen A m w _ c.in-Err.ensures.err.2) noted (c.in-Err.ensures.back c.in_default.not-Disk) parts in
+    let back = back_all s A m.seen w.seen group _ _ _ c.end_joined.ensures.turn.seen noted (c.in-Err.ensures.back c.in_default.not-Disk) parts in
     let (before, now, made) = c.in-Err.ensures.err in record {
       port = c.split_members.ensures.port;
       only = c.in-Err.ensures.turn.only;
@@ -85,5 +86,4 @@ returns-in_default g c =
         omega (arith, many, c.end_joined.ensures.many, c.end_joined.ensures.turn.units, c.join_members.ensures.units, c.split_members.ensures.units),
         subst (λ (l : List Entry). ArePaired (IsBack s A l) group c.split_members.new.group) (sym c.split_members.ensures.seen) back,
       );
-      again = λ other. back_are s A w.seen group _ back;
     }

@@ -1,13 +1,10 @@
-use Rattle.iso_shared.proofs.{Words.{view, ◌≡◌, ◌++◌, length, map, ap, sym, ◌∙◌, subst, arith, List, GroupReply, Member, MemberEnd, Made, answered, bare_end, cause_of, ends_at, members_at, replies_of}, Groupings.{members_many, same_members}, HandedBack.{answered_is, as_many, back_same, made_seen, same_many, taken_then}}
+use Rattle.iso_shared.proofs.{Words.{view, ◌≡◌, ◌++◌, length, map, ap, sym, ◌∙◌, subst, arith, List, GroupReply, Member, MemberEnd, Made, answered, bare_end, cause_of, ends_at, members_at, replies_of}, Groupings.{members_many, same_members}, HandedBack.{answered_is, as_many, back_same, same_many, taken_then}}
 use Rattle.iso_shared.specs.declared.entry.Call.TheVariants as call
 use Rattle.iso_shared.specs.declared.entry.Entry.TheVariants as entry
 use Rattle.iso_shared.proofs.shared.Shared.end_works.Goals as goal
 
 pub put_replies-requires : goal.put_replies-requires
 put_replies-requires g c = let many = same_many c.end_at_turn.new.ends c.args.ends.now c.end_at_turn.ensures.members in omega (arith, many, c.requires.room)
-
-pub returns-in-Ok-clause-seen : goal.returns-in-Ok-clause-seen
-returns-in-Ok-clause-seen g c = let (before, now, made) = c.in-Ok.ensures.made in made_seen g.O.Origin.start _ _ _ made
 
 pub returns-in-Ok-clause-ok : goal.returns-in-Ok-clause-ok
 returns-in-Ok-clause-ok g c =
@@ -25,9 +22,6 @@ returns-in-Ok-clause-ok g c =
 
 pub give_works-requires : goal.give_works-requires
 give_works-requires g c = c.requires.each ∙ sym (same_many c.end_at_turn.new.ends c.args.ends.now c.end_at_turn.ensures.members)
-
-pub returns-in-Err-clause-seen : goal.returns-in-Err-clause-seen
-returns-in-Err-clause-seen g c = let (before, now, made) = c.in-Err.ensures.made in made_seen g.O.Origin.start _ _ _ made
 
 pub returns-in-Err-clause-err : goal.returns-in-Err-clause-err
 returns-in-Err-clause-err g c =

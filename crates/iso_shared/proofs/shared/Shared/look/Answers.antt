@@ -1,9 +1,15 @@
-use Rattle.iso_shared.proofs.{Words.{view, [], ◌∷◌, ◌++◌, ◌≡◌, ℕ, Option, Some, None, ap, rules, sym, ◌∙◌, bytes_eq, option_map, lookup, Checked, held_first, prefix_self, View, Entry, Posted, posting_in, state_at}, Begins.ahead_first, Giving.lends, Mades.{ahead_on, held_same, one_more, own_on}, Racked.{found_own, stands_look}}
+use Rattle.iso_shared.proofs.{Words.{arith, view, [], ◌∷◌, ◌++◌, ◌≡◌, ℕ, Option, Some, None, ap, rules, sym, ◌∙◌, bytes_eq, option_map, lookup, Checked, held_first, prefix_self, View, Entry, Posted, posting_in, state_at}, Begins.ahead_first, Giving.lends, Mades.{ahead_on, held_same, one_more, own_on}, Racked.{found_own, stands_look}}
+use Rattle.std.proofs.lemmas.Grind.{common_steps}
 use Rattle.iso_shared.specs.declared.entry.Entry.TheVariants as entry
 
-pub give-requires-clause-value : Rattle.iso_shared.proofs.shared.Shared.look.Goals.give-requires-clause-value
-give-requires-clause-value g c =
-    stands_look (lends c.value-guarded.ensures.value c.take-turn.ensures.value c.take-turn.ensures.out) _ c.args.label.now c.look-found.result c.look-found.ensures.item c.look-found.ensures.rest
+pub give-requires : Rattle.iso_shared.proofs.shared.Shared.look.Goals.give-requires
+give-requires g c = record {
+  lock = search rules;
+  turn = search rules;
+  value = (
+      stands_look (lends c.take-turn.ensures c.value-guarded.ensures.value) _ c.args.label.now c.look-found.result c.look-found.ensures.item c.look-found.ensures.rest);
+  held = first_of (search rules, grind (arith, common_steps));
+}
 
 pub returns-in-Some-clause-tx : Rattle.iso_shared.proofs.shared.Shared.look.Goals.returns-in-Some-clause-tx
 returns-in-Some-clause-tx g c =

@@ -1,38 +1,49 @@
-use Rattle.iso_shared.proofs.{Words.{clock_of, moments, view, [], ◌∷◌, ◌++◌, ◌≡◌, ℕ, Ok, Err, ◌<◌, ap, refl, rules, subst, sym, ◌∙◌, IsErr, bytes_eq, lookup, prefix_trans, Doing, Entry, Posted, IsAhead, IsOwn, state_at, times, IsOn, StandsAt, post_entry}, Giving.lends, Mades.{ahead_on, both_by, held_same, made_by, one_more, own_on, units_by}, Racked.{free_by, none_by, post_holds, stands_post, stands_unposted, taken_by}}
+use Rattle.iso_shared.proofs.{Words.{arith, clock_of, moments, view, [], ◌∷◌, ◌++◌, ◌≡◌, ℕ, Ok, Err, ◌<◌, ap, refl, rules, subst, sym, ◌∙◌, IsErr, bytes_eq, lookup, prefix_trans, Doing, Entry, Posted, IsAhead, IsOwn, state_at, times, IsOn, StandsAt, post_entry}, Giving.lends, Mades.{ahead_on, both_by, held_same, made_by, one_more, own_on, units_by}, Racked.{free_by, none_by, post_holds, stands_post, stands_unposted, taken_by}}
+use Rattle.std.proofs.lemmas.Grind.{common_steps}
 
 settled_same : (old new : Doing) → new ≡ old → new ≡ record old { settled = new.settled }
 settled_same old new is = subst (λ (w : Doing). w ≡ record old { settled = w.settled }) (sym is) refl
 
-pub give-requires-clause-value : Rattle.iso_shared.proofs.shared.Shared.post.Goals.give-requires-clause-value
-give-requires-clause-value g c =
-    let A = g.O.Origin.start in
-    let es = (view c.take-turn.new.pass).seen in
-    let tx = c.tell_tx.new.tx in
-    let p : Posted = record { number = tx.number; work = tx.work } in
-    let entry_is : post_entry c.of-name.result.value c.of-item.result.value (Ok tt) ≡ post_entry c.args.label p (Ok tt) = λ i. post_entry (c.of-name.ensures i) (c.of-item.ensures i) (Ok tt) in
-    let kept = c.value-guarded.result.now.rack in
-    subst (λ (e : Entry). StandsAt g.D.Disk.state A g.O.Origin.disk c.value-guarded.result.now.core c.post.new.self (es ++ e ∷ []) (moments c.take-turn.new.pass ++ clock_of g.D.Disk.state c.value-guarded.result.now.core ∷ [])) (sym entry_is)
-    (stands_post (lends c.value-guarded.ensures.value c.take-turn.ensures.value c.take-turn.ensures.out) _ c.args.label p
-    (held_same tx.number _ _ c.take-turn.ensures.same.1 c.tell_tx.ensures.tx.1.held)
-    (own_on A _ es tx.number tx.work c.take-turn.ensures.seen c.tell_tx.ensures.tx.1.own)
-    (none_by (lookup (bytes_eq c.args.label) kept) (λ is. (let no_error = subst (λ r. IsErr r) c.in-Ok.is (c.post.ensures.held is) in absurd (cc no_error))))
-    c.in-Ok.ensures.ok)
+pub give-requires : Rattle.iso_shared.proofs.shared.Shared.post.Goals.give-requires
+give-requires g c = record {
+  lock = search rules;
+  turn = search rules;
+  value = (
+      let A = g.O.Origin.start in
+      let es = (view c.take-turn.new.pass).seen in
+      let tx = c.tell_tx.new.tx in
+      let p : Posted = record { number = tx.number; work = tx.work } in
+      let entry_is : post_entry c.of-name.result.value c.of-item.result.value (Ok tt) ≡ post_entry c.args.label p (Ok tt) = λ i. post_entry (c.of-name.ensures i) (c.of-item.ensures i) (Ok tt) in
+      let kept = c.value-guarded.result.now.rack in
+      subst (λ (e : Entry). StandsAt g.D.Disk.state A g.O.Origin.disk c.value-guarded.result.now.core c.post.new.self (es ++ e ∷ []) (moments c.take-turn.new.pass ++ clock_of g.D.Disk.state c.value-guarded.result.now.core ∷ [])) (sym entry_is)
+      (stands_post (lends c.take-turn.ensures c.value-guarded.ensures.value) _ c.args.label p
+      (held_same tx.number _ _ c.take-turn.ensures.same.1 c.tell_tx.ensures.tx.1.held)
+      (own_on A _ es tx.number tx.work c.take-turn.ensures.seen c.tell_tx.ensures.tx.1.own)
+      (none_by (lookup (bytes_eq c.args.label) kept) (λ is. (let no_error = subst (λ r. IsErr r) c.in-Ok.is (c.post.ensures.held is) in absurd (cc no_error))))
+      c.in-Ok.ensures.ok));
+  held = first_of (search rules, grind (arith, common_steps));
+}
 
-pub give-requires-in-Err-clause-value : Rattle.iso_shared.proofs.shared.Shared.post.Goals.give-requires-in-Err-clause-value
-give-requires-in-Err-clause-value g c =
-    let d = g.D.Disk.state in
-    let A = g.O.Origin.start in
-    let tx = c.tell_tx.new.tx in
-    let p : Posted = record { number = tx.number; work = tx.work } in
-    let e = c.in-Err.error in
-    let entry_is : post_entry c.of-name.result.value c.of-item.result.value (Err e) ≡ post_entry c.args.label p (Err e) = λ i. post_entry (c.of-name.ensures i) (c.of-item.ensures i) (Err e) in
-    let kept = c.value-guarded.result.now.rack in
-    subst (λ (x : Entry). StandsAt d A g.O.Origin.disk c.value-guarded.result.now.core c.post.new.self ((view c.take-turn.new.pass).seen ++ x ∷ []) (moments c.take-turn.new.pass ++ clock_of d c.value-guarded.result.now.core ∷ [])) (sym entry_is)
-    (stands_unposted (lends c.value-guarded.ensures.value c.take-turn.ensures.value c.take-turn.ensures.out) _ c.args.label p e
-    (held_same tx.number _ _ c.take-turn.ensures.same.1 c.tell_tx.ensures.tx.1.held)
-    c.in-Err.ensures.err.0
-    (taken_by (lookup (bytes_eq c.args.label) kept) e c.in-Err.ensures.free)
-    (free_by (lookup (bytes_eq c.args.label) kept) e c.in-Err.ensures.taken))
+pub give-requires-in-Err : Rattle.iso_shared.proofs.shared.Shared.post.Goals.give-requires-in-Err
+give-requires-in-Err g c = record {
+  lock = search rules;
+  turn = search rules;
+  value = (
+      let d = g.D.Disk.state in
+      let A = g.O.Origin.start in
+      let tx = c.tell_tx.new.tx in
+      let p : Posted = record { number = tx.number; work = tx.work } in
+      let e = c.in-Err.error in
+      let entry_is : post_entry c.of-name.result.value c.of-item.result.value (Err e) ≡ post_entry c.args.label p (Err e) = λ i. post_entry (c.of-name.ensures i) (c.of-item.ensures i) (Err e) in
+      let kept = c.value-guarded.result.now.rack in
+      subst (λ (x : Entry). StandsAt d A g.O.Origin.disk c.value-guarded.result.now.core c.post.new.self ((view c.take-turn.new.pass).seen ++ x ∷ []) (moments c.take-turn.new.pass ++ clock_of d c.value-guarded.result.now.core ∷ [])) (sym entry_is)
+      (stands_unposted (lends c.take-turn.ensures c.value-guarded.ensures.value) _ c.args.label p e
+      (held_same tx.number _ _ c.take-turn.ensures.same.1 c.tell_tx.ensures.tx.1.held)
+      c.in-Err.ensures.err.0
+      (taken_by (lookup (bytes_eq c.args.label) kept) e c.in-Err.ensures.free)
+      (free_by (lookup (bytes_eq c.args.label) kept) e c.in-Err.ensures.taken)));
+  held = first_of (search rules, grind (arith, common_steps));
+}
 
 pub returns-in-Ok-clause-ok : Rattle.iso_shared.proofs.shared.Shared.post.Goals.returns-in-Ok-clause-ok
 returns-in-Ok-clause-ok g c =

@@ -1,11 +1,11 @@
-use Rattle.iso_shared.proofs.{Words.{moments, view, arith, inl, [], ◌∷◌, ◌++◌, ◌≡◌, ap, refl, rules, subst, sym, ◌∙◌, IsRecent, State, faults_of, state_at, tx_of, recent_entry}, Begins.{Recounts, did_recent, if_ok_by, is_recent, recent_state}, Cores.is_tx, Giving.{AtTurn, Lends, asked, at_turn, entry_may, lends, recent_holds, stands_answer}, Mades.{held_same, made_by, one_more, tx_on}, shared.Shared.recent.Goals.After-recent-result}
+use Rattle.iso_shared.proofs.{Words.{moments, view, arith, inl, [], ◌∷◌, ◌++◌, ◌≡◌, ap, refl, rules, subst, sym, ◌∙◌, IsRecent, State, faults_of, state_at, tx_of, recent_entry}, Begins.{Recounts, did_recent, if_ok_by, is_recent, recent_state}, Cores.is_tx, Giving.{AtTurn, Lends, asked, at_turn, entry_may, lends, recent_holds, stands_answer}, Mades.{held_same, turn_made, turn_seen, tx_on}, shared.Shared.recent.Goals.After-recent-result}
 use Rattle.iso_shared.specs.declared.entry.Call.TheVariants as call
 use Rattle.iso_shared.specs.declared.entry.Entry.TheVariants as entry
 use Rattle.iso_shared.proofs.shared.Shared.recent.Goals as goal
 
 pub recent-result-requires : goal.recent-result-requires
 recent-result-requires g c =
-    let l = lends c.value-guarded.ensures.value c.take-turn.ensures.value c.take-turn.ensures.out in
+    let l = lends c.take-turn.ensures c.value-guarded.ensures.value in
     let t = at_turn l c.args.tx.now c.requires.tx.1 c.take-turn.ensures.seen c.take-turn.ensures.same.1 in
     let (W, standing, u, stands, is) = asked l _ [] t.live in
     (W, standing, u, stands, is, t.from, t.ahead.to)
@@ -16,7 +16,7 @@ module _ (g : Rattle.iso_shared.proofs.shared.Shared.recent.Given.Over) (c : Aft
   S = state_at g.O.Origin.start (view c.take-turn.new.pass).seen
 
   l : Lends g.D.Disk.state g.O.Origin.start g.O.Origin.disk c.value-guarded.result.now.core c.value-guarded.result.now.rack (view c.take-turn.new.pass).seen (moments c.take-turn.new.pass) (view c.take-turn.new.pass).holds
-  l = lends c.value-guarded.ensures.value c.take-turn.ensures.value c.take-turn.ensures.out
+  l = lends c.take-turn.ensures c.value-guarded.ensures.value
 
   t : AtTurn g.O.Origin.start (view c.take-turn.new.pass).seen c.args.tx.now.number c.args.tx.now.work c.args.tx.now.checked
   t = at_turn l c.args.tx.now c.requires.tx.1 c.take-turn.ensures.seen c.take-turn.ensures.same.1
@@ -28,28 +28,30 @@ module _ (g : Rattle.iso_shared.proofs.shared.Shared.recent.Given.Over) (c : Aft
     fallen = c.recent-result.ensures.down S.world;
   }
 
-pub give-requires-clause-value : goal.give-requires-clause-value
-give-requires-clause-value g c =
-    let s = (goal.at.give-requires-clause-value g c).After-recent-result in
-    let n = c.args.tx.now.number in
-    let held = held_same n _ _ c.take-turn.ensures.same.1 c.requires.tx.1.held in
-    let r = c.recent-result.result in
-    stands_answer (l g s) c.of-before.result.value _ (call.Recent n) (λ y. entry.Recent n y.upto) r c.of-before.ensures (λ y. ((held, tt), tt)) (held, tt) (λ y T. refl) (inl refl)
-    (did_recent g.D.Disk.state (S g s) _ n c.args.tx.now.checked.upto _ _ r (l g s).at.core (so g s))
-
-pub give-requires-clause-held : goal.give-requires-clause-held
-give-requires-clause-held g c = grind (arith, held_same, entry_may)
+pub give-requires : goal.give-requires
+give-requires g c = record {
+  lock = search rules;
+  turn = search rules;
+  value = (
+      let s = (goal.at.give-requires g c).After-recent-result in
+      let n = c.args.tx.now.number in
+      let held = held_same n _ _ c.take-turn.ensures.same.1 c.requires.tx.1.held in
+      let r = c.recent-result.result in
+      stands_answer (l g s) c.of-before.result.value _ (call.Recent n) (λ y. entry.Recent n y.upto) r c.of-before.ensures (λ y. ((held, tt), tt)) (held, tt) (λ y T. refl) (inl refl)
+      (did_recent g.D.Disk.state (S g s) _ n c.args.tx.now.checked.upto _ _ r (l g s).at.core (so g s)));
+  held = grind (arith, held_same, entry_may);
+}
 
 pub returns-clause-tx : goal.returns-clause-tx
 returns-clause-tx g c =
-    let begins = one_more (view c.args.tx.now.pass) (view c.take-turn.new.pass) (view c.give.new.pass) _ c.take-turn.ensures.seen c.give.ensures.seen in
+    let begins = turn_seen c.take-turn.ensures c.give.ensures in
     (search rules, tx_on c.args.tx.now c.give.new.pass begins (c.give.ensures.holds ∙ recent_holds _ _ _ c.recent-result.result _ ∙ c.take-turn.ensures.same.1) c.requires.tx.1)
 
 pub returns-clause-made : goal.returns-clause-made
 returns-clause-made g c = (
   faults_of g.D.Disk.state c.of-before.result.value,
   faults_of g.D.Disk.state c.value-guarded.result.now.core,
-  made_by g.O.Origin.start (view c.args.tx.now.pass) (view c.args.tx.now.pass) (view c.take-turn.new.pass) (view c.give.new.pass) _ c.take-turn.ensures.seen c.take-turn.ensures.seen c.take-turn.ensures.same.0 c.give.ensures.seen c.give.ensures.mine c.give.ensures.legal,
+  turn_made c.take-turn.ensures c.give.ensures,
 )
 
 pub returns-clause-recent : goal.returns-clause-recent

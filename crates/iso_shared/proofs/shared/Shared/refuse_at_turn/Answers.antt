@@ -1,9 +1,12 @@
-use Rattle.iso_shared.proofs.{Words.{view, arith, inl, [], ap, refl, sym, subst, Err, ℕ, List, AreHeld, members_in, numbers_in, state_at, wanting_entry}, Giving.{entry_keeps, entry_may, lends, stands_call}, Groupings.{did_wanting, joined_args, numbers_member, wanting_holds}, Mades.made_by}
+use Rattle.iso_shared.proofs.{Words.{view, arith, inl, inr, [], ap, refl, rules, sym, ◌≡◌, ◌∙◌, ⊎_elim, subst, Err, ℕ, List, AreHeld, members_in, numbers_in, state_at, wanting_entry}, Giving.{entry_keeps, entry_may, lends, stands_call}, Groupings.{did_wanting, joined_args, numbers_member, wanting_holds}, Mades.{turn_made, turn_seen}}
+use Rattle.std.proofs.lemmas.Grind.{common_steps}
+use Rattle.iso_model.specs.declared.core_error.CoreError.TheVariants as error
 use Rattle.iso_shared.specs.declared.entry.Call.TheVariants as call
 use Rattle.iso_shared.specs.declared.entry.Entry.TheVariants as entry
+use Rattle.iso_shared.proofs.shared.Shared.refuse_at_turn.Goals as goal
 
-pub give_wanting-requires-clause-value : Rattle.iso_shared.proofs.shared.Shared.refuse_at_turn.Goals.give_wanting-requires-clause-value
-give_wanting-requires-clause-value g c =
+pub give_wanting-requires-clause-may : goal.give_wanting-requires-clause-may
+give_wanting-requires-clause-may g c =
     let d = g.D.Disk.state in
     let A = g.O.Origin.start in
     let es = (view c.take-turn.new.pass).seen in
@@ -11,24 +14,34 @@ give_wanting-requires-clause-value g c =
     let S = state_at A es in
     let group = c.args.group.now in
     let members = members_in group in
-    let error = c.wanting-error.result in
-    let e = wanting_entry group error in
+    let why = c.wanting-error.result in
+    let e = wanting_entry group why in
     let lent = c.value-guarded.result.now.core in
-    let l = lends c.value-guarded.ensures.value c.take-turn.ensures.value c.take-turn.ensures.out in
-    let args = joined_args c.args.self.now A es (view c.args.port.now.pass).seen group c.take-turn.ensures.seen c.requires.group.each c.requires.group.some c.requires.group.most c.requires.group.held.1 in
-    let held = subst (λ (ns : List ℕ). AreHeld ns holds) (sym (numbers_member group)) (subst (λ (hs : List ℕ). AreHeld (numbers_in group) hs) (sym c.take-turn.ensures.same.1) c.requires.group.held.0) in
-    stands_call l lent e e
-    (entry_may 0 0 (call.EndGroup members) (λ (done : Unit {0}). entry.EndGroup []) holds (λ x. (tt, tt)) held (Err error)) refl (inl refl)
-    (did_wanting d S lent members error c.stat.result.down l.at.core args (λ W standing stands. ap (λ t. t.down) (c.stat.ensures W standing stands)) c.wanting-error.ensures.down c.wanting-error.ensures.up)
-    (entry_keeps 0 0 (call.EndGroup members) (λ (done : Unit {0}). entry.EndGroup []) (λ x T. refl) (Err error))
+    let l = lends c.take-turn.ensures c.value-guarded.ensures.value in
+    let args = joined_args c.args.self.now A es (view c.args.port.now.pass).seen group c.take-turn.ensures.seen c.requires.each c.requires.some c.requires.most c.requires.held.1 in
+    let held = subst (λ (ns : List ℕ). AreHeld ns holds) (sym (numbers_member group)) (subst (λ (hs : List ℕ). AreHeld (numbers_in group) hs) (sym c.take-turn.ensures.same.1) c.requires.held.0) in
+    let may = entry_may 0 0 (call.EndGroup members) (λ (done : Unit {0}). entry.EndGroup []) holds (λ x. (tt, tt)) held (Err why) in
+    record {
+      lock = search rules;
+      turn = search rules;
+      value =
+          stands_call l lent e e may refl (inl refl)
+          (did_wanting d S lent members why c.stat.result.down l.at.core args (λ W standing stands. ap (λ t. t.down) (c.stat.ensures W standing stands)) c.wanting-error.ensures.down c.wanting-error.ensures.up)
+          (entry_keeps 0 0 (call.EndGroup members) (λ (done : Unit {0}). entry.EndGroup []) (λ x T. refl) (Err why));
+      held = may;
+    }
 
-pub give_wanting-requires-clause-held : Rattle.iso_shared.proofs.shared.Shared.refuse_at_turn.Goals.give_wanting-requires-clause-held
-give_wanting-requires-clause-held g c = grind (arith, numbers_member, entry_may)
+pub returns-clause-turn : goal.returns-clause-turn
+returns-clause-turn g c =
+    let why = c.wanting-error.result in
+    let only = c.wanting-error.ensures.only in
+    record {
+      port = first_of (search rules, grind (arith, common_steps));
+      units = first_of (search rules, grind (arith, common_steps));
+      seen = turn_seen c.take-turn.ensures c.give_wanting.ensures;
+      holds = λ other. c.give_wanting.ensures.holds ∙ wanting_holds (members_in c.args.group.now) why (view c.take-turn.new.pass).holds only ∙ c.take-turn.ensures.same.1;
+      only = ⊎_elim (λ (down : why ≡ error.Down). inl down) (λ (wants : why ≡ error.Memory). inr (inr wants)) only;
+    }
 
-pub returns-clause-holds : Rattle.iso_shared.proofs.shared.Shared.refuse_at_turn.Goals.returns-clause-holds
-returns-clause-holds g c = grind (arith, wanting_holds)
-
-pub returns-clause-made : Rattle.iso_shared.proofs.shared.Shared.refuse_at_turn.Goals.returns-clause-made
-returns-clause-made g c =
-    let v = (view c.args.port.now.pass) in
-    made_by g.O.Origin.start v v (view c.take-turn.new.pass) (view c.give_wanting.new.pass) _ c.take-turn.ensures.seen c.take-turn.ensures.seen c.take-turn.ensures.same.0 c.give_wanting.ensures.seen c.give_wanting.ensures.mine c.give_wanting.ensures.legal
+pub returns-clause-made : goal.returns-clause-made
+returns-clause-made g c = turn_made c.take-turn.ensures c.give_wanting.ensures

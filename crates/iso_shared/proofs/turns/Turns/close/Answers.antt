@@ -4,4 +4,4 @@ pub returns-clause-all : Rattle.iso_shared.proofs.turns.Turns.close.Goals.return
 returns-clause-all g c = c.close.ensures.all ∙ ap places (sym (entries_many _))
 
 pub close-requires-clause-free : Rattle.iso_shared.proofs.turns.Turns.close.Goals.close-requires-clause-free
-close-requires-clause-free g c = rests_raw c.args.pass c.requires.free
+close-requires-clause-free g c = rests_raw c.args.pass c.requires.pass.1

@@ -1,0 +1,25 @@
+use Rattle.iso_core.proofs.core_itself.Core.end.Goals as goal
+
+pub returns-clause-ended : goal.returns-clause-ended
+returns-clause-ended g c W t of here is_work is = (c.end_tx.ensures.ends W t of here is_work is).ended
+
+pub returns-clause-refused : goal.returns-clause-refused
+returns-clause-refused g c W t of here is_work is = (c.end_tx.ensures.ends W t of here is_work is).refused
+
+pub returns-clause-moments : goal.returns-clause-moments
+returns-clause-moments g c W t of here is_work is = (c.end_tx.ensures.ends W t of here is_work is).moments
+
+pub returns-clause-lost : goal.returns-clause-lost
+returns-clause-lost g c W t of here is_work is = (c.end_tx.ensures.ends W t of here is_work is).lost
+
+pub returns-clause-last : goal.returns-clause-last
+returns-clause-last g c = c.end_tx.ensures.disk.last
+
+pub returns-clause-unwritten : goal.returns-clause-unwritten
+returns-clause-unwritten g c = c.end_tx.ensures.disk.unwritten
+
+pub returns-clause-told : goal.returns-clause-told
+returns-clause-told g c = c.end_tx.ensures.disk.told
+
+pub returns-clause-cause : goal.returns-clause-cause
+returns-clause-cause g c = c.end_tx.ensures.disk.cause
