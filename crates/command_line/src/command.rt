@@ -1,32 +1,29 @@
 // The command that clap is given: it has what the grammar of the words says. Each step takes what the steps before it made,
 // or that there was no memory for it, so that none of them ends early.
 ghost use Rattle.std.specs.Prelude.{◌≡◌, IfOk, false};
-ghost use Rattle.clap.specs.{Words.{App, Rule, app_of, rule_of, with_rule, with_subcommand}, declared.builder.command.Command.TheViews.{out-Command as fields_of}};
-ghost use Rattle.command_line.specs.{Grammar.{bare_app, bench_app, image_app, isotope_app, new_image_app, placed_rule, valued_rule}, Local.IsLocal};
+ghost use Rattle.clap.specs.Words.{App, Rule, app_of, rule_of, with_rule, with_subcommand};
+ghost use Rattle.command_line.specs.{Grammar.{bare_app, bench_app, image_app, isotope_app, new_image_app, placed_rule, valued_rule}, Local.{IsLocal, IsLocalArg}};
 
 use clap::{Arg, ArgAction, Command};
 use std::alloc::{AllocError, Global};
 
 /// An option with one value.
 fn valued<'a>(alloc: Global, name: &'a str) -> Arg<'a>
-    ensures rule { rule_of result ≡ valued_rule name.entry.now }
-    ensures local { result.global ≡ false }
+    ensures { IsLocalArg (valued_rule name.entry.now) result }
 {
     Arg::new(alloc, name).long(name).action(ArgAction::Set)
 }
 
 /// A word that has to be there.
 fn placed<'a>(alloc: Global, name: &'a str) -> Arg<'a>
-    ensures rule { rule_of result ≡ placed_rule name.entry.now }
-    ensures local { result.global ≡ false }
+    ensures { IsLocalArg (placed_rule name.entry.now) result }
 {
     Arg::new(alloc, name).required(true).action(ArgAction::Set)
 }
 
 /// A command without help and version.
 fn bare<'a>(alloc: Global, name: &'a str) -> Command<'a>
-    ensures app { app_of result ≡ bare_app name.entry.now }
-    ensures local { (fields_of result).has_globals ≡ false }
+    ensures { IsLocal (bare_app name.entry.now) result }
 {
     Command::new(alloc, name)
         .disable_help_flag(true)

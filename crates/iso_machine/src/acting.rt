@@ -25,6 +25,48 @@ fn or_stop(given: Result<Reply, Memory>) -> Result<Reply, Stop>
     }
 }
 
+/// An access or a mark of a transaction, as `act` has it. The bytes that a get shows take the spare memory; what is in it is free.
+#[inline(always)]
+pub(crate) fn act_reusing<D: Disk>(
+    alloc: Global,
+    core: &mut Core<D>,
+    tx: u64,
+    work: &mut Work,
+    buffer: &mut Vec<u8>,
+    spare: &mut Vec<u8>,
+    op: &Op,
+) -> Result<Reply, Stop>
+    requires { (W : World) × (t : Live) × StandsFor D.state core.old W up × IsTx W tx t × IsActive W t work.old }
+    ensures given { (W : World) (t : Live) → StandsFor D.state core.old W up → IsTx W tx t → IsActive W t work.old
+        → IfOk result (IsShown (D.state (disk_of core.old)) W t (act_step W t op.now) work.new) }
+    ensures kept { OnErr result (work.new ≡ record work.old { ready = work.new.ready }) }
+    ensures same { (W : World) → StandsFor D.state core.old W up → StandsFor D.state core.new W up }
+    ensures unwritten { WritesNothing (D.state (disk_of core.old)) (D.state (disk_of core.new)) }
+    ensures up { ¬ IsErrOf result Stop.Down }
+    ensures cause { BlamesDisk (D.state (disk_of core.old)).faults (D.state (disk_of core.new)).faults result }
+{
+    match op {
+        Op::Put { block, off, bytes } => { or_stop(put(work, *block, *off, bytes.as_slice())) }
+        Op::Read { block } => read(alloc, core, tx, work, *block),
+        Op::Get { block, off, len } => {
+            let (block, off, len) = (*block, *off, *len);
+            get(
+                alloc,
+                core,
+                tx,
+                work,
+                buffer,
+                spare,
+                BlockRange { block, off, len },
+            )
+        }
+        Op::Write { block, bytes } => or_stop(write(work, *block, bytes.as_slice())),
+        Op::Fill { block, bytes } => or_stop(fill(work, buffer, *block, bytes.as_slice())),
+        Op::Mark { off, len } => Ok(mark(work, *off, *len)),
+        _ => Ok(Reply::NotInTx),
+    }
+}
+
 /// An access or a mark of a transaction; any other operation is refused by its reply.
 ///
 /// # Errors
@@ -50,23 +92,6 @@ pub fn act<D: Disk>(
     ensures up { ¬ IsErrOf result Stop.Down }
     ensures cause { BlamesDisk (D.state (disk_of core.old)).faults (D.state (disk_of core.new)).faults result }
 {
-    match op {
-        Op::Put { block, off, bytes } => { or_stop(put(work, *block, *off, bytes.as_slice())) }
-        Op::Read { block } => read(alloc, core, tx, work, *block),
-        Op::Get { block, off, len } => {
-            let (block, off, len) = (*block, *off, *len);
-            get(
-                alloc,
-                core,
-                tx,
-                work,
-                buffer,
-                BlockRange { block, off, len },
-            )
-        }
-        Op::Write { block, bytes } => or_stop(write(work, *block, bytes.as_slice())),
-        Op::Fill { block, bytes } => or_stop(fill(work, buffer, *block, bytes.as_slice())),
-        Op::Mark { off, len } => Ok(mark(work, *off, *len)),
-        _ => Ok(Reply::NotInTx),
-    }
+    let mut spare = Vec::new(alloc);
+    act_reusing(alloc, core, tx, work, buffer, &mut spare, op)
 }

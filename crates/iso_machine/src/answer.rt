@@ -3,7 +3,7 @@ ghost use Rattle.std.specs.Prelude.{◌≡◌};
 ghost use Rattle.script_model.specs.{declared.script.Op.TheVariants.Trim, Step.{in_transaction, numbers, step}, Operations.IsOp};
 ghost use Rattle.iso_model.specs.World.{World, attached};
 
-use crate::acting::act;
+use crate::acting::act_reusing;
 use crate::machine::Machine;
 use crate::storing::store;
 use iso_disk::Disk;
@@ -15,7 +15,7 @@ impl<D: Disk> Machine<D> {
     ghost use Rattle.script_runner.specs.{Stopped.GoesOn, Told.IsPlain};
 
     /// An access or a mark of a client's transaction.
-    fn access(&mut self, client: u8, op: &Op) -> Result<Reply, Stop>
+    fn access(&mut self, client: u8, op: &Op, spare: &mut Vec<u8>) -> Result<Reply, Stop>
         requires { (W : World) × IsMachineOf D.state self.old W }
         ensures { (W : World) → IsMachineOf D.state self.old W → IsOp op.now
             → Answers Always (IsMachineOf D.state self.new) (D.state (disk_of (core_of self.old))) (D.state (disk_of (core_of self.new))) W (in_transaction W (attached W client) (λ t. act_step W t op.now)) result }
@@ -24,12 +24,13 @@ impl<D: Disk> Machine<D> {
             return Ok(Reply::NotInTx);
         };
         let attached = &mut self.live[i];
-        act(
+        act_reusing(
             self.alloc,
             &mut self.core,
             attached.tx,
             &mut *attached.work,
             &mut self.buffer,
+            spare,
             op,
         )
     }
@@ -80,9 +81,9 @@ impl<D: Disk> Machine<D> {
         )
     }
 
-    /// Does what a client asks for, and answers it.
+    /// Does what a client asks for, and answers it. The bytes that a get shows take the spare memory.
     #[inline(always)]
-    pub(crate) fn answer(&mut self, client: u8, op: &Op) -> Result<Reply, Stop>
+    pub(crate) fn answer(&mut self, client: u8, op: &Op, spare: &mut Vec<u8>) -> Result<Reply, Stop>
         requires stands { (W : World) × IsMachineOf D.state self.old W }
         requires op { IsOp op.now }
         ensures { (W : World) → IsMachineOf D.state self.old W → IsOp op.now
@@ -94,7 +95,7 @@ impl<D: Disk> Machine<D> {
             | Op::Get { .. }
             | Op::Write { .. }
             | Op::Fill { .. }
-            | Op::Mark { .. } => self.access(client, op),
+            | Op::Mark { .. } => self.access(client, op, spare),
             Op::Abort => self.abort(client),
             Op::Release { label } => self.release(client, label),
             Op::Takeover { label } | Op::Await { label } => self.takeover(client, label),

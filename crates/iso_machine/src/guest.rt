@@ -1,4 +1,4 @@
-// A transaction of a core, with all that is known of it.
+// The transaction below `CoreBlocks`, which alone calls it: its methods promise what those of `TxBlocks` do.
 ghost use Rattle.std.specs.{Prelude.{◌≡◌, ◌≢◌, ◌≤◌, Err, OnOk, OnErr, cond, false, length, [], ◌∷◌}, Option.ForSome};
 ghost use Rattle.iso_model.specs.{Effect.own, Marks.marked, Premises.block_at};
 ghost use Rattle.store_model.specs.Stores.{look_access, store_access};

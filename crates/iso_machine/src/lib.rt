@@ -2,7 +2,7 @@
 //! `world`), at each moment an image shows the world before or after it (`moments`), and a stop has its cause (`cause`); want of
 //! memory has made nothing (`unmade`). After a fault in an end no clause holds of it.
 //!
-//! `CoreBlocks` is a live transaction as a store sees it; `leave` gives the core back, nothing written (`IsGuest`).
+//! `CoreBlocks` is a live transaction as a store sees it; `leave` gives the core back, the disk unwritten (`IsGuest`).
 #![tactic(auto)]
 
 mod accessing;

@@ -98,7 +98,7 @@ impl<D: Disk> ScriptMachine for Machine<D> {
     ghost lawful = { λ m. D.lawful (disk_of (core_of m)) };
 
     #[inline(always)]
-    fn step(&mut self, client: u8, op: &Op) -> Result<Reply, Stop> {
-        self.answer(client, op)
+    fn step(&mut self, client: u8, op: &Op, spare: &mut Vec<u8>) -> Result<Reply, Stop> {
+        self.answer(client, op, spare)
     }
 }

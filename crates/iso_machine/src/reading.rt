@@ -14,6 +14,7 @@ use iso_disk::{Disk, DiskFault};
 use iso_model::Bytes;
 use script_model::{Reply, Stop, fit, is_outside, zeros};
 use std::alloc::Global;
+use std::mem::replace;
 use tx_table::Work;
 
 /// Reads `len` bytes of a block from `off` on, as the transaction is shown them, into their place in a slice as long as the
@@ -220,13 +221,15 @@ pub fn get_into<D: Disk>(
     }
 }
 
-/// A read of a range, with one mark over it. The bytes are read into their place in the buffer.
+/// A read of a range, with one mark over it. The bytes are read into their place in the buffer, and those that are shown take the
+/// spare memory.
 pub(crate) fn get<D: Disk>(
     alloc: Global,
     core: &mut Core<D>,
     tx: u64,
     work: &mut Work,
     buffer: &mut Vec<u8>,
+    spare: &mut Vec<u8>,
     range: BlockRange,
 ) -> Result<Reply, Stop>
     requires { (W : World) × (t : Live) × StandsFor D.state core.old W up × IsTx W tx t × IsActive W t work.old }
@@ -243,9 +246,10 @@ pub(crate) fn get<D: Disk>(
     if let Some(reply) = refusal(work, block, is_outside(size, off, len as usize)) {
         return Ok(reply);
     }
-    let Ok(mut bytes) = zeros(alloc, len) else {
+    let mut bytes = replace(spare, Vec::new(alloc));
+    if let Err(_) = fit(&mut bytes, len) {
         return Err(Stop::Memory);
-    };
+    }
     match get_within(core, tx, work, buffer, block, off, &mut bytes) {
         Ok(()) => Ok(Reply::Shown(Bytes::of(bytes))),
         Err(why) => Err(why),

@@ -19,7 +19,7 @@ pub use Rattle.script_model.{proofs.ScriptBytes.script_lines, proofs.Small.{answ
 unfoldable pub use Rattle.script_model.proofs.Words.{begin_step, digits, get_step, number_of, numbers, operation_of, other_operation, reply_text, runs, step, versions, words_of}
 pub use Rattle.script_runner.{proofs.Histories.{between_on, shows_last}, proofs.Replying.plain_same, proofs.Steps.all_first, specs.Read.{HasNoLines, HasRead}, specs.Replies.{AreSameButShown, text_of}, specs.Run.{AreFirst, AreLinesOf, HasRun, IfUp}, specs.Told.{ArePlain, IsPlain}, specs.declared.lines.ScriptError.ScriptError, specs.declared.run_end.RunEnd.RunEnd}
 pub use Rattle.sha2.specs.Sha256.{sha256}
-pub use Rattle.par_calls.{proofs.{Listed.{files_answer_at, stores_answer_at}, Tracing.lines_tell}}
+pub use Rattle.store_scripts.{proofs.{Listed.{files_answer_at, stores_answer_at}, Tracing.lines_tell}}
 pub use Rattle.store_scripts.{proofs.Whole.{files_answer, stores_answer}}
 pub use seplogic.Ra.Ura.{Ura}
 pub use mir.{MapTy.inst_fn, Syntax.{Dict, Fn, a_type, dcons, dnil}, Val.{Val, vnil, vptr, vstruct}}

@@ -9,7 +9,7 @@ use Rattle.script_model.specs.declared.script.Line.{Line}
 use Rattle.iso_shared.specs.{declared.entry.Entry.Entry, Ports.IsIsolatedAt, Standing.{HaveEnded, ShowsSince, start_at}, States.{Start, State, state_at}}
 use Rattle.par_lines.specs.Ends.{status_of}
 use Rattle.par_script.specs.{Output.{IsFront, IsOutput}, Told.Told, declared.part.Part.Part}
-use Rattle.par_calls.specs.{EntriesInOrder.{FilesAnswerAt, StoresAnswerAt}, InOrder.LinesTellCalls}
+use Rattle.store_scripts.specs.{EntriesInOrder.{FilesAnswerAt, StoresAnswerAt}, ThreadsInOrder.LinesTellCalls}
 use Rattle.script_runner.specs.{declared.lines.ScriptError.ScriptError, Read.{HasNoLines, HasRead}}
 use Rattle.iso_top.specs.{Prints.{Printed, WasCut, WroteWhole}, Starts.{GoesOnTelling, IsUntouched, OpensTo, WasBoundOnce}, Texts.{disk_fault_text, memory_text, script_error_text}}
 

@@ -1,5 +1,5 @@
 // Bytes of a block as an access of a line takes them: laid in a buffer, or cut out of one.
-ghost use Rattle.std.specs.Prelude.{◌≡◌, ◌+◌, ◌-◌, ◌≤◌, ◌++◌, IfOk, OnOk, drop, length, replicate, take};
+ghost use Rattle.std.specs.Prelude.{◌≡◌, ◌+◌, ◌≤◌, IfOk, OnOk, drop, length, replicate, take};
 ghost use Rattle.iso_model.specs.Marks.{is_outside};
 
 use iso_model::Memory;
@@ -60,22 +60,5 @@ pub fn fill_up(buffer: &mut Vec<u8>, size: u32, byte: u8) -> Result<(), Memory>
 {
     buffer.clear();
     buffer.resize(size as usize, byte)?;
-    Ok(())
-}
-
-/// Makes the buffer a block of zeros with these bytes at `off`.
-///
-/// # Errors
-///
-/// Want of memory. The buffer may have any bytes.
-#[inline]
-pub fn lay_out(buffer: &mut Vec<u8>, size: u32, off: u32, bytes: &[u8]) -> Result<(), Memory>
-    requires { off + length bytes.now ≤ size }
-    ensures { OnOk result (buffer.new.items ≡ replicate off 0 ++ bytes.now ++ replicate (size - (off + length bytes.now)) 0) }
-{
-    buffer.clear();
-    buffer.resize(off as usize, 0)?;
-    buffer.extend_from_slice(bytes)?;
-    buffer.resize(size as usize, 0)?;
     Ok(())
 }

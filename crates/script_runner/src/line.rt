@@ -7,7 +7,7 @@ ghost use Rattle.script_runner.specs.{Lines.{AnswersParsed, IsByStep, IsLine, Ra
 use crate::machine::ScriptMachine;
 use crate::run_end::Halt;
 use iso_io::{Sink, put_all};
-use script_model::{BadLine, Line, LineError, Parsed, Stop};
+use script_model::{BadLine, Line, LineError, Parsed, Reply, Stop};
 use script_text::ReplyLine;
 
 /// How a run ends whose machine gave no reply.
@@ -21,11 +21,20 @@ fn stopped(why: Stop) -> Halt
     }
 }
 
+/// Keeps the memory of the bytes that an answer shows, once they were handed on.
+#[inline(always)]
+fn keep_shown(answered: Result<Reply, Stop>, spare: &mut Vec<u8>) {
+    if let Ok(Reply::Shown(bytes)) = answered {
+        *spare = bytes.into_vec();
+    }
+}
+
 /// Runs the operation of a line, and hands its reply to the sink.
 #[inline(always)]
 fn answer_line<M: ScriptMachine, K: Sink>(
     line: &Line,
     reply: &mut ReplyLine,
+    spare: &mut Vec<u8>,
     machine: &mut M,
     output: &mut K,
 ) -> Result<(), Halt>
@@ -37,7 +46,7 @@ fn answer_line<M: ScriptMachine, K: Sink>(
         × Answered (M.stands machine.new) (M.disk machine.old) (M.disk machine.new) (K.state output.old) (K.state output.new) W (end_of halt) [] ((number, line.now) ∷ [])) }
 {
     // what was answered stays where the machine has put it
-    let answered = machine.step(line.client, &line.op);
+    let answered = machine.step(line.client, &line.op, spare);
     let answer = match &answered {
         Ok(answer) => answer,
         Err(why) => return Err(stopped(*why)),
@@ -48,6 +57,7 @@ fn answer_line<M: ScriptMachine, K: Sink>(
     if let Err(_) = put_all(output, reply.text()) {
         return Err(Halt::Output);
     }
+    keep_shown(answered, spare);
     Ok(())
 }
 
@@ -71,6 +81,7 @@ pub(crate) fn answer_parsed<M: ScriptMachine, K: Sink>(
     read: Result<(), LineError>,
     parsed: &Parsed,
     reply: &mut ReplyLine,
+    spare: &mut Vec<u8>,
     machine: &mut M,
     output: &mut K,
 ) -> Result<(), Halt>
@@ -84,6 +95,6 @@ pub(crate) fn answer_parsed<M: ScriptMachine, K: Sink>(
     }
     match parsed {
         Parsed::Skip => Ok(()),
-        Parsed::Line(line) => answer_line(line, reply, machine, output),
+        Parsed::Line(line) => answer_line(line, reply, spare, machine, output),
     }
 }

@@ -16,7 +16,8 @@ pub trait ScriptMachine {
     ghost disk: { Self → DiskState };
 
     /// Does what a client asks for, and answers it. At each moment of the call a crash leaves an image that shows the
-    /// world before it or the world after it.
+    /// world before it or the world after it. The spare memory is that of bytes which an earlier reply showed, and it may serve for
+    /// those of this one; what is in it is free.
     ///
     /// # Errors
     ///
@@ -25,7 +26,7 @@ pub trait ScriptMachine {
     /// - `Memory`: want of memory. An image shows the last commit before the call.
     /// - `Disk`: the disk failed in this call.
     /// - `Down` never comes.
-    fn step(&mut self, client: u8, op: &Op) -> Result<Reply, Stop>
+    fn step(&mut self, client: u8, op: &Op, spare: &mut Vec<u8>) -> Result<Reply, Stop>
         requires stands { (W : World) × stands self.old W }
         requires client { (1 ≤ client) × (client ≤ 64) }
         requires op { IsOp op.now }

@@ -26,6 +26,10 @@ pub(crate) struct Progress {
     pub(crate) parsed: Parsed,
     /// The line of the last reply.
     pub(crate) reply: ReplyLine,
+    /// Memory for the bytes of a put, those of an earlier one.
+    pub(crate) put: Vec<u8>,
+    /// Memory for the bytes that a reply shows, those of an earlier one.
+    pub(crate) shown: Vec<u8>,
 }
 
 /// The bytes before the first line feed, and what follows it. None where there is no line feed.
@@ -46,17 +50,18 @@ fn parse_held(
     held: &mut Vec<u8>,
     line: &[u8],
     into: &mut Parsed,
+    spare: &mut Vec<u8>,
 ) -> Result<(), LineError>
     ensures parsed { Gives (placed result into.new) (parse_whole (held.old.items ++ line.now)) }
     ensures held { OnOk (placed result into.new) (held.new.items ≡ []) }
 {
     if held.is_empty() {
-        return parse_whole_line_into(alloc, line, into);
+        return parse_whole_line_into(alloc, line, into, spare);
     }
     if let Err(_) = held.extend_from_slice(line) {
         return Err(LineError::Memory);
     }
-    let read = parse_whole_line_into(alloc, held, into);
+    let read = parse_whole_line_into(alloc, held, into, spare);
     held.clear();
     read
 }
@@ -83,12 +88,19 @@ fn answer_whole<M: ScriptMachine, K: Sink>(
         → IfErr result (λ halt. EndsAt (M.stands machine.new) (M.disk m) (M.disk machine.new) k (K.state output.new) W (bytes ++ (line.now ++ 10 ∷ []))
         (end_of halt)) }
 {
-    let read = parse_held(alloc, &mut progress.held, line, &mut progress.parsed);
+    let read = parse_held(
+        alloc,
+        &mut progress.held,
+        line,
+        &mut progress.parsed,
+        &mut progress.put,
+    );
     let answered = answer_parsed(
         progress.number,
         read,
         &progress.parsed,
         &mut progress.reply,
+        &mut progress.shown,
         machine,
         output,
     );

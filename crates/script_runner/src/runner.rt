@@ -96,12 +96,18 @@ fn answer_last<M: ScriptMachine, K: Sink>(
     if progress.held.is_empty() {
         return RunEnd::Done;
     }
-    let read = parse_line_into(alloc, &progress.held, &mut progress.parsed);
+    let read = parse_line_into(
+        alloc,
+        &progress.held,
+        &mut progress.parsed,
+        &mut progress.put,
+    );
     match answer_parsed(
         progress.number,
         read,
         &progress.parsed,
         &mut progress.reply,
+        &mut progress.shown,
         machine,
         output,
     ) {
@@ -131,6 +137,8 @@ fn answer_input<M: ScriptMachine, S: Source, K: Sink>(
         held: Vec::new(alloc),
         parsed: Parsed::Skip,
         reply: ReplyLine::new(alloc),
+        put: Vec::new(alloc),
+        shown: Vec::new(alloc),
     };
     let mut left = MAX_INPUT;
     while left > 0 {

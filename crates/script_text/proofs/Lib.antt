@@ -9,4 +9,6 @@ pub mod Numerals
 pub mod Spaces
 pub mod WordCuts
 pub mod SaidLines
+pub mod ShortNumbers
+pub mod UsualLines
 pub mod Readings

@@ -1,5 +1,8 @@
--- Lines that say nothing, and the carriage return at a line's end.
-use Rattle.script_text.proofs.Words.{◌≡◌, ℕ, ◌≢◌, inl, inr, Bool, true, false, nat_eq, List, [], ◌∷◌, ◌++◌, take, length, ◌≤◌, refl, ap, sym, ◌∙◌, arith, Bor, Option, Some, None, unwrap_or, MatchOption, list_all, pointwise, cond-true, cond-false, ne_eqb, cases_eq, le-ltb, if◌then◌else◌, Err, MAX_LINE, is_printable, is_skipped, parse, said, without_return, words_of}
+-- Lines that say nothing, the carriage return at a line's end, and the client that a line begins with.
+use Rattle.script_text.proofs.{Words.{◌≡◌, ℕ, ◌≢◌, inl, inr, Bool, true, false, nat_eq, List, [], ◌∷◌, ◌++◌, take, drop, length, take_all, ◌≤◌, refl, ap, sym, ◌∙◌, arith, Bor, Option, Some, None, unwrap_or, MatchOption, list_all, pointwise, cond-true, cond-false, ne_eqb, cases_eq, le-ltb, if◌then◌else◌, Result, Ok, Err, ◌-◌, ◌&&◌, nat_le, and_from, le-leb, number_of, client_in_range, operation_of, said_behind, ◌>>=◌, Says, MAX_LINE, is_printable, is_skipped, parse, said, without_return, words_of}, Spaces.words_of-cut, WordLemmas.number_of-one}
+use Rattle.std.specs.Prelude.{slice_index_or}
+use Rattle.script_model.specs.{declared.script.LineError.LineError, declared.script.LineError.TheVariants.{Cause, Memory}}
+use Rattle.script_text.specs.Parsing.{Fails}
 
 -- a line that begins with no `#`, or is empty, says nothing where it is all spaces
 pub is_skipped-no_comment : (text : List ℕ) (r : Bool) → false ≡ pointwise nat_eq (35 ∷ []) (take 1 text) → r ≡ list_all (nat_eq 32) text → r ≡ is_skipped text
@@ -47,3 +50,44 @@ parse-failed text cause short says failed = by (list_all is_printable text) refl
     by : (t : Bool) → list_all is_printable text ≡ t → parse text ≡ Err (if t then cause else 8)
     by true printable = sym (parse-said text short says printable) ∙ failed
     by false other = parse-unprintable text short says other
+
+-- what a line says whose first word names this client
+pub said-client : (text word : List ℕ) (words : List (List ℕ)) (client : ℕ) → words_of text ≡ word ∷ words → client_in_range (number_of word) ≡ Ok client
+    → said (words_of text) ≡ said_behind client words
+unfolding said
+said-client text word words client begins in_range = ap said begins ∙ by words
+  where
+    by : (words : List (List ℕ)) → said (word ∷ words) ≡ said_behind client words
+    by [] = ap (λ (c : Result ℕ ℕ). c >>= λ m. Err 2) in_range
+    by (name ∷ arguments) = ap (λ (c : Result ℕ ℕ). c >>= λ m. operation_of name arguments >>= λ op. Ok (Says (record { client = m; op = op }))) in_range
+
+-- and so where that word is one digit
+pub said-digit : (digit : ℕ) (rest : List ℕ) → 49 ≤ digit → digit ≤ 57 → said (words_of (digit ∷ 32 ∷ rest)) ≡ said_behind (digit - 48) (words_of rest)
+said-digit digit rest least most =
+    let is : number_of (digit ∷ []) ≡ Some (digit - 48) = sym (number_of-one digit (grind arith)) in
+    let fits : (nat_le 1 (digit - 48) && nat_le (digit - 48) 64) ≡ true = and_from _ _ (le-leb 1 (digit - 48) (omega arith)) (le-leb (digit - 48) 64 (omega arith)) in
+    said-client (digit ∷ 32 ∷ rest) (digit ∷ []) (words_of rest) (digit - 48) (words_of-cut (digit ∷ []) rest (grind arith)) (ap client_in_range is ∙ cond-true _ _ _ fits)
+
+-- so of a text, by its first two bytes
+pub said-front : (text : List ℕ) → 2 ≤ length text → 49 ≤ slice_index_or text 0 0 → slice_index_or text 0 0 ≤ 57 → slice_index_or text 1 0 ≡ 32
+    → said (words_of text) ≡ said_behind (slice_index_or text 0 0 - 48) (words_of (take (length text - 2) (drop 2 text)))
+said-front [] long least most space = absurd (omega (arith, long))
+said-front (digit ∷ []) long least most space = absurd (omega (arith, long))
+said-front (digit ∷ b ∷ rest) long least most space =
+    ap (λ (c : ℕ). said (words_of (digit ∷ c ∷ rest))) space ∙ said-digit digit rest least most
+    ∙ ap (λ (l : List ℕ). said_behind (digit - 48) (words_of l)) (sym (take_all (length (digit ∷ b ∷ rest) - 2) rest (omega arith)))
+
+-- a text without a word fails
+pub said-none : (text : List ℕ) → words_of text ≡ [] → said (words_of text) ≡ Err 1
+unfolding said
+said-none text none = ap said none
+
+-- and one whose first word names no client
+pub said-fails : (text word : List ℕ) (words : List (List ℕ)) (error : LineError) → words_of text ≡ word ∷ words → Fails error (client_in_range (number_of word)) → Fails error (said (words_of text))
+unfolding said
+said-fails text word words (Cause cause) begins fails = ap said begins ∙ by words
+  where
+    by : (words : List (List ℕ)) → said (word ∷ words) ≡ Err cause
+    by [] = ap (λ (c : Result ℕ ℕ). c >>= λ m. Err 2) fails
+    by (name ∷ arguments) = ap (λ (c : Result ℕ ℕ). c >>= λ m. operation_of name arguments >>= λ op. Ok (Says (record { client = m; op = op }))) fails
+said-fails text word words Memory begins fails = fails

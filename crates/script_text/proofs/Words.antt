@@ -6,5 +6,5 @@ pub use Rattle.iso_model.specs.{Labels.{is_digit, is_label, is_label_byte}, Prem
 pub use Rattle.script_model.specs.{Script.{bare, begin_arguments, client_in_range, group_arguments, hex_argument, is_printable, is_skipped, key_and_value, label_argument, labels_of, mode_argument, number_and_bytes, number_argument, one_key, one_label, one_number, put_arguments, read_arguments, scan_arguments, store_argument, three_numbers, two_numbers, without_return, write_arguments, ◌>>=◌}, Text.{before_piece, dashed, digit_of, hex_digit, hex_pair, hex_pairs, hex_text, is_decimal, is_empty, pair_text, pieces, value_of}, declared.script.Line.Line, declared.script.Op.Op, declared.script.Op.TheVariants.{Abort, Await, Begin, Compact, End, FileDelete, FileMove, FileNew, FileRead, FileWrite, Fill, Get, Group, HashDelete, HashGet, HashPut, Mark, Put, Read, Release, Stat, Takeover, TreeDelete, TreeGet, TreePut, TreeScan, Trim, Upgrade, Write}, declared.script.Parsed.Parsed, declared.script.Parsed.TheVariants.{Line as Says}, declared.script.Reply.Reply, declared.script.Reply.TheVariants.{Found, Shown}, declared.script.TheConstants.MAX_LABELS}
 unfoldable pub use Rattle.script_model.specs.{Script.{file_operation, operation_of, other_operation, parse, said, store_operation, tree_operation}, Text.{hex_of, label_text, number_of, reply_text, words_of}}
 pub use borrow.Rule.Slice.PartMut.{put_mid}
-pub use Rattle.script_text.specs.{Ending.WithFront, Parsing.Gives, Printing.{Extends, IsLong}, Spelling.{AreSome, IsLine, IsSayable, arguments_of, line_words, name_of, spaced}, Words.{is_no_space, is_word_byte, may_be_decimal, word_before}, declared.reply.TheConstants.MOST_SHOWN}
+pub use Rattle.script_text.specs.{Ending.WithFront, Parsing.{Gives, said_behind}, Printing.{Extends, IsLong}, Spelling.{AreSome, IsLine, IsSayable, arguments_of, line_words, name_of, spaced}, Words.{is_no_space, is_word_byte, may_be_decimal, word_before}, declared.reply.TheConstants.MOST_SHOWN}
 unfoldable pub use Rattle.script_text.specs.Spelling.{line_text}

@@ -4,3 +4,4 @@ pub mod Said
 pub mod Spelling
 pub mod Parsing
 pub mod Printing
+pub mod Numbers

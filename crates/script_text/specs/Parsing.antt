@@ -1,6 +1,6 @@
 -- What a step of the parser answers.
-use Rattle.std.specs.Prelude.{◌≡◌, ℕ, List, ◌++◌, Result, Ok, Err}
-use Rattle.script_model.specs.{Script.◌>>=◌, declared.script.Op.Op, declared.script.Parsed.Parsed, declared.script.Parsed.TheVariants.{Line as Says}, declared.script.LineError.LineError, declared.script.LineError.TheVariants.{Cause, Memory}}
+use Rattle.std.specs.Prelude.{◌≡◌, ℕ, List, [], ◌∷◌, ◌++◌, Result, Ok, Err}
+use Rattle.script_model.specs.{Script.{◌>>=◌, operation_of}, declared.script.Op.Op, declared.script.Parsed.Parsed, declared.script.Parsed.TheVariants.{Line as Says}, declared.script.LineError.LineError, declared.script.LineError.TheVariants.{Cause, Memory}}
 
 -- the definition fails by that cause, or memory ran out
 abbrev pub Fails : {X : Type 0} → LineError → Result X ℕ → Type 0
@@ -27,3 +27,8 @@ abbrev pub said_by : (client : ℕ) → Result Op ℕ → Result Parsed ℕ
 said_by client defined = do
   op ← defined
   Ok (Says (record { client = client; op = op }))
+
+-- what the words after this client say
+abbrev pub said_behind : (client : ℕ) → List (List ℕ) → Result Parsed ℕ
+said_behind client [] = Err 2
+said_behind client (name ∷ arguments) = said_by client (operation_of name arguments)

@@ -2,23 +2,26 @@
 ghost use Rattle.std.specs.Prelude.{◌≡◌};
 ghost use Rattle.script_model.specs.{declared.script.Parsed.TheVariants.{Line as Says}, Script.{bare, begin_arguments, group_arguments, key_and_value, number_and_bytes, one_key, one_label, one_number, operation_of, other_operation, put_arguments, scan_arguments, store_operation, three_numbers, tree_operation, two_numbers}, Text.words_of};
 ghost use Rattle.script_model.specs.declared.script.Op.TheVariants as ops;
-ghost use Rattle.script_text.specs.Parsing.{Gives, placed, said_by};
+ghost use Rattle.script_text.specs.Parsing.{Gives, placed, said_behind, said_by};
 
-use crate::argument::{hex, label, labels, mode, number, stored};
+use crate::argument::{hex, hex_within, label, labels, mode, number, numbers_and_word, stored};
 use crate::files::file_operation;
 use crate::word::{count_words, next_word, one_word, three_words, two_words};
 use script_model::{Line, LineError, MAX_LABELS, Op, Parsed};
 use std::alloc::Global;
+use std::mem::replace;
 
-/// Puts the line of this client with the operation of this name in its place: it has many bytes to be handed on by value.
+/// Puts the line of this client with the operation of this name in its place: it has many bytes to be handed on by value. The bytes
+/// of a put take the spare memory.
 #[inline(always)]
 #[tactic(auto, unfolding(script_model::specs::Script::operation_of))]
-pub(crate) fn operation_of(
+fn operation_of(
     alloc: Global,
     client: u8,
     name: &[u8],
     arguments: &[u8],
     into: &mut Parsed,
+    spare: &mut Vec<u8>,
 ) -> Result<(), LineError>
     ensures { Gives (placed result into.new) (said_by client (operation_of name.now (words_of arguments.now))) }
 {
@@ -26,7 +29,7 @@ pub(crate) fn operation_of(
         return begin(client, arguments, into);
     }
     if name == b"put".as_slice() {
-        return put(alloc, client, arguments, into);
+        return put(alloc, client, arguments, into, spare);
     }
     if name == b"read".as_slice() {
         return read(client, arguments, into);
@@ -50,6 +53,38 @@ pub(crate) fn operation_of(
         return bare(client, Op::Abort, arguments, into);
     }
     other_operation(alloc, client, name, arguments, into)
+}
+
+/// Puts the line of this client with the operation that a text names in its place.
+#[inline(always)]
+pub(crate) fn named_operation(
+    alloc: Global,
+    client: u8,
+    text: &[u8],
+    into: &mut Parsed,
+    spare: &mut Vec<u8>,
+) -> Result<(), LineError>
+    ensures { Gives (placed result into.new) (said_behind client (words_of text.now)) }
+{
+    // most lines are those of a usual transaction, which few bytes tell
+    if let [b'g', b'e', b't', b' ', arguments @ ..] = text {
+        return get(client, arguments, into);
+    }
+    if let [b'p', b'u', b't', b' ', arguments @ ..] = text {
+        return put(alloc, client, arguments, into, spare);
+    }
+    if let [b'b', b'e', b'g', b'i', b'n'] = text {
+        say_line(into, client, Op::Begin { mode: None });
+        return Ok(());
+    }
+    if let [b'e', b'n', b'd'] = text {
+        say_line(into, client, Op::End);
+        return Ok(());
+    }
+    let Some((name, arguments)) = next_word(text) else {
+        return Err(LineError::Cause(2));
+    };
+    operation_of(alloc, client, name, arguments, into, spare)
 }
 
 #[tactic(auto, unfolding(script_model::specs::Script::other_operation))]
@@ -173,15 +208,24 @@ fn begin(client: u8, arguments: &[u8], into: &mut Parsed) -> Result<(), LineErro
     Ok(())
 }
 
-fn put(alloc: Global, client: u8, arguments: &[u8], into: &mut Parsed) -> Result<(), LineError>
+#[inline(always)]
+fn put(
+    alloc: Global,
+    client: u8,
+    arguments: &[u8],
+    into: &mut Parsed,
+    spare: &mut Vec<u8>,
+) -> Result<(), LineError>
     ensures { Gives (placed result into.new) (said_by client (put_arguments (words_of arguments.now))) }
 {
-    let Some((block, start, text)) = three_words(arguments) else {
-        return Err(LineError::Cause(3));
+    let (block, off, text) = match numbers_and_word(arguments) {
+        Ok(found) => found,
+        Err(error) => return Err(error),
     };
-    let block = number(block)?;
-    let off = number(start)?;
-    let bytes = hex(alloc, text)?;
+    let bytes = match hex_within(text, replace(spare, Vec::new(alloc))) {
+        Ok(bytes) => bytes,
+        Err(error) => return Err(error),
+    };
     say_line(into, client, Op::Put { block, off, bytes });
     Ok(())
 }
@@ -197,15 +241,18 @@ fn read(client: u8, arguments: &[u8], into: &mut Parsed) -> Result<(), LineError
     Ok(())
 }
 
+#[inline(always)]
 fn get(client: u8, arguments: &[u8], into: &mut Parsed) -> Result<(), LineError>
     ensures { Gives (placed result into.new) (said_by client (three_numbers ops.Get (words_of arguments.now))) }
 {
-    let Some((block, off, len)) = three_words(arguments) else {
-        return Err(LineError::Cause(3));
+    let (block, off, word) = match numbers_and_word(arguments) {
+        Ok(found) => found,
+        Err(error) => return Err(error),
     };
-    let block = number(block)?;
-    let off = number(off)?;
-    let len = number(len)?;
+    let len = match number(word) {
+        Ok(len) => len,
+        Err(error) => return Err(error),
+    };
     say_line(into, client, Op::Get { block, off, len });
     Ok(())
 }

@@ -149,17 +149,10 @@ fn two_digits(tens: u8, ones: u8) -> Option<u32>
     Some(10 * u32::from(tens - b'0') + u32::from(ones - b'0'))
 }
 
-/// The number that a word spells, if it is below 2^32.
-pub fn number_of(word: &[u8]) -> Option<u32>
+/// The number that a word of any length spells.
+fn number_by_digits(word: &[u8]) -> Option<u32>
     ensures { result ≡ number_of word.now }
 {
-    // most numbers of a script have one digit or two
-    if let [digit] = word {
-        return one_digit(*digit);
-    }
-    if let [tens, ones] = word {
-        return two_digits(*tens, *ones);
-    }
     if !may_be_decimal(word) {
         return None;
     }
@@ -173,4 +166,19 @@ pub fn number_of(word: &[u8]) -> Option<u32>
             .checked_add(u32::from(*digit - b'0'))?;
     }
     Some(value)
+}
+
+/// The number that a word spells, if it is below 2^32.
+#[inline(always)]
+pub fn number_of(word: &[u8]) -> Option<u32>
+    ensures { result ≡ number_of word.now }
+{
+    // most numbers of a script have one digit or two
+    if let [digit] = word {
+        return one_digit(*digit);
+    }
+    if let [tens, ones] = word {
+        return two_digits(*tens, *ones);
+    }
+    number_by_digits(word)
 }

@@ -13,14 +13,14 @@ returns-in-Some-clause-given g c W t of tx active =
 
 pub get_within-requires-clause-range : Rattle.iso_machine.proofs.reading.get.Goals.get_within-requires-clause-range
 get_within-requires-clause-range g c =
-    let n : length c.deref_mut.result.now ≡ c.args.range.len = omega (arith, ap (λ (l : List ℕ). length l) c.deref_mut.ensures.value, c.in-Ok.bytes.ok.0, c.in-Ok.ensures) in
+    let n : length c.deref_mut.result.now ≡ c.args.range.len = omega (arith, ap (λ (l : List ℕ). length l) c.deref_mut.ensures.value, c.fit.new.buffer.ok.0, c.in_default-fit.ensures) in
     ap (λ (m : ℕ). is_outside c.args.work.now.size c.args.range.off m) n
     ∙ ap (λ (m : ℕ). is_outside m c.args.range.off c.args.range.len) (sym c.block_size-size.ensures.size) ∙ sym c.is_outside.ensures ∙ (c.in_default.ensures.allowed refl).1
 
-pub returns-in-Ok-get_within-clause-given : Rattle.iso_machine.proofs.reading.get.Goals.returns-in-Ok-get_within-clause-given
-returns-in-Ok-get_within-clause-given g c W t of tx active =
+pub returns-in-Ok-clause-given : Rattle.iso_machine.proofs.reading.get.Goals.returns-in-Ok-clause-given
+returns-in-Ok-clause-given g c W t of tx active =
     let len = c.args.range.len in
-    let n : length c.deref_mut.result.now ≡ len = omega (arith, ap (λ (l : List ℕ). length l) c.deref_mut.ensures.value, c.in-Ok.bytes.ok.0, c.in-Ok.ensures) in
+    let n : length c.deref_mut.result.now ≡ len = omega (arith, ap (λ (l : List ℕ). length l) c.deref_mut.ensures.value, c.fit.new.buffer.ok.0, c.in_default-fit.ensures) in
     let may = c.in_default.ensures.allowed refl in
     let right : is_outside W.geometry.block c.args.range.off len ≡ false =
     ap (λ (m : ℕ). is_outside m c.args.range.off len) (sym (c.block_size-size.ensures.size ∙ active.is_work.size)) ∙ sym c.is_outside.ensures ∙ may.1 in
@@ -29,7 +29,7 @@ returns-in-Ok-get_within-clause-given g c W t of tx active =
     shown_bytes (g.D.Disk.state (disk_of c.args.core.now)) W t (get_step W t c.args.range.block c.args.range.off len) c.of.result shown (with_access W t access) c.get_within.new.work
     (get_is W t c.args.range.block c.args.range.off len ∙ step_is W t c.args.work.now active c.args.range.block (is_outside W.geometry.block c.args.range.off len) (reply.Shown shown) access right may.0 may.2)
     (λ told.
-    c.of.ensures ∙ take_front c.in-Ok.bytes.len c.get_within.new.into (drop (length c.get_within.new.into) c.in-Ok.bytes.items)
-    (omega (arith, c.get_within.ensures.length, ap (λ (l : List ℕ). length l) c.deref_mut.ensures.value, c.in-Ok.bytes.ok.0))
-    ∙ c.in-Ok-get_within.ensures.told W t of tx active told ∙ ap (λ (m : ℕ). take m (drop c.args.range.off (shown_to W t c.args.range.block))) n)
-    (subst (λ (m : ℕ). IsWorkedTo W t (with_access W t (get_access c.args.range.block c.args.range.off m)) c.get_within.new.work) n (c.in-Ok-get_within.ensures.worked W t active))
+    c.of.ensures ∙ take_front c.fit.new.buffer.len c.get_within.new.into (drop (length c.get_within.new.into) c.fit.new.buffer.items)
+    (omega (arith, c.get_within.ensures.length, ap (λ (l : List ℕ). length l) c.deref_mut.ensures.value, c.fit.new.buffer.ok.0))
+    ∙ c.in-Ok.ensures.told W t of tx active told ∙ ap (λ (m : ℕ). take m (drop c.args.range.off (shown_to W t c.args.range.block))) n)
+    (subst (λ (m : ℕ). IsWorkedTo W t (with_access W t (get_access c.args.range.block c.args.range.off m)) c.get_within.new.work) n (c.in-Ok.ensures.worked W t active))

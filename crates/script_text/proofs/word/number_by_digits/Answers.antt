@@ -1,6 +1,6 @@
 -- What a word that is no number fails by, and the number of any other.
 use Rattle.script_text.proofs.{Words.{arith, ◌∙◌}, WordLemmas.{is_decimal-whole, number_of-begun, number_of-no_digit, number_of-over, number_of-whole}}
-use Rattle.script_text.proofs.word.number_of.Goals as goal
+use Rattle.script_text.proofs.word.number_by_digits.Goals as goal
 
 pub returns-then-not-may_be_decimal : goal.returns-then-not-may_be_decimal
 returns-then-not-may_be_decimal c = number_of-begun c.args.word.now (grind arith)

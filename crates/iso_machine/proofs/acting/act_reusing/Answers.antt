@@ -13,7 +13,7 @@ others W t (op.Fill b x) put read get write fill mark = absurd (fill b x refl)
 others W t (op.Mark f n) put read get write fill mark = absurd (mark f n refl)
 others W t o put read get write fill mark = refl
 
-pub returns-in_default-clause-given : Rattle.iso_machine.proofs.acting.act.Goals.returns-in_default-clause-given
+pub returns-in_default-clause-given : Rattle.iso_machine.proofs.acting.act_reusing.Goals.returns-in_default-clause-given
 returns-in_default-clause-given g c W t of tx active =
     let other = c.in_default in
     shown_given (g.D.Disk.state (disk_of c.args.core.now)) W t (act_step W t c.args.op.now) c.args.work.now reply.NotInTx
