@@ -62,9 +62,13 @@ HasRead A s block (Err error.TooManyAccesses) into t = t ≡ s
 HasRead A s block (Err error.Memory) into t = t ≡ s
 HasRead A s block (Err error.NotInTx) into t = t ≡ s
 
+-- a write of the session: its transaction has this access more
+abbrev pub HasAdded : SessionState → Access → Result (Unit {0}) TxError → SessionState → Type 0
+HasAdded s a (Ok done) t = (o : Own) × (s.own ≡ Some o) × (t.own ≡ Some (with_access o a)) × Rested s t
+HasAdded s a (Err e) t = t ≡ s
+
 abbrev pub HasWritten : SessionState → (block : ℕ) → (bytes : List ℕ) → Result (Unit {0}) TxError → SessionState → Type 0
-HasWritten s block bytes (Ok done) t = (o : Own) × (s.own ≡ Some o) × (t.own ≡ Some (with_access o (write_access block bytes))) × Rested s t
-HasWritten s block bytes (Err e) t = t ≡ s
+HasWritten s block bytes r t = HasAdded s (write_access block bytes) r t
 
 abbrev pub HasMarked : SessionState → (off len : ℕ) → Result (Unit {0}) TxError → SessionState → Type 0
 HasMarked s off len (Ok done) t = (o : Own) × (s.own ≡ Some o) × (t.own ≡ Some (with_mark o off len)) × Rested s t

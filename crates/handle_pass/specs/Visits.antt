@@ -17,6 +17,7 @@ abbrev pub blocks_read : List Access → List ℕ
 blocks_read [] = []
 blocks_read (a ∷ accesses) = cond (is_write a) (blocks_read accesses) (a.block ∷ blocks_read accesses)
 
+-- the number of the session's transaction, 0 without one
 abbrev pub number_in : Option Own → ℕ
 number_in None = 0
 number_in (Some o) = o.number
@@ -33,7 +34,7 @@ abbrev pub refusals : (number : ℕ) → Option (ℕ × Cause) → List Entry
 refusals n None = []
 refusals n (Some refused) = entry.Refused (call.Fetch n refused.0) refused.1 ∷ []
 
--- how often the disk has failed then, and whether the device was down
+-- How often the disk has failed, and whether the device was down, by what refused a fetch, if anything did: there is no other cause.
 abbrev pub Failed : Option (ℕ × Cause) → (failures : ℕ) → (is_down : Bool) → Type 0
 Failed None failures is_down = (failures ≡ 0) × (is_down ≡ false)
 Failed (Some (b, cause.Down)) failures is_down = (failures ≡ 0) × (is_down ≡ true)
@@ -87,7 +88,7 @@ pub record Visited (A : Start) (s t : SessionState) (refused : Option (ℕ × Ca
   pub told : ForSome (base_in A s) (λ B. AllByRecursion (λ f. f.1 ≡ block_at B f.0) fetched)
   pub of : t.device ≡ s.device
 
--- the session, which was so before, while calls are made on its transaction
+-- the session during calls on its transaction; `before` is what it was at the first of them
 pub record IsVisit (A : Start) (before : Option SessionState) (now : SessionState) (failures : ℕ) (is_down : Bool) : Type 0 where
   pub was : SessionState
   pub is : before ≡ Some was

@@ -1,6 +1,7 @@
 // Reads, writes and marks of a session's transaction.
-ghost use Rattle.std.specs.Prelude.{◌≡◌, length};
-ghost use Rattle.handle_pass.specs.Accesses.{access_answer, mark_answer, HasMarked, HasRead, HasWritten, IsReadCause, IsWriteCause};
+ghost use Rattle.std.specs.Prelude.{◌≡◌, ◌+◌, ◌<◌, ◌≤◌, length};
+ghost use Rattle.iso_model.specs.Step.{put_access};
+ghost use Rattle.handle_pass.specs.Accesses.{access_answer, mark_answer, HasAdded, HasMarked, HasRead, HasWritten, IsReadCause, IsWriteCause};
 ghost use Rattle.tx_blocks.specs.Tx.{IsRefused};
 
 use crate::session::Session;
@@ -89,6 +90,35 @@ impl<'a, D: Disk + Drop, O: Origin> Session<'a, D, O> {
                     return Err(TxError::Memory);
                 }
                 tx.write(block, bytes);
+                Ok(())
+            }
+        }
+    }
+
+    /// Writes these bytes at `off` of a block, with one mark over them. It waits for nobody. Each refusal leaves all as it was.
+    ///
+    /// # Errors
+    ///
+    /// As those of `write_block`.
+    pub fn put(&mut self, block: u32, off: u16, bytes: &[u8]) -> Result<(), TxError>
+        requires some { 0 < length bytes.now }
+        requires fits { off + length bytes.now ≤ O.start.world.geometry.block }
+        ensures cause { IsRefused (access_answer O.start self.old block) IsWriteCause result }
+        ensures did { HasAdded self.old (put_access O.start.world.geometry.block block off bytes.now) result self.new }
+    {
+        match &mut self.tx {
+            None => Err(TxError::NotInTx),
+            Some(tx) => {
+                if block >= self.shared.geometry().blocks {
+                    return Err(TxError::BadBlock);
+                }
+                if tx.room() == 0 {
+                    return Err(TxError::TooManyAccesses);
+                }
+                if let Err(_) = tx.reserve(block) {
+                    return Err(TxError::Memory);
+                }
+                tx.put(block, off, bytes);
                 Ok(())
             }
         }

@@ -1,5 +1,5 @@
 -- Accesses that make no entry: what the rules answer the client, and what the session does.
-use Rattle.par_lines.proofs.Words.{◌≡◌, ℕ, ◌==◌, Bool, true, false, cond, List, [], ◌∷◌, ◌++◌, Option, Some, None, ap, inl, inr, length, refl, sym, subst, ◌∙◌, eq-eqb, nat_le, Result, Ok, Err, IfErr, is_some, slice_index, eqb-true, access_answer, accesses_of, with_access, HasWritten, IsWriteCause, moves_none, moves_rested, Access, Geometry, MAX_ACCESSES, Op, Reply, TxError, access_step, fill_step, step, write_step, write_access, World, Start, Stop, access_refusal, IsRefused, Own, Did, Does, alone, answer, live_of, own_after, own_among, Answered, SessionState}
+use Rattle.par_lines.proofs.Words.{◌≡◌, ℕ, ◌==◌, Bool, true, false, cond, List, [], ◌∷◌, ◌++◌, Option, Some, None, ap, inl, inr, length, refl, sym, subst, ◌∙◌, eq-eqb, nat_le, Result, Ok, Err, IfErr, is_some, slice_index, eqb-true, access_answer, accesses_of, with_access, HasAdded, HasWritten, IsWriteCause, moves_none, moves_rested, Access, Geometry, MAX_ACCESSES, Op, Reply, TxError, access_step, fill_step, step, write_step, write_access, World, Start, Stop, access_refusal, IsRefused, Own, Did, Does, alone, answer, live_of, own_after, own_among, Answered, SessionState}
 use Rattle.std.specs.Prelude.{not, replicate}
 use Rattle.script_model.specs.declared.script.Op.TheVariants as op
 use Rattle.script_model.specs.declared.script.Reply.TheVariants as reply
@@ -40,9 +40,9 @@ pub record IsAccessing (g : Geometry) (x : Op) (block : ℕ) (wrong : Bool) (a :
 abbrev refusal : Geometry → Option Own → (block : ℕ) → Option TxError
 refusal g was block = access_refusal (record { size = g.block; blocks = g.blocks; base = None; accesses = accesses_of was; is_open = is_some was }) block
 
-module _ (A : Start) (x : Op) (block : ℕ) (bytes : List ℕ) (parts : IsAccessing A.world.geometry x block false (write_access block bytes)) where
+module _ (A : Start) (x : Op) (block : ℕ) (a : Access) (parts : IsAccessing A.world.geometry x block false a) where
   -- the rules answer as the session does
-  rules_say : (o : Own) (said : Reply) → access_step (alone A.world.geometry [] (Some o)) (live_of o) block false reply.Done (write_access block bytes) ≡ (said, alone A.world.geometry [] (Some o))
+  rules_say : (o : Own) (said : Reply) → access_step (alone A.world.geometry [] (Some o)) (live_of o) block false reply.Done a ≡ (said, alone A.world.geometry [] (Some o))
       → Did A.world.geometry A.tells (Some o) x [] (Ok said) (Some o)
   rules_say o said is =
       let whole = parts.opened o ∙ is in
@@ -51,7 +51,7 @@ module _ (A : Start) (x : Op) (block : ℕ) (bytes : List ℕ) (parts : IsAccess
   stopped : (was : Option Own) → Did A.world.geometry A.tells was x [] (Err stop.Memory) was
   stopped was = inr (refl, refl, refl)
 
-module _ (A : Start) (x : Op) (block : ℕ) (bytes : List ℕ) (parts : IsAccessing A.world.geometry x block false (write_access block bytes)) where
+module _ (A : Start) (x : Op) (block : ℕ) (a : Access) (parts : IsAccessing A.world.geometry x block false a) where
   -- a line that answers so, and leaves the session
   left : (s : SessionState) (was : Option Own) (r : Result Reply Stop) → s.own ≡ was → Did A.world.geometry A.tells was x [] r was → Answered A s x r s
   left s was r is did = record {
@@ -61,22 +61,22 @@ module _ (A : Start) (x : Op) (block : ℕ) (bytes : List ℕ) (parts : IsAccess
     of = refl;
   }
 
-  refused_by : (s t : SessionState) (was : Option Own) (e : TxError) (r : Result (Unit {0}) TxError) → s.own ≡ was → r ≡ Err e → HasWritten s block bytes r t → Did A.world.geometry A.tells was x [] (say.accessed (Err e)) was
+  refused_by : (s t : SessionState) (was : Option Own) (e : TxError) (r : Result (Unit {0}) TxError) → s.own ≡ was → r ≡ Err e → HasAdded s a r t → Did A.world.geometry A.tells was x [] (say.accessed (Err e)) was
       → Answered A s x (say.accessed r) t
   refused_by s t was e r is so did does =
-      subst (λ q. HasWritten s block bytes q t → Answered A s x (say.accessed q) t) (sym so) (λ same. subst (λ u. Answered A s x (say.accessed (Err e)) u) (sym same) (left s was (say.accessed (Err e)) is does)) did
+      subst (λ q. HasAdded s a q t → Answered A s x (say.accessed q) t) (sym so) (λ same. subst (λ u. Answered A s x (say.accessed (Err e)) u) (sym same) (left s was (say.accessed (Err e)) is does)) did
 
   written_so : (s t : SessionState) (o : Own) (r : Result (Unit {0}) TxError) → s.own ≡ Some o → nat_le A.world.geometry.blocks block ≡ false → nat_le MAX_ACCESSES (length o.accesses) ≡ false
-      → IfErr r IsWriteCause → HasWritten s block bytes r t → Answered A s x (say.accessed r) t
+      → IfErr r IsWriteCause → HasAdded s a r t → Answered A s x (say.accessed r) t
   written_so s t o (Ok done) is within few cause did =
-      let whole = parts.opened o ∙ added A.world.geometry o block reply.Done (write_access block bytes) within few in
+      let whole = parts.opened o ∙ added A.world.geometry o block reply.Done a within few in
       let same : did.0 ≡ o = ap (unwrap o) (sym did.1 ∙ is) in
       record {
         entries = [];
         moves = moves_rested s t did.3;
         did = subst (λ w. Did A.world.geometry A.tells w x [] (Ok reply.Done) t.own) (sym is)
             (inl (parts.says A.tells (Some o) t.own (Ok reply.Done) (ap (λ (w : Reply × World). Ok w.0) (sym whole))
-            (did.2 ∙ ap (λ p. Some (with_access p (write_access block bytes))) same ∙ sym (after A.world.geometry o block reply.Done (write_access block bytes)) ∙ ap (λ (w : Reply × World). own_among w.1.live) (sym whole))));
+            (did.2 ∙ ap (λ p. Some (with_access p a)) same ∙ sym (after A.world.geometry o block reply.Done a) ∙ ap (λ (w : Reply × World). own_among w.1.live) (sym whole))));
         of = did.3.of;
       }
     where
@@ -84,9 +84,9 @@ module _ (A : Start) (x : Op) (block : ℕ) (bytes : List ℕ) (parts : IsAccess
       unwrap d None = d
       unwrap d (Some p) = p
   written_so s t o (Err e) is within few cause did =
-      subst (λ u. Answered A s x (say.accessed (Err e)) u) (sym did) (left s (Some o) (say.accessed (Err e)) is (subst (λ f. Did A.world.geometry A.tells (Some o) x [] (say.accessed (Err f)) (Some o)) (sym cause) (stopped A x block bytes parts (Some o))))
+      subst (λ u. Answered A s x (say.accessed (Err e)) u) (sym did) (left s (Some o) (say.accessed (Err e)) is (subst (λ f. Did A.world.geometry A.tells (Some o) x [] (say.accessed (Err f)) (Some o)) (sym cause) (stopped A x block a parts (Some o))))
 
-  pub written : (s t : SessionState) (r : Result (Unit {0}) TxError) → IsRefused (access_answer A s block) IsWriteCause r → HasWritten s block bytes r t → Answered A s x (say.accessed r) t
+  pub written : (s t : SessionState) (r : Result (Unit {0}) TxError) → IsRefused (access_answer A s block) IsWriteCause r → HasAdded s a r t → Answered A s x (say.accessed r) t
   written s t r cause did = by s.own refl
     where
       by : (was : Option Own) → s.own ≡ was → Answered A s x (say.accessed r) t
@@ -106,9 +106,9 @@ module _ (A : Start) (x : Op) (block : ℕ) (bytes : List ℕ) (parts : IsAccess
 
           tests : (b c : Bool) → nat_le A.world.geometry.blocks block ≡ b → nat_le MAX_ACCESSES (length o.accesses) ≡ c → Answered A s x (say.accessed r) t
           tests true c within few =
-              refused_by s t (Some o) error.BadBlock r is (at true c within few) did (rules_say A x block bytes parts o reply.BadBlock (outside A.world.geometry o block reply.Done (write_access block bytes) false within))
+              refused_by s t (Some o) error.BadBlock r is (at true c within few) did (rules_say A x block a parts o reply.BadBlock (outside A.world.geometry o block reply.Done a false within))
           tests false true within few =
-              refused_by s t (Some o) error.TooManyAccesses r is (at false true within few) did (rules_say A x block bytes parts o reply.TooManyAccesses (full A.world.geometry o block reply.Done (write_access block bytes) within few))
+              refused_by s t (Some o) error.TooManyAccesses r is (at false true within few) did (rules_say A x block a parts o reply.TooManyAccesses (full A.world.geometry o block reply.Done a within few))
           tests false false within few = written_so s t o r is within few (at false false within few) did
 
 -- what the rules answer where the bytes are wrong
@@ -158,7 +158,7 @@ module _ (A : Start) (block : ℕ) (bytes : List ℕ) where
   pub right_write : (h : Geometry) (s t : SessionState) (r : Result (Unit {0}) TxError) → h ≡ A.world.geometry → length bytes ≡ h.block → IsRefused (access_answer A s block) IsWriteCause r
       → HasWritten s block bytes r t → Answered A s (op.Write block bytes) (say.accessed r) t
   right_write h s t r is same cause did =
-      written A (op.Write block bytes) block bytes (write_parts A.world.geometry block bytes false (ap not (eq-eqb (length bytes) A.world.geometry.block (same ∙ ap (λ k. k.block) is)))) s t r cause did
+      written A (op.Write block bytes) block (write_access block bytes) (write_parts A.world.geometry block bytes false (ap not (eq-eqb (length bytes) A.world.geometry.block (same ∙ ap (λ k. k.block) is)))) s t r cause did
 
 -- a write of a block full of one byte
 pub fill_parts : (g : Geometry) (block : ℕ) (bytes : List ℕ) (b : Bool) → not (length bytes == 1) ≡ b → IsAccessing g (op.Fill block bytes) block b (write_access block (replicate g.block (slice_index bytes 0)))
@@ -182,7 +182,7 @@ module _ (A : Start) (block : ℕ) (bytes : List ℕ) where
   pub right_fill : (h : Geometry) (s t : SessionState) (buffer : List ℕ) (r : Result (Unit {0}) TxError) → h ≡ A.world.geometry → length bytes ≡ 1 → buffer ≡ replicate h.block (slice_index bytes 0)
       → IsRefused (access_answer A s block) IsWriteCause r → HasWritten s block buffer r t → Answered A s (op.Fill block bytes) (say.accessed r) t
   right_fill h s t buffer r is one full cause did =
-      written A (op.Fill block bytes) block (replicate A.world.geometry.block (slice_index bytes 0)) (fill_parts A.world.geometry block bytes false (ap not (eq-eqb (length bytes) 1 one))) s t r cause
+      written A (op.Fill block bytes) block (write_access block (replicate A.world.geometry.block (slice_index bytes 0))) (fill_parts A.world.geometry block bytes false (ap not (eq-eqb (length bytes) 1 one))) s t r cause
       (subst (λ v. HasWritten s block v r t) (full ∙ ap (λ k. replicate k.block (slice_index bytes 0)) is) did)
 
   -- without memory before it, a line stops the client

@@ -12,7 +12,7 @@ use handle_pass::Session;
 use iso_disk::Disk;
 use iso_model::Geometry;
 use iso_shared::Origin;
-use script_model::{Reply, Stop, fill_up, is_outside, lay_out};
+use script_model::{Reply, Stop, fill_up, is_outside};
 use store_model::TxError;
 
 /// What an access is answered whose bytes are wrong.
@@ -99,7 +99,6 @@ pub(crate) fn mark_range<'a, D: Disk + Drop, O: Origin>(
 pub(crate) fn put<'a, D: Disk + Drop, O: Origin>(
     session: &mut Session<'a, D, O>,
     image: &ImageNumbers<O>,
-    buffer: &mut Vec<u8>,
     block: u32,
     off: u32,
     bytes: &[u8],
@@ -110,11 +109,5 @@ pub(crate) fn put<'a, D: Disk + Drop, O: Origin>(
     if is_outside(geometry.block, off, bytes.len()) {
         return Ok(wrong_bytes(session, geometry, block));
     }
-    if let Err(_) = lay_out(buffer, geometry.block, off, bytes) {
-        return Err(Stop::Memory);
-    }
-    match session.write_block(block, buffer.as_slice()) {
-        Ok(()) => accessed(mark_range(session, image, off, bytes.len() as u32)),
-        Err(error) => accessed(Err(error)),
-    }
+    accessed(session.put(block, off as u16, bytes))
 }

@@ -50,9 +50,7 @@ pub(crate) fn answer<'a, D: Disk + Drop, O: Origin, R: Wait>(
         Op::Begin { mode } => begun(session.begin_tx(rt, *mode)),
         Op::End => end::<Brand, D, O, R>(Blank::new(1), rt, session),
         Op::Abort => aborted(session.abort_tx(rt)),
-        Op::Put { block, off, bytes } => {
-            put(session, image, buffer, *block, *off, bytes.as_slice())
-        }
+        Op::Put { block, off, bytes } => put(session, image, *block, *off, bytes.as_slice()),
         Op::Read { block } => read(rt, alloc, session, image, *block),
         Op::Get { block, off, len } => {
             let range = ByteRange {

@@ -27,15 +27,29 @@ fn empty_lists(alloc: Global) -> Result<Vec<Vec<(u64, Line)>>, Memory>
     Ok(lists)
 }
 
+/// Adds a line of a client behind its others. The first one makes room for as many as this.
+fn add_line(own: &mut Vec<(u64, Line)>, line: (u64, Line), room: usize) -> Result<(), Memory>
+    ensures added { OnOk result (own.new.items ≡ own.old.items ++ line ∷ []) }
+{
+    if own.is_empty() {
+        // Without memory for all of them the list grows step by step.
+        let _ = own.reserve(room);
+    }
+    own.push(line)?;
+    Ok(())
+}
+
 /// The lines of each client, in falling number, at the place of its number.
 fn by_client(alloc: Global, mut lines: Vec<(u64, Line)>) -> Result<Vec<Vec<(u64, Line)>>, Memory>
     ensures all { IfOk result (λ r. length r.items ≡ 256) }
     ensures own { IfOk result (λ r. (client : ℕ) → IfSome (slice_get r.items client) (λ own. reverse own.items ≡ lines_of client lines.items)) }
 {
     let mut lists = empty_lists(alloc)?;
+    // what each of 64 clients has, where all have as many
+    let share = lines.len() / 64 + 1;
     while let Some(line) = lines.pop() {
         let client = line.1.client as usize;
-        lists[client].push(line)?;
+        add_line(&mut lists[client], line, share)?;
     }
     Ok(lists)
 }

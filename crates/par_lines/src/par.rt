@@ -31,7 +31,7 @@ pub struct ParEnd {
 /// The units of a client's port.
 const UNITS: u64 = 4_294_967_296;
 
-/// The job of a client that was told nothing.
+/// The job of a client that was told nothing, with room for its replies where there is memory.
 fn new_job<'a, D: Disk + Drop, O: Origin>(
     alloc: Global,
     shared: &'a Shared<D, O>,
@@ -52,6 +52,12 @@ fn new_job<'a, D: Disk + Drop, O: Origin>(
     ensures given { units_in result ≡ 4294967296 }
     ensures id { result.id ≡ id }
 {
+    // Room for all replies: a list that grows in a thread makes the memory of its thread grow, which stops the others for a moment. Where
+    // memory is wanting here, each line asks for its own room.
+    let mut told = Reserved::empty(alloc);
+    if let Ok(replies) = u32::try_from(own.len()) {
+        let _ = told.reserve(replies);
+    }
     let from = shared.port(port, UNITS);
     Job {
         client: ParClient {
@@ -60,7 +66,7 @@ fn new_job<'a, D: Disk + Drop, O: Origin>(
             geometry: shared.geometry(),
             alloc,
             buffer: Vec::new(alloc),
-            told: Reserved::empty(alloc),
+            told,
             stop: None,
         },
         id,
@@ -69,7 +75,7 @@ fn new_job<'a, D: Disk + Drop, O: Origin>(
     }
 }
 
-/// The jobs of the clients, the last one first. It takes no memory.
+/// The jobs of the clients, the last one first.
 fn make_jobs<'a, D: Disk + Drop, O: Origin>(
     alloc: Global,
     shared: &'a Shared<D, O>,

@@ -70,7 +70,7 @@ pub(crate) fn read<'a, D: Disk + Drop, O: Origin, R: Wait>(
     }
 }
 
-/// Reads these bytes, and claims no others. The block is read into the buffer.
+/// Reads these bytes: the block is read whole into the buffer, and the access is marked with this range.
 pub(crate) fn get<'a, D: Disk + Drop, O: Origin, R: Wait>(
     rt: &R,
     alloc: Global,

@@ -8,9 +8,6 @@ use itoa::Buffer;
 use script_model::Reply;
 use std::alloc::Global;
 
-/// The bytes that the line of a commit fits into.
-const LINE: usize = 80;
-
 /// A commit, the client that made it, and the number of its line.
 #[derive(Clone, Copy)]
 pub struct CommitLine {
@@ -121,17 +118,16 @@ fn push_number(out: &mut Vec<u8>, number: u64) -> Result<(), Memory>
     push_bytes(out, buffer.format(number).as_bytes())
 }
 
-/// The line of a commit.
-pub(crate) fn print_commit(alloc: Global, commit: &CommitLine) -> Result<Vec<u8>, Memory>
-    ensures { IfOk result (λ v. v.items ≡ commit_line commit.now) }
+/// Puts the line of a commit in the place of what the buffer holds.
+pub(crate) fn print_commit(line: &mut Vec<u8>, commit: &CommitLine) -> Result<(), Memory>
+    ensures { OnOk result (line.new.items ≡ commit_line commit.now) }
 {
-    let mut line = Vec::with_capacity(alloc, LINE)?;
-    push_bytes(&mut line, b"commit ")?;
-    push_number(&mut line, commit.number)?;
-    push_bytes(&mut line, b" by ")?;
-    push_number(&mut line, u64::from(commit.client))?;
-    push_bytes(&mut line, b" line ")?;
-    push_number(&mut line, commit.line)?;
-    push_bytes(&mut line, b"\n")?;
-    Ok(line)
+    line.clear();
+    push_bytes(line, b"commit ")?;
+    push_number(line, commit.number)?;
+    push_bytes(line, b" by ")?;
+    push_number(line, u64::from(commit.client))?;
+    push_bytes(line, b" line ")?;
+    push_number(line, commit.line)?;
+    push_bytes(line, b"\n")
 }

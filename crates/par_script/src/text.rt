@@ -32,12 +32,12 @@ fn push_all_told(out: &mut Vec<u8>, parts: &[Part]) -> Result<(), Memory>
     Ok(())
 }
 
-// Adds the line of a commit.
-fn push_commit(alloc: Global, out: &mut Vec<u8>, commit: &CommitLine) -> Result<(), Memory>
+// Adds the line of a commit, which is made in a buffer.
+fn push_commit(out: &mut Vec<u8>, line: &mut Vec<u8>, commit: &CommitLine) -> Result<(), Memory>
     ensures ok { OnOk result (out.new.items ≡ out.old.items ++ commit_line commit.now) }
     ensures err { OnErr result (out.new.items ≡ out.old.items) }
 {
-    let line = print_commit(alloc, commit)?;
+    print_commit(line, commit)?;
     Ok(out.extend_from_slice(line.as_slice())?)
 }
 
@@ -46,8 +46,9 @@ fn push_commits(alloc: Global, out: &mut Vec<u8>, commits: &[CommitLine]) -> Res
     ensures ok { OnOk result (out.new.items ≡ out.old.items ++ concat (map commit_line commits.now)) }
     ensures err { OnErr result (AreFirst (map commit_line commits.now) out.old.items out.new.items) }
 {
+    let mut line = Vec::new(alloc);
     for commit in commits {
-        push_commit(alloc, out, commit)?;
+        push_commit(out, &mut line, commit)?;
     }
     Ok(())
 }

@@ -1,5 +1,5 @@
 use Rattle.std.proofs.Common.{rules}
-use Rattle.par_lines.proofs.{Words.{◌≡◌, ◌++◌, ◌==◌, ◌∷◌, [], ℕ, IfSome, append-nil, ap, eq-eqb, refl, length-set, lines_of, ne_eqb, reverse, slice_get, subst, sym, ◌∙◌}, Dealing.{after_set, each_some, own_more, own_same, some_at, some_too}}
+use Rattle.par_lines.proofs.{Words.{◌≡◌, ◌++◌, [], append-nil, ap, eq-eqb, refl, length-set, lines_of, ne_eqb, reverse, slice_get, subst, sym, ◌∙◌}, Dealing.{after_set, each_some, own_more, own_same, some_at, some_too}}
 use Rattle.par_lines.proofs.deal.by_client.Goals as goal
 
 pub loop-line-init : goal.loop-line-init
@@ -14,9 +14,9 @@ loop-line-preserved c =
     let lists = c.loop-line.lists.items in
     let line = c.in-Some.line in
     record {
-      all = length-set lists line.1.client c.push.new.self ∙ c.loop-line.invariant.all;
-      own = after_set (λ client own. lines_of client c.args.lines.items ≡ lines_of client c.pop.new.self.items ++ reverse own.items) lists line.1.client c.push.new.self (λ lt. own_more c.args.lines.items c.loop-line.lines.items c.pop.new.self.items c.index_mut.result.now.items line c.in-Some.ensures.items line.1.client
-          (subst (λ own. lines_of line.1.client c.args.lines.items ≡ lines_of line.1.client c.loop-line.lines.items ++ reverse own.items) (sym c.index_mut.ensures.value) (some_at (λ own. lines_of line.1.client c.args.lines.items ≡ lines_of line.1.client c.loop-line.lines.items ++ reverse own.items) lists line.1.client c.index_mut.result.now lt (c.loop-line.invariant.own line.1.client))) (eq-eqb line.1.client line.1.client refl) ∙ ap (λ v. lines_of line.1.client c.pop.new.self.items ++ reverse v) (sym c.in_ok-push.ensures.items))
+      all = length-set lists line.1.client c.add_line.new.own ∙ c.loop-line.invariant.all;
+      own = after_set (λ client own. lines_of client c.args.lines.items ≡ lines_of client c.pop.new.self.items ++ reverse own.items) lists line.1.client c.add_line.new.own (λ lt. own_more c.args.lines.items c.loop-line.lines.items c.pop.new.self.items c.index_mut.result.now.items line c.in-Some.ensures.items line.1.client
+          (subst (λ own. lines_of line.1.client c.args.lines.items ≡ lines_of line.1.client c.loop-line.lines.items ++ reverse own.items) (sym c.index_mut.ensures.value) (some_at (λ own. lines_of line.1.client c.args.lines.items ≡ lines_of line.1.client c.loop-line.lines.items ++ reverse own.items) lists line.1.client c.index_mut.result.now lt (c.loop-line.invariant.own line.1.client))) (eq-eqb line.1.client line.1.client refl) ∙ ap (λ v. lines_of line.1.client c.pop.new.self.items ++ reverse v) (sym c.in_ok-add_line.ensures.added))
           (λ client apart. some_too (λ own. lines_of client c.args.lines.items ≡ lines_of client c.loop-line.lines.items ++ reverse own.items) (λ own. lines_of client c.args.lines.items ≡ lines_of client c.pop.new.self.items ++ reverse own.items) (slice_get lists client)
           (λ own was. own_same c.args.lines.items c.loop-line.lines.items c.pop.new.self.items own.items line c.in-Some.ensures.items client was (ne_eqb line.1.client client (λ e. apart (sym e)))) (c.loop-line.invariant.own client));
     }

@@ -1,5 +1,5 @@
 use Rattle.std.proofs.Common.{rules}
-use Rattle.par_lines.proofs.{Words.{◌≡◌, ◌+◌, ◌-◌, ◌<◌, ◌==◌, ◌≤◌, IfSome, ap, arith, length, length-set, reverse, slice_get, ◌∙◌, filter, range_with_len, has_line, lines_of}, Dealing.{after_set, all_more, ids_more, length_more, some_at, some_too}}
+use Rattle.par_lines.proofs.{Words.{◌≡◌, ◌+◌, ◌-◌, ◌<◌, ◌==◌, ◌≤◌, ap, arith, length, length-set, reverse, slice_get, ◌∙◌, filter, range_with_len, has_line, lines_of}, Dealing.{after_set, all_more, ids_more, length_more, some_at, some_too}}
 
 pub loop-client-init : Rattle.par_lines.proofs.deal.deal.Goals.loop-client-init
 loop-client-init c = record {

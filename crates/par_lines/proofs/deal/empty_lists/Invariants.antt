@@ -1,4 +1,4 @@
-use Rattle.par_lines.proofs.Words.{◌≡◌, ◌+◌, [], All, length}
+use Rattle.par_lines.proofs.Words.{◌≡◌, [], All, length}
 use Rattle.par_lines.proofs.deal.empty_lists.Given as goal
 
 abbrev pub invariant-loop : goal.invariant-loop
