@@ -1,5 +1,5 @@
 -- One row more in the patches.
-use Rattle.tx_table.proofs.Words.{◌≡◌, ◌∙◌, refl, sym, ap, ℕ, zero, suc, ◌+◌, ◌<◌, Bool, true, false, ◌==◌, ◌&&◌, nat_lt, cond, inl, inr, List, [], ◌∷◌, ◌++◌, length, get_or, map, take, arith, ne_eqb, Option, IsTrue, AllByRecursion, cases_eq, common_steps, Access, Kind, Extent, touches, AreTouched, Array, is_write, own, block_at, HasBytes, laid, written, written_effects, effects_kept, effects_shown, Row, AreEffects, has_patch, patch_at, HavePatches, access_of, IsRow}
+use Rattle.tx_table.proofs.Words.{◌≡◌, ◌∙◌, refl, sym, ap, ℕ, zero, suc, ◌+◌, ◌<◌, Bool, true, false, ◌==◌, ◌&&◌, nat_lt, cond, inl, inr, List, [], ◌∷◌, ◌++◌, length, get_or, map, take, arith, ne_eqb, Option, IsTrue, AllByRecursion, cases_eq, common_steps, Access, Kind, Extent, touches, AreTouched, Array, is_write, own, block_at, HasBytes, laid, written, written_effects, effects_kept, effects_shown, Row, AreEffects, has_patch, patch_at, HasTheSame, HavePatches, Held, access_of, IsRow}
 
 -- the accesses of one row more
 pub rows_more : (i : ℕ) (rows : List Row) (d : Row) → i < length rows → take (i + 1) (map access_of rows) ≡ take i (map access_of rows) ++ access_of (get_or rows i d) ∷ []
@@ -14,6 +14,10 @@ pub patch_of_row : (i : ℕ) (rows : List Row) (d : Row) (entries : List (ℕ ×
 patch_of_row i [] d entries all lt = absurd (omega arith)
 patch_of_row zero (x ∷ rows) d entries all lt = all.0
 patch_of_row (suc i) (x ∷ rows) d entries all lt = patch_of_row i rows d entries all.1 (omega arith)
+
+-- two states with the same as one before have it of each other
+pub then_same : {a b c : Held} → HasTheSame b c → HasTheSame a b → HasTheSame a c
+then_same later earlier = record { size = later.size ∙ earlier.size; spare = later.spare ∙ earlier.spare; kept = λ n. later.kept n ∙ earlier.kept n }
 
 -- a write more
 pub write_applied : (size : ℕ) (done : List Access) (a : Access) (old new : List (ℕ × List (Option ℕ))) → is_write a ≡ true → length a.bytes ≡ size

@@ -1,5 +1,5 @@
 -- What contracts see of a `Work`: a transaction with its accesses, and how far the work is prepared.
-use Rattle.std.specs.{Prelude.{◌≡◌, ℕ, ◌≤◌, Bool, List, [], Option, IsFalse, length, take}, List.AllByRecursion}
+use Rattle.std.specs.{Prelude.{◌≡◌, ℕ, ◌<◌, ◌≤◌, Bool, List, [], Option, IsFalse, length, take}, List.AllByRecursion}
 use Rattle.iso_model.specs.{declared.access.Access.Access, declared.access.Geometry.Geometry, declared.access.Mode.Mode, declared.access.Span.Span, Effect.is_write, Premises.{AreBytes, AreAccesses, HasBytes, IsSpan}}
 use Rattle.tx_table.specs.declared.rows.Row.{Row}
 
@@ -34,3 +34,7 @@ pub record IsRow (size : ℕ) (row : Row) : Type 0 where
   pub bytes : HasBytes size (access_of row)
   pub none : IsFalse (is_write (access_of row)) → row.bytes.items ≡ []
   pub values : AreBytes row.bytes.items
+
+-- rows of accesses to `blocks` blocks of this size
+abbrev pub AreRows : (size blocks : ℕ) → List Row → Type 0
+AreRows size blocks rows = AllByRecursion (λ row. IsRow size row × (row.block < blocks)) rows

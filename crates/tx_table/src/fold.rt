@@ -1,8 +1,7 @@
 // What the accesses of a transaction touch.
-ghost use Rattle.std.specs.{Prelude.{◌≡◌, ℕ, ◌<◌, ◌≤◌, ◌&&◌, ◌||◌, Bool, IsTrue, IfOk, List, OnOk, OnErr, drop, length, map, nat_lt, slice_index_or, take}, List.{All, AllByRecursion, list_any}};
-ghost use Rattle.byte_marks.specs.{Marks.has, Touched.{touches, AreTouched}};
-ghost use Rattle.iso_model.specs.{declared.access.Access.Access, declared.access.Kind.Kind, declared.access.Kind.TheVariants.{Read, Write}, Array.covered, Effect.covers, Geometry.is_block_size};
-ghost use Rattle.tx_table.specs.{declared.rows.Row.Row, Work.{access_of, IsRow}};
+ghost use Rattle.std.specs.{Prelude.{◌≡◌, ℕ, ◌<◌, ◌≤◌, Bool, IsTrue, IfOk, List, OnOk, OnErr, drop, length, map, slice_index_or}, List.{All, AllByRecursion, list_any}};
+ghost use Rattle.iso_model.specs.{declared.access.Access.Access, declared.access.Kind.Kind, declared.access.Kind.TheVariants.{Read, Write}, Geometry.is_block_size};
+ghost use Rattle.tx_table.specs.{declared.rows.Row.Row, Touching.{AreCovered, ArePlacesTouched, IsFolded, IsTouched}, Work.{access_of, AreRows, IsRow}};
 
 use crate::rows::Row;
 use byte_marks::{Marks, Touched};
@@ -17,7 +16,7 @@ const FEW: usize = 16;
 fn covered_bytes(alloc: Global, row: &Row, size: u32) -> Result<Marks, Memory>
     requires size { IsTrue (is_block_size size) }
     requires row { IsRow size row.now }
-    ensures { IfOk result (λ marks. (p : ℕ) → has marks p ≡ (nat_lt p size && covered (take row.now.count row.now.spans) p)) }
+    ensures { IfOk result (AreCovered size row.now) }
 {
     if row.count == 0 {
         let whole = Span {
@@ -33,17 +32,6 @@ fn covered_bytes(alloc: Global, row: &Row, size: u32) -> Result<Marks, Memory>
     Ok(marks)
 }
 
-// The bytes of its block that a row with one mark covers.
-#[inline(always)]
-fn marked_bytes(alloc: Global, row: &Row, size: u32) -> Marks
-    requires size { IsTrue (is_block_size size) }
-    requires row { IsRow size row.now }
-    requires one { row.now.count ≡ 1 }
-    ensures { (p : ℕ) → has result p ≡ (nat_lt p size && covered (take row.now.count row.now.spans) p) }
-{
-    Marks::of(alloc, row.spans[0])
-}
-
 // Adds these bytes, which a row covers, to what is read or what is written. Without memory both stay as they are.
 #[inline(always)]
 fn put_bytes(
@@ -53,9 +41,9 @@ fn put_bytes(
     reads: &mut Touched,
     writes: &mut Touched,
 ) -> Result<(), Memory>
-    requires { (p : ℕ) → has marks p ≡ (nat_lt p size && covered (take row.now.count row.now.spans) p) }
-    ensures reads { OnOk result ((b p : ℕ) → touches reads.new b p ≡ (touches reads.old b p || (nat_lt p size && covers Read b p (access_of row.now)))) }
-    ensures writes { OnOk result ((b p : ℕ) → touches writes.new b p ≡ (touches writes.old b p || (nat_lt p size && covers Write b p (access_of row.now)))) }
+    requires { AreCovered size row.now marks }
+    ensures reads { OnOk result (IsTouched size Read row.now reads.old reads.new) }
+    ensures writes { OnOk result (IsTouched size Write row.now writes.old writes.new) }
     ensures err { OnErr result ((reads.new ≡ reads.old) × (writes.new ≡ writes.old)) }
 {
     match row.kind {
@@ -75,13 +63,13 @@ fn touch(
 ) -> Result<(), Memory>
     requires size { IsTrue (is_block_size size) }
     requires row { IsRow size row.now }
-    ensures reads { OnOk result ((b p : ℕ) → touches reads.new b p ≡ (touches reads.old b p || (nat_lt p size && covers Read b p (access_of row.now)))) }
-    ensures writes { OnOk result ((b p : ℕ) → touches writes.new b p ≡ (touches writes.old b p || (nat_lt p size && covers Write b p (access_of row.now)))) }
+    ensures reads { OnOk result (IsTouched size Read row.now reads.old reads.new) }
+    ensures writes { OnOk result (IsTouched size Write row.now writes.old writes.new) }
     ensures err { OnErr result ((reads.new ≡ reads.old) × (writes.new ≡ writes.old)) }
 {
     // The marks of most rows are made where they are handed over.
     if row.count == 1 {
-        return put_bytes(row, size, marked_bytes(alloc, row, size), reads, writes);
+        return put_bytes(row, size, Marks::of(alloc, row.spans[0]), reads, writes);
     }
     let marks = covered_bytes(alloc, row, size)?;
     put_bytes(row, size, marks, reads, writes)
@@ -100,11 +88,11 @@ fn fold_in_turn(
 ) -> usize
     requires within { from ≤ length rows.now }
     requires size { IsTrue (is_block_size size) }
-    requires rows { AllByRecursion (λ row. IsRow size row × (row.block < blocks)) rows.now }
+    requires rows { AreRows size blocks rows.now }
     ensures least { from ≤ result }
     ensures within { result ≤ length rows.now }
-    ensures reads { AreTouched size blocks Read (take from (map access_of rows.now)) reads.old → AreTouched size blocks Read (take result (map access_of rows.now)) reads.new }
-    ensures writes { AreTouched size blocks Write (take from (map access_of rows.now)) writes.old → AreTouched size blocks Write (take result (map access_of rows.now)) writes.new }
+    ensures reads { IsFolded size blocks Read (map access_of rows.now) from result reads.old reads.new }
+    ensures writes { IsFolded size blocks Write (map access_of rows.now) from result writes.old writes.new }
 {
     for at in from..rows.len() {
         if let Err(_) = touch(alloc, &rows[at], size, reads, writes) {
@@ -140,8 +128,8 @@ fn fold_places(
     requires size { IsTrue (is_block_size size) }
     requires rows { AllByRecursion (IsRow size) rows.now }
     requires inside { All (λ e. e.1 < length rows.now) order.now }
-    ensures reads { OnOk result ((d : Row) → (b p : ℕ) → touches reads.new b p ≡ (touches reads.old b p || (nat_lt p size && list_any (λ e. covers Read b p (access_of (slice_index_or rows.now e.1 d))) order.now))) }
-    ensures writes { OnOk result ((d : Row) → (b p : ℕ) → touches writes.new b p ≡ (touches writes.old b p || (nat_lt p size && list_any (λ e. covers Write b p (access_of (slice_index_or rows.now e.1 d))) order.now))) }
+    ensures reads { OnOk result (ArePlacesTouched size Read rows.now order.now reads.old reads.new) }
+    ensures writes { OnOk result (ArePlacesTouched size Write rows.now order.now writes.old writes.new) }
 {
     for entry in order {
         touch(alloc, &rows[entry.1], size, reads, writes)?;
@@ -162,11 +150,11 @@ pub fn fold(
 ) -> usize
     requires within { from ≤ length rows.now }
     requires size { IsTrue (is_block_size size) }
-    requires rows { AllByRecursion (λ row. IsRow size row × (row.block < blocks)) rows.now }
+    requires rows { AreRows size blocks rows.now }
     ensures whole { from ≡ length rows.now → result ≡ length rows.now }
     ensures within { result ≤ length rows.now }
-    ensures reads { AreTouched size blocks Read (take from (map access_of rows.now)) reads.old → AreTouched size blocks Read (take result (map access_of rows.now)) reads.new }
-    ensures writes { AreTouched size blocks Write (take from (map access_of rows.now)) writes.old → AreTouched size blocks Write (take result (map access_of rows.now)) writes.new }
+    ensures reads { IsFolded size blocks Read (map access_of rows.now) from result reads.old reads.new }
+    ensures writes { IsFolded size blocks Write (map access_of rows.now) from result writes.old writes.new }
 {
     if rows.len() - from <= FEW {
         return fold_in_turn(alloc, rows, from, size, blocks, reads, writes);
@@ -191,10 +179,8 @@ pub fn reopen_touched(
 ) -> usize
     ensures few { result ≤ last }
     ensures none_there { folded ≤ last → result ≡ folded }
-    ensures reads { (size blocks : ℕ) (kind : Kind) (accesses : List Access) → AreTouched size blocks kind (take folded accesses) reads.old
-        → AreTouched size blocks kind (take result accesses) reads.new }
-    ensures writes { (size blocks : ℕ) (kind : Kind) (accesses : List Access) → AreTouched size blocks kind (take folded accesses) writes.old
-        → AreTouched size blocks kind (take result accesses) writes.new }
+    ensures reads { (size blocks : ℕ) (kind : Kind) (accesses : List Access) → IsFolded size blocks kind accesses folded result reads.old reads.new }
+    ensures writes { (size blocks : ℕ) (kind : Kind) (accesses : List Access) → IsFolded size blocks kind accesses folded result writes.old writes.new }
 {
     if folded <= last {
         return folded;

@@ -101,7 +101,14 @@ impl Live {
         requires { IsSome (begin_of tx self.old) }
         ensures { self.new ≡ remove_entry (nat_eq tx) self.old }
     {
-        take_out(&mut self.begins, &mut self.past, tx);
+        let more = self.begins.len() - self.past > 1;
+        let Some((first, _)) = self.begins.get_index(self.past) else {
+            return;
+        };
+        if more && *first == tx {
+            return pass_first(&mut self.begins, &mut self.past);
+        }
+        take_later(&mut self.begins, &mut self.past, tx);
     }
 
     /// Takes all out. The memory stays for those that come.
@@ -205,21 +212,4 @@ fn take_later(begins: &mut IndexMap<u64, Begun>, past: &mut usize, tx: u64)
         return;
     }
     let _ = begins.shift_remove(&tx);
-}
-
-// Takes a live transaction out.
-fn take_out(begins: &mut IndexMap<u64, Begun>, past: &mut usize, tx: u64)
-    requires order { AreInOrder past.old begins.old.entries }
-    requires live { IsSome (begin_of tx (drop past.old begins.old.entries)) }
-    ensures live { drop past.new begins.new.entries ≡ remove_entry (nat_eq tx) (drop past.old begins.old.entries) }
-    ensures order { AreInOrder past.new begins.new.entries }
-{
-    let more = begins.len() - *past > 1;
-    let Some((first, _)) = begins.get_index(*past) else {
-        return;
-    };
-    if more && *first == tx {
-        return pass_first(begins, past);
-    }
-    take_later(begins, past, tx);
 }

@@ -1,8 +1,8 @@
 // The patches of the blocks that a transaction wrote.
-ghost use Rattle.std.specs.{Prelude.{◌≡◌, ◌≢◌, ℕ, ◌+◌, ◌<◌, ◌≤◌, ◌==◌, [], true, false, None, ◌⊎◌, IfNone, IfSome, IsOk, IsTrue, OnOk, OnErr, cond, length, replicate, slice_index_or, vec_capacity}, List.{All, insert}};
+ghost use Rattle.std.specs.{Prelude.{◌≡◌, ◌≢◌, ℕ, ◌+◌, ◌<◌, ◌≤◌, ◌==◌, [], true, false, None, IfNone, IfSome, IsOk, IsTrue, OnOk, OnErr, cond, length, replicate, slice_index_or, vec_capacity}, List.{All, insert}};
 ghost use Rattle.iso_model.specs.Geometry.{is_block_size};
 ghost use Rattle.merge_write.specs.Patch.{laid, written};
-ghost use Rattle.tx_table.specs.Patches.{has_patch, patch_at, RisesFrom};
+ghost use Rattle.tx_table.specs.Patches.{has_patch, patch_at, HasOneMore, HasRoom, HasTheSame, RisesFrom};
 
 use crate::PatchIter;
 use iso_model::{Memory, Span};
@@ -123,9 +123,9 @@ impl Patches {
     pub fn reserve(&mut self, block: u32) -> Result<(), Memory>
         ensures size { self.new.size ≡ self.old.size }
         ensures entries { self.new.entries ≡ self.old.entries }
-        ensures ok { OnOk result ((has_patch block self.new.entries ≡ true) ⊎ (self.new.spare ≡ true)) }
+        ensures ok { OnOk result (HasRoom block self.new) }
         ensures err { OnErr result (self.new ≡ self.old) }
-        ensures succeeds { (has_patch block self.old.entries ≡ true) ⊎ (self.old.spare ≡ true) → IsOk result }
+        ensures succeeds { HasRoom block self.old → IsOk result }
     {
         if self.holds(block) {
             return Ok(());
@@ -155,10 +155,7 @@ impl Patches {
     fn add(&mut self, block: u32)
         requires new { has_patch block self.old.entries ≡ false }
         requires room { self.old.spare ≡ true }
-        ensures size { self.new.size ≡ self.old.size }
-        ensures held { has_patch block self.new.entries ≡ true }
-        ensures kept { (b : ℕ) → has_patch b self.old.entries ≡ true → has_patch b self.new.entries ≡ true }
-        ensures values { (b : ℕ) → patch_at self.old.size b self.new.entries ≡ patch_at self.old.size b self.old.entries }
+        ensures { HasOneMore block self.old self.new }
     {
         let place = place_of(self.order.as_slice(), block);
         let slot = self.order.len() as u32;
@@ -168,14 +165,12 @@ impl Patches {
     /// Has a patch of a block: a blank one where there was none.
     pub fn hold(&mut self, block: u32)
         requires { has_patch block self.old.entries ≡ false → self.old.spare ≡ true }
-        ensures size { self.new.size ≡ self.old.size }
-        ensures held { has_patch block self.new.entries ≡ true }
-        ensures kept { (b : ℕ) → has_patch b self.old.entries ≡ true → has_patch b self.new.entries ≡ true }
-        ensures values { (b : ℕ) → patch_at self.old.size b self.new.entries ≡ patch_at self.old.size b self.old.entries }
+        ensures { HasOneMore block self.old self.new }
     {
-        if !self.holds(block) {
-            self.add(block);
+        if self.holds(block) {
+            return;
         }
+        self.add(block);
     }
 
     /// Sets the bytes that the spans cover, and the whole block where there are none.
@@ -184,9 +179,7 @@ impl Patches {
         requires held { has_patch block self.old.entries ≡ true }
         requires bytes { length bytes.now ≡ self.old.size }
         requires spans { All (λ span. span.off + span.len ≤ self.old.size) spans.now }
-        ensures size { self.new.size ≡ self.old.size }
-        ensures spare { self.new.spare ≡ self.old.spare }
-        ensures kept { (b : ℕ) → has_patch b self.new.entries ≡ has_patch b self.old.entries }
+        ensures same { HasTheSame self.old self.new }
         ensures values { (b : ℕ) → patch_at self.old.size b self.new.entries
             ≡ cond (block == b) (written spans.now 0 (patch_at self.old.size b self.old.entries) bytes.now) (patch_at self.old.size b self.old.entries) }
     {
@@ -209,9 +202,7 @@ impl Patches {
 
     /// Holds no value any more.
     pub fn clear(&mut self)
-        ensures size { self.new.size ≡ self.old.size }
-        ensures spare { self.new.spare ≡ self.old.spare }
-        ensures kept { (b : ℕ) → has_patch b self.new.entries ≡ has_patch b self.old.entries }
+        ensures same { HasTheSame self.old self.new }
         ensures values { (b : ℕ) → patch_at self.old.size b self.new.entries ≡ replicate self.old.size None }
     {
         clear_slots(&mut self.slots, self.order.len());

@@ -1,7 +1,7 @@
 // The accesses of a transaction as they are kept.
-ghost use Rattle.std.specs.{Prelude.{◌≡◌, ℕ, ◌+◌, ◌<◌, ◌≤◌, [], ◌∷◌, ◌++◌, List, length, map, take}, List.AllByRecursion};
+ghost use Rattle.std.specs.{Prelude.{◌≡◌, ◌+◌, ◌<◌, ◌≤◌, [], ◌∷◌, ◌++◌, List, length, map, take}, List.AllByRecursion};
 ghost use Rattle.iso_model.specs.declared.access.Access.{Access};
-ghost use Rattle.tx_table.specs.{Patches.{has_patch, AreEffects, HavePatches}, Work.{access_of, IsRow}};
+ghost use Rattle.tx_table.specs.{Patches.{AreEffects, HasTheSame, HavePatches}, Work.{access_of, IsRow}};
 
 use crate::patches::Patches;
 use iso_model::{Kind, Span};
@@ -21,7 +21,6 @@ impl Row {
     pub fn unmarked(kind: Kind, block: u32, bytes: Vec<u8>) -> Row
         ensures access { access_of result ≡ record { kind = kind; block = block; spans = []; bytes = bytes.items } }
         ensures none { result.count ≡ 0 }
-        ensures bytes { result.bytes ≡ bytes }
     {
         Row {
             kind,
@@ -77,9 +76,7 @@ pub fn apply(rows: &[Row], from: usize, patches: &mut Patches)
     requires within { from ≤ length rows.now }
     requires rows { AllByRecursion (IsRow patches.old.size) rows.now }
     requires held { HavePatches (map access_of rows.now) patches.old.entries }
-    ensures size { patches.new.size ≡ patches.old.size }
-    ensures spare { patches.new.spare ≡ patches.old.spare }
-    ensures kept { (b : ℕ) → has_patch b patches.new.entries ≡ has_patch b patches.old.entries }
+    ensures same { HasTheSame patches.old patches.new }
     ensures effects { AreEffects patches.old.size (take from (map access_of rows.now)) patches.old.entries → AreEffects patches.old.size (map access_of rows.now) patches.new.entries }
 {
     for at in from..rows.len() {
@@ -95,9 +92,7 @@ pub fn apply(rows: &[Row], from: usize, patches: &mut Patches)
 pub fn reopen_patches(applied: usize, last: usize, patches: &mut Patches) -> usize
     ensures few { result ≤ last }
     ensures none_there { applied ≤ last → result ≡ applied }
-    ensures size { patches.new.size ≡ patches.old.size }
-    ensures spare { patches.new.spare ≡ patches.old.spare }
-    ensures kept { (b : ℕ) → has_patch b patches.new.entries ≡ has_patch b patches.old.entries }
+    ensures same { HasTheSame patches.old patches.new }
     ensures effects { (accesses : List Access) → AreEffects patches.old.size (take applied accesses) patches.old.entries
         → AreEffects patches.old.size (take result accesses) patches.new.entries }
 {

@@ -59,20 +59,19 @@ invariant_of-self c =
       λ k le lt. c.self.invariant.6 k (omega (arith, count, long, le)) lt,
     )
 
-pub returns-clause-held : goal.returns-clause-held
-returns-clause-held c =
+pub returns : goal.returns
+returns c =
     let here : (c.args.block == c.args.block) ≡ true = grind (arith, common_steps) in
-    ap (has_patch c.args.block) (entries c) ∙ has_insert c.args.block c.place_of-place.result (es c) (e c) ∙ ap (λ (t : Bool). t || has_patch c.args.block (es c)) here
-
-pub returns-clause-kept : goal.returns-clause-kept
-returns-clause-kept c b held =
-    ap (has_patch b) (entries c) ∙ has_insert b c.place_of-place.result (es c) (e c)
-    ∙ ap (λ (t : Bool). (c.args.block == b) || t) (ap (λ (h : Held). has_patch b h.entries) c.self.view_is ∙ held) ∙ or-true (c.args.block == b)
-
-pub returns-clause-values : goal.returns-clause-values
-returns-clause-values c b =
     let blank : get_or c.self.inside.slots.items (length (order c)) [] ≡ replicate c.args.self.now.size None =
     c.self.invariant.6 (length (order c)) (omega arith) (spare c) ∙ ap (λ (h : Held). replicate h.size None) c.self.view_is in
-    ap (patch_at c.args.self.now.size b) (entries c)
-    ∙ patch_insert c.args.self.now.size b c.place_of-place.result (es c) (e c) (new c) blank
-    ∙ ap (λ (h : Held). patch_at c.args.self.now.size b h.entries) c.self.view_is
+    record {
+      size = ap (λ (h : Held). h.size) c.self.view_is;
+      held = ap (has_patch c.args.block) (entries c) ∙ has_insert c.args.block c.place_of-place.result (es c) (e c) ∙ ap (λ (t : Bool). t || has_patch c.args.block (es c)) here;
+      kept = λ b held.
+          ap (has_patch b) (entries c) ∙ has_insert b c.place_of-place.result (es c) (e c)
+          ∙ ap (λ (t : Bool). (c.args.block == b) || t) (ap (λ (h : Held). has_patch b h.entries) c.self.view_is ∙ held) ∙ or-true (c.args.block == b);
+      values = λ b.
+          ap (patch_at c.args.self.now.size b) (entries c)
+          ∙ patch_insert c.args.self.now.size b c.place_of-place.result (es c) (e c) (new c) blank
+          ∙ ap (λ (h : Held). patch_at c.args.self.now.size b h.entries) c.self.view_is;
+    }

@@ -18,8 +18,12 @@ invariant_of-self c = (
   λ k le lt. blank c k (omega arith) lt,
 )
 
-pub returns-clause-kept : Rattle.tx_table.proofs.patches.Patches.clear.Goals.returns-clause-kept
-returns-clause-kept c b = grind (arith, has_entries)
+pub returns-clause-same : Rattle.tx_table.proofs.patches.Patches.clear.Goals.returns-clause-same
+returns-clause-same c = record {
+  size = ap (λ (h : Held). h.size) c.self.view_is;
+  spare = rw c.clear_slots.ensures.len (ap (λ (h : Held). h.spare) c.self.view_is);
+  kept = λ b. grind (arith, has_entries);
+}
 
 pub returns-clause-values : Rattle.tx_table.proofs.patches.Patches.clear.Goals.returns-clause-values
 returns-clause-values c b =

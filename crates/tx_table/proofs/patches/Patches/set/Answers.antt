@@ -65,13 +65,18 @@ module _ (c : After-set_spans) (h : HasSlot c.args.block c.in-Some.slot c.self.i
   entries : entries_of [] (set c.self.inside.slots.items c.in-Some.slot c.set_spans.new.self) c.self.inside.order.items ≡ set es h.place (c.args.block, c.set_spans.new.self)
   entries = set_entries [] c.self.inside.slots.items c.set_spans.new.self (length c.self.inside.order.items) h.place c.args.block c.in-Some.slot c.self.inside.order.items c.self.invariant.2 c.self.invariant.3 h.within h.at
 
-pub returns-clause-kept : goal.returns-clause-kept
-returns-clause-kept c b =
-    let s = goal.at.returns-clause-kept c in
+pub returns-clause-same : goal.returns-clause-same
+returns-clause-same c =
+    let s = goal.at.returns-clause-same c in
     let h = here s.In-Some in
-    ap (has_patch b) (entries s.After-set_spans h)
-    ∙ has_set b c.args.block h.place c.set_spans.new.self (es s.After-set_spans h) (c.args.block, []) (there s.After-set_spans h) (key s.After-set_spans h)
-    ∙ ap (λ (h : Held). has_patch b h.entries) c.self.view_is
+    record {
+      size = ap (λ (h : Held). h.size) c.self.view_is;
+      spare = rw (length-set c.self.inside.slots.items c.in-Some.slot c.set_spans.new.self) (ap (λ (h : Held). h.spare) c.self.view_is);
+      kept = λ b.
+          ap (has_patch b) (entries s.After-set_spans h)
+          ∙ has_set b c.args.block h.place c.set_spans.new.self (es s.After-set_spans h) (c.args.block, []) (there s.After-set_spans h) (key s.After-set_spans h)
+          ∙ ap (λ (h : Held). has_patch b h.entries) c.self.view_is;
+    }
 
 pub returns-clause-values : goal.returns-clause-values
 returns-clause-values c b =

@@ -14,7 +14,7 @@ returns-clause-shown c A is =
     let all = rows_have_bytes size c.self.inside.blocks rows c.self.invariant.2 in
     let long : length c.args.into.now ≡ size = c.requires.bytes ∙ sym (ap (λ (d : Doing). d.size) c.self.view_is) in
     shown_of A (map access_of rows) c.args.block size c.apply.new.patches.size c.apply.new.patches.entries c.args.into.now c.lay.new.into
-    (c.apply.ensures.size ∙ same) all now long is c.lay.ensures
+    (c.apply.ensures.same.size ∙ same) all now long is c.lay.ensures
     ∙ ap (λ (l : List Access). block_at (own A l) c.args.block) (ap (λ (d : Doing). d.accesses) c.self.view_is)
 
 pub invariant_of-self : Rattle.tx_table.proofs.work.Work.get.Goals.invariant_of-self
@@ -28,7 +28,7 @@ invariant_of-self c =
     let seen : c.as_slice.result.now ≡ rows = c.as_slice.ensures.value in
     let same : old.size ≡ size = c.self.invariant.1 in
     let effects : AreEffects size (map access_of rows) new.entries = (let h = c.apply.ensures.effects in rw (seen, same) at h) c.self.invariant.5 in
-    let have : HavePatches (map access_of rows) new.entries = have_kept (map access_of rows) old.entries new.entries (λ b h. c.apply.ensures.kept b ∙ h) c.self.invariant.6 in
+    let have : HavePatches (map access_of rows) new.entries = have_kept (map access_of rows) old.entries new.entries (λ b h. c.apply.ensures.same.kept b ∙ h) c.self.invariant.6 in
     let ready : c.self.inside.ready ≡ Some c.args.block = ap (λ (d : Doing). d.ready) c.self.view_is ∙ c.requires.ready in
     let P : ℕ → Type 0 = λ b. (b < blocks) × (length rows < vec_capacity c.self.inside.rows) × (size ≤ vec_capacity c.self.inside.bytes) × ((has_patch b old.entries ≡ true) ⊎ (old.spare ≡ true)) in
     let room : P c.args.block = subst (λ (o : Option ℕ). IfSome o P) ready c.self.invariant.9 in
@@ -45,4 +45,4 @@ invariant_of-self c =
     let done : c.len-self-inside.result ≡ length rows = c.len-self-inside.ensures ∙ c.self.inside.rows.ok.0 in
     let all = appended size blocks c.len-self-inside.result c.self.inside.folded rows c.push_reserved.new.self.items row new.entries c.self.inside.reads c.self.inside.writes
     c.push_reserved.ensures.items done c.self.invariant.4 few c.self.invariant.2 is_row block effects have (λ write. absurd (both_ways (is_write (access_of row)) no_write write)) c.self.invariant.7 c.self.invariant.8 in
-    (c.self.invariant.0, c.apply.ensures.size ∙ same, all.0, all.1, all.2, all.3, all.4, all.5, all.6, tt, all.7, c.self.invariant.11)
+    (c.self.invariant.0, c.apply.ensures.same.size ∙ same, all.0, all.1, all.2, all.3, all.4, all.5, all.6, tt, all.7, c.self.invariant.11)

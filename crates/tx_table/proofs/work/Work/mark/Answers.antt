@@ -47,9 +47,9 @@ invariant_of-self c =
     let held : old.size ≡ size = c.self.invariant.1 in
     let effects : AreEffects size (take c.reopen_patches-self-inside.result (map access_of rows)) new.entries =
     (let h = c.reopen_patches-self-inside.ensures.effects (map access_of rows) in rw held at h) c.self.invariant.5 in
-    let have : HavePatches (map access_of rows) new.entries = have_kept (map access_of rows) old.entries new.entries (λ b h. c.reopen_patches-self-inside.ensures.kept b ∙ h) c.self.invariant.6 in (
+    let have : HavePatches (map access_of rows) new.entries = have_kept (map access_of rows) old.entries new.entries (λ b h. c.reopen_patches-self-inside.ensures.same.kept b ∙ h) c.self.invariant.6 in (
       c.self.invariant.0,
-      c.reopen_patches-self-inside.ensures.size ∙ held,
+      c.reopen_patches-self-inside.ensures.same.size ∙ held,
       all_set (λ r. IsRow size r × (r.block < blocks)) i rows row c.self.invariant.2 (is_row, block),
       omega (arith, long, is_last, c.reopen_patches-self-inside.ensures.few),
       omega (arith, long, is_last, c.reopen_touched-self-inside.ensures.few),
@@ -63,7 +63,7 @@ invariant_of-self c =
         room.0,
         subst (λ (n : ℕ). n < vec_capacity c.self.inside.rows) (sym long) room.1,
         room.2,
-        elim room.3 [ inl there ↦ inl (c.reopen_patches-self-inside.ensures.kept b ∙ there) | inr spare ↦ inr (c.reopen_patches-self-inside.ensures.spare ∙ spare) ],
+        elim room.3 [ inl there ↦ inl (c.reopen_patches-self-inside.ensures.same.kept b ∙ there) | inr spare ↦ inr (c.reopen_patches-self-inside.ensures.same.spare ∙ spare) ],
       )) c.self.invariant.9,
       subst (λ (n : ℕ). n ≤ 4096) (sym long) c.self.invariant.10,
       c.self.invariant.11,

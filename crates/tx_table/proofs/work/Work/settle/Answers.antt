@@ -19,14 +19,14 @@ invariant_of-self-2 c =
     let seen' : c.as_slice-2.result.now ≡ rows = c.as_slice-2.ensures.value in
     let same : old.size ≡ size = c.self.invariant.1 in
     let effects : AreEffects size (map access_of rows) new.entries = (let h = c.apply.ensures.effects in rw (seen, same) at h) c.self.invariant.5 in
-    let have : HavePatches (map access_of rows) new.entries = have_kept (map access_of rows) old.entries new.entries (λ b h. c.apply.ensures.kept b ∙ h) c.self.invariant.6 in
+    let have : HavePatches (map access_of rows) new.entries = have_kept (map access_of rows) old.entries new.entries (λ b h. c.apply.ensures.same.kept b ∙ h) c.self.invariant.6 in
     let done : c.len-self-inside.result ≡ length rows = c.len-self-inside.ensures ∙ c.self.inside.rows.ok.0 in
     let within : folded ≤ length rows = subst (λ (l : List Row). folded ≤ length l) seen' c.fold-self-inside.ensures.within in
     let whole : take c.len-self-inside.result (map access_of rows) ≡ map access_of rows = take_all c.len-self-inside.result (map access_of rows) (omega (arith, done, length-map rows access_of)) in
     let reads : AreTouched size blocks Read (take folded (map access_of rows)) c.fold-self-inside.new.reads = (let h = c.fold-self-inside.ensures.reads in rw seen' at h) c.self.invariant.7 in
     let writes : AreTouched size blocks Write (take folded (map access_of rows)) c.fold-self-inside.new.writes = (let h = c.fold-self-inside.ensures.writes in rw seen' at h) c.self.invariant.8 in (
       c.self.invariant.0,
-      c.apply.ensures.size ∙ same,
+      c.apply.ensures.same.size ∙ same,
       c.self.invariant.2,
       omega (arith, done),
       within,
@@ -38,7 +38,7 @@ invariant_of-self-2 c =
         room.0,
         room.1,
         room.2,
-        elim room.3 [ inl there ↦ inl (c.apply.ensures.kept b ∙ there) | inr spare ↦ inr (c.apply.ensures.spare ∙ spare) ],
+        elim room.3 [ inl there ↦ inl (c.apply.ensures.same.kept b ∙ there) | inr spare ↦ inr (c.apply.ensures.same.spare ∙ spare) ],
       )) c.self.invariant.9,
       c.self.invariant.10,
       c.self.invariant.11,

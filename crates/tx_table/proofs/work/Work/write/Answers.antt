@@ -12,13 +12,13 @@ invariant_of-self c =
     let new = c.hold.new.self in
     let seen : c.as_slice.result.now ≡ rows = c.as_slice.ensures.value in
     let same : old.size ≡ size = c.self.invariant.1 in
-    let mid_size : mid.size ≡ size = c.apply.ensures.size ∙ same in
+    let mid_size : mid.size ≡ size = c.apply.ensures.same.size ∙ same in
     let applied : AreEffects size (map access_of rows) mid.entries = (let h = c.apply.ensures.effects in rw (seen, same) at h) c.self.invariant.5 in
     let effects : AreEffects size (map access_of rows) new.entries = record {
       each = λ b. subst (λ (n : ℕ). patch_at n b new.entries ≡ patch_at n b mid.entries) mid_size (c.hold.ensures.values b) ∙ applied.each b;
     } in
     let have : HavePatches (map access_of rows) new.entries =
-    have_kept (map access_of rows) old.entries new.entries (λ b h. c.hold.ensures.kept b (c.apply.ensures.kept b ∙ h)) c.self.invariant.6 in
+    have_kept (map access_of rows) old.entries new.entries (λ b h. c.hold.ensures.kept b (c.apply.ensures.same.kept b ∙ h)) c.self.invariant.6 in
     let ready : c.self.inside.ready ≡ Some c.args.block = ap (λ (d : Doing). d.ready) c.self.view_is ∙ c.requires.ready in
     let P : ℕ → Type 0 = λ b. (b < blocks) × (length rows < vec_capacity c.self.inside.rows) × (size ≤ vec_capacity c.self.inside.bytes) × ((has_patch b old.entries ≡ true) ⊎ (old.spare ≡ true)) in
     let room : P c.args.block = subst (λ (o : Option ℕ). IfSome o P) ready c.self.invariant.9 in
