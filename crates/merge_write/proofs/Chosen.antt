@@ -1,5 +1,5 @@
 -- Which lanes a mask of bits chooses, and what they lay over a block.
-use Rattle.merge_write.proofs.Words.{◌≡◌, ◌∙◌, sym, refl, ap, ℕ, zero, suc, ◌+◌, ◌*◌, ◌/◌, ◌%◌, ◌^◌, ◌<◌, ◌≤◌, Bool, false, cond, List, ◌++◌, length, get_or, map, subst, arith, eqb, bit_and, w64, zip2, sel_l, chunk, put_chunk, bit_at, to_le_bytes, range_with_len, div-one, pow_pos, shr-shr, div-add-mod', and_pow, bit_at-lt, bit_at_cat_low, common_steps, get_or-map-range_with_len, length-zip2, get_or-zip2, length-sel_l, get_or-sel_l, length-chunk, get_or-chunk, get_or-put_chunk_at}
+use Rattle.merge_write.proofs.Words.{◌≡◌, ◌∙◌, sym, refl, ap, ℕ, zero, suc, ◌+◌, ◌*◌, ◌/◌, ◌%◌, ◌^◌, ◌<◌, ◌≤◌, Bool, true, false, cond, List, ◌++◌, length, get_or, map, subst, arith, eqb, bit_and, w64, zip2, sel_l, chunk, put_chunk, bit_at, to_le_bytes, range_with_len, div-one, pow_pos, shr-shr, div-add-mod', and_pow, bit_at-lt, bit_at_cat_low, common_steps, get_or-map-range_with_len, length-zip2, get_or-zip2, length-sel_l, get_or-sel_l, length-chunk, get_or-chunk, get_or-put_chunk_at, get_or-put_chunk_below, get_or-put_chunk_above, IsLaid}
 
 -- the bit of each lane
 abbrev pub lane_bits : List ℕ
@@ -47,6 +47,16 @@ selected_at at k masks values into long room space below =
     get_or-put_chunk_at at into (sel_l (chosen masks) (chunk at 64 values) (chunk at 64 into)) k 0 (omega (arith, all)) (omega (arith, all))
     ∙ get_or-sel_l (chosen masks) (chunk at 64 values) (chunk at 64 into) k 0 (omega (arith, ms)) (omega (arith, vs)) (omega (arith, is))
     ∙ rw (chosen_at masks k long below, get_or-chunk at 64 values k 0 below, get_or-chunk at 64 into k 0 below) refl
+
+-- a part of some bytes that is put in its place among others
+pub part_laid : (at count : ℕ) (bytes into : List ℕ) → at + count ≤ length bytes → at + count ≤ length into → IsLaid at count (λ k. true) bytes into (put_chunk at into (chunk at count bytes))
+part_laid at count bytes into room space =
+    let long : length (chunk at count bytes) ≡ count = length-chunk at count bytes room in
+    record {
+      lanes = λ k below. get_or-put_chunk_at at into (chunk at count bytes) k 0 (omega (arith, long)) (omega (arith, long)) ∙ get_or-chunk at count bytes k 0 below;
+      before = λ k below. get_or-put_chunk_below at into (chunk at count bytes) k 0 below;
+      behind = λ k past. get_or-put_chunk_above at into (chunk at count bytes) k 0 (omega (arith, long));
+    }
 
 -- a bit of a byte of a number
 bit_of_byte : (n a i : ℕ) → i < 8 → bit_at (n / 2 ^ a % 256) i ≡ bit_at n (a + i)

@@ -2,7 +2,7 @@
 pub use Rattle.std.{proofs.Common.{Bool, IsTrue, List, None, Option, Some, ap, arith, bit_and, bit_or, cond, drop, eqb, false, get_or, get_or-set_other, get_or-set_same, inl, inr, length, map, max, nat_le, nat_lt, ne_eqb, not, refl, replicate, rules, set, slice_index, subst, suc, sym, take, true, unwrap_or, w64, w8, zero, ℕ, [], ◌%◌, ◌&&◌, ◌*◌, ◌++◌, ◌+◌, ◌-◌, ◌/◌, ◌<◌, ◌==◌, ◌^◌, ◌||◌, ◌∙◌, ◌∷◌, ◌≡◌, ◌≢◌, ◌≤◌}, proofs.Math.Bool.{and-false, or-false, or_assoc}, proofs.Math.Nat.{div-one, pow-suc}, proofs.Math.Pow.pow_mono, proofs.lemmas.Bool.{cases_eq, cases_lt}, proofs.lemmas.Bool.Decides.nat_tests, proofs.lemmas.Grind.common_steps, proofs.lemmas.List.{drop-drop, drop_all, drop_more, ext_get_or, get_or_past, length-drop, length-set, length-take-le, take_all, take_more, with_items_is}, proofs.lemmas.List.Folds.list_any-append, proofs.lemmas.List.FromFn.get_or-map-range_with_len, proofs.lemmas.Nat.{div-add-mod', pow_below, pow_pos, shr-shr, shr_le}, proofs.lemmas.Nat.Bits.{and_pow, bit_at-lt, bit_at-trailing_zeros, bit_at-zero, bit_at_above, bit_at_cat_low, bit_at_mask_above, bit_at_mask_below, bit_at_mask_inside, bit_at_not, bit_at_ones, bit_at_or}, proofs.lemmas.Simd.{get_or-chunk, get_or-put_chunk_above, get_or-put_chunk_at, get_or-put_chunk_below, get_or-sel_l, get_or-zip2, length-chunk, length-sel_l, length-zip2, tops_compared}, specs.Int.{bit_at, to_le_bytes, trailing_zeros}, specs.List.{AllByRecursion, list_any, range_with_len}, specs.Vec.with_items}
 pub use Rattle.iso_model.{proofs.Bytes.{length-block_own, own_at}, proofs.Lookups.{effects_at, length-effects, or_else_assoc, or_else_none}, specs.Array.{Array, covered, in_span, merged}, specs.Effect.{covers, effect_at, effects_from, is_write, joined, or_else, own, runs_from, same_kind}, specs.Premises.{HasBytes, block_at}, specs.declared.access.Access.Access, specs.declared.access.Kind.TheVariants.Write, specs.declared.access.Run.Run, specs.declared.access.Span.Span}
 pub use lib.Lanes.{chunk, put_chunk, sel_l, zip2}
-pub use Rattle.merge_write.specs.Patch.{followed, is_set, laid, piece, run_of, values_from, written}
+pub use Rattle.merge_write.specs.{Copies.IsLaid, Patch.{followed, is_set, laid, piece, run_of, values_from, written}}
 
 length-written : (spans : List Span) (p : ℕ) (values : List (Option ℕ)) (bytes : List ℕ) → length (written spans p values bytes) ≡ length values
 length-written spans p [] bytes = refl

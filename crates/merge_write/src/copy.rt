@@ -1,5 +1,6 @@
 // Copies of a few bytes without a call.
-ghost use Rattle.std.specs.Prelude.{◌≡◌, ℕ, ◌+◌, ◌<◌, ◌≤◌, ◌&&◌, cond, length, nat_le, nat_lt, slice_index};
+ghost use Rattle.std.specs.Prelude.{◌+◌, ◌≤◌, true, length};
+ghost use Rattle.merge_write.specs.Copies.{AreCopied, IsLaid};
 
 use std::simd::prelude::*;
 
@@ -7,9 +8,7 @@ use std::simd::prelude::*;
 fn copy_four(bytes: &[u8], at: usize, into: &mut [u8])
     requires bytes { at + 4 ≤ length bytes.now }
     requires into { at + 4 ≤ length into.old }
-    ensures lanes { (k : ℕ) → k < 4 → slice_index into.new (at + k) ≡ slice_index bytes.now (at + k) }
-    ensures before { (k : ℕ) → k < at → slice_index into.new k ≡ slice_index into.old k }
-    ensures behind { (k : ℕ) → at + 4 ≤ k → slice_index into.new k ≡ slice_index into.old k }
+    ensures { IsLaid at 4 (λ k. true) bytes.now into.old into.new }
 {
     u8x4::from_slice(&bytes[at..]).copy_to_slice(&mut into[at..]);
 }
@@ -20,7 +19,7 @@ fn copy_any(bytes: &[u8], from: usize, to: usize, into: &mut [u8])
     requires order { from ≤ to }
     requires bytes { to ≤ length bytes.now }
     requires into { to ≤ length into.old }
-    ensures { (k : ℕ) → slice_index into.new k ≡ cond (nat_le from k && nat_lt k to) (slice_index bytes.now k) (slice_index into.old k) }
+    ensures { AreCopied from to bytes.now into.old into.new }
 {
     into[from..to].copy_from_slice(&bytes[from..to]);
 }
@@ -30,7 +29,7 @@ pub fn copy_range(bytes: &[u8], from: usize, to: usize, into: &mut [u8])
     requires order { from ≤ to }
     requires bytes { to ≤ length bytes.now }
     requires into { to ≤ length into.old }
-    ensures { (k : ℕ) → slice_index into.new k ≡ cond (nat_le from k && nat_lt k to) (slice_index bytes.now k) (slice_index into.old k) }
+    ensures { AreCopied from to bytes.now into.old into.new }
 {
     let count = to - from;
     if 4 <= count && count <= 8 {

@@ -1,6 +1,6 @@
 // The kernel: bytes laid over others 64 at a time, in the lanes of a vector, by a mask of bits.
-ghost use Rattle.std.specs.{Prelude.{◌≡◌, ℕ, ◌+◌, ◌%◌, ◌<◌, ◌≤◌, ◌==◌, cond, length, slice_index}, Int.bit_at};
-ghost use Rattle.merge_write.specs.Patch.{values_from, laid, IsRow};
+ghost use Rattle.std.specs.{Prelude.{◌≡◌, ◌+◌, ◌%◌, ◌≤◌, ◌==◌, true, length, slice_index}, Int.bit_at};
+ghost use Rattle.merge_write.specs.{Copies.IsLaid, Patch.{values_from, laid, IsRow}};
 
 use std::simd::prelude::*;
 
@@ -22,10 +22,7 @@ fn lay_lanes(values: &[u8], masks: u8x64, at: usize, into: &mut [u8])
     requires masks { length masks ≡ 64 }
     requires values { at + 64 ≤ length values.now }
     requires into { at + 64 ≤ length into.old }
-    ensures lanes { (k : ℕ) → k < 64
-        → slice_index into.new (at + k) ≡ cond (bit_at (slice_index masks k) (k % 8) == 1) (slice_index values.now (at + k)) (slice_index into.old (at + k)) }
-    ensures before { (k : ℕ) → k < at → slice_index into.new k ≡ slice_index into.old k }
-    ensures behind { (k : ℕ) → at + 64 ≤ k → slice_index into.new k ≡ slice_index into.old k }
+    ensures { IsLaid at 64 (λ k. bit_at (slice_index masks k) (k % 8) == 1) values.now into.old into.new }
 {
     let bits = u8x64::from_array(BITS);
     (masks & bits)
@@ -41,9 +38,7 @@ fn lay_lanes(values: &[u8], masks: u8x64, at: usize, into: &mut [u8])
 fn lay_whole(values: &[u8], at: usize, into: &mut [u8])
     requires values { at + 64 ≤ length values.now }
     requires into { at + 64 ≤ length into.old }
-    ensures lanes { (k : ℕ) → k < 64 → slice_index into.new (at + k) ≡ slice_index values.now (at + k) }
-    ensures before { (k : ℕ) → k < at → slice_index into.new k ≡ slice_index into.old k }
-    ensures behind { (k : ℕ) → at + 64 ≤ k → slice_index into.new k ≡ slice_index into.old k }
+    ensures { IsLaid at 64 (λ k. true) values.now into.old into.new }
 {
     u8x64::from_slice(&values[at..]).copy_to_slice(&mut into[at..]);
 }
@@ -52,10 +47,7 @@ fn lay_whole(values: &[u8], at: usize, into: &mut [u8])
 fn lay_word(values: &[u8], mask: u64, at: usize, into: &mut [u8])
     requires values { at + 64 ≤ length values.now }
     requires into { at + 64 ≤ length into.old }
-    ensures lanes { (k : ℕ) → k < 64
-        → slice_index into.new (at + k) ≡ cond (bit_at mask k == 1) (slice_index values.now (at + k)) (slice_index into.old (at + k)) }
-    ensures before { (k : ℕ) → k < at → slice_index into.new k ≡ slice_index into.old k }
-    ensures behind { (k : ℕ) → at + 64 ≤ k → slice_index into.new k ≡ slice_index into.old k }
+    ensures { IsLaid at 64 (λ k. bit_at mask k == 1) values.now into.old into.new }
 {
     if mask == 0 {
         return;
