@@ -1,5 +1,5 @@
 -- The bytes that rows cover.
-use Rattle.tx_table.proofs.{Words.{◌≡◌, ◌∙◌, refl, sym, ap, ℕ, zero, suc, ◌+◌, ◌<◌, ◌≤◌, Bool, true, false, ◌==◌, ◌&&◌, ◌||◌, nat_le, nat_lt, List, [], ◌∷◌, ◌++◌, ◌-◌, length, get_or, map, take, drop, arith, length-drop, AllByRecursion, list_any, ltb-true, or-false, get_or_default, get_or-drop, take_all, take-append-drop, take-map, list_any-append, list_any_more, common_steps, Extent, touches, AreTouched, Access, Kind, Span, covered, in_span, covers, has_write, is_write, IsSpan, Row, access_of, IsRow, and_parts, eqb-true, or-true, or_parts}, Applied.rows_more}
+use Rattle.tx_table.proofs.{Words.{◌≡◌, ◌∙◌, refl, sym, ap, ℕ, zero, suc, ◌+◌, ◌<◌, ◌≤◌, Bool, true, false, ◌==◌, ◌&&◌, ◌||◌, nat_le, nat_lt, List, [], ◌∷◌, ◌++◌, ◌-◌, length, get_or, map, take, drop, arith, length-drop, AllByRecursion, list_any, ltb-true, or-false, get_or_default, get_or-drop, take_all, take-append-drop, take-map, list_any-append, list_any_more, common_steps, Extent, touches, ArePlacesTouched, AreTouched, IsFolded, IsTouched, Access, Kind, Span, covered, in_span, covers, has_write, is_write, IsSpan, Row, access_of, IsRow, and_parts, eqb-true, or-true, or_parts}, Applied.rows_more}
 use Rattle.iso_model.specs.Effect as model
 
 -- what a settled work is
@@ -40,7 +40,7 @@ joined s t u v in_it = grind arith
 -- one row more of a kind, or of the other
 pub touched_more : (size blocks : ℕ) (kind : Kind) (i : ℕ) (rows : List Row) (row d : Row) (old new : List (ℕ × List Extent)) → i < length rows → row ≡ get_or rows i d → row.block < blocks
     → AreTouched size blocks kind (take i (map access_of rows)) old
-    → ((b p : ℕ) → touches new b p ≡ (touches old b p || (nat_lt p size && covers kind b p (access_of row))))
+    → IsTouched size kind row old new
     → AreTouched size blocks kind (take (i + 1) (map access_of rows)) new
 touched_more size blocks kind i rows row d old new lt is within are step = record {
   is = λ b p.
@@ -81,9 +81,9 @@ place_more rows from at key old new d test le lt is before =
 -- the row at one more place
 pub places_more : (size : ℕ) (kind : Kind) (rows : List Row) (order : List (ℕ × ℕ)) (i : ℕ) (e : ℕ × ℕ) (row : Row) (first old new : List (ℕ × List Extent)) → i < length order
     → e ≡ get_or order i e → e.1 < length rows → row ≡ get_or rows e.1 row
-    → ((d : Row) → (b p : ℕ) → touches old b p ≡ (touches first b p || (nat_lt p size && list_any (λ e. covers kind b p (access_of (get_or rows e.1 d))) (take i order))))
-    → ((b p : ℕ) → touches new b p ≡ (touches old b p || (nat_lt p size && covers kind b p (access_of row))))
-    → (d : Row) → (b p : ℕ) → touches new b p ≡ (touches first b p || (nat_lt p size && list_any (λ e. covers kind b p (access_of (get_or rows e.1 d))) (take (i + 1) order)))
+    → ArePlacesTouched size kind rows (take i order) first old
+    → IsTouched size kind row old new
+    → ArePlacesTouched size kind rows (take (i + 1) order) first new
 places_more size kind rows order i e row first old new lt at inside is before step d b p =
     let f : ℕ × ℕ → Bool = λ e. covers kind b p (access_of (get_or rows e.1 d)) in
     let same : row ≡ get_or rows e.1 d = is ∙ get_or_default rows e.1 row d inside in
@@ -118,8 +118,7 @@ any_inside size blocks kind b p (suc n) (x ∷ rows) all there = any_inside size
 pub touched_rest : (size blocks : ℕ) (kind : Kind) (from : ℕ) (rows : List Row) (order : List (ℕ × ℕ)) (old new : List (ℕ × List Extent)) → from < length rows
     → AllByRecursion (λ r. IsRow size r × (r.block < blocks)) rows
     → ((d : Row) → (test : Row → Bool) → list_any (λ e. test (get_or rows e.1 d)) order ≡ list_any test (drop from rows))
-    → ((d : Row) → (b p : ℕ) → touches new b p ≡ (touches old b p || (nat_lt p size && list_any (λ e. covers kind b p (access_of (get_or rows e.1 d))) order)))
-    → AreTouched size blocks kind (take from (map access_of rows)) old → AreTouched size blocks kind (take (length rows) (map access_of rows)) new
+    → ArePlacesTouched size kind rows order old new → IsFolded size blocks kind (map access_of rows) from (length rows) old new
 touched_rest size blocks kind from [] order old new lt all same step are = absurd (omega arith)
 touched_rest size blocks kind from (x ∷ xs) order old new lt all same step are = record {
   is = λ b p.

@@ -4,6 +4,7 @@ pub mod Begins
 pub mod Behind
 pub mod Blocks
 pub mod Covered
+pub mod Entering
 pub mod Held
 pub mod Keys
 pub mod Last

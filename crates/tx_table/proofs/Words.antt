@@ -5,4 +5,4 @@ pub use Rattle.indexmap.proofs.CallerLemmas.{insert_entry-new}
 pub use Rattle.iso_model.{proofs.Growth.all_push, proofs.Labels.key_tells, specs.Array.{Array, covered, in_span}, specs.Effect.{block_runs, covers, effect_at, effects_from, has_write, is_write, or_else, own, runs_from, same_kind}, specs.Labels.{is_label, key_of}, specs.Marks.{is_outside, mark_fault, marked, marks_fault}, specs.Premises.{AreBytes, HasBytes, IsAccess, IsSpan, block_at}, specs.World.{floor_of, least_begin}, specs.declared.access.Access.Access, specs.declared.access.Geometry.Geometry, specs.declared.access.Kind.Kind, specs.declared.access.Kind.TheVariants.{Read, Write}, specs.declared.access.MarkError.MarkError, specs.declared.access.MarkError.TheVariants.TooManyMarks, specs.declared.access.Mode.TheVariants.Serial, specs.declared.access.Run.Run, specs.declared.access.Span.Span}
 unfoldable pub use Rattle.iso_model.specs.Effect.{runs}
 pub use Rattle.merge_write.{proofs.Effects.{no_effects, written_effects}, proofs.Growth.{effects_kept, effects_shown}, specs.Patch.{laid, written}}
-pub use Rattle.tx_table.specs.{Live.{AreBefore, AreInOrder, BeginFrom, at_work}, Patches.{AreBlankFrom, AreEffects, HasTheSame, HavePatches, Held, RisesFrom, has_patch, patch_at}, Rack.IsKeyed, Slots.{AreSlots, entries_of}, Touching.{ArePlacesTouched, IsFolded, IsTouched}, Work.{AreRows, AreWithin, Doing, IsRow, access_of, span_at}, declared.live.Begun.Begun, declared.rows.Row.Row}
+pub use Rattle.tx_table.specs.{Live.{AreBefore, AreInOrder, BeginFrom, at_work}, Patches.{AreBlankFrom, AreEffects, HasOneMore, HasTheSame, HavePatches, Held, RisesFrom, has_patch, patch_at}, Rack.IsKeyed, Slots.{AreSlots, entries_of}, Touching.{ArePlacesTouched, IsFolded, IsTouched}, Work.{AreWithin, Doing, IsRow, access_of, span_at}, declared.live.Begun.Begun, declared.rows.Row.Row}

@@ -1,5 +1,5 @@
 -- The row with the bytes is after the others, and its block has a patch.
-use Rattle.tx_table.proofs.{Words.{length-map, ◌≡◌, ◌∙◌, ◌⊎◌, ℕ, ◌+◌, ◌<◌, ◌≤◌, true, sym, ap, subst, arith, refl, [], map, length, Option, Some, is_ok, vec_capacity, vec_len, IfSome, both_ways, Access, Write, AreBytes, HasBytes, patch_at, AreEffects, has_patch, HavePatches, access_of, Doing, IsRow}, Last.{appended, have_kept, unmarked_row}}
+use Rattle.tx_table.proofs.{Words.{◌≡◌, ◌∙◌, ℕ, ◌+◌, ◌<◌, ◌≤◌, true, sym, ap, subst, arith, refl, [], length, is_ok, vec_capacity, vec_len, both_ways, Access, Write, AreBytes, HasBytes, has_patch, access_of, Doing, IsRow}, Entering.{applied, few_rows, held_too, room_for}, Last.{appended, unmarked_row}}
 
 pub invariant_of-self : Rattle.tx_table.proofs.work.Work.write.Goals.invariant_of-self
 invariant_of-self c =
@@ -7,22 +7,10 @@ invariant_of-self c =
     let size = c.self.inside.size in
     let blocks = c.self.inside.blocks in
     let row = c.unmarked.result in
-    let old = c.self.inside.patches in
-    let mid = c.apply.new.patches in
-    let new = c.hold.new.self in
-    let seen : c.as_slice.result.now ≡ rows = c.as_slice.ensures.value in
-    let same : old.size ≡ size = c.self.invariant.1 in
-    let mid_size : mid.size ≡ size = c.apply.ensures.same.size ∙ same in
-    let applied : AreEffects size (map access_of rows) mid.entries = (let h = c.apply.ensures.effects in rw (seen, same) at h) c.self.invariant.5 in
-    let effects : AreEffects size (map access_of rows) new.entries = record {
-      each = λ b. subst (λ (n : ℕ). patch_at n b new.entries ≡ patch_at n b mid.entries) mid_size (c.hold.ensures.values b) ∙ applied.each b;
-    } in
-    let have : HavePatches (map access_of rows) new.entries =
-    have_kept (map access_of rows) old.entries new.entries (λ b h. c.hold.ensures.kept b (c.apply.ensures.same.kept b ∙ h)) c.self.invariant.6 in
-    let ready : c.self.inside.ready ≡ Some c.args.block = ap (λ (d : Doing). d.ready) c.self.view_is ∙ c.requires.ready in
-    let P : ℕ → Type 0 = λ b. (b < blocks) × (length rows < vec_capacity c.self.inside.rows) × (size ≤ vec_capacity c.self.inside.bytes) × ((has_patch b old.entries ≡ true) ⊎ (old.spare ≡ true)) in
-    let room : P c.args.block = subst (λ (o : Option ℕ). IfSome o P) ready c.self.invariant.9 in
-    let few : length rows < 4096 = (let h = c.requires.room in let n = length-map rows access_of in let e : length (map access_of rows) ≡ length c.args.self.now.accesses = ap (λ (d : Doing). length d.accesses) c.self.view_is in omega (arith, h, n, e)) in
+    let held = c.hold.new.self in
+    let set = held_too size c.args.block rows c.apply.new.patches held (applied size c.self.inside.applied rows c.as_slice.result.now c.self.inside.patches c.apply.new.patches c.as_slice.ensures.value c.self.invariant.1 c.self.invariant.5 c.self.invariant.6 c.apply.ensures.same c.apply.ensures.effects) c.hold.ensures in
+    let room = room_for _ c.self.inside.ready c.args.block (ap (λ (d : Doing). d.ready) c.self.view_is ∙ c.requires.ready) c.self.invariant.9 in
+    let few = few_rows rows c.args.self.now.accesses (ap (λ (d : Doing). d.accesses) c.self.view_is) c.requires.room in
     let none : c.replace-kept.result.items ≡ [] = rw c.replace-kept.ensures.value c.self.invariant.11 in
     let capacity : size ≤ vec_capacity c.replace-kept.result = rw c.replace-kept.ensures.value room.2 in
     let long : length c.args.bytes.now ≡ size = c.requires.bytes ∙ sym (ap (λ (d : Doing). d.size) c.self.view_is) in
@@ -38,6 +26,6 @@ invariant_of-self c =
     let block_is : row.block ≡ c.args.block = ap (λ (x : Access). x.block) access in
     let block : row.block < blocks = subst (λ (n : ℕ). n < blocks) (sym block_is) room.0 in
     let done : c.len-self-inside.result ≡ length rows = c.len-self-inside.ensures ∙ c.self.inside.rows.ok.0 in
-    let all = appended size blocks c.len-self-inside.result c.self.inside.folded rows c.push_reserved.new.self.items row new.entries c.self.inside.reads c.self.inside.writes
-    c.push_reserved.ensures.items done c.self.invariant.4 few c.self.invariant.2 is_row block effects have (λ write. ap (λ (b : ℕ). has_patch b new.entries) block_is ∙ c.hold.ensures.held) c.self.invariant.7 c.self.invariant.8 in
-    (c.self.invariant.0, c.hold.ensures.size ∙ mid_size, all.0, all.1, all.2, all.3, all.4, all.5, all.6, tt, all.7, rw c.replace-kept.ensures.after c.new.ensures.items)
+    let all = appended size blocks c.len-self-inside.result c.self.inside.folded rows c.push_reserved.new.self.items row held.entries c.self.inside.reads c.self.inside.writes
+    c.push_reserved.ensures.items done c.self.invariant.4 few c.self.invariant.2 is_row block set.effects set.have (λ write. ap (λ (b : ℕ). has_patch b held.entries) block_is ∙ c.hold.ensures.held) c.self.invariant.7 c.self.invariant.8 in
+    (c.self.invariant.0, set.sized, all.0, all.1, all.2, all.3, all.4, all.5, all.6, tt, all.7, rw c.replace-kept.ensures.after c.new.ensures.items)
