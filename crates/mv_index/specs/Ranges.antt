@@ -14,6 +14,14 @@ pub record HasEnded (pieces : List Version) (x n : ℕ) : Type 0 where
   pub below : (k : ℕ) → k < n → (slice_index_or pieces k no_version).off + (slice_index_or pieces k no_version).len ≤ x
   pub above : (k : ℕ) → n ≤ k → k < length pieces → x < (slice_index_or pieces k no_version).off + (slice_index_or pieces k no_version).len
 
+-- each piece begins before the byte at x
+abbrev pub AllBegin : (x : ℕ) → List Version → Type 0
+AllBegin x pieces = (k : ℕ) → k < length pieces → (slice_index_or pieces k no_version).off < x
+
+-- each piece ends behind the byte at x
+abbrev pub AllEnd : (x : ℕ) → List Version → Type 0
+AllEnd x pieces = (k : ℕ) → k < length pieces → x < (slice_index_or pieces k no_version).off + (slice_index_or pieces k no_version).len
+
 -- two places in a list of n, of which the first one is at most one behind the other
 pub record AreCuts (n a b : ℕ) : Type 0 where
   pub first : a ≤ n

@@ -1,6 +1,6 @@
 // The parts of a block's versions that show at the last number, in order.
 ghost use Rattle.std.specs.{Prelude.{◌≡◌, ◌+◌, ◌-◌, ◌^◌, ◌<◌, ◌≤◌, ◌++◌, [], ◌∷◌, ℕ, List, length, drop, slice_index_or, take, true, vec_capacity, vec_len}, List.insert};
-ghost use Rattle.mv_index.specs.{declared.version.Version.Version, Pieces.{ArePieces, ArePlaced, Follow, back_of, backs, begun, ended, front_of, fronts}, Ranges.{AreCuts, HasBefore, HasEnded, IsRange, StaysIn}, Shown.{AllLie, AllMeet, Lies, ShowTheSameIn}, Versions.no_version};
+ghost use Rattle.mv_index.specs.{declared.version.Version.Version, Pieces.{ArePieces, ArePlaced, Follow, back_of, backs, begun, ended, front_of, fronts}, Ranges.{AllBegin, AllEnd, AreCuts, HasBefore, HasEnded, IsRange, StaysIn}, Shown.{AllLie, AllMeet, Lies, ShowTheSameIn}, Versions.no_version};
 
 use crate::Version;
 
@@ -140,7 +140,7 @@ fn find(pieces: &[Version], from: u16, to: u16) -> (usize, usize)
 
 /// Cuts the last piece before a byte of the block.
 fn cut_last(pieces: &mut [Version], byte: u16)
-    requires { (k : ℕ) → k < length pieces.old → (slice_index_or pieces.old k no_version).off < byte }
+    requires { AllBegin byte pieces.old }
     ensures { pieces.new ≡ ended byte pieces.old }
 {
     if let Some(last) = pieces.last_mut() {
@@ -150,7 +150,7 @@ fn cut_last(pieces: &mut [Version], byte: u16)
 
 /// Cuts the first piece at a byte of the block, which is before its end.
 fn cut_first(pieces: &mut [Version], byte: u16)
-    requires inside { (k : ℕ) → k < length pieces.old → byte < (slice_index_or pieces.old k no_version).off + (slice_index_or pieces.old k no_version).len }
+    requires inside { AllEnd byte pieces.old }
     requires placed { ArePlaced pieces.old }
     ensures { pieces.new ≡ begun byte pieces.old }
 {
@@ -163,8 +163,8 @@ fn cut_first(pieces: &mut [Version], byte: u16)
 /// at another byte.
 fn cut(pieces: &mut [Version], first: usize, last: usize, from: u16, to: u16)
     requires range { IsRange (length pieces.old) first last }
-    requires below { (k : ℕ) → k < length (take first pieces.old) → (slice_index_or (take first pieces.old) k no_version).off < from }
-    requires above { (k : ℕ) → k < length (drop last pieces.old) → to < (slice_index_or (drop last pieces.old) k no_version).off + (slice_index_or (drop last pieces.old) k no_version).len }
+    requires below { AllBegin from (take first pieces.old) }
+    requires above { AllEnd to (drop last pieces.old) }
     requires placed { ArePlaced (drop last pieces.old) }
     ensures front { take first pieces.new ≡ ended from (take first pieces.old) }
     ensures back { drop last pieces.new ≡ begun to (drop last pieces.old) }
