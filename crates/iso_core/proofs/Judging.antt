@@ -184,6 +184,9 @@ makes_one t (member.Conflict c) is = cc is
 makes_one t (member.Full needs free) is = cc is
 makes_one t member.Worn is = cc is
 
+pub ahead_by : (W : World) (more : List Commit) (t : Live) (r : GroupReply) (plan : Plan) → is_commit r ≡ true → IsAhead W (more ++ commit_from t ∷ []) plan → IsAhead W (more ++ made_by t r) plan
+ahead_by W more t r plan is = subst (λ (l : List Commit). IsAhead W (more ++ l) plan) (sym (makes_one t r is))
+
 -- the first of the members, and the others
 pub record FirstOf (P : GroupEnd → Live → Type 0) (m : GroupEnd) (rest : List GroupEnd) (members : List Live) : Type 0 where
   pub first : Live
@@ -211,17 +214,27 @@ planned_none W more members plan replies none is = record {
   decides = ap (decided (ahead W more)) none;
 }
 
-pub planned_more : (W : World) (more : List Commit) (t : Live) (members all : List Live) (plan : Plan) (old mid new : List GroupReply) → all ≡ t ∷ members
-    → mid ≡ old ++ member_reply (end_step (ahead W more) t).0 ∷ [] → HasPlanned W (more ++ made_by t (member_reply (end_step (ahead W more) t).0)) members plan mid new
-    → HasPlanned W more all plan old new
-planned_more W more t members all plan old mid new all_are mid_is rest =
+-- one member is decided, and then the others
+pub planned_one : (W : World) (more : List Commit) (t : Live) (r : GroupReply) (plan : Plan) (old new : List GroupReply) → r ≡ member_reply (end_step (ahead W more) t).0 → IsAhead W (more ++ made_by t r) plan
+    → new ≡ old ++ r ∷ [] → HasPlanned W more (t ∷ []) plan old new
+planned_one W more t r plan old new answer is replies = record {
+  all = more ++ made_by t r;
+  is = is;
+  told = r ∷ [];
+  replies = replies;
+  decides = (λ i. (sym answer i ∷ [], ahead (ahead W more) (made_by t (sym answer i)))) ∙ ap (λ (V : World). (r ∷ [], V)) (ahead_twice W more (made_by t r));
+}
+
+pub planned_more : (W : World) (more : List Commit) (t : Live) (members all : List Live) (mid_plan plan : Plan) (old mid new : List GroupReply) → all ≡ t ∷ members
+    → (one : HasPlanned W more (t ∷ []) mid_plan old mid) → HasPlanned W one.all members plan mid new → HasPlanned W more all plan old new
+planned_more W more t members all mid_plan plan old mid new all_are one rest =
     let r : GroupReply = member_reply (end_step (ahead W more) t).0 in
     record {
       all = rest.all;
       is = rest.is;
       told = r ∷ rest.told;
-      replies = rest.replies ∙ ap (λ (l : List GroupReply). l ++ rest.told) mid_is ∙ append_assoc old (r ∷ []) rest.told;
+      replies = rest.replies ∙ ap (λ (l : List GroupReply). l ++ rest.told) (one.replies ∙ ap (λ (x : List GroupReply × World). old ++ x.0) (sym one.decides)) ∙ append_assoc old (r ∷ []) rest.told;
       decides = ap (decided (ahead W more)) all_are
-          ∙ ap (λ (V : World). with_first r (decided V members)) (ahead_twice W more (made_by t r))
+          ∙ ap (λ (x : List GroupReply × World). with_first r (decided x.1 members)) one.decides
           ∙ ap (with_first r) rest.decides;
     }

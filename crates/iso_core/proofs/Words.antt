@@ -13,4 +13,4 @@ pub use Rattle.merge_write.{proofs.Effects.pieces_of_any_block, proofs.Growth.ru
 pub use Rattle.mv_index.{proofs.Again.shown_again, proofs.Counts.count_is, proofs.Sublists.all_at, specs.Moves.{AreSplit, moved_to}, specs.Placed.{IsIndexOf, versions_of}, specs.Shown.{AllLie, Lies, ShowTheSame, ShowTheSameIn}, specs.Versions.{BlockVersions, count_of, no_version, shown_since, upto, versions_in}, specs.Weights.bytes_above, specs.declared.version.Version.Version}
 pub use Rattle.tx_table.specs.{Live.{AreBefore, at_work, begin_of}, Work.{AreWithin, Doing}, declared.live.Begun.Begun}
 pub use Rattle.version_read.{proofs.Above.records_above, proofs.Fetched.{array_of, fetched, last_of, newest}, proofs.Following.{index_more, index_moved, index_split}, proofs.Lying.{all_lie, all_upto}, proofs.Ranges.{at_range, length-whole_block, range_is_over, same_range, whole_block, whole_is_over, whole_range}, proofs.Taking.{may_take, parts_below, parts_few, parts_rise}, specs.Blocks.{IsOver, IsOverIn}, specs.Parts.{BlocksRise, HasRoom, HasTaken, MayTake, no_part, part_of, parts_in}, specs.declared.part_span.PartSpan.PartSpan}
-pub use Rattle.iso_core.specs.{Calls.{IsAmong, IsCheckedOf, IsTx, IsWorkOf, Refuses, reply_of}, Core.{AllHold, AreImages, AreOf}, Ends.{AreNextRecords, Appends, EndsAs, EndsOn, IsGrownBy, IsNextCommit, IsPrepared, IsSettledOf, IsSpelled, MayAppend, MayCommit, written_of}, Kept.{AreNeeded, Becomes, IsOf, Keeps, NotesSince, ReservesOnly, SpellsOnly, Stays, bare}, Opening.{IsOpenedTo, opened_world}, Planned.{AreEach, AreStaged, EndsGroup, EndsGroupOn, HasPlanned, HasStaged, IfCommits, IsAhead, IsGrownWith, IsLiveMember, IsMember, IsNextStaged, IsPlannedFor, IsReady, IsReserved, MayTakeAll, all_parts, bare_end, is_commit, parts_of, reply_in, unsettled, without_reply}, Standing.{ShowsWith, Standing, down, up}, Switching.{HasForm, HasFormOr, IsForm, MayRefill, Switches, SwitchesOn}, declared.group_end.GroupEnd.GroupEnd, declared.kept.Kept.Kept, declared.opening.Opened.Opened, declared.plan.Plan.Plan, declared.plan.Staged.Staged}
+pub use Rattle.iso_core.specs.{Calls.{IsAmong, IsCheckedOf, IsTx, IsWorkOf, Refuses, reply_of}, Core.{AllHold, AreImages, AreOf}, Ends.{AreNextRecords, Appends, EndsAs, EndsOn, IsGrownBy, IsNextCommit, IsPrepared, IsSettledOf, IsSpelled, MayAppend, MayCommit, written_of}, Kept.{AreNeeded, Becomes, IsOf, Keeps, NotesSince, Reserves, ReservesOnly, SpellsOnly, Stays, bare}, Opening.{IsOpenedTo, opened_world}, Planned.{AreEach, AreNextMembers, AreStaged, EndsGroup, EndsGroupOn, HasMembers, HasPlanned, HasStaged, IfCommits, IsAhead, IsGrownWith, IsLiveMember, IsMember, IsNextMember, IsNextStaged, IsPlannedFor, IsReady, IsReserved, MayTakeAll, all_parts, bare_end, is_commit, parts_of, reply_in, unsettled, without_reply}, Standing.{ShowsWith, Standing, down, up}, Switching.{HasForm, HasFormOr, IsForm, MayRefill, Switches, SwitchesOn}, declared.group_end.GroupEnd.GroupEnd, declared.kept.Kept.Kept, declared.opening.Opened.Opened, declared.plan.Plan.Plan, declared.plan.Staged.Staged}

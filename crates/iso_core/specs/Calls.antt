@@ -7,7 +7,7 @@ use Rattle.iso_model.specs.declared.access.EndReply.TheVariants as ended
 use Rattle.iso_model.specs.declared.core_error.CoreError.TheVariants as error
 use Rattle.iso_model.specs.declared.core_reply.CoreReply.TheVariants as reply
 use Rattle.tx_table.specs.Work.{Doing}
-use Rattle.iso_core.specs.Kept.{bare}
+use Rattle.iso_core.specs.{declared.kept.Kept.Kept, Kept.{IsOf, bare}}
 
 -- one of the transactions is this one, but for accesses and places
 abbrev pub IsAmong : Live → List Live → Type 0
@@ -18,6 +18,13 @@ IsAmong t (u ∷ live) = (bare u ≡ bare t) ⊎ IsAmong t live
 pub record IsTx (W : World) (tx : ℕ) (t : Live) : Type 0 where
   pub number : t.number ≡ tx
   pub among : IsAmong t W.live
+
+-- what is kept is that of a world with this live transaction
+pub record HasLive (kept : Kept) (tx : ℕ) : Type 0 where
+  pub world : World
+  pub t : Live
+  pub of : IsOf kept world
+  pub here : IsTx world tx t
 
 -- the work is that of the transaction, on the image of the world
 pub record IsWorkOf (W : World) (t : Live) (work : Doing) : Type 0 where

@@ -63,6 +63,11 @@ SpellsOnly old new = new ≡ record old { buffer = new.buffer; parts = new.parts
 abbrev pub ReservesOnly : (old new : Kept) → Type 0
 ReservesOnly old new = new ≡ record old { index = new.index; notes = new.notes }
 
+-- and so it stays that of each world that it was of
+pub record Reserves (old new : Kept) : Type 0 where
+  pub stays : Stays old new
+  pub only : ReservesOnly old new
+
 -- the work is as before, however far it is settled
 abbrev pub SettlesOnly : (old new : Doing) → Type 0
 SettlesOnly old new = new ≡ record old { settled = new.settled }

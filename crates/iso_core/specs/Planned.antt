@@ -8,9 +8,10 @@ use Rattle.iso_log.specs.Extent.{Extent as LogExtent, extent_of}
 use Rattle.mv_index.specs.{Placed.IsIndexOf, Versions.BlockVersions}
 use Rattle.iso_model.specs.declared.core_error.CoreError.TheVariants as error
 use Rattle.iso_model.specs.declared.core_reply.CoreReply.TheVariants as reply
+use Rattle.tx_table.specs.Work.{Doing}
 use Rattle.version_read.specs.{declared.part_span.PartSpan.PartSpan, Parts.{HasRoom, part_of}}
 use Rattle.iso_model.specs.declared.access.GroupReply.TheVariants as member
-use Rattle.iso_core.specs.{declared.group_end.GroupEnd.GroupEnd, declared.kept.Kept.Kept, declared.plan.Plan.Plan, declared.plan.Staged.Staged, Calls.{BlamesDisk, IsTx, IsWorkOf}, Core.AreOf, Ends.{AreNextRecords, IsSettledOf, written_of}, Kept.IsOf, Standing.{down, up}}
+use Rattle.iso_core.specs.{declared.group_end.GroupEnd.GroupEnd, declared.kept.Kept.Kept, declared.plan.Plan.Plan, declared.plan.Staged.Staged, Calls.{BlamesDisk, IsTx, IsWorkOf}, Core.AreOf, Ends.{AreNextRecords, IsSettledOf, StaysUp, written_of}, Kept.{Becomes, IsOf}, Standing.{down, up}}
 
 -- a member is a live transaction with its work, and has no reply yet
 pub record IsMember (W : World) (m : GroupEnd) (t : Live) : Type 0 where
@@ -39,6 +40,24 @@ AreEach P (m ∷ ms) (t ∷ ts) = P m t × AllByRecursion (λ (u : Live). u.numb
 abbrev pub unsettled : GroupEnd → GroupEnd
 unsettled m = record m { work = record m.work { settled = false } }
 
+-- the members are transactions of the world of what is kept, each of them in this way
+pub record HasMembers (Is : World → GroupEnd → Live → Type 0) (kept : Kept) (ends : List GroupEnd) : Type 0 where
+  pub world : World
+  pub members : List Live
+  pub of : IsOf kept world
+  pub each : AreEach (Is world) ends members
+
+-- so in a core that is up
+pub record MayEndGroup (Is : World → GroupEnd → Live → Type 0) (d : DiskState) (kept : Kept) (ends : List GroupEnd) : Type 0 where
+  pub world : World
+  pub members : List Live
+  pub of : AreOf d kept world up
+  pub each : AreEach (Is world) ends members
+
+-- all of them are taken out
+abbrev pub LeavesAll : (old new : Kept) → List GroupEnd → Type 0
+LeavesAll old new ends = (m : HasMembers IsLiveMember old ends) → Becomes old new (leave_all m.members m.world)
+
 -- the parts of the record of a commit
 abbrev pub parts_of : Geometry → Commit → List PartSpan
 parts_of g c = map part_of (written g c).parts
@@ -62,6 +81,31 @@ pub record IsAhead (W : World) (more : List Commit) (plan : Plan) : Type 0 where
   pub notes : AreNotes W.geometry (last W.history + 1) plan.notes.notes more
   pub staged : AreStaged W.geometry 0 plan.staged.items more
   pub parts : plan.parts.items ≡ all_parts W.geometry more
+
+-- so of some world
+pub record HasPlan (kept : Kept) (plan : Plan) : Type 0 where
+  pub world : World
+  pub more : List Commit
+  pub of : IsOf kept world
+  pub is : IsAhead world more plan
+
+-- a member comes after those of the plan
+pub record IsNextMember (kept : Kept) (plan : Plan) (member : GroupEnd) : Type 0 where
+  pub world : World
+  pub more : List Commit
+  pub t : Live
+  pub of : IsOf kept world
+  pub is : IsAhead world more plan
+  pub ready : IsReady world member t
+
+-- and so do several
+pub record AreNextMembers (kept : Kept) (plan : Plan) (group : List GroupEnd) : Type 0 where
+  pub world : World
+  pub more : List Commit
+  pub members : List Live
+  pub of : IsOf kept world
+  pub is : IsAhead world more plan
+  pub each : AreEach (IsReady world) group members
 
 -- nothing is planned
 pub record IsEmpty (plan : Plan) : Type 0 where
@@ -91,6 +135,17 @@ IfCommits member.ReadOnly P = Unit {0}
 IfCommits (member.Conflict clash) P = Unit {0}
 IfCommits (member.Full need free) P = Unit {0}
 IfCommits member.Worn P = Unit {0}
+
+-- a work of which this is the reply comes after those of the plan
+pub record MayStage (kept : Kept) (plan : Plan) (work : Doing) (r : GroupReply) : Type 0 where
+  pub world : World
+  pub more : List Commit
+  pub tx : ℕ
+  pub t : Live
+  pub of : IsOf kept world
+  pub is : IsAhead world more plan
+  pub settled : IsSettledOf world t work
+  pub next : IfCommits r (IsNextStaged (ahead world more) tx t kept)
 
 -- whether the reply is a commit
 abbrev pub is_commit : GroupReply → Bool
@@ -143,6 +198,16 @@ pub record MayTakeAll (g : Geometry) (x : Half) (t at : ℕ) (commits : List Com
   pub number_is : number ≡ last_told x + 1
   pub gate_is : gate + at ≡ next_gate g x
 
+-- so of some half, with memory for the parts
+pub record MayTakeStaged (number gate : ℕ) (staged : List Staged) (parts : List PartSpan) (index : List BlockVersions) : Type 0 where
+  pub g : Geometry
+  pub x : Half
+  pub upto : ℕ
+  pub at : ℕ
+  pub commits : List Commit
+  pub may : MayTakeAll g x upto at commits number gate staged parts index
+  pub room : HasRoom parts index
+
 -- the plan has what is to be taken in of these commits
 pub record HasStaged (W : World) (more : List Commit) (plan : Plan) : Type 0 where
   pub world : IsWorld (ahead W more)
@@ -168,6 +233,12 @@ pub record IsGrownWith (W : World) (more : List Commit) (plan : Plan) (kept : Ke
   pub log : kept.log ≡ extent_of W.geometry (with_records (map (written W.geometry) more) (half_of_world W kept.half))
   pub gate_is : gate ≡ next_gate W.geometry (half_of_world W kept.half)
 
+-- so of some world
+pub record HasGrownWith (plan : Plan) (kept : Kept) (gate : ℕ) : Type 0 where
+  pub world : World
+  pub more : List Commit
+  pub is : IsGrownWith world more plan kept gate
+
 -- The group ends as in the model, and is told so. At each moment an image shows the history before it or after the whole of it.
 -- The disk fails for a commit alone, which takes the core down; nothing is written where no member commits.
 pub record EndsGroup {D T : Type 0} (state : D → DiskState) (W : World) (members : List Live) (Told : List GroupReply → Type 0) (old new : D) (kept : Kept) (result : Result T CoreError) : Type 0 where
@@ -183,3 +254,9 @@ pub record EndsGroupOn {D T : Type 0} (state : D → DiskState) (old new : D) (r
   pub untouched : IfErr result (λ e. e ≢ error.Disk → new ≡ old)
   pub told : OnOk result (StaysTold (state old) (state new))
   pub cause : BlamesDisk (state old).faults (state new).faults result
+
+-- the end of a group whose members are such, in a core that is up: how they are told, and so much of the core and the disk
+pub record EndsMembers {D T : Type 0} (state : D → DiskState) (Is : World → GroupEnd → Live → Type 0) (Told : List GroupReply → Type 0) (old new : D) (before now : Kept) (ends : List GroupEnd) (result : Result T CoreError) : Type 0 where
+  pub group : (m : MayEndGroup Is (state old) before ends) → EndsGroup state m.world m.members Told old new now result
+  pub same : StaysUp (state old) (state new) before now result
+  pub disk : EndsGroupOn state old new result

@@ -1,18 +1,33 @@
 -- A switch of a core to the other half.
-use Rattle.std.specs.Prelude.{◌≡◌, ◌≢◌, ℕ, ◌+◌, ◌⊎◌, ◌≤◌, List, [], Result, OnOk, IfOk, IfErr, IsErrOf}
+use Rattle.std.specs.Prelude.{◌≡◌, ◌≢◌, ℕ, ◌+◌, ◌-◌, ◌⊎◌, ◌<◌, ◌≤◌, IsTrue, List, [], Result, OnOk, IfOk, IfErr, IsErrOf}
 use Rattle.counts.specs.Count.{Rose}
-use Rattle.half_switch.specs.{Plan.{Copies, place_of, refilled}, declared.plan.FillPlan.FillPlan, declared.plan.SwitchError.SwitchError}
+use Rattle.half_switch.specs.{Plan.{AreHalves, Copies, place_of, refilled}, declared.plan.FillPlan.FillPlan, declared.plan.SwitchError.SwitchError}
 use Rattle.half_switch.specs.declared.plan.SwitchError.TheVariants as switch
 use Rattle.iso_disk.specs.Disk.{DiskState, IsSettled, LeavesOnly, StaysTold}
 use Rattle.iso_image.specs.{Half.{Half, IsHeld, in_form}, declared.places.HalfPlace.HalfPlace}
-use Rattle.iso_model.specs.{Between.ShowsLast, History.History, Image.IsImage, Step.{after_switch, switch_step}, World.{World, floor}, declared.access.Geometry.Geometry, declared.core_error.CoreError.CoreError, declared.core_reply.CoreReply.CoreReply, declared.limits.TheConstants.LAST}
+use Rattle.iso_model.specs.{Between.ShowsLast, Geometry.{image_size, is_valid, log_place}, History.History, Image.IsImage, Step.{after_switch, switch_step}, World.{World, floor}, Worlds.IsWorld, declared.access.Geometry.Geometry, declared.core_error.CoreError.CoreError, declared.core_reply.CoreReply.CoreReply, declared.limits.TheConstants.LAST}
 use Rattle.iso_model.specs.declared.core_error.CoreError.TheVariants as error
-use Rattle.iso_core.specs.{declared.kept.Kept.Kept, Calls.{BlamesDisk, Refuses}, Core.AreOf, Standing.{down, up}}
+use Rattle.iso_core.specs.{declared.kept.Kept.Kept, Calls.{BlamesDisk, Refuses}, Core.AreOf, Kept.IsOf, Standing.{down, up}}
 
 -- the form that the other half gets: it does not fall, and there is no third one
 pub record IsForm (W : World) (form : ℕ) : Type 0 where
   pub rises : W.geometry.form ≤ form
   pub largest : form ≤ 2
+
+-- a core that is up may go over to such a half
+pub record MaySwitchTo (d : DiskState) (kept : Kept) (form : ℕ) : Type 0 where
+  pub world : World
+  pub of : AreOf d kept world up
+  pub fits : IsForm world form
+
+-- what is kept may go over to it, where the floor and the places of the two logs are these
+pub record MayGoOver (kept : Kept) (form old_log new_log to : ℕ) : Type 0 where
+  pub world : World
+  pub of : IsOf kept world
+  pub to_is : to ≡ floor world
+  pub old_place : old_log ≡ log_place world.geometry kept.half
+  pub new_place : new_log ≡ log_place world.geometry (1 - kept.half)
+  pub next : IsWorld (after_switch world form)
 
 -- the bytes are an image of the world's geometry, in this form
 pub record HasForm (W : World) (form : ℕ) (bytes : List ℕ) : Type 0 where
@@ -44,7 +59,15 @@ pub record SwitchesOn {D : Type 0} (state : D → DiskState) (old new : D) (resu
   pub cause : BlamesDisk (state old).faults (state new).faults result
 
 -- the half at the other place is to be filled from this one, which each image holds
-pub record MayRefill (g : Geometry) (x : Half) (from to : HalfPlace) (plan : FillPlan) (d : DiskState) : Type 0 where
+pub record MayRefill (from to : HalfPlace) (plan : FillPlan) (d : DiskState) : Type 0 where
+  pub valid : IsTrue (is_valid plan.geometry)
+  pub size : d.size ≡ image_size plan.geometry
+  pub places : AreHalves plan.geometry from to
+  pub base : plan.old_base ≤ plan.base
+  pub used : plan.used < plan.geometry.log
+  pub settled : IsSettled d
+  pub g : Geometry
+  pub x : Half
   pub other : ℕ
   pub both : x.at + other ≡ 1
   pub there : to ≡ place_of g other

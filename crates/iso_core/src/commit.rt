@@ -1,7 +1,7 @@
 // The commit of a transaction.
 ghost use Rattle.std.specs.Prelude.{None};
-ghost use Rattle.iso_model.specs.{Step.{after_commit, commit_step}, World.{World, Live}};
-ghost use Rattle.iso_core.specs.{Core.AreOf, Ends.{EndsAs, EndsOn, IsGrownBy, MayCommit, StaysUp}, Kept.{BecomesTidy, SettlesOnly}, Standing.up};
+ghost use Rattle.iso_model.specs.Step.{after_commit, commit_step};
+ghost use Rattle.iso_core.specs.{Ends.{EndsAs, EndsWith, HasGrown, HasNextCommit}, Kept.BecomesTidy};
 
 use crate::append::append;
 use crate::kept::Kept;
@@ -15,8 +15,8 @@ use version_read::add_parts;
 
 /// Takes in a commit whose record was appended at a gate: its versions, its note, and no transaction any more.
 fn take_in(kept: &mut Kept, tx: u64, gate: u64, writes: Touched)
-    requires { (W : World) × (t : Live) × IsGrownBy W tx t kept.old gate writes }
-    ensures { (W : World) (t : Live) → IsGrownBy W tx t kept.old gate writes → BecomesTidy kept.old kept.new (after_commit W t) }
+    requires { HasGrown tx kept.old gate writes }
+    ensures { (h : HasGrown tx kept.old gate writes) → BecomesTidy kept.old kept.new (after_commit h.world h.t) }
 {
     let number = kept.log.last();
     add_parts(&mut kept.index, number, gate, kept.parts.as_slice());
@@ -33,12 +33,9 @@ pub(crate) fn commit<D: Disk>(
     tx: u64,
     work: &mut Work,
 ) -> Result<EndReply, CoreError>
-    requires { (W : World) × (t : Live) × AreOf (D.state disk.old) kept.old W up × MayCommit W tx t work.old }
-    ensures ends { (W : World) (t : Live) → AreOf (D.state disk.old) kept.old W up → MayCommit W tx t work.old
-        → EndsAs W t (commit_step W t None) (D.state disk.old) (D.state disk.new) kept.new result }
-    ensures same { StaysUp (D.state disk.old) (D.state disk.new) kept.old kept.new result }
-    ensures work { SettlesOnly work.old work.new }
-    ensures disk { EndsOn D.state disk.old disk.new result }
+    requires { HasNextCommit (D.state disk.old) kept.old tx work.old }
+    ensures ends { (n : HasNextCommit (D.state disk.old) kept.old tx work.old) → EndsAs n.world n.t (commit_step n.world n.t None) (D.state disk.old) (D.state disk.new) kept.new result }
+    ensures rest { EndsWith D.state disk.old disk.new kept.old kept.new work.old work.new result }
 {
     let last = kept.log.last();
     if last >= LAST {

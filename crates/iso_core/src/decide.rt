@@ -1,7 +1,7 @@
 // Whether a transaction with a write conflicts.
 ghost use Rattle.std.specs.Prelude.{◌≡◌, ◌+◌, ◌-◌, ◌≤◌, IfOk, OnOk};
 ghost use Rattle.iso_model.specs.{Conflict.clash, History.last, World.{World, Live}};
-ghost use Rattle.iso_core.specs.{Calls.{IsCheckedOf, IsTx, IsWorkOf}, Kept.{IsOf, SettlesOnly}, Ends.IsSettledOf};
+ghost use Rattle.iso_core.specs.{Calls.{HasLive, IsCheckedOf, IsWorkOf}, Kept.SettlesOnly, Ends.IsSettledOf};
 
 use crate::kept::Kept;
 use conflict_rule::{Checked, decide};
@@ -18,11 +18,11 @@ pub(crate) fn decide_end<L: Ledger>(
     checked: &Checked,
     steps: &mut Steps<L>,
 ) -> Result<Option<Clash>, Memory>
-    ensures clash { (W : World) (t : Live) → IsOf kept.now W → IsTx W tx t → IsWorkOf W t work.old → IsCheckedOf W t checked.now
-        → IfOk result (λ found. found ≡ clash W.geometry W.history t.mode t.begin t.accesses) }
+    ensures clash { (l : HasLive kept.now tx) → IsWorkOf l.world l.t work.old → IsCheckedOf l.world l.t checked.now
+        → IfOk result (λ found. found ≡ clash l.world.geometry l.world.history l.t.mode l.t.begin l.t.accesses) }
     ensures settled { (W : World) (t : Live) → IsWorkOf W t work.old → OnOk result (IsSettledOf W t work.new) }
     ensures same { SettlesOnly work.old work.new }
-    ensures steps { (W : World) (t : Live) → IsOf kept.now W → IsTx W tx t → IsCheckedOf W t checked.now → steps.new ≤ steps.old + (last W.history - checked.now.upto) }
+    ensures steps { (l : HasLive kept.now tx) → IsCheckedOf l.world l.t checked.now → steps.new ≤ steps.old + (last l.world.history - checked.now.upto) }
 {
     let _ = tx;
     work.settle()?;

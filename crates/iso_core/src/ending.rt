@@ -1,7 +1,7 @@
 // The end of a transaction.
 ghost use Rattle.std.specs.Prelude.{◌+◌, ◌-◌, ◌≤◌};
-ghost use Rattle.iso_model.specs.{History.last, Step.end_step, World.{World, Live}};
-ghost use Rattle.iso_core.specs.{Calls.{IsCheckedOf, IsTx, IsWorkOf}, Core.AreOf, Ends.{EndsAs, EndsOn, StaysUp}, Kept.SettlesOnly, Standing.up};
+ghost use Rattle.iso_model.specs.{History.last, Step.end_step};
+ghost use Rattle.iso_core.specs.{Calls.{HasLive, IsCheckedOf}, Ends.{EndsAs, EndsWith, MayEnd}};
 
 use crate::commit::commit;
 use crate::decide::decide_end;
@@ -22,14 +22,10 @@ pub(crate) fn end_tx<D: Disk, L: Ledger>(
     checked: &Checked,
     steps: &mut Steps<L>,
 ) -> Result<EndReply, CoreError>
-    requires { (W : World) × (t : Live) × AreOf (D.state disk.old) kept.old W up × IsTx W tx t × IsWorkOf W t work.old × IsCheckedOf W t checked.now }
-    ensures ends { (W : World) (t : Live) → AreOf (D.state disk.old) kept.old W up → IsTx W tx t → IsWorkOf W t work.old → IsCheckedOf W t checked.now
-        → EndsAs W t (end_step W t) (D.state disk.old) (D.state disk.new) kept.new result }
-    ensures same { StaysUp (D.state disk.old) (D.state disk.new) kept.old kept.new result }
-    ensures work { SettlesOnly work.old work.new }
-    ensures steps { (W : World) (t : Live) → AreOf (D.state disk.old) kept.old W up → IsTx W tx t → IsCheckedOf W t checked.now
-        → steps.new ≤ steps.old + (last W.history - checked.now.upto) }
-    ensures disk { EndsOn D.state disk.old disk.new result }
+    requires { MayEnd (D.state disk.old) kept.old tx work.old checked.now }
+    ensures ends { (m : MayEnd (D.state disk.old) kept.old tx work.old checked.now) → EndsAs m.world m.t (end_step m.world m.t) (D.state disk.old) (D.state disk.new) kept.new result }
+    ensures steps { (l : HasLive kept.old tx) → IsCheckedOf l.world l.t checked.now → steps.new ≤ steps.old + (last l.world.history - checked.now.upto) }
+    ensures rest { EndsWith D.state disk.old disk.new kept.old kept.new work.old work.new result }
 {
     if !work.has_write() {
         leave(kept, tx);

@@ -1,7 +1,7 @@
 // The end of a group.
-ghost use Rattle.std.specs.Prelude.{◌≡◌, ◌<◌, ◌++◌, true, false, List, [], ◌∷◌, OnOk, length, map};
-ghost use Rattle.iso_model.specs.World.{World, Live};
-ghost use Rattle.iso_core.specs.{Core.AreOf, Ends.StaysUp, Kept.{Becomes, IsOf}, Planned.{AreEach, EndsGroup, EndsGroupOn, IsEmpty, IsPlannedFor, IsReady, PlansSame, unsettled}, Standing.up};
+ghost use Rattle.std.specs.Prelude.{◌≡◌, ◌<◌, ◌++◌, true, false, [], ◌∷◌, OnOk, length, map};
+ghost use Rattle.iso_model.specs.World.{World};
+ghost use Rattle.iso_core.specs.{Kept.{Becomes, IsOf}, Planned.{EndsMembers, HasMembers, IsPlannedFor, IsReady, MayEndGroup, PlansSame, unsettled}};
 
 use crate::append::append;
 use crate::group_end::GroupEnd;
@@ -43,21 +43,20 @@ fn make_room(plan: &mut Plan, replies: &mut Vec<GroupReply>, members: usize) -> 
     plan.notes.reserve_more(members)
 }
 
-/// Decides all members, and takes all memory that their commits take.
+/// Decides all members, and takes all memory that their commits take. Of the plan and the replies the memory alone is used.
 fn prepare_group(
     kept: &mut Kept,
     plan: &mut Plan,
     replies: &mut Vec<GroupReply>,
     ends: &mut [GroupEnd],
 ) -> Result<(), Memory>
-    requires ready { (W : World) × (members : List Live) × IsOf kept.old W × AreEach (IsReady W) ends.old members }
-    requires empty { IsEmpty plan.old }
-    requires none { replies.old.items ≡ [] }
-    ensures planned { (W : World) (members : List Live) → IsOf kept.old W → AreEach (IsReady W) ends.old members
-        → OnOk result (IsPlannedFor W members plan.new kept.new replies.new.items) }
+    requires { HasMembers IsReady kept.old ends.old }
+    ensures planned { (m : HasMembers IsReady kept.old ends.old) → OnOk result (IsPlannedFor m.world m.members plan.new kept.new replies.new.items) }
     ensures same { (W : World) → IsOf kept.old W → Becomes kept.old kept.new W }
     ensures members { map unsettled ends.new ≡ map unsettled ends.old }
 {
+    plan.clear(kept.alloc);
+    replies.clear();
     make_room(plan, replies, ends.len())?;
     plan_members(kept, plan, replies, ends)?;
     reserve_plan(kept, plan)?;
@@ -66,7 +65,7 @@ fn prepare_group(
 }
 
 /// Ends members whose works are settled, while the core is up: all their commits are in one append, or none. The replies
-/// are handed out in order. Of the plan the memory alone is used. The works are settled no more.
+/// are handed out in order. Of the plan and the replies the memory alone is used. The works are settled no more.
 pub(crate) fn end_ready<D: Disk>(
     kept: &mut Kept,
     disk: &mut D,
@@ -74,15 +73,10 @@ pub(crate) fn end_ready<D: Disk>(
     replies: &mut Vec<GroupReply>,
     ends: &mut [GroupEnd],
 ) -> Result<(), CoreError>
-    requires ready { (W : World) × (members : List Live) × AreOf (D.state disk.old) kept.old W up × AreEach (IsReady W) ends.old members }
-    requires none { replies.old.items ≡ [] }
-    ensures ends { (W : World) (members : List Live) → AreOf (D.state disk.old) kept.old W up → AreEach (IsReady W) ends.old members
-        → EndsGroup D.state W members (λ told. replies.new.items ≡ told) disk.old disk.new kept.new result }
-    ensures same { StaysUp (D.state disk.old) (D.state disk.new) kept.old kept.new result }
+    requires { MayEndGroup IsReady (D.state disk.old) kept.old ends.old }
+    ensures ends { EndsMembers D.state IsReady (λ told. replies.new.items ≡ told) disk.old disk.new kept.old kept.new ends.old result }
     ensures members { map unsettled ends.new ≡ map unsettled ends.old }
-    ensures disk { EndsGroupOn D.state disk.old disk.new result }
 {
-    plan.clear(kept.alloc);
     if let Err(_) = prepare_group(kept, plan, replies, ends) {
         return Err(CoreError::Memory);
     }

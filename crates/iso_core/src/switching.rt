@@ -1,6 +1,5 @@
 // The base of a core, moved to the floor.
-ghost use Rattle.iso_model.specs.World.{World};
-ghost use Rattle.iso_core.specs.{Core.AreOf, Standing.up, Switching.{IsForm, Switches, SwitchesOn}};
+ghost use Rattle.iso_core.specs.Switching.{MaySwitchTo, Switches, SwitchesOn};
 
 use crate::go_over::go_over;
 use crate::kept::Kept;
@@ -17,8 +16,8 @@ pub(crate) fn switch_half<D: Disk>(
     disk: &mut D,
     form: u8,
 ) -> Result<u64, CoreError>
-    requires { (W : World) × AreOf (D.state disk.old) kept.old W up × IsForm W form }
-    ensures switched { (W : World) → AreOf (D.state disk.old) kept.old W up → IsForm W form → Switches W form (D.state disk.old) (D.state disk.new) kept.new result }
+    requires { MaySwitchTo (D.state disk.old) kept.old form }
+    ensures switched { (m : MaySwitchTo (D.state disk.old) kept.old form) → Switches m.world form (D.state disk.old) (D.state disk.new) kept.new result }
     ensures disk { SwitchesOn D.state disk.old disk.new result }
 {
     if kept.generation >= LAST {

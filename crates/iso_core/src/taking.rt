@@ -1,10 +1,8 @@
 // The commits of a group are taken in, once their records are written.
-ghost use Rattle.std.specs.{Prelude.{◌≡◌, ℕ, ◌+◌, ◌++◌, [], ◌∷◌, List, IfNone, IfOk, IfSome, OnOk, map}, List.Sorted.{IsNonDecreasingBy, IsPermutation}};
-ghost use Rattle.iso_image.specs.Half.{Half};
-ghost use Rattle.iso_model.specs.{declared.access.Commit.Commit, declared.access.Geometry.Geometry, Geometry.log_place, Image.written, World.{World, Live}, Group.{ahead, leave_all}};
+ghost use Rattle.std.specs.{Prelude.{◌≡◌, ◌+◌, ◌++◌, [], ◌∷◌, IfNone, IfOk, IfSome, OnOk, map}, List.Sorted.{IsNonDecreasingBy, IsPermutation}};
+ghost use Rattle.iso_model.specs.{Geometry.log_place, Group.{ahead, leave_all}, Image.written};
 ghost use Rattle.mv_index.specs.Placed.{IsIndexOf};
-ghost use Rattle.version_read.specs.Parts.{HasRoom};
-ghost use Rattle.iso_core.specs.{Kept.{Becomes, BecomesTidy, IsOf, ReservesOnly, Stays}, Planned.{AreEach, IsAhead, IsGrownWith, IsLiveMember, IsReserved, MayTakeAll}};
+ghost use Rattle.iso_core.specs.{Kept.{Becomes, BecomesTidy, Reserves}, Planned.{HasGrownWith, HasMembers, HasPlan, IsLiveMember, IsReserved, LeavesAll, MayTakeStaged}};
 
 use crate::group_end::GroupEnd;
 use crate::kept::Kept;
@@ -45,10 +43,9 @@ fn sorted_parts(alloc: Global, parts: &[PartSpan]) -> Result<Vec<PartSpan>, Memo
 
 /// Takes all memory that the commits of a plan take.
 pub(crate) fn reserve_plan(kept: &mut Kept, plan: &Plan) -> Result<(), Memory>
-    requires { (W : World) × (more : List Commit) × IsOf kept.old W × IsAhead W more plan.now }
-    ensures reserved { (W : World) (more : List Commit) → IsOf kept.old W → IsAhead W more plan.now → OnOk result (IsReserved plan.now kept.new) }
-    ensures same { Stays kept.old kept.new }
-    ensures rest { ReservesOnly kept.old kept.new }
+    requires { HasPlan kept.old plan.now }
+    ensures reserved { OnOk result (IsReserved plan.now kept.new) }
+    ensures rest { Reserves kept.old kept.new }
 {
     let all = sorted_parts(kept.alloc, plan.parts.as_slice())?;
     reserve_parts(&mut kept.index, all.as_slice())?;
@@ -59,10 +56,9 @@ pub(crate) fn reserve_plan(kept: &mut Kept, plan: &Plan) -> Result<(), Memory>
 /// Adds the versions of staged records with these parts to the index of a half whose records they follow; the first of them has
 /// this number; the gate is that of the first one of all.
 fn take_staged(index: &mut MvIndex, number: u64, gate: u64, staged: &[Staged], parts: &[PartSpan])
-    requires follow { (g : Geometry) × (x : Half) × (t : ℕ) × (at : ℕ) × (commits : List Commit) × MayTakeAll g x t at commits number gate staged.now parts.now index.old }
-    requires room { HasRoom parts.now index.old }
-    ensures { (g : Geometry) (x : Half) (t at : ℕ) (commits : List Commit) → MayTakeAll g x t at commits number gate staged.now parts.now index.old
-        → IsIndexOf g (x.base + 1) (log_place g x.at) t (x.told ++ map (written g) commits) index.new }
+    requires { MayTakeStaged number gate staged.now parts.now index.old }
+    ensures { (m : MayTakeStaged number gate staged.now parts.now index.old)
+        → IsIndexOf m.g (m.x.base + 1) (log_place m.g m.x.at) m.upto (m.x.told ++ map (written m.g) m.commits) index.new }
 {
     let Some((record, rest)) = first_staged(staged) else {
         return;
@@ -74,8 +70,8 @@ fn take_staged(index: &mut MvIndex, number: u64, gate: u64, staged: &[Staged], p
 
 /// Takes in the commits of a plan, whose records were appended at a gate. All members are live still.
 pub(crate) fn take_plan(kept: &mut Kept, gate: u64, plan: &mut Plan)
-    requires { (W : World) × (more : List Commit) × IsGrownWith W more plan.old kept.old gate }
-    ensures { (W : World) (more : List Commit) → IsGrownWith W more plan.old kept.old gate → Becomes kept.old kept.new (ahead W more) }
+    requires { HasGrownWith plan.old kept.old gate }
+    ensures { (h : HasGrownWith plan.old kept.old gate) → Becomes kept.old kept.new (ahead h.world h.more) }
 {
     let first = kept.log.last() - plan.staged.len() as u64 + 1;
     take_staged(
@@ -99,8 +95,8 @@ fn first_member(group: &[GroupEnd]) -> Option<(&GroupEnd, &[GroupEnd])>
 
 // Takes all members out, one after the other.
 fn leave_each(kept: &mut Kept, group: &[GroupEnd])
-    requires { (W : World) × (members : List Live) × IsOf kept.old W × AreEach (IsLiveMember W) group.now members }
-    ensures { (W : World) (members : List Live) → IsOf kept.old W → AreEach (IsLiveMember W) group.now members → Becomes kept.old kept.new (leave_all members W) }
+    requires { HasMembers IsLiveMember kept.old group.now }
+    ensures { LeavesAll kept.old kept.new group.now }
 {
     let Some((member, rest)) = first_member(group) else {
         return;
@@ -111,8 +107,8 @@ fn leave_each(kept: &mut Kept, group: &[GroupEnd])
 
 // Takes all members out. Where no other is live, none is left.
 fn leave_all(kept: &mut Kept, group: &[GroupEnd])
-    requires { (W : World) × (members : List Live) × IsOf kept.old W × AreEach (IsLiveMember W) group.now members }
-    ensures { (W : World) (members : List Live) → IsOf kept.old W → AreEach (IsLiveMember W) group.now members → Becomes kept.old kept.new (leave_all members W) }
+    requires { HasMembers IsLiveMember kept.old group.now }
+    ensures { LeavesAll kept.old kept.new group.now }
 {
     if group.len() == kept.live.len() as usize {
         kept.live.clear();
@@ -121,20 +117,12 @@ fn leave_all(kept: &mut Kept, group: &[GroupEnd])
     leave_each(kept, group);
 }
 
-// Drops the notes that no live transaction needs any more.
-fn drop_notes(kept: &mut Kept)
-    requires { (W : World) × IsOf kept.old W }
-    ensures { (W : World) → IsOf kept.old W → BecomesTidy kept.old kept.new W }
-{
-    let floor = kept.live.floor(kept.log.last());
-    kept.notes.drop_to(floor);
-}
-
 /// Takes all members out, and the notes that no live transaction needs any more. It takes no memory.
 pub(crate) fn leave_members(kept: &mut Kept, group: &[GroupEnd])
-    requires { (W : World) × (members : List Live) × IsOf kept.old W × AreEach (IsLiveMember W) group.now members }
-    ensures { (W : World) (members : List Live) → IsOf kept.old W → AreEach (IsLiveMember W) group.now members → BecomesTidy kept.old kept.new (leave_all members W) }
+    requires { HasMembers IsLiveMember kept.old group.now }
+    ensures { (m : HasMembers IsLiveMember kept.old group.now) → BecomesTidy kept.old kept.new (leave_all m.members m.world) }
 {
     leave_all(kept, group);
-    drop_notes(kept);
+    let floor = kept.live.floor(kept.log.last());
+    kept.notes.drop_to(floor);
 }

@@ -2,8 +2,8 @@ use Rattle.iso_core.proofs.{Words.refl, Leaves.{is_live, leaves_so}}
 
 pub leave-requires : Rattle.iso_core.proofs.leave.leave.Goals.leave-requires
 leave-requires c =
-    let (W, t, of, here) = c.requires in
-    is_live c.args.kept.now W c.args.tx t of here
+    let l = c.requires in
+    is_live c.args.kept.now l.world c.args.tx l.t l.of l.here
 
 pub returns : Rattle.iso_core.proofs.leave.leave.Goals.returns
-returns c W t of here = record { of = leaves_so c.args.kept.now W c.args.tx t of here c.leave.new.self c.leave.ensures; half = refl; down = refl }
+returns c l = record { of = leaves_so c.args.kept.now l.world c.args.tx l.t l.of l.here c.leave.new.self c.leave.ensures; half = refl; down = refl }

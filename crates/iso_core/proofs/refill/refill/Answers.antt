@@ -16,59 +16,59 @@ pub open_half-requires : goal.open_half-requires
 open_half-requires g c = grind arith
 
 -- the other half is closed, and then filled: each image holds the current one
-closed : (g : Rattle.iso_core.proofs.refill.refill.Given.Over) (c : After-close_half g) (h : Geometry) (x : Half) → MayRefill h x c.args.from.now c.args.to.now c.args.plan.now (g.D.Disk.state c.args.disk.now)
-    → LeavesOnly (g.D.Disk.state c.args.disk.now) (g.D.Disk.state c.close_half.new.disk) (IsHeld h x)
-closed g c h x may = c.close_half.ensures.held h x may.other may.both (ap (λ (p : HalfPlace). p.header) may.there) may.each
+closed : (g : Rattle.iso_core.proofs.refill.refill.Given.Over) (c : After-close_half g) (may : MayRefill c.args.from.now c.args.to.now c.args.plan.now (g.D.Disk.state c.args.disk.now))
+    → LeavesOnly (g.D.Disk.state c.args.disk.now) (g.D.Disk.state c.close_half.new.disk) (IsHeld may.g may.x)
+closed g c may = c.close_half.ensures.held may.g may.x may.other may.both (ap (λ (p : HalfPlace). p.header) may.there) may.each
 
 filled : (g : Rattle.iso_core.proofs.refill.refill.Given.Over) (c : After-fill_half g) (h : Geometry) (x : Half) → Copies h x c.args.from.now c.args.plan.now → LeavesOnly (g.D.Disk.state c.args.disk.now) (g.D.Disk.state c.close_half.new.disk) (IsHeld h x)
     → LeavesOnly (g.D.Disk.state c.args.disk.now) (g.D.Disk.state c.fill_half.new.disk) (IsHeld h x)
 filled g c h x copies first = joined first (c.fill_half.ensures.held h x copies.is_from (at_end (g.met.D.Disk.lawful c.close_half.new.disk) first))
 
 pub returns-in-Err-clause-refilled : goal.returns-in-Err-clause-refilled
-returns-in-Err-clause-refilled g c h x may = record {
-  moments = weakened (closed g (goal.at.returns-in-Err-clause-refilled g c).After-close_half h x may) (λ image held. inl held);
+returns-in-Err-clause-refilled g c may = record {
+  moments = weakened (closed g (goal.at.returns-in-Err-clause-refilled g c).After-close_half may) (λ image held. inl held);
   opened = tt;
   held = λ is. absurd cc;
 }
 
 pub returns-in-Err-Memory-clause-refilled : goal.returns-in-Err-Memory-clause-refilled
-returns-in-Err-Memory-clause-refilled g c h x may =
+returns-in-Err-Memory-clause-refilled g c may =
     let s = goal.at.returns-in-Err-Memory-clause-refilled g c in
-    let run = filled g s.After-fill_half h x may.copies (closed g s.After-close_half h x may) in
+    let run = filled g s.After-fill_half may.g may.x may.copies (closed g s.After-close_half may) in
     record { moments = weakened run (λ image held. inl held); opened = tt; held = λ is. at_end (g.met.D.Disk.lawful c.fill_half.new.disk) run }
 
 pub returns-in-Err-Disk-clause-refilled : goal.returns-in-Err-Disk-clause-refilled
-returns-in-Err-Disk-clause-refilled g c h x may =
+returns-in-Err-Disk-clause-refilled g c may =
     let s = goal.at.returns-in-Err-Disk-clause-refilled g c in
     record {
-      moments = weakened (filled g s.After-fill_half h x may.copies (closed g s.After-close_half h x may)) (λ image held. inl held);
+      moments = weakened (filled g s.After-fill_half may.g may.x may.copies (closed g s.After-close_half may)) (λ image held. inl held);
       opened = tt;
       held = λ is. absurd cc;
     }
 
 -- the new half is opened: each image holds it, or the current one
-opened : (g : Rattle.iso_core.proofs.refill.refill.Given.Over) (c : After-open_half g) (h : Geometry) (x : Half) → MayRefill h x c.args.from.now c.args.to.now c.args.plan.now (g.D.Disk.state c.args.disk.now)
-    → LeavesOnly (g.D.Disk.state c.args.disk.now) (g.D.Disk.state c.close_half.new.disk) (IsHeld h x) → LeavesOnly (g.D.Disk.state c.args.disk.now) (g.D.Disk.state c.fill_half.new.disk) (IsHeld h x)
-    → LeavesOnly (g.D.Disk.state c.args.disk.now) (g.D.Disk.state c.open_half.new.disk) (λ i. IsHeld h x i ⊎ IsHeld (in_form c.args.plan.now.geometry.form h) (refilled h c.args.plan.now.generation c.args.plan.now.base x) i)
-opened g c h x may first second =
+opened : (g : Rattle.iso_core.proofs.refill.refill.Given.Over) (c : After-open_half g) (may : MayRefill c.args.from.now c.args.to.now c.args.plan.now (g.D.Disk.state c.args.disk.now))
+    → LeavesOnly (g.D.Disk.state c.args.disk.now) (g.D.Disk.state c.close_half.new.disk) (IsHeld may.g may.x) → LeavesOnly (g.D.Disk.state c.args.disk.now) (g.D.Disk.state c.fill_half.new.disk) (IsHeld may.g may.x)
+    → LeavesOnly (g.D.Disk.state c.args.disk.now) (g.D.Disk.state c.open_half.new.disk) (λ i. IsHeld may.g may.x i ⊎ IsHeld (in_form c.args.plan.now.geometry.form may.g) (refilled may.g c.args.plan.now.generation c.args.plan.now.base may.x) i)
+opened g c may first second =
     joined (weakened second (λ image held. inl held))
-    (c.open_half.ensures.held h c.args.plan.now.geometry.form x (refilled h c.args.plan.now.generation c.args.plan.now.base x) (ap (λ (p : HalfPlace). p.header) may.there ∙ ap (header_place h) (omega (arith, may.both)))
-    (c.in-Ok.ensures.ready h x may.copies (at_end (g.met.D.Disk.lawful c.close_half.new.disk) first)))
+    (c.open_half.ensures.held may.g c.args.plan.now.geometry.form may.x (refilled may.g c.args.plan.now.generation c.args.plan.now.base may.x) (ap (λ (p : HalfPlace). p.header) may.there ∙ ap (header_place may.g) (omega (arith, may.both)))
+    (c.in-Ok.ensures.ready may.g may.x may.copies (at_end (g.met.D.Disk.lawful c.close_half.new.disk) first)))
 
 pub returns-in-Err-open_half-clause-refilled : goal.returns-in-Err-open_half-clause-refilled
-returns-in-Err-open_half-clause-refilled g c h x may =
+returns-in-Err-open_half-clause-refilled g c may =
     let s = goal.at.returns-in-Err-open_half-clause-refilled g c in
-    let first = closed g s.After-close_half h x may in
-    record { moments = opened g s.After-open_half h x may first (filled g s.After-fill_half h x may.copies first); opened = tt; held = λ is. absurd cc }
+    let first = closed g s.After-close_half may in
+    record { moments = opened g s.After-open_half may first (filled g s.After-fill_half may.g may.x may.copies first); opened = tt; held = λ is. absurd cc }
 
 pub returns-clause-refilled : goal.returns-clause-refilled
-returns-clause-refilled g c h x may =
+returns-clause-refilled g c may =
     let s = goal.at.returns-clause-refilled g c in
-    let first = closed g s.After-close_half h x may in
+    let first = closed g s.After-close_half may in
     record {
-      moments = opened g s.After-open_half h x may first (filled g s.After-fill_half h x may.copies first);
-      opened = c.in_default-open_half.ensures.opened h c.args.plan.now.geometry.form x (refilled h c.args.plan.now.generation c.args.plan.now.base x) (ap (λ (p : HalfPlace). p.header) may.there ∙ ap (header_place h) (omega (arith, may.both)))
-          (c.in-Ok.ensures.ready h x may.copies (at_end (g.met.D.Disk.lawful c.close_half.new.disk) first));
+      moments = opened g s.After-open_half may first (filled g s.After-fill_half may.g may.x may.copies first);
+      opened = c.in_default-open_half.ensures.opened may.g c.args.plan.now.geometry.form may.x (refilled may.g c.args.plan.now.generation c.args.plan.now.base may.x) (ap (λ (p : HalfPlace). p.header) may.there ∙ ap (header_place may.g) (omega (arith, may.both)))
+          (c.in-Ok.ensures.ready may.g may.x may.copies (at_end (g.met.D.Disk.lawful c.close_half.new.disk) first));
       held = λ is. absurd cc;
     }
 

@@ -2,25 +2,32 @@ use Rattle.iso_core.proofs.{Words.{◌≡◌, sym, ap, suc, length, arith, subst
 
 pub leave-requires : Rattle.iso_core.proofs.taking.+leave_each.Goals.leave-requires
 leave-requires t c =
-    let (W, members, of, each) = c.requires in
-    let p = parted (IsLiveMember W) c.in-Some.member.now c.in-Some.rest.now members (subst (λ (l : List GroupEnd). AreEach (IsLiveMember W) l members) c.in-Some.ensures.some each) in
-    (W, p.first, of, p.is)
+    let m = c.requires in
+    let p = parted (IsLiveMember m.world) c.in-Some.member.now c.in-Some.rest.now m.members (subst (λ (l : List GroupEnd). AreEach (IsLiveMember m.world) l m.members) c.in-Some.ensures.some m.each) in
+    record { world = m.world; t = p.first; of = m.of; here = p.is }
 
 pub leave_each-requires : Rattle.iso_core.proofs.taking.+leave_each.Goals.leave_each-requires
 leave_each-requires t c =
-    let (W, members, of, each) = c.requires in
-    let p = parted (IsLiveMember W) c.in-Some.member.now c.in-Some.rest.now members (subst (λ (l : List GroupEnd). AreEach (IsLiveMember W) l members) c.in-Some.ensures.some each) in
-    let shorter : length c.args.group.now ≡ suc (length c.in-Some.rest.now) = ap (λ (l : List GroupEnd). length l) c.in-Some.ensures.some in
-    (omega (arith, shorter, c.decreases), (after_leaving W p.first, p.others, (c.leave.ensures W p.first of p.is).of, members_left W p.first c.in-Some.rest.now p.others p.apart p.each))
+    let m = c.requires in
+    let p = parted (IsLiveMember m.world) c.in-Some.member.now c.in-Some.rest.now m.members (subst (λ (l : List GroupEnd). AreEach (IsLiveMember m.world) l m.members) c.in-Some.ensures.some m.each) in
+    let shorter : length c.args.group.now ≡ suc (length c.in-Some.rest.now) = ap (λ (l : List GroupEnd). length l) c.in-Some.ensures.some in (
+      omega (arith, shorter, c.decreases),
+      record {
+        world = after_leaving m.world p.first;
+        members = p.others;
+        of = (c.leave.ensures (record { world = m.world; t = p.first; of = m.of; here = p.is })).of;
+        each = members_left m.world p.first c.in-Some.rest.now p.others p.apart p.each;
+      },
+    )
 
 pub returns-in_default : Rattle.iso_core.proofs.taking.+leave_each.Goals.returns-in_default
-returns-in_default t c W members of each =
-    subst (λ (l : List Live). Becomes c.args.kept.now c.args.kept.now (leave_all l W)) (sym (none_each (IsLiveMember W) c.args.group.now members (ap (λ (l : List GroupEnd). length l) c.in_default.ensures.none) each))
-    (record { of = of; half = refl; down = refl })
+returns-in_default t c m =
+    subst (λ (l : List Live). Becomes c.args.kept.now c.args.kept.now (leave_all l m.world)) (sym (none_each (IsLiveMember m.world) c.args.group.now m.members (ap (λ (l : List GroupEnd). length l) c.in_default.ensures.none) m.each))
+    (record { of = m.of; half = refl; down = refl })
 
 pub returns : Rattle.iso_core.proofs.taking.+leave_each.Goals.returns
-returns t c W members of each =
-    let p = parted (IsLiveMember W) c.in-Some.member.now c.in-Some.rest.now members (subst (λ (l : List GroupEnd). AreEach (IsLiveMember W) l members) c.in-Some.ensures.some each) in
-    let left = c.leave.ensures W p.first of p.is in
-    subst (λ (l : List Live). Becomes c.args.kept.now c.leave_each.new.kept (leave_all l W)) (sym p.are)
-    (becomes_then left (c.leave_each.ensures (after_leaving W p.first) p.others left.of (members_left W p.first c.in-Some.rest.now p.others p.apart p.each)))
+returns t c m =
+    let p = parted (IsLiveMember m.world) c.in-Some.member.now c.in-Some.rest.now m.members (subst (λ (l : List GroupEnd). AreEach (IsLiveMember m.world) l m.members) c.in-Some.ensures.some m.each) in
+    let left = c.leave.ensures (record { world = m.world; t = p.first; of = m.of; here = p.is }) in
+    subst (λ (l : List Live). Becomes c.args.kept.now c.leave_each.new.kept (leave_all l m.world)) (sym p.are)
+    (becomes_then left (c.leave_each.ensures (record { world = after_leaving m.world p.first; members = p.others; of = left.of; each = members_left m.world p.first c.in-Some.rest.now p.others p.apart p.each })))

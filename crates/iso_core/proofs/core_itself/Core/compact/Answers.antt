@@ -5,7 +5,7 @@ pub switch_half-requires : goal.switch_half-requires
 switch_half-requires g c =
     let (W, standing, of) = c.requires in
     let is = up_of (g.D.Disk.state c.args.self.now.disk) c.args.self.now.kept W standing of c.if-self.false in
-    (W, is, own_form W c.args.self.now.kept.geometry.form of.kept_of.world (ap (λ (h : Geometry). h.form) of.kept_of.keeps.geometry))
+    record { world = W; of = is; fits = own_form W c.args.self.now.kept.geometry.form of.kept_of.world (ap (λ (h : Geometry). h.form) of.kept_of.keeps.geometry) }
 
 -- the form is the image's own
 own : (g : Rattle.iso_core.proofs.core_itself.Core.compact.Given.Over) (c : After-switch_half g) (W : World) → AreOf (g.D.Disk.state c.args.self.now.disk) c.args.self.now.kept W up
@@ -13,7 +13,7 @@ own : (g : Rattle.iso_core.proofs.core_itself.Core.compact.Given.Over) (c : Afte
 own g c W of =
     let same = ap (λ (h : Geometry). h.form) of.kept_of.keeps.geometry in
     subst (λ (n : ℕ). Switches W n (g.D.Disk.state c.args.self.now.disk) (g.D.Disk.state c.switch_half.new.disk) c.switch_half.new.kept c.switch_half.result) same
-    (c.switch_half.ensures.switched W of (own_form W c.args.self.now.kept.geometry.form of.kept_of.world same))
+    (c.switch_half.ensures.switched (record { world = W; of = of; fits = own_form W c.args.self.now.kept.geometry.form of.kept_of.world same }))
 
 pub returns-clause-switched : goal.returns-clause-switched
 returns-clause-switched g c W of = (own g (goal.at.returns-clause-switched g c).After-switch_half W of).switched
