@@ -7,7 +7,7 @@ ghost use Rattle.iso_model.specs.Versions.{versions};
 use crate::answers::{Begun, Recent, Stat};
 use crate::begin::begin;
 use crate::ending::end_tx;
-use crate::fetch::fetch;
+use crate::fetch::{read_by, versions_at};
 use crate::group_end::GroupEnd;
 use crate::kept::Kept;
 use crate::leave::leave;
@@ -16,10 +16,10 @@ use crate::opening::{Opened, keep};
 use crate::plan::Plan;
 use crate::rebinding::Rebinding;
 use crate::switching::switch_half;
-use crate::trim::trim;
 use conflict_rule::Checked;
 use counts::{Ledger, Steps};
 use iso_disk::Disk;
+use iso_image::half_place;
 use iso_model::{CoreError, EndReply, Geometry, GroupReply, Mode};
 use std::alloc::Global;
 use tx_table::Work;
@@ -161,7 +161,14 @@ impl<D: Disk> Core<D> {
         if self.kept.down {
             return Err(CoreError::Down);
         }
-        match fetch(&self.kept, &mut self.disk, tx, block, off, len, into) {
+        let kept = &self.kept;
+        let last = kept.log.last();
+        let at = kept.live.at(tx).unwrap_or(last);
+        let place = half_place(&kept.geometry, kept.half);
+        let base = place.base + u64::from(block) * u64::from(kept.geometry.block);
+        let to = off + len;
+        let versions = versions_at(&kept.index, block, at, last, off, to);
+        match read_by(&mut self.disk, base, versions, at == last, off, to, into) {
             Ok(()) => Ok(()),
             Err(_) => Err(CoreError::Disk),
         }
@@ -292,7 +299,10 @@ impl<D: Disk> Core<D> {
         if self.kept.down {
             return Err(CoreError::Down);
         }
-        Ok(trim(&mut self.kept))
+        let floor = self.kept.live.floor(self.kept.log.last());
+        version_trim::trim(&mut self.kept.index, floor);
+        self.kept.trim = floor;
+        Ok(floor)
     }
 
     /// Moves the base to the floor, in the other half, and answers the floor. What live transactions are shown stays. A

@@ -1,16 +1,12 @@
 // Bytes of a block as a transaction is shown them.
-ghost use Rattle.std.specs.{Prelude.{◌≡◌, ◌⊎◌, ◌+◌, ◌*◌, ◌<◌, ◌≤◌, ℕ, OnOk, drop, length, take}, List.AllByRecursion, Option.ForSome};
+ghost use Rattle.std.specs.{Prelude.{◌≡◌, ◌⊎◌, ◌+◌, ◌<◌, ◌≤◌, ℕ, OnOk, length}, List.AllByRecursion, Option.ForSome};
 ghost use Rattle.counts.specs.Count.{HasCause};
 ghost use Rattle.iso_disk.specs.Disk.{WritesNothing};
-ghost use Rattle.iso_model.specs.{History.{array_at, last}, Premises.block_at, World.{World, Live}};
 ghost use Rattle.mv_index.specs.{Shown.{AllLie, Lies, ShowTheSameIn}, Versions.{upto, versions_in}};
 ghost use Rattle.version_read.specs.Blocks.{IsOverIn};
-ghost use Rattle.iso_core.specs.{Calls.IsTx, Core.AreOf, Standing.up};
 
-use crate::kept::Kept;
 use counts::{Ledger, Steps};
 use iso_disk::{Disk, DiskFault};
-use iso_image::half_place;
 use mv_index::{MvIndex, Version};
 use std::marker::Brand;
 use std::sync::ledger::Blank;
@@ -30,7 +26,7 @@ fn versions_upto<L: Ledger>(blank: Blank, index: &MvIndex, block: u32, at: u64) 
 
 /// The versions that the bytes of a block from one up to another are read by at a number: those that show there at the last
 /// commit, or all up to an earlier one.
-fn versions_at(
+pub(crate) fn versions_at(
     index: &MvIndex,
     block: u32,
     at: u64,
@@ -53,7 +49,7 @@ fn versions_at(
 
 /// Reads the bytes of a block from one up to another by these versions. Those that show at the last commit hide nothing of
 /// each other; by others the whole block is read.
-fn read_by<D: Disk>(
+pub(crate) fn read_by<D: Disk>(
     disk: &mut D,
     base: u64,
     versions: &[Version],
@@ -76,33 +72,5 @@ fn read_by<D: Disk>(
     } else {
         read_block(disk, base, versions, into)?;
     }
-    Ok(())
-}
-
-/// Reads `len` bytes of a block from `off` on, as they were when a transaction began, into their place in a slice as long as
-/// the block. It takes no memory, and on a fault any bytes may be in the slice.
-pub(crate) fn fetch<D: Disk>(
-    kept: &Kept,
-    disk: &mut D,
-    tx: u64,
-    block: u32,
-    off: usize,
-    len: usize,
-    into: &mut [u8],
-) -> Result<(), DiskFault>
-    requires stands { (W : World) × (t : Live) × AreOf (D.state disk.old) kept.now W up × IsTx W tx t × (block < W.geometry.blocks) × (length into.old ≡ W.geometry.block) }
-    requires fits { off + len ≤ length into.old }
-    ensures range { (W : World) (t : Live) → AreOf (D.state disk.old) kept.now W up → IsTx W tx t → block < W.geometry.blocks → length into.old ≡ W.geometry.block
-        → OnOk result (ForSome (D.state disk.old).contents (λ _. take len (drop off into.new) ≡ take len (drop off (block_at (array_at W.history t.begin) block)))) }
-    ensures unwritten { WritesNothing (D.state disk.old) (D.state disk.new) }
-    ensures cause { HasCause (D.state disk.old).faults (D.state disk.new).faults result }
-{
-    let last = kept.log.last();
-    let at = kept.live.at(tx).unwrap_or(last);
-    let place = half_place(&kept.geometry, kept.half);
-    let base = place.base + u64::from(block) * u64::from(kept.geometry.block);
-    let to = off + len;
-    let versions = versions_at(&kept.index, block, at, last, off, to);
-    read_by(disk, base, versions, at == last, off, to, into)?;
     Ok(())
 }

@@ -30,7 +30,6 @@ mod settling;
 mod spelling;
 mod switching;
 mod taking;
-mod trim;
 
 pub use answers::{Begun, Recent, Stat};
 pub use core_itself::Core;
