@@ -1,5 +1,5 @@
 // The commits of a group are taken in, once their records are written.
-ghost use Rattle.std.specs.{Prelude.{◌≡◌, ◌+◌, ◌++◌, [], ◌∷◌, IfNone, IfOk, IfSome, OnOk, map}, List.Sorted.{IsNonDecreasingBy, IsPermutation}};
+ghost use Rattle.std.specs.{Prelude.{◌≡◌, ◌+◌, ◌++◌, IfOk, OnOk, map}, List.Sorted.{IsNonDecreasingBy, IsPermutation}};
 ghost use Rattle.iso_model.specs.{Geometry.log_place, Group.{ahead, leave_all}, Image.written};
 ghost use Rattle.mv_index.specs.Placed.{IsIndexOf};
 ghost use Rattle.iso_core.specs.{Kept.{Becomes, BecomesTidy, Reserves}, Planned.{HasGrownWith, HasMembers, HasPlan, IsLiveMember, IsReserved, LeavesAll, MayTakeStaged}};
@@ -14,14 +14,6 @@ use mv_index::MvIndex;
 use std::alloc::Global;
 use std::mem;
 use version_read::{PartSpan, add_parts, reserve_parts};
-
-// The first staged record, and the others.
-fn first_staged(staged: &[Staged]) -> Option<(&Staged, &[Staged])>
-    ensures some { IfSome result (λ x. staged.now ≡ x.0.now ∷ x.1.now) }
-    ensures none { IfNone result (staged.now ≡ []) }
-{
-    staged.split_first()
-}
 
 fn copy_parts(alloc: Global, parts: &[PartSpan]) -> Result<Vec<PartSpan>, Memory>
     ensures { IfOk result (λ copy. copy.items ≡ parts.now) }
@@ -60,7 +52,7 @@ fn take_staged(index: &mut MvIndex, number: u64, gate: u64, staged: &[Staged], p
     ensures { (m : MayTakeStaged number gate staged.now parts.now index.old)
         → IsIndexOf m.g (m.x.base + 1) (log_place m.g m.x.at) m.upto (m.x.told ++ map (written m.g) m.commits) index.new }
 {
-    let Some((record, rest)) = first_staged(staged) else {
+    let Some((record, rest)) = staged.split_first() else {
         return;
     };
     let (own, others) = parts.split_at(record.count);
@@ -85,20 +77,12 @@ pub(crate) fn take_plan(kept: &mut Kept, gate: u64, plan: &mut Plan)
     kept.notes.take_all(notes);
 }
 
-// The first member, and the others.
-fn first_member(group: &[GroupEnd]) -> Option<(&GroupEnd, &[GroupEnd])>
-    ensures some { IfSome result (λ x. group.now ≡ x.0.now ∷ x.1.now) }
-    ensures none { IfNone result (group.now ≡ []) }
-{
-    group.split_first()
-}
-
 // Takes all members out, one after the other.
 fn leave_each(kept: &mut Kept, group: &[GroupEnd])
     requires { HasMembers IsLiveMember kept.old group.now }
     ensures { LeavesAll kept.old kept.new group.now }
 {
-    let Some((member, rest)) = first_member(group) else {
+    let Some((member, rest)) = group.split_first() else {
         return;
     };
     leave(kept, member.tx);

@@ -1,4 +1,4 @@
-use Rattle.iso_core.proofs.{Words.{arith, ◌≡◌, ◌∙◌, inl, refl, sym, ap, subst, None, true, clash, commit_step, CoreReply, has_write, end_step, World, Live, AreOf, Doing, EndsAs, IsCheckedOf, IsTx, IsWorkOf, MayCommit, up}, Causes.{ends_off, passes_off}, Committing.{passes_so, refused_so}, Endings.{ends_by, ends_in_conflict, ends_read_only, left_so, may_commit}, Moments.stays_shown}
+use Rattle.iso_core.proofs.{Words.{◌≡◌, ◌∙◌, inl, refl, sym, ap, subst, None, true, clash, commit_step, CoreReply, has_write, end_step, World, Live, AreOf, Doing, EndsAs, IsCheckedOf, IsTx, IsWorkOf, MayCommit, up}, Causes.{ends_off, passes_off}, Committing.{passes_so, refused_so}, Endings.{ends_by, ends_in_conflict, ends_read_only, left_so, may_commit}, Moments.stays_shown}
 use Rattle.iso_core.proofs.ending.end_tx.Goals as goal
 
 pub leave-requires : goal.leave-requires

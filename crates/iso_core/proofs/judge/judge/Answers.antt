@@ -1,4 +1,4 @@
-use Rattle.iso_core.proofs.{Words.{◌≡◌, ◌≢◌, ◌∙◌, sym, ap, ℕ, ◌+◌, ◌-◌, ◌<◌, ◌≤◌, List, length, arith, length_push, false, true, CoreReply, LAST, has_write, last, need, World, Live, Commit, used, ahead, member_reply, IsAhead, IsNextCommit, IsNextMember, IsOf, IsSpelled, MayCommit}, Committing.{buffer_on, next_world}, Endings.{ends_in_conflict, ends_read_only}, Judging.{commits_as, fits_ahead, free_ahead, full_so, may_ahead, number_ahead, worn_so}, Moments.record_needs, judge.judge.Goals.{After-len, After-len-2}}
+use Rattle.iso_core.proofs.{Words.{◌≡◌, ◌≢◌, ◌∙◌, sym, ap, ℕ, ◌+◌, ◌-◌, ◌<◌, ◌≤◌, List, length, arith, length_push, false, true, CoreReply, LAST, has_write, last, need, World, used, ahead, member_reply, IsNextCommit, IsNextMember, IsSpelled, MayCommit}, Committing.{buffer_on, next_world}, Endings.{ends_in_conflict, ends_read_only}, Judging.{commits_as, fits_ahead, free_ahead, full_so, may_ahead, number_ahead, worn_so}, Moments.record_needs, judge.judge.Goals.{After-len, After-len-2}}
 use Rattle.iso_model.specs.declared.access.GroupReply.TheVariants as member
 use Rattle.iso_core.proofs.judge.judge.Goals as goal
 

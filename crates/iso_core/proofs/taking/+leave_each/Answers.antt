@@ -3,14 +3,14 @@ use Rattle.iso_core.proofs.{Words.{◌≡◌, sym, ap, suc, length, arith, subst
 pub leave-requires : Rattle.iso_core.proofs.taking.+leave_each.Goals.leave-requires
 leave-requires t c =
     let m = c.requires in
-    let p = parted (IsLiveMember m.world) c.in-Some.member.now c.in-Some.rest.now m.members (subst (λ (l : List GroupEnd). AreEach (IsLiveMember m.world) l m.members) c.in-Some.ensures.some m.each) in
+    let p = parted (IsLiveMember m.world) c.in-Some.member.now c.in-Some.rest.now m.members (subst (λ (l : List GroupEnd). AreEach (IsLiveMember m.world) l m.members) c.in-Some.ensures.cases.0 m.each) in
     record { world = m.world; t = p.first; of = m.of; here = p.is }
 
 pub leave_each-requires : Rattle.iso_core.proofs.taking.+leave_each.Goals.leave_each-requires
 leave_each-requires t c =
     let m = c.requires in
-    let p = parted (IsLiveMember m.world) c.in-Some.member.now c.in-Some.rest.now m.members (subst (λ (l : List GroupEnd). AreEach (IsLiveMember m.world) l m.members) c.in-Some.ensures.some m.each) in
-    let shorter : length c.args.group.now ≡ suc (length c.in-Some.rest.now) = ap (λ (l : List GroupEnd). length l) c.in-Some.ensures.some in (
+    let p = parted (IsLiveMember m.world) c.in-Some.member.now c.in-Some.rest.now m.members (subst (λ (l : List GroupEnd). AreEach (IsLiveMember m.world) l m.members) c.in-Some.ensures.cases.0 m.each) in
+    let shorter : length c.args.group.now ≡ suc (length c.in-Some.rest.now) = ap (λ (l : List GroupEnd). length l) c.in-Some.ensures.cases.0 in (
       omega (arith, shorter, c.decreases),
       record {
         world = after_leaving m.world p.first;
@@ -22,12 +22,12 @@ leave_each-requires t c =
 
 pub returns-in_default : Rattle.iso_core.proofs.taking.+leave_each.Goals.returns-in_default
 returns-in_default t c m =
-    subst (λ (l : List Live). Becomes c.args.kept.now c.args.kept.now (leave_all l m.world)) (sym (none_each (IsLiveMember m.world) c.args.group.now m.members (ap (λ (l : List GroupEnd). length l) c.in_default.ensures.none) m.each))
+    subst (λ (l : List Live). Becomes c.args.kept.now c.args.kept.now (leave_all l m.world)) (sym (none_each (IsLiveMember m.world) c.args.group.now m.members c.in_default.ensures.cases m.each))
     (record { of = m.of; half = refl; down = refl })
 
 pub returns : Rattle.iso_core.proofs.taking.+leave_each.Goals.returns
 returns t c m =
-    let p = parted (IsLiveMember m.world) c.in-Some.member.now c.in-Some.rest.now m.members (subst (λ (l : List GroupEnd). AreEach (IsLiveMember m.world) l m.members) c.in-Some.ensures.some m.each) in
+    let p = parted (IsLiveMember m.world) c.in-Some.member.now c.in-Some.rest.now m.members (subst (λ (l : List GroupEnd). AreEach (IsLiveMember m.world) l m.members) c.in-Some.ensures.cases.0 m.each) in
     let left = c.leave.ensures (record { world = m.world; t = p.first; of = m.of; here = p.is }) in
     subst (λ (l : List Live). Becomes c.args.kept.now c.leave_each.new.kept (leave_all l m.world)) (sym p.are)
     (becomes_then left (c.leave_each.ensures (record { world = after_leaving m.world p.first; members = p.others; of = left.of; each = members_left m.world p.first c.in-Some.rest.now p.others p.apart p.each })))
