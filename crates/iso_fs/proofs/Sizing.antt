@@ -1,5 +1,6 @@
 -- A file block that is laid number by number.
 use Rattle.iso_fs.proofs.{Words.{◌≡◌, ◌∙◌, sym, refl, ap, ℕ, ◌+◌, ◌-◌, ◌*◌, ◌≤◌, List, [], ◌∷◌, ◌++◌, length, replicate, take, drop, arith, append_assoc, length-append, flat_map, range_with_len, map, w32, to_be_bytes, flat_map-append, append-nil, drop-drop, drop-replicate, drop_at, take_at, laid_at, file_block}, FileBlocks.length-numbers, Pieces.range_split}
+use Rattle.iso_fs.specs.Grows.{AddsEntries}
 
 module _ (n b : ℕ) (es : List ℕ) (k i : ℕ) (is : length es ≡ i) (fits : 64 + 4 * i + 4 ≤ n) where
   abbrev word : List ℕ
@@ -47,6 +48,15 @@ module _ (n b : ℕ) (es : List ℕ) (k i : ℕ) (is : length es ≡ i) (fits : 
 
   pub laid_entry : laid_at (64 + 4 * i) (to_be_bytes w32 k) (file_block n b es) ≡ file_block n b (es ++ k ∷ [])
   laid_entry = (λ j. first j ++ (word ++ rest j)) ∙ sym new_parts
+
+-- numbers that are added after others
+pub adds_more : (before mid now news more all : List ℕ) (count at : ℕ) → at ≡ count + length news → length mid ≡ length before → all ≡ news ++ more
+    → AddsEntries count before mid news → AddsEntries at mid now more → AddsEntries count before now all
+adds_more before mid now news more all count at at_is same all_is first second = λ bytes es long is.
+    let so = es ++ news in
+    second bytes so (omega (arith, length-append es news, long, at_is)) (first bytes es long is ∙ ap (λ (n : ℕ). file_block n bytes so) (sym same))
+    ∙ ap (λ (n : ℕ). file_block n bytes (so ++ more)) same
+    ∙ ap (file_block (length before) bytes) (append_assoc es news more ∙ ap (λ (xs : List ℕ). es ++ xs) (sym all_is))
 
 -- the size in an empty file block
 pub laid_size : (n b : ℕ) → laid_at 4 (to_be_bytes w32 b) (file_block n 0 []) ≡ file_block n b []

@@ -129,6 +129,10 @@ pub record HasBuffers (t : Tx) (a : Area) (x y : List ℕ) : Type 0 where
   pub one : length x ≡ a.size
   pub other : length y ≡ a.size
 
+-- what holds of a transaction and the disk below it, before a call and after it
+abbrev pub Across : {T : Type 0} {F : Type 1} → (T → Tx) → (T → Device) → (x y : T) → (Tx → Tx → Device → Device → F) → F
+Across state device x y holds = holds (state x) (state y) (device x) (device y)
+
 -- a part of a call that follows this program: how it ends, and what it leaves
 pub record IsPart {X : Type 0} (tree_call : Bool) (writes : ℕ) (p : Call X) (t u : Tx) (before now : Device) (result : Result X FsError) : Type 0 where
   pub run : HasRun p t u result

@@ -1,7 +1,15 @@
 -- A write into a file, by what the code has of it.
-use Rattle.std.specs.Prelude.{◌≡◌, ℕ, ◌+◌, ◌<◌, ◌≤◌, Bool, List, length}
-use Rattle.store_model.specs.{FileCalls.{Call, write_sized}, FileNodes.{blocks_for, bytes_of}}
-use Rattle.iso_fs.specs.declared.patch.Writing.{Writing}
+use Rattle.std.specs.Prelude.{◌≡◌, ℕ, ◌+◌, ◌<◌, ◌≤◌, ◌++◌, Bool, List, length}
+use Rattle.store_model.specs.{FileCalls.{Call, write_sized}, FileNodes.{blocks_for, bytes_of, entries_of, file_block}}
+use Rattle.iso_fs.specs.declared.{file.FileBlock.FileBlock, patch.Writing.Writing}
+
+-- the numbers of the data blocks of a file
+abbrev pub entries : FileBlock → List ℕ
+entries f = entries_of f.area.size f.bytes.now
+
+-- to the bytes of a file block with so many data blocks, these are added
+abbrev pub AddsEntries : (count : ℕ) → (before now news : List ℕ) → Type 0
+AddsEntries count before now news = (bytes : ℕ) (es : List ℕ) → length es ≡ count → before ≡ file_block (length before) bytes es → now ≡ file_block (length before) bytes (es ++ news)
 
 -- where the bytes end that are written
 abbrev pub write_end : Writing → ℕ

@@ -1,11 +1,11 @@
-// Where a call works, the tests of its arguments, and bytes laid into a block.
-ghost use Rattle.std.specs.{Prelude.{◌≡◌, ◌≤◌, IfErr, IfOk, false, length, true, []}, Int.{w32, to_be_bytes}};
-ghost use Rattle.store_model.specs.{FileCalls.is_many, FileNodes.file_block, HashCalls.is_key};
+// Where a call works, its buffers, and the test of a count.
+ghost use Rattle.std.specs.Prelude.{◌≡◌, IfErr, IfOk, length};
+ghost use Rattle.store_model.specs.FileCalls.{is_many};
 ghost use Rattle.iso_fs.specs.Ends.{areas_of};
 
-use iso_alloc::{buffer, clear, is_key, lay};
+use iso_alloc::buffer;
 use std::alloc::Global;
-use store_model::{Area, FileAreas, FsError, FsRegion, StoreError};
+use store_model::{Area, FileAreas, FsRegion, StoreError};
 use tx_blocks::TxBlocks;
 
 /// The areas of the regions in the transaction's blocks.
@@ -25,22 +25,6 @@ pub fn areas_of<T: TxBlocks>(tx: &T, at: FsRegion) -> FileAreas
             blocks: at.files.size,
         },
     }
-}
-
-/// The same for a call at a name.
-///
-/// # Errors
-///
-/// `BadName` exactly where the name does not have 1 to 28 bytes.
-pub fn named_areas<T: TxBlocks>(tx: &T, at: FsRegion, name: &[u8]) -> Result<FileAreas, FsError>
-    ensures areas { IfOk result (λ a. a ≡ areas_of (T.state tx.now) at) }
-    ensures name { IfOk result (λ a. is_key name.now ≡ true) }
-    ensures bad_name { IfErr result (λ e. (e ≡ FsError.BadName) × (is_key name.now ≡ false)) }
-{
-    if !is_key(name) {
-        return Err(FsError::BadName);
-    }
-    Ok(areas_of(tx, at))
 }
 
 /// Two buffers of `size` bytes, and a third one of `last`.
@@ -67,20 +51,4 @@ pub fn is_many(count: usize) -> bool
     ensures { result ≡ is_many count }
 {
     1 <= count && count <= 4096
-}
-
-/// The number of a block in four bytes.
-pub fn spelled(number: u32) -> [u8; 4]
-    ensures { result ≡ to_be_bytes w32 number }
-{
-    number.to_be_bytes()
-}
-
-/// The file block of an empty file.
-pub fn lay_empty(into: &mut [u8])
-    requires { 64 ≤ length into.old }
-    ensures { into.new ≡ file_block (length into.old) 0 [] }
-{
-    clear(into);
-    into[0] = 3;
 }

@@ -1,7 +1,7 @@
 // The block of a file: its bytes, and the test of them.
 ghost use Rattle.std.specs.Prelude.{◌≡◌, ◌+◌, ◌*◌, ◌<◌, ◌≤◌, ◌==◌, IfNone, IfSome, false, length, true, nat_le, slice_index};
 ghost use Rattle.store_model.specs.{FileNodes.{are_entries, bytes_of, data_count, entry_at, has_zeros, is_file, is_handed, is_number, most_bytes, number_of}, TreeRegion.IsTreeArea};
-ghost use Rattle.iso_fs.specs.Ends.{IsBlockOf};
+ghost use Rattle.iso_fs.specs.Ends.{IsBlockOf, IsSize};
 
 use iso_alloc::{are_zero, piece, word_at};
 use store_model::Area;
@@ -66,21 +66,12 @@ fn has_zeros(file: &[u8], count: usize) -> bool
     are_zero(piece(file, 1, 3)) && are_zero(piece(file, 8, 56)) && are_zero(&file[64 + 4 * count..])
 }
 
-// Whether the first byte is that of a file block.
-fn is_kind(file: &[u8]) -> bool
-    requires { 1 ≤ length file.now }
-    ensures { result ≡ (slice_index file.now 0 == 3) }
+/// Whether a file may have `bytes` bytes.
+pub fn is_fit(size: u32, bytes: u32) -> bool
+    requires { IsSize size }
+    ensures { result ≡ nat_le bytes (most_bytes size) }
 {
-    file[0] == 3
-}
-
-// Whether a file may have as many bytes as its block says.
-fn is_small(area: Area, file: &[u8]) -> bool
-    requires { IsBlockOf area file.now }
-    ensures { result ≡ nat_le (bytes_of file.now) (most_bytes area.size) }
-{
-    let size = area.size;
-    bytes_of(file) <= (size - 64) / 4 * size
+    bytes <= (size - 64) / 4 * size
 }
 
 /// How many data blocks the file has.
@@ -99,10 +90,10 @@ pub fn is_file(area: Area, file: &[u8]) -> bool
     requires { IsBlockOf area file.now }
     ensures { result ≡ is_file area file.now }
 {
-    if !is_kind(file) {
+    if file[0] != 3 {
         return false;
     }
-    if !is_small(area, file) {
+    if !is_fit(area.size, bytes_of(file)) {
         return false;
     }
     let count = data_count(area, file);

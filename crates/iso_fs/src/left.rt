@@ -1,8 +1,8 @@
 // The map without the blocks of a file, and the write of the bytes that change.
 ghost use Rattle.std.specs.{Prelude.{◌≡◌, ◌+◌, ◌-◌, ◌*◌, ◌≤◌, length, map}, List.range_with_len};
-ghost use Rattle.store_model.specs.{FreeMap.map_mark, Stores.bytes_in, FileCalls.{high_place, low_place, without_bits}, FileNodes.{entries_of, entry_at}};
+ghost use Rattle.store_model.specs.{FreeMap.map_mark, Stores.bytes_in, FileCalls.{high_place, low_place, without_bits}, FileNodes.entry_at};
 ghost use Rattle.tx_blocks.specs.Runs.{HasStored};
-ghost use Rattle.iso_fs.specs.{Ends.HasBuffers, Finds.{ArePlaces, given_back}};
+ghost use Rattle.iso_fs.specs.{Ends.{Across, HasBuffers}, Finds.{ArePlaces, given_back}, Grows.entries};
 
 use crate::file::{FileBlock, entry_at};
 use iso_alloc::{give_back, lay_alone, piece, region_of};
@@ -29,7 +29,7 @@ fn places(file: &[u8], block: u32, i: usize, count: usize) -> (usize, usize)
 
 // The same for all blocks of a file.
 fn ends(file: &FileBlock) -> (usize, usize)
-    ensures places { result ≡ (low_place file.now.number (entries_of file.now.area.size file.now.bytes.now), high_place file.now.number (entries_of file.now.area.size file.now.bytes.now)) }
+    ensures places { result ≡ (low_place file.now.number (entries file.now), high_place file.now.number (entries file.now)) }
     ensures within { ArePlaces file.now.area result.0 result.1 }
 {
     places(file.bytes, file.number, 0, file.count)
@@ -38,7 +38,7 @@ fn ends(file: &FileBlock) -> (usize, usize)
 // Gives the data blocks of a file back.
 fn give_data(file: &FileBlock, map: &mut [u8])
     requires { length map.old ≡ file.now.area.size }
-    ensures { map.new ≡ without_bits map.old (entries_of file.now.area.size file.now.bytes.now) }
+    ensures { map.new ≡ without_bits map.old (entries file.now) }
 {
     for i in 0..file.count {
         give_back(map, region_of(file.area), entry_at(file.bytes, i));
@@ -57,7 +57,7 @@ pub fn store_left<T: TxBlocks>(
     into: &mut [u8],
 ) -> Result<(), TxError>
     requires { HasBuffers (T.state tx.old) file.now.area map.old into.old }
-    ensures { HasStored (given_back file.now.area file.now.number (entries_of file.now.area.size file.now.bytes.now) (bytes_in (map_mark file.now.area.blocks) map.old)) (T.state tx.old) (T.state tx.new) (T.device tx.old) (T.device tx.new) result }
+    ensures { Across T.state T.device tx.old tx.new (HasStored (given_back file.now.area file.now.number (entries file.now) (bytes_in (map_mark file.now.area.blocks) map.old))) result }
 {
     let (low, high) = ends(file);
     give_back(map, region_of(file.area), file.number);

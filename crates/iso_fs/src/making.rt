@@ -1,31 +1,17 @@
 // A new file.
-ghost use Rattle.std.specs.{Prelude.{false, ◌≡◌, ◌↔◌, ◌+◌, ◌<◌, Err, IsFalse, IsTrue, is_some, IfOk, slice_index, []}, FinMap.get};
-ghost use Rattle.store_model.specs.{FreeMap.bit_place, HashCalls.is_key, Stores.store_access, FileCalls.{create_op, create_program, name_file}, FileNodes.file_block, FileRegion.{files, AreFileRegions}};
-ghost use Rattle.tx_blocks.specs.Runs.{HasStored, IsLocalCall};
-ghost use Rattle.iso_fs.specs.Ends.{areas_of, ExistsWhere, HasBuffer, HasFiles, HasRun, IsPart, Leaves};
+ghost use Rattle.std.specs.{Prelude.{false, ◌≡◌, ◌↔◌, ◌<◌, Err, IsFalse, IsTrue, is_some, IfOk, slice_index}, FinMap.get};
+ghost use Rattle.store_model.specs.{FreeMap.bit_place, HashCalls.is_key, FileCalls.{create_op, create_program, name_file}, FileRegion.{files, AreFileRegions}};
+ghost use Rattle.tx_blocks.specs.Runs.{IsLocalCall};
+ghost use Rattle.iso_fs.specs.Ends.{areas_of, Across, ExistsWhere, HasBuffer, HasFiles, HasRun, IsPart, Leaves};
 
-use crate::buffers::{lay_empty, named_areas, spelled};
+use crate::buffers::areas_of;
 use crate::names::{FileName, put_value, value_of};
-use iso_alloc::{buffer, region_of, take_lowest};
+use crate::sized::start_file;
+use iso_alloc::{buffer, is_key, region_of, take_lowest};
 use iso_tree::map_mark;
 use std::alloc::Global;
-use store_model::{Area, FsError, FsRegion, StoreError, TxError};
+use store_model::{FsError, FsRegion, StoreError};
 use tx_blocks::{TxBlocks, look, store, store_bit};
-
-// Writes an empty file into a block.
-fn store_empty<T: TxBlocks>(
-    tx: &mut T,
-    area: Area,
-    block: u32,
-    buffer: &mut [u8],
-) -> Result<(), TxError>
-    requires buffer { HasBuffer (T.state tx.old) area buffer.old }
-    requires block { block < area.blocks }
-    ensures { HasStored (store_access (area.start + block) [] (file_block area.size 0 [])) (T.state tx.old) (T.state tx.new) (T.device tx.old) (T.device tx.new) result }
-{
-    lay_empty(buffer);
-    store(tx, area.start + block, &[], buffer)
-}
 
 // Names a block in the tree, and makes it an empty file.
 fn name_file<T: TxBlocks>(
@@ -37,16 +23,18 @@ fn name_file<T: TxBlocks>(
 ) -> Result<(), FsError>
     requires buffer { HasBuffer (T.state tx.old) name.now.areas.files buffer.old }
     requires block { block < name.now.areas.files.blocks }
-    ensures { IsPart false 66 (name_file name.now.areas name.now.bytes.now block (slice_index buffer.old (bit_place block))) (T.state tx.old) (T.state tx.new) (T.device tx.old) (T.device tx.new) result }
+    ensures { Across T.state T.device tx.old tx.new (IsPart false 66 (name_file name.now.areas name.now.bytes.now block (slice_index buffer.old (bit_place block)))) result }
 {
     let area = name.areas.files;
-    if let Err(e) = put_value(alloc, tx, name.areas.tree, name.bytes, &spelled(block)) {
+    let number = block.to_be_bytes();
+    if let Err(e) = put_value(alloc, tx, name.areas.tree, name.bytes, &number) {
         return Err(FsError::Store(e));
     }
     if let Err(e) = store_bit(tx, area, block, buffer) {
         return Err(FsError::Store(StoreError::Tx(e)));
     }
-    match store_empty(tx, area, block, buffer) {
+    start_file(buffer, 0);
+    match store(tx, area.start + block, &[], buffer) {
         Ok(()) => Ok(()),
         Err(e) => Err(FsError::Store(StoreError::Tx(e))),
     }
@@ -60,7 +48,7 @@ fn create_with<T: TxBlocks>(
     buffer: &mut [u8],
 ) -> Result<(), FsError>
     requires { HasBuffer (T.state tx.old) name.now.areas.files buffer.old }
-    ensures { IsPart false 66 (create_program name.now.areas name.now.bytes.now) (T.state tx.old) (T.state tx.new) (T.device tx.old) (T.device tx.new) result }
+    ensures { Across T.state T.device tx.old tx.new (IsPart false 66 (create_program name.now.areas name.now.bytes.now)) result }
 {
     let area = name.areas.files;
     match value_of(alloc, tx, name.areas.tree, name.bytes) {
@@ -101,7 +89,10 @@ pub fn create<T: TxBlocks>(
     ensures exists { IsTrue (is_key name.now) → ExistsWhere (areas_of (T.state tx.old) at) (T.state tx.old) (λ m. is_some (get m name.now)) result }
     ensures leaves { Leaves false (T.state tx.old) (T.state tx.new) 66 (T.device tx.old) (T.device tx.new) result }
 {
-    let a = named_areas(tx, at, name)?;
+    if !is_key(name) {
+        return Err(FsError::BadName);
+    }
+    let a = areas_of(tx, at);
     let mut block = match buffer(alloc, a.files.size as usize) {
         Ok(block) => block,
         Err(e) => return Err(FsError::Store(e)),

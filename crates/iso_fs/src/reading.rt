@@ -1,8 +1,9 @@
 // The read of a file.
 ghost use Rattle.std.specs.Prelude.{false, ◌≡◌, ◌↔◌, ◌+◌, ◌-◌, ◌/◌, ◌<◌, ◌≤◌, Err, IsFalse, IsTrue, true, IfOk, cond, length, nat_lt, option_map, take, []};
+ghost use Rattle.iso_model.specs.Premises.{IsSpan};
 ghost use Rattle.store_model.specs.{HashCalls.is_key, FileCalls.{is_many, read_from, read_op, read_pieces, read_program}, FileNodes.{bytes_of, entry_at, piece_mark}, FileRegion.{files, AreFileRegions}};
 ghost use Rattle.tx_blocks.specs.Runs.{HasRead, IsLocalCall};
-ghost use Rattle.iso_fs.specs.{Ends.{areas_of, HasBuffer, HasBuffers, HasFiles, HasRun, IsReading, Leaves}, Finds.got_as};
+ghost use Rattle.iso_fs.specs.{Ends.{areas_of, Across, HasBuffer, HasBuffers, HasFiles, HasRun, IsReading, IsSize, Leaves}, Finds.got_as};
 
 use crate::buffers::{areas_of, buffers, is_many};
 use crate::file::{FileBlock, bytes_of, data_count, entry_at};
@@ -24,13 +25,11 @@ struct FileRange {
 
 /// The mark over the bytes of a data block that a range of the file has.
 pub fn piece_mark(size: u32, from: u32, to: u32) -> Span
-    requires least { 0 < size }
-    requires most { size ≤ 4096 }
+    requires size { IsSize size }
     requires less { from < to }
     ensures span { result ≡ piece_mark size from to }
-    ensures fits { result.off + result.len ≤ size }
+    ensures fits { IsSpan size result }
     ensures within { result.len ≤ to - from }
-    ensures some { 1 ≤ result.len }
 {
     let off = from % size;
     let left = to - from;
@@ -67,7 +66,7 @@ fn read_pieces<T: TxBlocks>(
     requires up { from ≤ to }
     requires inside { to ≤ bytes_of file.now.bytes.now }
     requires room { to - from ≤ length room.old }
-    ensures { IsReading (read_pieces file.now.area file.now.bytes.now (length room.old) from to []) (T.state tx.old) (T.state tx.new) (T.device tx.old) (T.device tx.new) (got_as room.new result) }
+    ensures { Across T.state T.device tx.old tx.new (IsReading (read_pieces file.now.area file.now.bytes.now (length room.old) from to [])) (got_as room.new result) }
 {
     let mut at = from;
     while at < to {
@@ -110,7 +109,7 @@ fn read_from<T: TxBlocks>(
 ) -> Result<Option<u32>, FsError>
     requires buffer { HasBuffer (T.state tx.old) file.now.area block.old }
     requires room { length room.old ≡ range.now.len }
-    ensures { IsReading (read_from file.now.area range.now.off range.now.len file.now.number file.now.bytes.now) (T.state tx.old) (T.state tx.new) (T.device tx.old) (T.device tx.new) (got_as room.new result) }
+    ensures { Across T.state T.device tx.old tx.new (IsReading (read_from file.now.area range.now.off range.now.len file.now.number file.now.bytes.now)) (got_as room.new result) }
 {
     let off = range.off;
     let bytes = bytes_of(file.bytes);
@@ -133,7 +132,7 @@ fn read_with<T: TxBlocks>(
 ) -> Result<Option<u32>, FsError>
     requires buffers { HasBuffers (T.state tx.old) name.now.areas.files file.old block.old }
     requires room { length room.old ≡ range.now.len }
-    ensures { IsReading (read_program name.now.areas name.now.bytes.now range.now.off range.now.len) (T.state tx.old) (T.state tx.new) (T.device tx.old) (T.device tx.new) (got_as room.new result) }
+    ensures { Across T.state T.device tx.old tx.new (IsReading (read_program name.now.areas name.now.bytes.now range.now.off range.now.len)) (got_as room.new result) }
 {
     match find(alloc, tx, name, file) {
         Ok(Some(number)) => {

@@ -2,13 +2,14 @@
 ghost use Rattle.std.specs.Prelude.{◌≡◌, ◌↔◌, Err, IsFalse, false, IfOk, length};
 ghost use Rattle.store_model.specs.{HashCalls.is_key, FileCalls.{remove_file, remove_op, remove_program}, FileRegion.{files, AreFileRegions}};
 ghost use Rattle.tx_blocks.specs.Runs.{IsLocalCall};
-ghost use Rattle.iso_fs.specs.Ends.{areas_of, HasBuffers, HasFiles, HasRun, IsPart, Leaves};
+ghost use Rattle.iso_fs.specs.Ends.{areas_of, Across, HasBuffers, HasFiles, HasRun, IsPart, Leaves};
 
-use crate::buffers::{buffers, named_areas};
+use crate::buffers::{areas_of, buffers};
 use crate::file::{FileBlock, data_count};
 use crate::find::find;
 use crate::left::store_left;
 use crate::names::{FileName, remove_name};
+use iso_alloc::is_key;
 use iso_tree::map_mark;
 use std::alloc::Global;
 use store_model::{FsError, FsRegion, StoreError};
@@ -25,7 +26,7 @@ fn remove_file<T: TxBlocks>(
 ) -> Result<bool, FsError>
     requires buffers { HasBuffers (T.state tx.old) name.now.areas.files map.old into.old }
     requires area { file.now.area ≡ name.now.areas.files }
-    ensures { IsPart false 1 (remove_file name.now.areas name.now.bytes.now file.now.number file.now.bytes.now) (T.state tx.old) (T.state tx.new) (T.device tx.old) (T.device tx.new) result }
+    ensures { Across T.state T.device tx.old tx.new (IsPart false 1 (remove_file name.now.areas name.now.bytes.now file.now.number file.now.bytes.now)) result }
 {
     let area = name.areas.files;
     if let Err(e) = look(tx, area.start, map_mark(area), map) {
@@ -51,7 +52,7 @@ fn remove_with<T: TxBlocks>(
 ) -> Result<bool, FsError>
     requires buffers { HasBuffers (T.state tx.old) name.now.areas.files map.old into.old }
     requires file { length file.old ≡ name.now.areas.files.size }
-    ensures { IsPart false 1 (remove_program name.now.areas name.now.bytes.now) (T.state tx.old) (T.state tx.new) (T.device tx.old) (T.device tx.new) result }
+    ensures { Across T.state T.device tx.old tx.new (IsPart false 1 (remove_program name.now.areas name.now.bytes.now)) result }
 {
     match find(alloc, tx, name, file) {
         Ok(Some(number)) => {
@@ -90,7 +91,10 @@ pub fn remove<T: TxBlocks>(
     ensures bad_name { result ≡ Err FsError.BadName ↔ IsFalse (is_key name.now) }
     ensures leaves { Leaves false (T.state tx.old) (T.state tx.new) 1 (T.device tx.old) (T.device tx.new) result }
 {
-    let a = named_areas(tx, at, name)?;
+    if !is_key(name) {
+        return Err(FsError::BadName);
+    }
+    let a = areas_of(tx, at);
     let size = a.files.size as usize;
     let (mut file, mut map, mut into) = match buffers(alloc, size, size) {
         Ok(all) => all,

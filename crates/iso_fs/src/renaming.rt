@@ -2,7 +2,7 @@
 ghost use Rattle.std.specs.{Prelude.{◌≡◌, ◌↔◌, ◌&&◌, Err, IsFalse, IsTrue, is_some, true, IfOk}, FinMap.get};
 ghost use Rattle.store_model.specs.{HashCalls.is_key, FileCalls.{rename_free, rename_op, rename_program, in_tree}, TreeCalls.get_program, FileRegion.{files, AreFileRegions}};
 ghost use Rattle.tx_blocks.specs.Runs.{IsLocalCall};
-ghost use Rattle.iso_fs.specs.Ends.{areas_of, ExistsWhere, HasArea, HasFiles, HasRun, IsPart, Leaves};
+ghost use Rattle.iso_fs.specs.Ends.{areas_of, Across, ExistsWhere, HasArea, HasFiles, HasRun, IsPart, Leaves};
 
 use crate::buffers::areas_of;
 use crate::names::{FileName, put_value, remove_name, value_of};
@@ -21,7 +21,7 @@ fn move_value<T: TxBlocks>(
 ) -> Result<bool, FsError>
     requires holds { HasArea (T.state tx.old) old.now.areas.files }
     requires new { is_key new.now ≡ true }
-    ensures { IsPart true 66 (in_tree (get_program old.now.areas.tree new.now) (rename_free old.now.areas old.now.bytes.now new.now value.now)) (T.state tx.old) (T.state tx.new) (T.device tx.old) (T.device tx.new) result }
+    ensures { Across T.state T.device tx.old tx.new (IsPart true 66 (in_tree (get_program old.now.areas.tree new.now) (rename_free old.now.areas old.now.bytes.now new.now value.now))) result }
 {
     let tree = old.areas.tree;
     match value_of(alloc, tx, tree, new) {
@@ -47,7 +47,7 @@ fn rename_in<T: TxBlocks>(
 ) -> Result<bool, FsError>
     requires holds { HasArea (T.state tx.old) old.now.areas.files }
     requires new { is_key new.now ≡ true }
-    ensures { IsPart true 66 (rename_program old.now.areas old.now.bytes.now new.now) (T.state tx.old) (T.state tx.new) (T.device tx.old) (T.device tx.new) result }
+    ensures { Across T.state T.device tx.old tx.new (IsPart true 66 (rename_program old.now.areas old.now.bytes.now new.now)) result }
 {
     match value_of(alloc, tx, old.areas.tree, old.bytes) {
         Ok(Some(value)) => move_value(alloc, tx, old, new, value.as_slice()),

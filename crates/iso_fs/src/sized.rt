@@ -1,33 +1,34 @@
 // The file block of a file that has grown.
 ghost use Rattle.std.specs.{Prelude.{◌≡◌, ◌+◌, ◌*◌, ◌≤◌, ◌++◌, ℕ, List, length, map, [], ◌∷◌}, List.range_with_len};
-ghost use Rattle.store_model.specs.FileNodes.{entries_of, entry_at, file_block};
+ghost use Rattle.store_model.specs.FileNodes.{entry_at, file_block};
+ghost use Rattle.iso_fs.specs.Grows.{entries, AddsEntries};
 
-use crate::buffers::{lay_empty, spelled};
 use crate::file::{FileBlock, entry_at};
-use iso_alloc::lay;
+use iso_alloc::{clear, lay};
 
-// The file block of a file with `bytes` bytes, with no data blocks yet.
-fn start_file(into: &mut [u8], bytes: u32)
+/// The file block of a file with `bytes` bytes, with no data blocks yet.
+pub fn start_file(into: &mut [u8], bytes: u32)
     requires { 64 ≤ length into.old }
     ensures { into.new ≡ file_block (length into.old) bytes [] }
 {
-    lay_empty(into);
-    lay(into, 4, &spelled(bytes));
+    clear(into);
+    into[0] = 3;
+    lay(into, 4, &bytes.to_be_bytes());
 }
 
 // Adds the number of a data block after `i` others.
 fn add_entry(into: &mut [u8], i: usize, number: u32)
     requires { 64 + 4 * i + 4 ≤ length into.old }
-    ensures { (bytes : ℕ) → (es : List ℕ) → length es ≡ i → into.old ≡ file_block (length into.old) bytes es → into.new ≡ file_block (length into.old) bytes (es ++ number ∷ []) }
+    ensures { AddsEntries i into.old into.new (number ∷ []) }
 {
-    lay(into, 64 + 4 * i, &spelled(number));
+    lay(into, 64 + 4 * i, &number.to_be_bytes());
 }
 
 // Adds the numbers that another file block has.
 fn add_old(into: &mut [u8], file: &[u8], count: usize)
     requires into { 64 + 4 * count ≤ length into.old }
     requires file { 64 + 4 * count ≤ length file.now }
-    ensures { (bytes : ℕ) → into.old ≡ file_block (length into.old) bytes [] → into.new ≡ file_block (length into.old) bytes (map (entry_at file.now) (range_with_len 0 count)) }
+    ensures { AddsEntries 0 into.old into.new (map (entry_at file.now) (range_with_len 0 count)) }
 {
     for i in 0..count {
         add_entry(into, i, entry_at(file, i));
@@ -37,7 +38,7 @@ fn add_old(into: &mut [u8], file: &[u8], count: usize)
 // Adds numbers after `count` others.
 fn add_news(into: &mut [u8], count: usize, news: &[u32])
     requires { 64 + 4 * (count + length news.now) ≤ length into.old }
-    ensures { (bytes : ℕ) → (es : List ℕ) → length es ≡ count → into.old ≡ file_block (length into.old) bytes es → into.new ≡ file_block (length into.old) bytes (es ++ news.now) }
+    ensures { AddsEntries count into.old into.new news.now }
 {
     for i in 0..news.len() {
         add_entry(into, count + i, news[i]);
@@ -48,7 +49,7 @@ fn add_news(into: &mut [u8], count: usize, news: &[u32])
 pub fn lay_sized(file: &FileBlock, news: &[u32], bytes: u32, into: &mut [u8])
     requires room { 64 + 4 * (file.now.count + length news.now) ≤ file.now.area.size }
     requires into { length into.old ≡ file.now.area.size }
-    ensures { into.new ≡ file_block file.now.area.size bytes (entries_of file.now.area.size file.now.bytes.now ++ news.now) }
+    ensures { into.new ≡ file_block file.now.area.size bytes (entries file.now ++ news.now) }
 {
     start_file(into, bytes);
     add_old(into, file.bytes, file.count);

@@ -1,10 +1,10 @@
 // The writes of the data blocks of a file.
 ghost use Rattle.std.specs.Prelude.{◌≡◌, ◌+◌, ◌*◌, ◌<◌, ◌≤◌, ◌++◌, cond, length, slice_index, [], ◌∷◌};
-ghost use Rattle.store_model.specs.{Stores.store_access, FileCalls.write_pieces, FileNodes.entries_of};
+ghost use Rattle.store_model.specs.{Stores.store_access, FileCalls.write_pieces};
 ghost use Rattle.iso_model.specs.Premises.{IsSpan};
 ghost use Rattle.tx_blocks.specs.Runs.{HasStored};
 ghost use Rattle.iso_tree.specs.Rows.{AreBlocks};
-ghost use Rattle.iso_fs.specs.{Ends.{HasBuffer, IsOwnPart}, Grows.write_end};
+ghost use Rattle.iso_fs.specs.{Ends.{Across, HasBuffer, IsOwnPart}, Grows.{entries, write_end}};
 
 use crate::file::{FileBlock, entry_at};
 use crate::patch::Writing;
@@ -18,7 +18,7 @@ use tx_blocks::{TxBlocks, store};
 fn number_at(file: &FileBlock, news: &[u32], place: usize) -> u32
     requires news { AreBlocks file.now.area news.now }
     requires place { place < file.now.count + length news.now }
-    ensures number { result ≡ slice_index (entries_of file.now.area.size file.now.bytes.now ++ news.now) place }
+    ensures number { result ≡ slice_index (entries file.now ++ news.now) place }
     ensures below { result < file.now.area.blocks }
 {
     let old = file.count;
@@ -39,7 +39,7 @@ fn store_piece<T: TxBlocks>(
     requires bytes { length bytes.now ≡ (T.state tx.old).size }
     requires block { block < (T.state tx.old).blocks }
     requires span { IsSpan (T.state tx.old).size span }
-    ensures { HasStored (store_access block (cond is_old (span ∷ []) []) bytes.now) (T.state tx.old) (T.state tx.new) (T.device tx.old) (T.device tx.new) result }
+    ensures { Across T.state T.device tx.old tx.new (HasStored (store_access block (cond is_old (span ∷ []) []) bytes.now)) result }
 {
     if is_old {
         return store(tx, block, &[span], bytes);
@@ -57,7 +57,7 @@ pub(crate) fn write_pieces<T: TxBlocks>(
     requires buffer { HasBuffer (T.state tx.old) writing.now.file.area into.old }
     requires news { AreBlocks writing.now.file.area news.now }
     requires covered { write_end writing.now ≤ (writing.now.file.count + length news.now) * writing.now.file.area.size }
-    ensures { IsOwnPart (write_pieces writing.now.file.area (entries_of writing.now.file.area.size writing.now.file.bytes.now ++ news.now) writing.now.file.count (length writing.now.bytes.now) writing.now.off (write_end writing.now) writing.now.bytes.now) (T.state tx.old) (T.state tx.new) (T.device tx.old) (T.device tx.new) result }
+    ensures { Across T.state T.device tx.old tx.new (IsOwnPart (write_pieces writing.now.file.area (entries writing.now.file ++ news.now) writing.now.file.count (length writing.now.bytes.now) writing.now.off (write_end writing.now) writing.now.bytes.now)) result }
 {
     let area = writing.file.area;
     let old = writing.file.count;

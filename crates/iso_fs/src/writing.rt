@@ -1,12 +1,12 @@
 // The write of a file.
-ghost use Rattle.std.specs.Prelude.{◌≡◌, ◌↔◌, ◌+◌, ◌<◌, ◌≤◌, List, ℕ, Err, IsFalse, IsTrue, None, false, IfOk, IfErr, [], length, nat_le, take};
-ghost use Rattle.store_model.specs.{HashCalls.is_key, FreeMap.{map_bytes, map_mark}, Stores.bytes_in, TreeCalls.{first_write, with_used}, FileCalls.{is_many, with_new, write_op, write_program, write_to}, FileNodes.{blocks_for, bytes_of, most_bytes}, FileRegion.{files, AreFileRegions}};
+ghost use Rattle.std.specs.Prelude.{◌≡◌, ◌↔◌, ◌+◌, ◌<◌, ◌≤◌, List, ℕ, Err, IsFalse, IsTrue, None, false, IfOk, IfErr, [], length, take};
+ghost use Rattle.store_model.specs.{HashCalls.is_key, FreeMap.map_bytes, TreeCalls.{first_write, with_used}, FileCalls.{is_many, with_new, write_op, write_program, write_to}, FileNodes.{blocks_for, bytes_of}, FileRegion.{files, AreFileRegions}};
 ghost use Rattle.tx_blocks.specs.Runs.{IsLocalCall};
-ghost use Rattle.iso_tree.specs.{FirstBlock.Up, Rows.AreBlocks};
-ghost use Rattle.iso_fs.specs.{Ends.{areas_of, HasBuffer, HasBuffers, HasFiles, HasRun, IsOfTx, IsOwnPart, IsPart, IsSize, Leaves}, Finds.with_taken, Grows.{write_end, sized_by, IsGrowth, NeedsBlocks}};
+ghost use Rattle.iso_tree.specs.{FirstBlock.AreNew, Rows.AreBlocks};
+ghost use Rattle.iso_fs.specs.{Ends.{areas_of, Across, HasBuffer, HasBuffers, HasFiles, HasRun, IsOfTx, IsOwnPart, IsPart, IsSize, Leaves}, Grows.{write_end, sized_by, IsGrowth, NeedsBlocks}};
 
 use crate::buffers::{areas_of, buffers, is_many};
-use crate::file::{FileBlock, bytes_of, data_count};
+use crate::file::{FileBlock, bytes_of, data_count, is_fit};
 use crate::find::find;
 use crate::names::FileName;
 use crate::patch::{Patch, Writing};
@@ -28,7 +28,7 @@ fn write_grown<T: TxBlocks>(
     requires buffer { HasBuffer (T.state tx.old) writing.now.file.area into.old }
     requires news { AreBlocks writing.now.file.area news.now }
     requires grows { IsGrowth writing.now (length news.now) }
-    ensures { IsOwnPart (sized_by writing.now news.now) (T.state tx.old) (T.state tx.new) (T.device tx.old) (T.device tx.new) result }
+    ensures { Across T.state T.device tx.old tx.new (IsOwnPart (sized_by writing.now news.now)) result }
 {
     let file = &writing.file;
     let end = writing.off + writing.bytes.len() as u32;
@@ -50,7 +50,7 @@ fn write_sized<T: TxBlocks>(
     requires news { AreBlocks writing.now.file.area news.now }
     requires grows { bytes_of writing.now.file.bytes.now < write_end writing.now → IsGrowth writing.now (length news.now) }
     requires none { write_end writing.now ≤ bytes_of writing.now.file.bytes.now → news.now ≡ [] }
-    ensures { IsOwnPart (sized_by writing.now news.now) (T.state tx.old) (T.state tx.new) (T.device tx.old) (T.device tx.new) result }
+    ensures { Across T.state T.device tx.old tx.new (IsOwnPart (sized_by writing.now news.now)) result }
 {
     let end = writing.off + writing.bytes.len() as u32;
     if bytes_of(writing.file.bytes) < end {
@@ -68,39 +68,15 @@ fn write_news<T: TxBlocks>(
     into: &mut [u8],
 ) -> Result<bool, FsError>
     requires buffers { HasBuffers (T.state tx.old) writing.now.file.area map.now into.old }
-    requires some { 0 < length news.now }
-    requires rising { Up 1 news.now }
-    requires news { AreBlocks writing.now.file.area news.now }
+    requires news { AreNew writing.now.file.area news.now }
     requires grows { IsGrowth writing.now (length news.now) }
-    ensures part { (first : List ℕ) → take (64 + map_bytes writing.now.file.area.blocks) map.now ≡ with_used first news.now → IsPart false 1 (first_write writing.now.file.area first news.now None (sized_by writing.now news.now)) (T.state tx.old) (T.state tx.new) (T.device tx.old) (T.device tx.new) result }
+    ensures part { (first : List ℕ) → take (64 + map_bytes writing.now.file.area.blocks) map.now ≡ with_used first news.now → Across T.state T.device tx.old tx.new (IsPart false 1 (first_write writing.now.file.area first news.now None (sized_by writing.now news.now))) result }
     ensures of_tx { IfErr result IsOfTx }
 {
     if let Err(e) = store_first(tx, writing.file.area, map, news, None, into) {
         return Err(FsError::Store(StoreError::Tx(e)));
     }
     write_sized(tx, writing, news, into)
-}
-
-// Takes new blocks, once the map is read.
-fn write_taken<T: TxBlocks>(
-    tx: &mut T,
-    writing: &Writing,
-    need: u32,
-    map: &mut [u8],
-    into: &mut [u8],
-) -> Result<bool, FsError>
-    requires buffers { HasBuffers (T.state tx.old) writing.now.file.area map.old into.old }
-    requires need { NeedsBlocks writing.now need }
-    ensures { IsPart false 1 (with_taken writing.now.file.area need (sized_by writing.now) (bytes_in (map_mark writing.now.file.area.blocks) map.old)) (T.state tx.old) (T.state tx.new) (T.device tx.old) (T.device tx.new) result }
-{
-    let region = region_of(writing.file.area);
-    let free = free_blocks(map, region, 1);
-    if free < need {
-        return Err(FsError::Store(StoreError::NoBlocks { need, free }));
-    }
-    let mut news = [0; 16];
-    take_blocks(map, region, need as usize, &mut news);
-    write_news(tx, writing, map, &news[..need as usize], into)
 }
 
 // Reads the map, and takes new blocks.
@@ -113,13 +89,20 @@ fn write_new<T: TxBlocks>(
 ) -> Result<bool, FsError>
     requires buffers { HasBuffers (T.state tx.old) writing.now.file.area map.old into.old }
     requires need { NeedsBlocks writing.now need }
-    ensures { IsPart false 1 (with_new writing.now.file.area need (sized_by writing.now)) (T.state tx.old) (T.state tx.new) (T.device tx.old) (T.device tx.new) result }
+    ensures { Across T.state T.device tx.old tx.new (IsPart false 1 (with_new writing.now.file.area need (sized_by writing.now))) result }
 {
     let area = writing.file.area;
     if let Err(e) = look(tx, area.start, map_mark(area), map) {
         return Err(FsError::Store(StoreError::Tx(e)));
     }
-    write_taken(tx, writing, need, map, into)
+    let region = region_of(area);
+    let free = free_blocks(map, region, 1);
+    if free < need {
+        return Err(FsError::Store(StoreError::NoBlocks { need, free }));
+    }
+    let mut news = [0; 16];
+    take_blocks(map, region, need as usize, &mut news);
+    write_news(tx, writing, map, &news[..need as usize], into)
 }
 
 // How many blocks `bytes` bytes take.
@@ -131,14 +114,6 @@ fn blocks_for(size: u32, bytes: u32) -> u32
     (bytes + (size - 1)) / size
 }
 
-// Whether a file may have `bytes` bytes.
-fn is_fit(size: u32, bytes: u32) -> bool
-    requires { IsSize size }
-    ensures { result ≡ nat_le bytes (most_bytes size) }
-{
-    bytes <= (size - 64) / 4 * size
-}
-
 // Writes bytes into a file whose file block is read.
 fn write_to<T: TxBlocks>(
     tx: &mut T,
@@ -148,7 +123,7 @@ fn write_to<T: TxBlocks>(
     into: &mut [u8],
 ) -> Result<bool, FsError>
     requires { HasBuffers (T.state tx.old) file.area map.old into.old }
-    ensures { IsPart false 1 (write_to file.entry.area patch.now.off patch.now.bytes.now file.entry.number file.entry.bytes.now) (T.state tx.old) (T.state tx.new) (T.device tx.old) (T.device tx.new) result }
+    ensures { Across T.state T.device tx.old tx.new (IsPart false 1 (write_to file.entry.area patch.now.off patch.now.bytes.now file.entry.number file.entry.bytes.now)) result }
 {
     let off = patch.off;
     if bytes_of(file.bytes) < off {
@@ -183,7 +158,7 @@ fn write_with<T: TxBlocks>(
 ) -> Result<bool, FsError>
     requires buffers { HasBuffers (T.state tx.old) name.now.areas.files map.old into.old }
     requires file { length file.old ≡ name.now.areas.files.size }
-    ensures { IsPart false 1 (write_program name.now.areas name.now.bytes.now patch.now.off patch.now.bytes.now) (T.state tx.old) (T.state tx.new) (T.device tx.old) (T.device tx.new) result }
+    ensures { Across T.state T.device tx.old tx.new (IsPart false 1 (write_program name.now.areas name.now.bytes.now patch.now.off patch.now.bytes.now)) result }
 {
     match find(alloc, tx, name, file) {
         Ok(Some(number)) => {

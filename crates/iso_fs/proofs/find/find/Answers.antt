@@ -1,10 +1,19 @@
-use Rattle.iso_fs.proofs.{Words.{arith, None, read_join, get_program, at_file, found_file}, Finding.get_has, Parts.{tree_read, tree_stops}}
+use Rattle.iso_fs.proofs.{Words.{arith, None, read_join, get_program, at_file, found_file}, Finding.get_has, Parts.{part_done, tree_read, tree_stops}}
 
-pub returns-in-Ok : Rattle.iso_fs.proofs.find.find.Goals.returns-in-Ok
-returns-in-Ok g c = record {
-  part = tree_read (get_program c.args.name.now.areas.tree c.args.name.now.bytes.now) (at_file c.args.name.now.areas None found_file) c.in-Ok.ensures.ended c.value_of.ensures.reads c.value_of.ensures.leaves.later c.in-Ok.ensures.leaves.passed c.look_found.ensures.part;
-  found = c.look_found.ensures.found;
-  reads = read_join _ _ _ c.value_of.ensures.reads c.look_found.ensures.reads;
+pub returns-in-Ok-Some : Rattle.iso_fs.proofs.find.find.Goals.returns-in-Ok-Some
+returns-in-Ok-Some g c = record {
+  part = tree_read (get_program c.args.name.now.areas.tree c.args.name.now.bytes.now) (at_file c.args.name.now.areas None found_file) c.in-Ok-Some.ensures.ended c.value_of.ensures.reads c.value_of.ensures.leaves.later c.in-Ok-Some.ensures.leaves.passed
+      (rw c.in-Ok-Some.field-0-is (rw c.as_slice.ensures at c.look_value.ensures.part));
+  found = c.look_value.ensures.found;
+  reads = read_join _ _ _ c.value_of.ensures.reads c.look_value.ensures.reads;
+}
+
+pub returns-in-Ok-None : Rattle.iso_fs.proofs.find.find.Goals.returns-in-Ok-None
+returns-in-Ok-None g c = record {
+  part = tree_read (get_program c.args.name.now.areas.tree c.args.name.now.bytes.now) (at_file c.args.name.now.areas None found_file) c.in-Ok-None.ensures.ended c.value_of.ensures.reads c.value_of.ensures.leaves.later c.in-Ok-None.ensures.leaves.passed
+      (rw c.in-Ok-None.field-0-is part_done);
+  found = tt;
+  reads = c.value_of.ensures.reads;
 }
 
 pub returns-in-Err : Rattle.iso_fs.proofs.find.find.Goals.returns-in-Err

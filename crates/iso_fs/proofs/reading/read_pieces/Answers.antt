@@ -29,7 +29,7 @@ loop-at-preserved g c =
     let len = c.piece_mark-span.result.len in
     let more : place + len ≡ c.loop-at.at + len - c.args.from = omega arith in
     record {
-      left = piece_less len c.piece_mark-span.ensures.some within (omega arith) c.loop-at.invariant.left (λ most. rw more at
+      left = piece_less len c.piece_mark-span.ensures.fits.some within (omega arith) c.loop-at.invariant.left (λ most. rw more at
           (code_piece c.args.file.now.area c.args.file.now.bytes.now c.loop-at.at c.args.to (take place c.loop-at.room) less (state c.loop-at.tx) (state c.look.new.tx) c.look.new.into c.block_of-number.result c.piece_mark-span.result c.block_of-number.ensures.number c.piece_mark-span.ensures.span
           c.in_default.ensures.bytes (g.met.T.TxBlocks.limits c.look.new.tx) c.in_default.ensures.read len c.piece.result.now _ refl c.piece.ensures.value
           (ap (take (place + len)) c.lay.ensures ∙ more_read place len c.piece.result.now c.loop-at.room c.piece.ensures.length (omega (arith, within, room, c.loop-at.auto.room))) most));

@@ -24,7 +24,7 @@ loop-at-preserved g c =
     let left = c.piece-rest.result.now in
     let rest = rest_is c.args.writing.now.bytes.now left c.args.writing.now.off c.loop-at.at (c.args.writing.now.off + length c.args.writing.now.bytes.now) low c.loop-at.invariant.up (omega arith) c.piece-rest.ensures.value in
     record {
-      left = piece_less len c.piece_mark-span.ensures.some c.piece_mark-span.ensures.within (omega arith) c.loop-at.invariant.left (λ most. rw rest at (rw (rest_more c.args.writing.now.bytes.now left c.args.writing.now.off c.loop-at.at len low rest) at
+      left = piece_less len c.piece_mark-span.ensures.fits.some c.piece_mark-span.ensures.within (omega arith) c.loop-at.invariant.left (λ most. rw rest at (rw (rest_more c.args.writing.now.bytes.now left c.args.writing.now.off c.loop-at.at len low rest) at
           (piece_done c.args.writing.now.file.area (entries_of c.args.writing.now.file.area.size c.args.writing.now.file.bytes.now ++ c.args.news.now) c.args.writing.now.file.count c.loop-at.at (c.args.writing.now.off + length c.args.writing.now.bytes.now) left c.loop-at-test.true (state c.loop-at.tx) (state c.store_piece.new.tx) c.number_at-number.result c.piece_mark-span.result c.lay_alone.new.into _
           c.number_at-number.ensures.number c.piece_mark-span.ensures.span (c.lay_alone.ensures ∙ ap (λ (n : ℕ). block_with n c.piece_mark-span.result.off (take len left)) c.loop-at.invariant.long) refl (g.met.T.TxBlocks.limits c.store_piece.new.tx) c.in_default.ensures.stored most)));
       low = omega (arith, low);
