@@ -1,5 +1,6 @@
 -- A read, part by part.
-use Rattle.iso_fs.proofs.{Words.{◌≡◌, ◌∙◌, sym, refl, ap, subst, ℕ, zero, suc, ◌+◌, ◌-◌, ◌*◌, ◌/◌, ◌<◌, ◌≤◌, Bool, true, false, cond, List, [], ◌∷◌, ◌++◌, length, take, drop, append_assoc, length-append, nat_le, Option, Some, None, Result, Ok, Err, IfOk, arith, nat_lt, option_map, ForSome, length-take-le, take_at, nat_tests, div-lt_iff_lt-mul, Span, Area, TxError, own, is_key, block_at, Done, bytes_in, look_access, laid_at, get_program, Tx, Device, IsTx, with_accesses, IsCause, IsLocalCall, HasAccess, IsAt, at_look, at_start, ran_at, cut_at_look, at_as, FsError, FileAreas, FsRegion, bytes_of, entry_at, entry_count, is_file, piece_len, piece_mark, Call, at_file, goes_on, in_tree, is_many, least, read_from, read_op, read_pieces, read_program, refuse, AreFileAreas, AreFileRegions, files, HasRun, areas_of}, Ended.{has_then, call_local}, Finding.get_has, Lefts.HasLeft, FileReads.read_local, Files.{entry_inside, file_parts}, Pieces.step}
+use Rattle.iso_fs.proofs.{Words.{◌≡◌, ◌∙◌, sym, refl, ap, subst, ℕ, zero, suc, ◌+◌, ◌-◌, ◌*◌, ◌/◌, ◌<◌, ◌≤◌, Bool, true, false, cond, List, [], ◌∷◌, ◌++◌, length, take, drop, append_assoc, length-append, nat_le, Option, Some, None, Result, Ok, Err, IfOk, arith, inl, inr, nat_lt, option_map, ForSome, length-take-le, take_at, nat_tests, div-lt_iff_lt-mul, Span, Area, TxError, own, is_key, block_at, Done, bytes_in, look_access, laid_at, get_program, Tx, Device, IsTx, with_accesses, IsCause, IsLocalCall, HasAccess, IsAt, at_look, at_start, ran_at, cut_at_look, at_as, FsError, FileAreas, FsRegion, bytes_of, entry_at, entry_count, is_file, piece_len, piece_mark, Call, at_file, goes_on, in_tree, is_many, least, read_from, read_op, read_pieces, read_program, refuse, AreFileAreas, AreFileRegions, files, HasRun, areas_of}, Ended.{has_then, call_local}, Finding.get_has, Lefts.HasLeft, FileReads.read_local, Files.{entry_inside, file_parts, least_is}, Pieces.step}
+use Rattle.std.specs.Prelude.{min}
 use Rattle.store_model.specs.declared.stores.StoreError.TheVariants as store
 use Rattle.store_model.specs.declared.files.FsError.TheVariants as fs
 
@@ -47,19 +48,22 @@ all_done {whole = whole} {t = t} {u = u} a file at to found past has =
     ran_at whole t u (Ok (Some found)) (at_as whole (read_pieces a file has.most at to found) (Done (Ok (Some found))) t u (over a file has.most at to found past) has.here)
 
 -- A RANGE OF A FILE
-least_as : (off len bytes : ℕ) → off ≤ bytes → least (off + len) bytes ≡ cond (nat_lt len (bytes - off)) (off + len) bytes
-least_as off len bytes inside =
-    let same : nat_lt (off + len) bytes ≡ nat_lt len (bytes - off) = grind (arith, nat_tests) in
-    ap (λ (t : Bool). cond t (off + len) bytes) same
+pub least_as : (off len bytes to : ℕ) → off ≤ bytes → to ≡ off + min len (bytes - off) → to ≡ least (off + len) bytes
+least_as off len bytes to inside is =
+    let l = least_is (off + len) bytes in
+    elim l.either as (λ e. to ≡ least (off + len) bytes) [
+      | inl all ↦ omega (arith, is, all, l.first, l.second)
+      | inr end ↦ omega (arith, is, end, l.first, l.second)
+    ]
 
 module _ (a : Area) (off len number : ℕ) (file : List ℕ) where
   abbrev passes : Call (Option (List ℕ))
   passes = read_pieces a file len off (least (off + len) (bytes_of file)) []
 
-  pub range_is : (to : ℕ) → off ≤ bytes_of file → to ≡ cond (nat_lt len (bytes_of file - off)) (off + len) (bytes_of file) → read_from a off len number file ≡ read_pieces a file len off to []
+  pub range_is : (to : ℕ) → off ≤ bytes_of file → to ≡ least (off + len) (bytes_of file) → read_from a off len number file ≡ read_pieces a file len off to []
   range_is to inside is =
       let test : nat_le off (bytes_of file) ≡ true = grind (arith, nat_tests) in
-      ap (λ (b : Bool). cond b passes (refuse fs.BadRange)) test ∙ ap (λ (n : ℕ). read_pieces a file len off n []) (sym (is ∙ sym (least_as off len (bytes_of file) inside)))
+      ap (λ (b : Bool). cond b passes (refuse fs.BadRange)) test ∙ ap (λ (n : ℕ). read_pieces a file len off n []) (sym is)
 
   pub range_bad : bytes_of file < off → read_from a off len number file ≡ refuse fs.BadRange
   range_bad out = (let test : nat_le off (bytes_of file) ≡ false = grind (arith, nat_tests) in ap (λ (b : Bool). cond b passes (refuse fs.BadRange)) test)

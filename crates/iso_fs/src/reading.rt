@@ -1,7 +1,7 @@
 // The read of a file.
-ghost use Rattle.std.specs.Prelude.{false, ◌≡◌, ◌↔◌, ◌+◌, ◌-◌, ◌/◌, ◌<◌, ◌≤◌, Err, IsFalse, IsTrue, true, IfOk, cond, length, nat_lt, option_map, take, []};
+ghost use Rattle.std.specs.Prelude.{false, ◌≡◌, ◌↔◌, ◌-◌, ◌<◌, ◌≤◌, Err, IsFalse, IsTrue, true, IfOk, length, option_map, take, []};
 ghost use Rattle.iso_model.specs.Premises.{IsSpan};
-ghost use Rattle.store_model.specs.{HashCalls.is_key, FileCalls.{is_many, read_from, read_op, read_pieces, read_program}, FileNodes.{bytes_of, entry_at, piece_mark}, FileRegion.{files, AreFileRegions}};
+ghost use Rattle.store_model.specs.{HashCalls.is_key, FileCalls.{is_many, read_op, read_pieces, read_program}, FileNodes.{bytes_of, piece_mark}, FileRegion.{files, AreFileRegions}};
 ghost use Rattle.tx_blocks.specs.Runs.{HasRead, IsLocalCall};
 ghost use Rattle.iso_fs.specs.{Ends.{areas_of, Across, HasBuffer, HasBuffers, HasFiles, HasRun, IsReading, IsSize, Leaves}, Finds.got_as};
 
@@ -44,15 +44,6 @@ pub fn piece_mark(size: u32, from: u32, to: u32) -> Span
     }
 }
 
-// The number of the data block that has a byte of the file.
-fn block_of(file: &FileBlock, at: u32) -> u32
-    requires { at < bytes_of file.now.bytes.now }
-    ensures number { result ≡ entry_at file.now.bytes.now (at / file.now.area.size) }
-    ensures below { result < file.now.area.blocks }
-{
-    entry_at(file.bytes, (at / file.area.size) as usize)
-}
-
 // Reads the pieces of a range, for which there is room. Answers how many bytes there are.
 fn read_pieces<T: TxBlocks>(
     tx: &mut T,
@@ -71,7 +62,7 @@ fn read_pieces<T: TxBlocks>(
     let mut at = from;
     while at < to {
         let span = piece_mark(file.area.size, at, to);
-        let number = block_of(file, at);
+        let number = entry_at(file.bytes, (at / file.area.size) as usize);
         if let Err(e) = look(tx, file.area.start + number, span, block) {
             return Err(FsError::Store(StoreError::Tx(e)));
         }
@@ -83,41 +74,6 @@ fn read_pieces<T: TxBlocks>(
         at += span.len as u32;
     }
     Ok(Some(to - from))
-}
-
-// Where a read ends: where the file does, at the latest.
-fn end_of(off: u32, len: u32, bytes: u32) -> u32
-    requires { off ≤ bytes }
-    ensures value { result ≡ cond (nat_lt len (bytes - off)) (off + len) bytes }
-    ensures low { off ≤ result }
-    ensures high { result ≤ bytes }
-    ensures few { result - off ≤ len }
-{
-    if len < bytes - off {
-        return off + len;
-    }
-    bytes
-}
-
-// Reads a range of a file.
-fn read_from<T: TxBlocks>(
-    tx: &mut T,
-    file: &FileBlock,
-    range: &FileRange,
-    block: &mut [u8],
-    room: &mut [u8],
-) -> Result<Option<u32>, FsError>
-    requires buffer { HasBuffer (T.state tx.old) file.now.area block.old }
-    requires room { length room.old ≡ range.now.len }
-    ensures { Across T.state T.device tx.old tx.new (IsReading (read_from file.now.area range.now.off range.now.len file.now.number file.now.bytes.now)) (got_as room.new result) }
-{
-    let off = range.off;
-    let bytes = bytes_of(file.bytes);
-    if bytes < off {
-        return Err(FsError::BadRange);
-    }
-    let to = end_of(off, range.len, bytes);
-    read_pieces(tx, file, off, to, block, room)
 }
 
 // Reads a range of the file of a name, with buffers for two blocks and for the bytes. Answers how many bytes there are.
@@ -134,20 +90,24 @@ fn read_with<T: TxBlocks>(
     requires room { length room.old ≡ range.now.len }
     ensures { Across T.state T.device tx.old tx.new (IsReading (read_program name.now.areas name.now.bytes.now range.now.off range.now.len)) (got_as room.new result) }
 {
-    match find(alloc, tx, name, file) {
-        Ok(Some(number)) => {
-            let area = name.areas.files;
-            let file = FileBlock {
-                area,
-                number,
-                bytes: file,
-                count: data_count(area, file),
-            };
-            read_from(tx, &file, range, block, room)
-        }
-        Ok(None) => Ok(None),
-        Err(e) => Err(e),
+    let number = match find(alloc, tx, name, file) {
+        Ok(Some(number)) => number,
+        Ok(None) => return Ok(None),
+        Err(e) => return Err(e),
+    };
+    let area = name.areas.files;
+    let file = FileBlock {
+        area,
+        number,
+        bytes: file,
+        count: data_count(area, file),
+    };
+    let bytes = bytes_of(file.bytes);
+    if bytes < range.off {
+        return Err(FsError::BadRange);
     }
+    let to = range.off + range.len.min(bytes - range.off);
+    read_pieces(tx, &file, range.off, to, block, room)
 }
 
 // The bytes that were read.

@@ -39,24 +39,17 @@ fn write_grown<T: TxBlocks>(
     write_pieces(tx, writing, news, into)
 }
 
-// Writes the file block where the size changes, and then the data.
-fn write_sized<T: TxBlocks>(
-    tx: &mut T,
-    writing: &Writing,
-    news: &[u32],
-    into: &mut [u8],
-) -> Result<bool, FsError>
+// Writes a file that needs no new blocks: its file block where the size changes, and then the data.
+fn write_sized<T: TxBlocks>(tx: &mut T, writing: &Writing, into: &mut [u8]) -> Result<bool, FsError>
     requires buffer { HasBuffer (T.state tx.old) writing.now.file.area into.old }
-    requires news { AreBlocks writing.now.file.area news.now }
-    requires grows { bytes_of writing.now.file.bytes.now < write_end writing.now → IsGrowth writing.now (length news.now) }
-    requires none { write_end writing.now ≤ bytes_of writing.now.file.bytes.now → news.now ≡ [] }
-    ensures { Across T.state T.device tx.old tx.new (IsOwnPart (sized_by writing.now news.now)) result }
+    requires grows { bytes_of writing.now.file.bytes.now < write_end writing.now → IsGrowth writing.now 0 }
+    ensures { Across T.state T.device tx.old tx.new (IsOwnPart (sized_by writing.now [])) result }
 {
     let end = writing.off + writing.bytes.len() as u32;
     if bytes_of(writing.file.bytes) < end {
-        return write_grown(tx, writing, news, into);
+        return write_grown(tx, writing, &[], into);
     }
-    write_pieces(tx, writing, news, into)
+    write_pieces(tx, writing, &[], into)
 }
 
 // Writes the map, in which new blocks are taken, and then the file.
@@ -76,7 +69,7 @@ fn write_news<T: TxBlocks>(
     if let Err(e) = store_first(tx, writing.file.area, map, news, None, into) {
         return Err(FsError::Store(StoreError::Tx(e)));
     }
-    write_sized(tx, writing, news, into)
+    write_grown(tx, writing, news, into)
 }
 
 // Reads the map, and takes new blocks.
@@ -141,7 +134,7 @@ fn write_to<T: TxBlocks>(
         bytes: patch.bytes,
     };
     if now <= old {
-        return write_sized(tx, &writing, &[], into);
+        return write_sized(tx, &writing, into);
     }
     write_new(tx, &writing, now - old, map, into)
 }

@@ -1,22 +1,51 @@
-use Rattle.iso_fs.proofs.{Words.{arith, None, read_from, read_join}, Files.file_parts, Finding.{found_part, found_stops}, Parts.{part_as, part_done}, ReadSteps.read_as}
+use Rattle.iso_fs.proofs.{Words.{arith, None, bytes_of, read_from, read_join}, Files.file_parts, Finding.{found_part, found_stops}, Parts.{part_as, part_done, part_refused}, ReadSteps.{least_as, range_bad, range_is, read_as}}
+use Rattle.store_model.specs.declared.files.FsError.TheVariants as fs
+use Rattle.iso_fs.proofs.reading.read_with.Goals as goal
 
-pub data_count-requires-clause-small : Rattle.iso_fs.proofs.reading.read_with.Goals.data_count-requires-clause-small
+pub data_count-requires-clause-small : goal.data_count-requires-clause-small
 data_count-requires-clause-small g c = grind (arith, file_parts) steps 100000
 
-pub returns-in-Ok-Some : Rattle.iso_fs.proofs.reading.read_with.Goals.returns-in-Ok-Some
-returns-in-Ok-Some g c = record {
-  part = part_as (read_as c.args.name.now.areas c.args.name.now.bytes.now c.args.range.now.off c.args.range.now.len c.args.name.now.good c.args.range.now.many) (found_part c.args.name.now.areas c.args.name.now.bytes.now None (read_from c.args.name.now.areas.files c.args.range.now.off c.args.range.now.len) c.in-Ok-Some.ensures.part c.find.ensures.reads (rw c.in-Ok-Some.field-0-is c.read_from.ensures.part));
-  reads = read_join _ _ _ c.find.ensures.reads c.read_from.ensures.reads;
-}
+pub returns-in-Ok-None : goal.returns-in-Ok-None
+returns-in-Ok-None g c =
+    let a = c.args.name.now.areas in
+    let name = c.args.name.now.bytes.now in
+    let range = c.args.range.now in
+    record {
+      part = part_as (read_as a name range.off range.len c.args.name.now.good range.many) (found_part a name None (read_from a.files range.off range.len) c.in-Ok-None.ensures.part c.find.ensures.reads (rw c.in-Ok-None.field-0-is part_done));
+      reads = c.find.ensures.reads;
+    }
 
-pub returns-in-Ok-None : Rattle.iso_fs.proofs.reading.read_with.Goals.returns-in-Ok-None
-returns-in-Ok-None g c = record {
-  part = part_as (read_as c.args.name.now.areas c.args.name.now.bytes.now c.args.range.now.off c.args.range.now.len c.args.name.now.good c.args.range.now.many) (found_part c.args.name.now.areas c.args.name.now.bytes.now None (read_from c.args.name.now.areas.files c.args.range.now.off c.args.range.now.len) c.in-Ok-None.ensures.part c.find.ensures.reads (rw c.in-Ok-None.field-0-is part_done));
-  reads = c.find.ensures.reads;
-}
+pub returns-in-Err : goal.returns-in-Err
+returns-in-Err g c =
+    let a = c.args.name.now.areas in
+    let name = c.args.name.now.bytes.now in
+    let range = c.args.range.now in
+    record {
+      part = part_as (read_as a name range.off range.len c.args.name.now.good range.many) (found_stops a name None (read_from a.files range.off range.len) c.in-Err.ensures.part);
+      reads = c.find.ensures.reads;
+    }
 
-pub returns-in-Err : Rattle.iso_fs.proofs.reading.read_with.Goals.returns-in-Err
-returns-in-Err g c = record {
-  part = part_as (read_as c.args.name.now.areas c.args.name.now.bytes.now c.args.range.now.off c.args.range.now.len c.args.name.now.good c.args.range.now.many) (found_stops c.args.name.now.areas c.args.name.now.bytes.now None (read_from c.args.name.now.areas.files c.args.range.now.off c.args.range.now.len) c.in-Err.ensures.part);
-  reads = c.find.ensures.reads;
-}
+pub returns-then-bytes-range : goal.returns-then-bytes-range
+returns-then-bytes-range g c =
+    let a = c.args.name.now.areas in
+    let name = c.args.name.now.bytes.now in
+    let range = c.args.range.now in
+    record {
+      part = part_as (read_as a name range.off range.len c.args.name.now.good range.many) (found_part a name None (read_from a.files range.off range.len) c.in-Ok-Some.ensures.part c.find.ensures.reads
+          (rw c.in-Ok-Some.field-0-is (part_as (range_bad a.files range.off range.len c.in-Ok-Some.number c.find.new.file (omega (arith, c.bytes_of-bytes.ensures, c.if-bytes-range.true))) (part_refused fs.BadRange (λ x. cc) tt))));
+      reads = c.find.ensures.reads;
+    }
+
+pub returns : goal.returns
+returns g c =
+    let a = c.args.name.now.areas in
+    let name = c.args.name.now.bytes.now in
+    let range = c.args.range.now in
+    record {
+      part = part_as (read_as a name range.off range.len c.args.name.now.good range.many) (found_part a name None (read_from a.files range.off range.len) c.in-Ok-Some.ensures.part c.find.ensures.reads
+          (rw c.in-Ok-Some.field-0-is (part_as
+          (range_is a.files range.off range.len c.in-Ok-Some.number c.find.new.file _ (omega (arith, c.bytes_of-bytes.ensures, c.if-bytes-range.false))
+          (least_as range.off range.len (bytes_of c.find.new.file) _ (omega (arith, c.bytes_of-bytes.ensures, c.if-bytes-range.false)) (omega (arith, c.bytes_of-bytes.ensures, c.min.ensures))))
+          (rw c.requires.room at c.read_pieces.ensures.part))));
+      reads = read_join _ _ _ c.find.ensures.reads c.read_pieces.ensures.reads;
+    }
