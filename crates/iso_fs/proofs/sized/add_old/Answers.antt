@@ -1,4 +1,4 @@
-use Rattle.iso_fs.proofs.{Words.{◌≡◌, ◌∙◌, ◌++◌, ◌∷◌, [], sym, ap, subst, arith, ℕ, List, map, range_with_len, length-map-range_with_len, entry_at}, Sizing.{adds_more, one_more}}
+use Rattle.iso_fs.proofs.{Words.{◌≡◌, ◌∙◌, ◌++◌, ◌∷◌, [], sym, ap, subst, arith, ℕ, map, range_with_len, length-map-range_with_len, entry_at}, Sizing.{adds_more, one_more}}
 use Rattle.iso_fs.specs.Grows.{AddsEntries}
 
 pub loop-i-preserved : Rattle.iso_fs.proofs.sized.add_old.Goals.loop-i-preserved
