@@ -1,5 +1,5 @@
 -- The write of a region's first block, where a put takes blocks.
-use Rattle.std.specs.{Prelude.{◌≡◌, ℕ, suc, ◌+◌, ◌<◌, ◌≤◌, true, List, [], ◌∷◌, ◌++◌, Option, Some, None, Result, IfErr, OnErr, OnOk, length, take}, Int.{w32, to_be_bytes}}
+use Rattle.std.specs.{Prelude.{◌≡◌, ℕ, suc, ◌+◌, ◌-◌, ◌/◌, ◌<◌, ◌≤◌, true, List, [], ◌∷◌, ◌++◌, Option, Some, None, Result, IfErr, OnErr, OnOk, length, take}, Int.{w32, to_be_bytes}}
 use Rattle.iso_model.specs.{declared.access.Access.Access, declared.access.Span.Span}
 use Rattle.store_model.specs.{declared.stores.Area.Area, declared.stores.TxError.TxError, Cells.laid_at, FreeMap.map_bytes, Stores.store_access, TreeNodes.head_mark, TreeCalls.{last_of, changed_mark, changed_map, with_used}}
 use Rattle.store_model.specs.declared.stores.TxError.TheVariants as error
@@ -15,6 +15,15 @@ Up low (x ∷ xs) = (low ≤ x) × Up (suc x) xs
 abbrev pub ends : List ℕ → ℕ × ℕ
 ends [] = (0, 0)
 ends (k ∷ ks) = (k, last_of k ks)
+
+-- the bytes of the map from the one with a bit to that with another
+abbrev pub bits_between : (low high : ℕ) → Span
+bits_between low high = record { off = 64 + low / 8; len = high / 8 + 1 - low / 8 }
+
+-- bits that rise, of a map in a block
+pub record AreBits (size low high : ℕ) : Type 0 where
+  pub rising : low ≤ high
+  pub inside : 64 + high / 8 < size
 
 -- the marks and the bytes of the write
 abbrev pub first_spans : List ℕ → Option (ℕ × ℕ) → List Span

@@ -1,6 +1,6 @@
 -- What functions over the bytes of a node take and answer.
-use Rattle.std.specs.Prelude.{◌≡◌, ℕ, ◌+◌, ◌*◌, ◌<◌, ◌≤◌, true, List, ◌++◌, length, take}
-use Rattle.store_model.specs.{Cells.{are_key_parts, cell_count, keys_end}, TreeNodes.{count_of, node_bytes, Cell, FitCells, IsBlock}}
+use Rattle.std.specs.{Prelude.{◌≡◌, ℕ, ◌+◌, ◌*◌, ◌<◌, ◌≤◌, true, List, ◌++◌, length, take}, List.flat_map}
+use Rattle.store_model.specs.{Cells.{are_key_parts, cell_count, key_part, keys_end}, TreeNodes.{count_of, node_bytes, Cell, FitCells, IsBlock}}
 
 -- blocks of 256 to 4,096 bytes
 pub record IsSize (size : ℕ) : Type 0 where
@@ -31,6 +31,13 @@ pub record FitCell (x part : List ℕ) : Type 0 where
 pub record ArePartsOf (many : ℕ) (x y : List ℕ) : Type 0 where
   pub keys : length x ≡ 31 * many
   pub values : length y ≡ 33 * many
+
+-- so many cells have these key parts and value parts
+pub record HavePartsOf (many : ℕ) (x y : List ℕ) (ds : List Cell) : Type 0 where
+  pub count : length ds ≡ many
+  pub fit : FitCells ds
+  pub keys : x ≡ flat_map (λ d. key_part d.0) ds
+  pub values : y ≡ flat_map (λ d. d.1) ds
 
 -- as many bytes as head and key parts of a block of this size have
 pub record AreHeadAndKeys (n : ℕ) (bytes : List ℕ) : Type 0 where

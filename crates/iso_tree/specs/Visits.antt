@@ -26,6 +26,10 @@ pub record HasMarked (n : ℕ) (visit : Visit) (t u : Tx) (before now : Device) 
   pub some : 0 < visit.many → u ≡ record t { accesses = marked (values_mark n visit.first visit.many) t.accesses }
   pub device : now ≡ before
 
+-- one access was made
+abbrev pub HasMadeOne : (t u : Tx) → Type 0
+HasMadeOne t u = length u.accesses ≡ length t.accesses + 1
+
 -- head and key parts of a block, and the value parts of the cells that were visited
 abbrev pub keys_of : Area → (bytes : List ℕ) → List ℕ
 keys_of a bytes = bytes_in (keys_mark a.size) bytes

@@ -25,6 +25,10 @@ TakesNoBlocks store.Memory = Unit {0}
 TakesNoBlocks store.BadValue = ⊥
 TakesNoBlocks (store.NoBlocks need free) = ⊥
 
+-- what holds of a transaction and the disk below it, before a call and after it
+abbrev pub Across : {T : Type 0} {F : Type 1} → (T → Tx) → (T → Device) → (x y : T) → (Tx → Tx → Device → Device → F) → F
+Across state device x y holds = holds (state x) (state y) (device x) (device y)
+
 -- What a part of a call that reads alone leaves: further reads; why it is refused, which is as walks are; that the disk's
 -- faults do not fall, and stand after Ok where they stood.
 pub record OnlyReads {R : Type 0} (t u : Tx) (before now : Device) (result : Result R StoreError) : Type 0 where
@@ -52,8 +56,15 @@ pub record HasOpenBuffer (t : Tx) (a : Area) (buffer : List ℕ) : Type 0 where
   pub long : length buffer ≡ a.size
   pub is_open : t.is_open ≡ true
 
+-- so have two buffers
+pub record HasOpenBuffers (t : Tx) (a : Area) (buffer other : List ℕ) : Type 0 where
+  pub within : HasArea IsTreeArea t a
+  pub long : length buffer ≡ a.size
+  pub into : length other ≡ a.size
+  pub is_open : t.is_open ≡ true
+
 -- a part of a call that follows this program: how it ends, and what it leaves
-pub record IsPart {X : Type 0} (p : Program (Result X StoreError)) (t u : Tx) (writes : ℕ) (before now : Device) (result : Result X StoreError) : Type 0 where
+pub record IsPart {X : Type 0} (writes : ℕ) (p : Program (Result X StoreError)) (t u : Tx) (before now : Device) (result : Result X StoreError) : Type 0 where
   pub run : HasRun p t u result
   pub behaves : Behaves t u writes before now result
 

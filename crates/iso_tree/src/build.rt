@@ -1,7 +1,7 @@
 // The bytes of a node, made of its cells.
-ghost use Rattle.std.specs.{Prelude.{◌≡◌, ◌+◌, ◌≤◌, ℕ, List, length, [], ◌∷◌, ◌++◌, take, true, not, cond}, List.flat_map, Str.bytes_eq};
-ghost use Rattle.store_model.specs.{Cells.{cell_count, key_part, keys_end}, TreeNodes.{is_node, node_bytes, used_cells, Cell, FitCells}, TreeCalls.without_key};
-ghost use Rattle.iso_tree.specs.{Rows.cells_from, Sizes.{AddsCells, ArePartsOf, FitCell, HasNodeParts, HasSpace, IsNodeSize, IsWithin}};
+ghost use Rattle.std.specs.{Prelude.{◌≡◌, ◌+◌, ◌≤◌, List, length, [], ◌∷◌, take, true, not, cond}, Str.bytes_eq};
+ghost use Rattle.store_model.specs.{Cells.{cell_count, keys_end}, TreeNodes.{is_node, node_bytes, used_cells, Cell}, TreeCalls.without_key};
+ghost use Rattle.iso_tree.specs.{Rows.cells_from, Sizes.{AddsCells, ArePartsOf, FitCell, HasNodeParts, HavePartsOf, HasSpace, IsNodeSize, IsWithin}};
 
 use crate::keys::{Keys, count_of, key_of};
 use iso_alloc::{cell_count, clear, lay, piece, spell};
@@ -20,7 +20,7 @@ pub fn empty_node(into: &mut [u8], level: u8)
 fn add_parts(into: &mut [u8], count: usize, many: usize, keys: &[u8], values: &[u8])
     requires space { HasSpace (length into.old) count many }
     requires parts { ArePartsOf many keys.now values.now }
-    ensures added { (size level : ℕ) → (cs ds : List Cell) → into.old ≡ node_bytes size level cs → length cs ≡ count → FitCells cs → length into.old ≡ size → length ds ≡ many → FitCells ds → keys.now ≡ flat_map (λ d. key_part d.0) ds → values.now ≡ flat_map (λ d. d.1) ds → into.new ≡ node_bytes size level (cs ++ ds) }
+    ensures added { (ds : List Cell) → HavePartsOf many keys.now values.now ds → AddsCells count into.old into.new ds }
 {
     let end = 64 + 31 * cell_count(into.len());
     lay(into, 64 + 31 * count, keys);
@@ -46,7 +46,7 @@ pub fn add_cells(into: &mut [u8], count: usize, node: &[u8], first: usize, many:
     requires into { length into.old ≡ length node.now }
     requires inside { first + many ≤ cell_count (length node.now) }
     requires room { count + many ≤ cell_count (length node.now) }
-    ensures added { (level : ℕ) → (cs : List Cell) → into.old ≡ node_bytes (length node.now) level cs → length cs ≡ count → FitCells cs → into.new ≡ node_bytes (length node.now) level (cs ++ cells_from (length node.now) node.now first many) }
+    ensures added { AddsCells count into.old into.new (cells_from (length node.now) node.now first many) }
 {
     let end = 64 + 31 * cell_count(node.len());
     let keys = piece(node, 64 + 31 * first, 31 * many);

@@ -1,7 +1,7 @@
 // The way up of a put: the writes of nodes, from the leaf to the first one that is not full, or to a new root.
 ghost use Rattle.std.specs.Prelude.{◌≡◌, ◌+◌, ◌<◌, ◌≤◌, IfSome, IfNone, Ok, length, take, [], ◌∷◌};
 ghost use Rattle.store_model.specs.{Cells.{cell_count, keys_end}, Stores.{Done, Store}, TreeNodes.{count_of, used_cells, Cell}, TreeCalls.{placed, store_nodes}};
-ghost use Rattle.iso_tree.specs.{Entries.row, Rows.row_from, Sizes.HasKeyParts, Ways.{climbed, halves_of, HasRoom, MayStore, WritesFirst, WritesLast}};
+ghost use Rattle.iso_tree.specs.{Entries.row, Rows.row_from, Sizes.HasKeyParts, Walks.Across, Ways.{climbed, halves_of, HasRoom, MayStore, WritesFirst, WritesLast}};
 
 use crate::entry::Entry;
 use crate::fill::{empty_first, fill_root, fill_row, row_key, upto};
@@ -51,7 +51,7 @@ fn first_new(news: &[u32]) -> Option<(u32, &[u32])>
 // Writes a node of a way up.
 fn store_next<T: TxBlocks>(tx: &mut T, block: u32, bytes: &[u8]) -> Result<(), StoreError>
     requires { MayStore (T.state tx.old) block bytes.now }
-    ensures { WritesFirst (Store block [] bytes.now) 1 (T.state tx.old) (T.state tx.new) (T.device tx.old) (T.device tx.new) result }
+    ensures { Across T.state T.device tx.old tx.new (WritesFirst (Store block [] bytes.now) 1) result }
 {
     match store(tx, block, &[], bytes) {
         Ok(()) => Ok(()),
@@ -71,7 +71,7 @@ fn store_halves<T: TxBlocks>(
     requires writes { HasRoom (T.state tx.old) growth.now.area 2 into.old }
     requires block { block < growth.now.area.blocks }
     requires new { new < growth.now.area.blocks }
-    ensures { WritesFirst (store_nodes growth.now.area (halves_of level block new growth.now)) 2 (T.state tx.old) (T.state tx.new) (T.device tx.old) (T.device tx.new) result }
+    ensures { Across T.state T.device tx.old tx.new (WritesFirst (store_nodes growth.now.area (halves_of level block new growth.now)) 2) result }
 {
     let cells = cell_count(growth.area.size as usize);
     let half = (cells + 1) / 2;
@@ -96,7 +96,7 @@ fn store_grown<T: TxBlocks>(
     requires writes { HasRoom (T.state tx.old) growth.now.area 1 into.old }
     requires block { block < growth.now.area.blocks }
     requires count { count ≤ cell_count growth.now.area.size }
-    ensures { WritesLast (store_nodes growth.now.area ((block, level, row growth.now 0 count) ∷ []) (Done (Ok tt))) (T.state tx.old) (T.state tx.new) (T.device tx.old) (T.device tx.new) result }
+    ensures { Across T.state T.device tx.old tx.new (WritesLast (store_nodes growth.now.area ((block, level, row growth.now 0 count) ∷ []) (Done (Ok tt)))) result }
 {
     fill_row(into, level, growth, 0, count);
     store_next(tx, growth.area.start + block, into)
@@ -117,7 +117,7 @@ pub fn climb<T: TxBlocks>(
 ) -> Result<(), StoreError>
     requires writes { HasRoom (T.state tx.old) way.now.area (length (climbed way.now level entry.now below).writes) into.old }
     requires level { level + length way.now.path.now ≤ 255 }
-    ensures { WritesLast (store_nodes way.now.area (climbed way.now level entry.now below).writes (Done (Ok tt))) (T.state tx.old) (T.state tx.new) (T.device tx.old) (T.device tx.new) result }
+    ensures { Across T.state T.device tx.old tx.new (WritesLast (store_nodes way.now.area (climbed way.now level entry.now below).writes (Done (Ok tt)))) result }
 {
     let area = way.area;
     let size = area.size as usize;

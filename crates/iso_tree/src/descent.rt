@@ -2,7 +2,7 @@
 ghost use Rattle.std.specs.Prelude.{◌≡◌, ◌+◌, ◌<◌, [], IfOk, OnOk, length};
 ghost use Rattle.store_model.specs.{Cells.{keys_mark, value_mark}, Stores.bytes_in, TreeNodes.is_head, TreeRegion.IsTreeArea};
 ghost use Rattle.tx_blocks.specs.Runs.{HasBlock, AreBytesOf};
-ghost use Rattle.iso_tree.specs.{Sizes.{HasCell, AreBytes, IsSize}, Walks.{child_program, head_program, ArePassed, HasBuffer, HasDescended, HasReadLeaf, IsChild, IsHead, IsLeaf, IsStep, OnlyReads}};
+ghost use Rattle.iso_tree.specs.{Sizes.{HasCell, AreBytes, IsSize}, Walks.{child_program, head_program, Across, ArePassed, HasBuffer, HasDescended, HasReadLeaf, IsChild, IsHead, IsLeaf, IsStep, OnlyReads}};
 
 use crate::node::NodeView;
 use crate::path::Path;
@@ -66,7 +66,7 @@ pub fn read_head<T: TxBlocks>(
     buffer: &mut [u8],
 ) -> Result<(u32, u8), StoreError>
     requires { HasBuffer (T.state tx.old) area buffer.old }
-    ensures { IsStep (IsHead area) (head_program area) (T.state tx.old) (T.state tx.new) (T.device tx.old) (T.device tx.new) result }
+    ensures { Across T.state T.device tx.old tx.new (IsStep (IsHead area) (head_program area)) result }
 {
     let head_mark = Span { off: 0, len: 8 };
     if let Err(e) = look(tx, area.start, head_mark, buffer) {
@@ -90,7 +90,7 @@ fn enter<T: TxBlocks>(
 ) -> Result<(u32, u32), StoreError>
     requires block { HasBlock IsTreeArea (T.state tx.old) area block buffer.old }
     requires level { 0 < level }
-    ensures { IsStep (IsChild area) (child_program area key.now level block) (T.state tx.old) (T.state tx.new) (T.device tx.old) (T.device tx.new) result }
+    ensures { Across T.state T.device tx.old tx.new (IsStep (IsChild area) (child_program area key.now level block)) result }
 {
     let image_block = area.start + block;
     if let Err(e) = look(tx, image_block, keys_mark(area.size), buffer) {
@@ -129,7 +129,7 @@ fn read_leaf<T: TxBlocks>(
     ensures leaf { IfOk result (IsLeaf area key.now buffer.new) }
     ensures bytes { OnOk result (AreBytesOf (T.state tx.new) (area.start + block) buffer.new) }
     ensures block { IfOk result (λ leaf. leaf.block ≡ block) }
-    ensures reads { OnlyReads (T.state tx.old) (T.state tx.new) (T.device tx.old) (T.device tx.new) result }
+    ensures reads { Across T.state T.device tx.old tx.new OnlyReads result }
 {
     let image_block = area.start + block;
     if let Err(e) = look(tx, image_block, keys_mark(area.size), buffer) {
@@ -173,7 +173,7 @@ pub fn descend<T: TxBlocks>(
     ensures leaf { IfOk result (IsLeaf root.area key.now buffer.new) }
     ensures path { OnOk result (ArePassed root.area root.level path.new) }
     ensures bytes { IfOk result (λ leaf. AreBytesOf (T.state tx.new) (root.area.start + leaf.block) buffer.new) }
-    ensures reads { OnlyReads (T.state tx.old) (T.state tx.new) (T.device tx.old) (T.device tx.new) result }
+    ensures reads { Across T.state T.device tx.old tx.new OnlyReads result }
 {
     let area = root.area;
     let mut block = root.block;

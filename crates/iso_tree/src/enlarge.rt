@@ -2,7 +2,7 @@
 ghost use Rattle.std.specs.Prelude.{◌≡◌, ◌+◌, ◌*◌, ◌<◌, ◌≤◌, ◌==◌, ℕ, List, cond, get_or, length, take, suc, true, Some, None};
 ghost use Rattle.store_model.specs.{Cells.cell_count, FreeMap.{map_bytes, map_mark}, Stores.bytes_in, TreeCalls.{full_row, need_of, put_new, put_writes, with_map, with_used}, TreeRegion.IsTreeArea};
 ghost use Rattle.tx_blocks.specs.Runs.{Behaves, HasRun};
-ghost use Rattle.iso_tree.specs.{FirstBlock.AreNew, Rows.NeedsBlocks, Sizes.IsWithin, Walks.{HasBuffer, HasBuffers, IsPart}, Ways.climbed};
+ghost use Rattle.iso_tree.specs.{FirstBlock.AreNew, Rows.NeedsBlocks, Sizes.IsWithin, Walks.{Across, HasBuffer, HasOpenBuffers, IsPart}, Ways.climbed};
 
 use crate::climb::{climb, first_node};
 use crate::entry::Entry;
@@ -73,9 +73,8 @@ fn put_writes<T: TxBlocks>(
     map: &[u8],
     into: &mut [u8],
 ) -> Result<(), StoreError>
-    requires is_open { (T.state tx.old).is_open ≡ true }
     requires long { length way.now.path.now ≤ 32 }
-    requires buffers { HasBuffers (T.state tx.old) way.now.area map.now into.old }
+    requires buffers { HasOpenBuffers (T.state tx.old) way.now.area map.now into.old }
     requires news { AreNew way.now.area way.now.news.now }
     ensures run { (first : List ℕ) → take (64 + map_bytes way.now.area.blocks) map.now ≡ with_used first way.now.news.now → HasRun (put_writes way.now.area first way.now.news.now (climbed way.now 0 entry.now 0)) (T.state tx.old) (T.state tx.new) result }
     ensures behaves { Behaves (T.state tx.old) (T.state tx.new) 66 (T.device tx.old) (T.device tx.new) result }
@@ -101,11 +100,10 @@ fn put_taken<T: TxBlocks>(
     nodes: &mut [u8],
     into: &mut [u8],
 ) -> Result<(), StoreError>
-    requires is_open { (T.state tx.old).is_open ≡ true }
     requires path { NeedsBlocks area (T.state tx.old) path.now }
-    requires buffers { HasBuffers (T.state tx.old) area map.old into.old }
+    requires buffers { HasOpenBuffers (T.state tx.old) area map.old into.old }
     requires nodes { length path.now * area.size ≤ length nodes.old }
-    ensures { IsPart (put_new area entry.now.key.now entry.now.value.now path.now (bytes_in (map_mark area.blocks) map.old) (need_of (cell_count area.size) path.now)) (T.state tx.old) (T.state tx.new) 66 (T.device tx.old) (T.device tx.new) result }
+    ensures { Across T.state T.device tx.old tx.new (IsPart 66 (put_new area entry.now.key.now entry.now.value.now path.now (bytes_in (map_mark area.blocks) map.old) (need_of (cell_count area.size) path.now))) result }
 {
     let full = full_row(area.size as usize, path);
     let need = need_of(full, path.len());
@@ -159,7 +157,7 @@ pub fn put_new<T: TxBlocks>(
 ) -> Result<(), StoreError>
     requires path { NeedsBlocks area (T.state tx.old) path.now }
     requires map { HasBuffer (T.state tx.old) area map.old }
-    ensures { IsPart (with_map area entry.now.key.now entry.now.value.now path.now) (T.state tx.old) (T.state tx.new) 66 (T.device tx.old) (T.device tx.new) result }
+    ensures { Across T.state T.device tx.old tx.new (IsPart 66 (with_map area entry.now.key.now entry.now.value.now path.now)) result }
 {
     let Ok(mut nodes) = buffer(alloc, path.len() * area.size as usize) else {
         return Err(StoreError::Tx(TxError::Memory));

@@ -1,7 +1,7 @@
 // The write of a region's first block, where a put takes blocks.
-ghost use Rattle.std.specs.{Prelude.{◌≡◌, ◌+◌, ◌-◌, ◌/◌, ◌<◌, ◌≤◌, ◌++◌, length, take, drop}, Int.{w32, to_be_bytes}};
-ghost use Rattle.store_model.specs.Cells.{block_with, laid_at};
-ghost use Rattle.iso_tree.specs.{FirstBlock.{ends, AreNew, HasStoredFirst}, Walks.HasBuffers};
+ghost use Rattle.std.specs.{Prelude.{◌≡◌, ◌<◌, ◌≤◌, ◌++◌, length}, Int.{w32, to_be_bytes}};
+ghost use Rattle.store_model.specs.{Cells.{block_with, laid_at}, Stores.bytes_in};
+ghost use Rattle.iso_tree.specs.{FirstBlock.{bits_between, ends, AreBits, AreNew, HasStoredFirst}, Walks.HasBuffers};
 
 use iso_alloc::{lay, piece};
 use iso_model::Span;
@@ -11,9 +11,8 @@ use tx_blocks::{TxBlocks, store};
 // Zeros, but for the bytes of the map from the one with a bit to that with another.
 fn fill_map(into: &mut [u8], map: &[u8], low: u32, high: u32)
     requires map { length map.now ≡ length into.old }
-    requires rising { low ≤ high }
-    requires inside { 64 + high / 8 < length map.now }
-    ensures { into.new ≡ block_with (length map.now) (64 + low / 8) (take (high / 8 + 1 - low / 8) (drop (64 + low / 8) map.now)) }
+    requires bits { AreBits (length map.now) low high }
+    ensures { let s = bits_between low high in into.new ≡ block_with (length map.now) s.off (bytes_in s map.now) }
 {
     let at = 64 + (low / 8) as usize;
     let len = (high / 8 + 1 - low / 8) as usize;
@@ -40,9 +39,8 @@ fn ends(news: &[u32]) -> (u32, u32)
 
 // The mark over the bytes of the map from the one with a bit to that with another.
 fn changed_mark(low: u32, high: u32) -> Span
-    requires rising { low ≤ high }
-    requires inside { 64 + high / 8 < 4096 }
-    ensures { result ≡ record { off = 64 + low / 8; len = high / 8 + 1 - low / 8 } }
+    requires { AreBits 4096 low high }
+    ensures { result ≡ bits_between low high }
 {
     Span {
         off: (64 + low / 8) as u16,

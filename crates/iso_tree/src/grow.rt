@@ -1,7 +1,7 @@
 // A put that takes new blocks.
 ghost use Rattle.std.specs.{Prelude.{◌≡◌, ◌+◌, ◌-◌, ◌<◌, ◌≤◌, ◌↔◌, IsTrue, not, OnOk, IfErr, length, take}, List.{filter, range_with_len}};
 ghost use Rattle.store_model.specs.{FreeMap.{free_count, map_bit, map_bytes}, TreeCalls.with_used};
-ghost use Rattle.iso_tree.specs.{Rows.{AreUsable, HasNodes, IsUsable}, Sizes.IsNodeSize, Walks.OnlyReads, Ways.HasLookedAgain};
+ghost use Rattle.iso_tree.specs.{Rows.{AreUsable, HasNodes, IsUsable}, Sizes.IsNodeSize, Walks.{Across, OnlyReads}, Ways.HasLookedAgain};
 
 use crate::climb::first_node;
 use crate::keys::count_of;
@@ -59,7 +59,7 @@ pub fn look_nodes<T: TxBlocks>(
     ensures run { HasLookedAgain area path.now nodes.new (T.state tx.old) (T.state tx.new) result }
     ensures unbroken { IfErr result (λ e. (refusal : TxError) × (e ≡ StoreError.Tx refusal)) }
     ensures usable { OnOk result (AreUsable area.size nodes.new path.now) }
-    ensures reads { OnlyReads (T.state tx.old) (T.state tx.new) (T.device tx.old) (T.device tx.new) result }
+    ensures reads { Across T.state T.device tx.old tx.new OnlyReads result }
 {
     let size = area.size as usize;
     let Some(((block, count), rest)) = first_node(path) else {

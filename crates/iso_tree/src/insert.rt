@@ -2,7 +2,7 @@
 ghost use Rattle.std.specs.Prelude.{◌≡◌, ◌↔◌, ◌+◌, ◌≤◌, Err, IsFalse, IsTrue, true, IfOk, IfErr, OnOk};
 ghost use Rattle.store_model.specs.{HashCalls.{is_key, is_value}, HashRegion.put_op, TreeCalls.{put_below_root, put_program}, TreeRegion.{tree_map, IsTreeArea, IsTreeRegion}};
 ghost use Rattle.tx_blocks.specs.{Tx.IsLater, Runs.{area_of, HasEnded, IsLocalCall, IsStoreCause, IsUnwritten}};
-ghost use Rattle.iso_tree.specs.Walks.{HasBuffer, IsPart};
+ghost use Rattle.iso_tree.specs.Walks.{Across, HasBuffer, IsPart};
 
 use crate::descent::{descend, read_head};
 use crate::enlarge::put_new;
@@ -24,7 +24,7 @@ fn put_below<T: TxBlocks>(
     block: &mut [u8],
 ) -> Result<(), StoreError>
     requires { HasBuffer (T.state tx.old) root.area block.old }
-    ensures { IsPart (put_below_root root.area entry.now.key.now entry.now.value.now root.block root.level) (T.state tx.old) (T.state tx.new) 66 (T.device tx.old) (T.device tx.new) result }
+    ensures { Across T.state T.device tx.old tx.new (IsPart 66 (put_below_root root.area entry.now.key.now entry.now.value.now root.block root.level)) result }
 {
     let area = root.area;
     if root.block == 0 {
@@ -57,7 +57,7 @@ fn put_with<T: TxBlocks>(
     requires block { HasBuffer (T.state tx.old) area block.old }
     requires key { is_key key.now ≡ true }
     requires value { is_value value.now ≡ true }
-    ensures { IsPart (put_program area key.now value.now) (T.state tx.old) (T.state tx.new) 66 (T.device tx.old) (T.device tx.new) result }
+    ensures { Across T.state T.device tx.old tx.new (IsPart 66 (put_program area key.now value.now)) result }
 {
     match read_head(tx, area, block) {
         Ok((number, level)) => {

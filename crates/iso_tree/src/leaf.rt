@@ -2,7 +2,7 @@
 ghost use Rattle.std.specs.Prelude.{◌≡◌, ◌+◌, ◌*◌, ◌<◌, ◌≤◌, ℕ, List, length, Ok, IfErr, IfOk, [], ◌∷◌};
 ghost use Rattle.store_model.specs.{Cells.{block_with, cell_count, keys_end, value_mark, value_part}, Stores.{Done, Store}, TreeNodes.{node_bytes, used_cells, Cell}, Trees.put_after, TreeCalls.edit_leaf, TreeRegion.IsTreeArea};
 ghost use Rattle.tx_blocks.specs.Runs.{HasBlock, AreBytesOf, Behaves, HasRun};
-ghost use Rattle.iso_tree.specs.{Entries.spelled, Sizes.AreBytes, Walks.{HasBuffer, HasLeaf, IsLeaf, IsPart, IsWalkError}};
+ghost use Rattle.iso_tree.specs.{Entries.spelled, Sizes.AreBytes, Walks.{Across, HasBuffer, HasLeaf, IsLeaf, IsPart, IsWalkError}};
 
 use crate::descent::{Leaf, value_mark};
 use crate::entry::Entry;
@@ -32,7 +32,7 @@ pub fn put_value<T: TxBlocks>(
     requires block { HasBlock IsTreeArea (T.state tx.old) area block into.old }
     requires cell { cell < cell_count area.size }
     requires value { length value.now ≤ 32 }
-    ensures { IsPart (Store (area.start + block) (value_mark area.size cell ∷ []) (block_with area.size (keys_end area.size + 33 * cell) (value_part value.now)) (Done (Ok tt))) (T.state tx.old) (T.state tx.new) 1 (T.device tx.old) (T.device tx.new) result }
+    ensures { Across T.state T.device tx.old tx.new (IsPart 1 (Store (area.start + block) (value_mark area.size cell ∷ []) (block_with area.size (keys_end area.size + 33 * cell) (value_part value.now)) (Done (Ok tt)))) result }
 {
     let span = value_mark(area.size, cell);
     let part = value_part(value);
@@ -87,7 +87,7 @@ pub fn put_cell<T: TxBlocks>(
     requires old { HasBuffer (T.state tx.old) area old.old }
     requires leaf { HasLeaf (T.state tx.old) area entry.now.key.now old.old leaf }
     requires room { leaf.count < cell_count area.size }
-    ensures { IsPart (edit_leaf area leaf.block (put_after entry.now.key.now (spelled entry.now)) (Ok tt)) (T.state tx.old) (T.state tx.new) 1 (T.device tx.old) (T.device tx.new) result }
+    ensures { Across T.state T.device tx.old tx.new (IsPart 1 (edit_leaf area leaf.block (put_after entry.now.key.now (spelled entry.now)) (Ok tt))) result }
 {
     let Ok(bytes) = leaf_with(alloc, area, old, entry, leaf) else {
         return Err(StoreError::Tx(TxError::Memory));

@@ -2,7 +2,7 @@
 ghost use Rattle.std.specs.Prelude.{◌≡◌, ◌↔◌, ◌+◌, ◌≤◌, Err, IsFalse, true, IfOk, IfErr, OnOk, length};
 ghost use Rattle.store_model.specs.{HashCalls.is_key, HashRegion.get_op, TreeCalls.{get_below, get_program}, TreeRegion.{tree_map, IsTreeArea, IsTreeRegion}};
 ghost use Rattle.tx_blocks.specs.{Tx.IsLater, Runs.{area_of, HasEnded, HasRead, IsLocalCall, IsStoreCause}};
-ghost use Rattle.iso_tree.specs.Walks.{HasBuffer, HasOpenBuffer, IsReading};
+ghost use Rattle.iso_tree.specs.Walks.{Across, HasBuffer, HasOpenBuffer, IsReading};
 
 use crate::descent::{descend, read_head, value_part};
 use crate::path::Path;
@@ -23,7 +23,7 @@ fn get_below<T: TxBlocks>(
 ) -> Result<Option<Bytes>, StoreError>
     requires block { HasOpenBuffer (T.state tx.old) root.area block.old }
     requires room { length room.items ≡ 32 }
-    ensures { IsReading (get_below root.area key.now root.block root.level) (T.state tx.old) (T.state tx.new) (T.device tx.old) (T.device tx.new) result }
+    ensures { Across T.state T.device tx.old tx.new (IsReading (get_below root.area key.now root.block root.level)) result }
 {
     if root.block == 0 {
         return Ok(None);
@@ -56,7 +56,7 @@ fn get_with<T: TxBlocks>(
     requires block { HasBuffer (T.state tx.old) area block.old }
     requires key { is_key key.now ≡ true }
     requires room { length room.items ≡ 32 }
-    ensures { IsReading (get_program area key.now) (T.state tx.old) (T.state tx.new) (T.device tx.old) (T.device tx.new) result }
+    ensures { Across T.state T.device tx.old tx.new (IsReading (get_program area key.now)) result }
 {
     match read_head(tx, area, block) {
         Ok((number, level)) => {

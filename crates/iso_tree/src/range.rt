@@ -2,7 +2,7 @@
 ghost use Rattle.std.specs.{Prelude.{◌≡◌, ◌⊎◌, ◌↔◌, ◌&&◌, ◌+◌, ◌-◌, ◌*◌, ◌<◌, ◌≤◌, ◌++◌, [], ◌∷◌, Err, IsFalse, true, IfOk, IfErr, OnOk, length, map, take}, List.list_all};
 ghost use Rattle.store_model.specs.{Cells.{cell_count, is_part}, HashCalls.is_key, TreeCalls.{pairs_with, parts_of, scan_below, scan_program}, TreeNodes.child_of, TreeRegion.{scan_op, tree_map, IsTreeArea, IsTreeRegion}};
 ghost use Rattle.tx_blocks.specs.{Tx.IsLater, Runs.{HasBlock, area_of, HasEnded, HasRead, IsLocalCall, IsStoreCause, WantsMemory}};
-ghost use Rattle.iso_tree.specs.{Visits.{left_of, AreIn, HasStepped, IsScan}, Walks.{HasBuffer, HasOpenBuffer, OnlyReads, OrMemory}};
+ghost use Rattle.iso_tree.specs.{Visits.{left_of, AreIn, HasMadeOne, HasStepped, IsScan}, Walks.{Across, HasBuffer, HasOpenBuffer, OnlyReads, OrMemory}};
 
 use crate::descent::read_head;
 use crate::key_range::KeyRange;
@@ -102,8 +102,8 @@ fn step<T: TxBlocks>(
     requires few { length found.old < range.now.max }
     ensures run { HasStepped range.now (node ∷ unread.old) unread.new found.old found.new (T.state tx.old) (T.state tx.new) result }
     ensures nodes { OnOk result (AreIn range.now.area unread.new) }
-    ensures more { OnOk result (length (T.state tx.new).accesses ≡ length (T.state tx.old).accesses + 1) }
-    ensures reads { OnlyReads (T.state tx.old) (T.state tx.new) (T.device tx.old) (T.device tx.new) result }
+    ensures more { OnOk result (HasMadeOne (T.state tx.old) (T.state tx.new)) }
+    ensures reads { Across T.state T.device tx.old tx.new OnlyReads result }
 {
     let size = range.area.size as usize;
     let max = range.max as usize;
@@ -130,7 +130,7 @@ fn walk<T: TxBlocks>(
 ) -> Result<PairList, StoreError>
     requires buffer { HasOpenBuffer (T.state tx.old) range.now.area buffer.old }
     requires nodes { AreIn range.now.area unread.old }
-    ensures { IsScan (left_of range.now unread.old []) (T.state tx.old) (T.state tx.new) (T.device tx.old) (T.device tx.new) result }
+    ensures { Across T.state T.device tx.old tx.new (IsScan (left_of range.now unread.old [])) result }
 {
     let mut found = Items::empty(alloc);
     while found.len() < range.max as usize {
@@ -155,7 +155,7 @@ fn scan_below<T: TxBlocks>(
 ) -> Result<PairList, StoreError>
     requires buffer { HasOpenBuffer (T.state tx.old) range.now.area buffer.old }
     requires root { root < range.now.area.blocks }
-    ensures { IsScan (scan_below range.now.area range.now.from.now range.now.to.now range.now.max root level) (T.state tx.old) (T.state tx.new) (T.device tx.old) (T.device tx.new) result }
+    ensures { Across T.state T.device tx.old tx.new (IsScan (scan_below range.now.area range.now.from.now range.now.to.now range.now.max root level)) result }
 {
     let mut unread = Unread::empty(alloc);
     if root == 0 {
@@ -175,7 +175,7 @@ fn scan_with<T: TxBlocks>(
     buffer: &mut [u8],
 ) -> Result<PairList, StoreError>
     requires { HasBuffer (T.state tx.old) range.now.area buffer.old }
-    ensures { IsScan (scan_program range.now.area range.now.from.now range.now.to.now range.now.max) (T.state tx.old) (T.state tx.new) (T.device tx.old) (T.device tx.new) result }
+    ensures { Across T.state T.device tx.old tx.new (IsScan (scan_program range.now.area range.now.from.now range.now.to.now range.now.max)) result }
 {
     match read_head(tx, range.area, buffer) {
         Ok((root, level)) => scan_below(alloc, tx, range, root, level, buffer),

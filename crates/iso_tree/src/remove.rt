@@ -2,7 +2,7 @@
 ghost use Rattle.std.specs.Prelude.{◌≡◌, ◌↔◌, ◌+◌, ◌≤◌, Err, Ok, IsFalse, true, IfOk, IfErr, OnErr, OnOk};
 ghost use Rattle.store_model.specs.{HashCalls.is_key, HashRegion.del_op, TreeCalls.{del_below, del_program, edit_leaf, without_key}, TreeRegion.{tree_map, IsTreeArea, IsTreeRegion}};
 ghost use Rattle.tx_blocks.specs.{Tx.IsLater, Runs.{area_of, HasEnded, HasRead, IsLocalCall, IsStoreCause}};
-ghost use Rattle.iso_tree.specs.Walks.{HasBuffers, HasLeaf, IsRemoval, TakesNoBlocks};
+ghost use Rattle.iso_tree.specs.Walks.{Across, HasBuffers, HasLeaf, IsRemoval, TakesNoBlocks};
 
 use crate::build::copy_without;
 use crate::descent::{Leaf, descend, read_head};
@@ -25,7 +25,7 @@ fn remove_cell<T: TxBlocks>(
 ) -> Result<bool, StoreError>
     requires buffers { HasBuffers (T.state tx.old) area old.old into.old }
     requires leaf { HasLeaf (T.state tx.old) area key.now old.old leaf }
-    ensures { IsRemoval (edit_leaf area leaf.block (without_key key.now) (Ok true)) (T.state tx.old) (T.state tx.new) (T.device tx.old) (T.device tx.new) result }
+    ensures { Across T.state T.device tx.old tx.new (IsRemoval (edit_leaf area leaf.block (without_key key.now) (Ok true))) result }
 {
     copy_without(key, old, into);
     store_leaf(tx, area, leaf.block, into, true, old)
@@ -40,7 +40,7 @@ fn remove_below<T: TxBlocks>(
     into: &mut [u8],
 ) -> Result<bool, StoreError>
     requires { HasBuffers (T.state tx.old) root.area block.old into.old }
-    ensures { IsRemoval (del_below root.area key.now root.block root.level) (T.state tx.old) (T.state tx.new) (T.device tx.old) (T.device tx.new) result }
+    ensures { Across T.state T.device tx.old tx.new (IsRemoval (del_below root.area key.now root.block root.level)) result }
 {
     if root.block == 0 {
         return Ok(false);
@@ -66,7 +66,7 @@ fn remove_with<T: TxBlocks>(
 ) -> Result<bool, StoreError>
     requires buffers { HasBuffers (T.state tx.old) area block.old into.old }
     requires key { is_key key.now ≡ true }
-    ensures { IsRemoval (del_program area key.now) (T.state tx.old) (T.state tx.new) (T.device tx.old) (T.device tx.new) result }
+    ensures { Across T.state T.device tx.old tx.new (IsRemoval (del_program area key.now)) result }
 {
     match read_head(tx, area, block) {
         Ok((number, level)) => {

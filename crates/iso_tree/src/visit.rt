@@ -2,7 +2,7 @@
 ghost use Rattle.std.specs.{Prelude.{◌≡◌, ◌+◌, ◌*◌, ◌<◌, IfOk, OnOk, None, length}, List.list_all};
 ghost use Rattle.store_model.specs.{Cells.keys_end, Stores.bytes_in, TreeCalls.parts_of, TreeNodes.count_of, TreeRegion.{is_part_at, IsTreeArea}};
 ghost use Rattle.tx_blocks.specs.{Runs.HasBlock, Tx.mark_refusal};
-ghost use Rattle.iso_tree.specs.{Sizes.AreBytes, Visits.{values_mark, AreBetween, HasMarked, HasVisited, IsVisitIn, IsVisited}, Walks.OnlyReads};
+ghost use Rattle.iso_tree.specs.{Sizes.AreBytes, Visits.{values_mark, AreBetween, HasMadeOne, HasMarked, HasVisited, IsVisitIn, IsVisited}, Walks.{Across, OnlyReads}};
 
 use crate::descent::keys_mark;
 use crate::key_range::KeyRange;
@@ -50,7 +50,7 @@ fn values_mark(size: u32, visit: Visit) -> Span
 fn mark_values<T: TxBlocks>(tx: &mut T, size: u32, visit: Visit)
     requires visit { IsVisitIn size visit }
     requires open { 0 < visit.many → mark_refusal (T.state tx.old) (keys_end size + 33 * visit.first) (33 * visit.many) ≡ None }
-    ensures { HasMarked size visit (T.state tx.old) (T.state tx.new) (T.device tx.old) (T.device tx.new) }
+    ensures { Across T.state T.device tx.old tx.new (HasMarked size visit) }
 {
     if visit.many == 0 {
         return;
@@ -108,8 +108,8 @@ pub fn read_node<T: TxBlocks>(
     requires block { HasBlock IsTreeArea (T.state tx.old) range.now.area block buffer.old }
     ensures run { HasVisited range.now level block (T.state tx.old) (T.state tx.new) buffer.new result }
     ensures visited { IfOk result (IsVisited range.now.area range.now.from.now range.now.to.now level buffer.new) }
-    ensures more { OnOk result (length (T.state tx.new).accesses ≡ length (T.state tx.old).accesses + 1) }
-    ensures reads { OnlyReads (T.state tx.old) (T.state tx.new) (T.device tx.old) (T.device tx.new) result }
+    ensures more { OnOk result (HasMadeOne (T.state tx.old) (T.state tx.new)) }
+    ensures reads { Across T.state T.device tx.old tx.new OnlyReads result }
 {
     let area = range.area;
     let size = area.size as usize;

@@ -2,7 +2,10 @@ use Rattle.iso_tree.proofs.Words.{◌∙◌, sym, refl, [], ◌∷◌, append-ni
 
 pub returns : Rattle.iso_tree.proofs.build.add_cell.Goals.returns
 returns c = record {
-  added = λ size level cs is count fit long.
-      c.add_parts.ensures.added size level cs ((c.args.key.now, c.args.part.now) ∷ []) is count fit long refl ((c.requires.cell.key, c.requires.cell.long), tt)
-      (c.spell.ensures ∙ sym (append-nil (key_part c.args.key.now))) (sym (append-nil c.args.part.now));
+  added = c.add_parts.ensures.added ((c.args.key.now, c.args.part.now) ∷ []) (record {
+    count = refl;
+    fit = ((c.requires.cell.key, c.requires.cell.long), tt);
+    keys = c.spell.ensures ∙ sym (append-nil (key_part c.args.key.now));
+    values = sym (append-nil c.args.part.now);
+  });
 }

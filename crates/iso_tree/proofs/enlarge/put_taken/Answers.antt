@@ -11,7 +11,7 @@ pub look_nodes-requires : goal.look_nodes-requires
 look_nodes-requires g c =
     record {
       within = c.requires.buffers.within;
-      is_open = c.requires.is_open;
+      is_open = c.requires.buffers.is_open;
       path = subst (AreInside c.args.area) (sym c.written-rows.ensures) (all_taken (λ (p : ℕ × ℕ). p.0 < c.args.area.blocks) (suc c.full_row-full.result) c.args.path.now c.requires.path.inside);
       usable = shown_taken c.args.area (g.T.TxBlocks.state c.args.tx.now) (suc c.full_row-full.result) c.written-rows.result.now c.args.path.now c.written-rows.ensures c.requires.path.usable;
       nodes = subst (λ (p : List (ℕ × ℕ)). length p * c.args.area.size ≤ length c.args.nodes.now) (sym c.written-rows.ensures) (room_taken c.args.area.size (suc c.full_row-full.result) (length c.args.nodes.now) c.args.path.now c.requires.nodes);

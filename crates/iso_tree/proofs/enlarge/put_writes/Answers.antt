@@ -15,7 +15,7 @@ climb-requires-clause-writes g c =
     let is = c.in_default-store_first.ensures.one.is in
     record {
       within = record { area = within.area; size = ap (λ (t : Tx). t.size) is ∙ within.size; fits = omega (arith, ap (λ (t : Tx). t.blocks) is, within.fits) };
-      is_open = ap (λ (t : Tx). t.is_open) is ∙ c.requires.is_open;
+      is_open = ap (λ (t : Tx). t.is_open) is ∙ c.requires.buffers.is_open;
       room = omega (arith, way.count, after, c.in_default.ensures.ok);
       into = c.store_first.auto.into ∙ c.requires.buffers.into;
     }

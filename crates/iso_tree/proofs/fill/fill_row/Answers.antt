@@ -42,7 +42,7 @@ pub returns-then-growth-from : goal.returns-then-growth-from
 returns-then-growth-from c =
     let w = c.args.growth.now in
     let size = length w.node.now in
-    c.add_cells.ensures.added c.args.level [] (c.empty_node.ensures ∙ ap (λ (n : ℕ). node_bytes n c.args.level []) (c.requires.into ∙ sym w.long)) refl tt
+    c.add_cells.ensures.added size c.args.level [] (c.empty_node.ensures ∙ ap (λ (n : ℕ). node_bytes n c.args.level []) (c.requires.into ∙ sym w.long)) refl tt (c.empty_node.auto.into ∙ c.requires.into ∙ sym w.long)
     ∙ ap (node_bytes size c.args.level) (row_behind size w.node.now w.place (spelled w.entry.now) c.args.from c.args.count c.if-growth-from.true)
     ∙ ap (λ (n : ℕ). node_bytes n c.args.level (row_from n w.node.now w.place (spelled w.entry.now) c.args.from c.args.count)) w.long
 
@@ -50,7 +50,7 @@ pub returns-then-from-count : goal.returns-then-from-count
 returns-then-from-count c =
     let w = c.args.growth.now in
     let size = length w.node.now in
-    c.add_cells-then-from-count.ensures.added c.args.level [] (c.empty_node.ensures ∙ ap (λ (n : ℕ). node_bytes n c.args.level []) (c.requires.into ∙ sym w.long)) refl tt
+    c.add_cells-then-from-count.ensures.added size c.args.level [] (c.empty_node.ensures ∙ ap (λ (n : ℕ). node_bytes n c.args.level []) (c.requires.into ∙ sym w.long)) refl tt (c.empty_node.auto.into ∙ c.requires.into ∙ sym w.long)
     ∙ ap (node_bytes size c.args.level) (row_ahead size w.node.now w.place (spelled w.entry.now) c.args.from c.args.count c.if-from-count.true)
     ∙ ap (λ (n : ℕ). node_bytes n c.args.level (row_from n w.node.now w.place (spelled w.entry.now) c.args.from c.args.count)) w.long
 
@@ -67,11 +67,11 @@ returns c =
     let long : length front ≡ before = length-cells _ _ c.args.from before in
     let inside = w.inside in
     let fit = cells_fit_from size node (sized w) refl (parted w) c.args.from before (omega (arith, low, inside, w.long)) in
-    let first = c.add_cells-2.ensures.added c.args.level [] (c.empty_node.ensures ∙ ap (λ (n : ℕ). node_bytes n c.args.level []) (c.requires.into ∙ sym w.long)) refl tt in
+    let first = c.add_cells-2.ensures.added size c.args.level [] (c.empty_node.ensures ∙ ap (λ (n : ℕ). node_bytes n c.args.level []) (c.requires.into ∙ sym w.long)) refl tt (c.empty_node.auto.into ∙ c.requires.into ∙ sym w.long) in
     let part = c.value_part-part.ensures in
     let second = c.add_cell.ensures.added size c.args.level front first long fit (c.add_cells-2.auto.into ∙ c.empty_node.auto.into ∙ c.requires.into ∙ sym w.long)
     ∙ ap (λ v. node_bytes size c.args.level (front ++ (w.entry.now.key.now, v) ∷ [])) part in
     let both : FitCells (front ++ new ∷ []) = all_append (λ (d : Cell). (length d.0 ≤ 28) × (length d.1 ≡ 33)) front (new ∷ []) fit ((w.entry.now.short, length-part 32 w.entry.now.value.now w.entry.now.fits), tt) in
-    c.add_cells-3.ensures.added c.args.level (front ++ new ∷ []) second (length-append front (new ∷ []) ∙ ap (λ (n : ℕ). n + 1) long) both
+    c.add_cells-3.ensures.added size c.args.level (front ++ new ∷ []) second (length-append front (new ∷ []) ∙ ap (λ (n : ℕ). n + 1) long) both (c.add_cell.auto.into ∙ c.add_cells-2.auto.into ∙ c.empty_node.auto.into ∙ c.requires.into ∙ sym w.long)
     ∙ ap (node_bytes size c.args.level) (row_about size node w.place new c.args.from c.args.count low high)
     ∙ ap (λ (n : ℕ). node_bytes n c.args.level (row_from n node w.place new c.args.from c.args.count)) w.long

@@ -1,19 +1,15 @@
 use Rattle.iso_tree.proofs.{Words.{◌≡◌, ◌∙◌, sym, subst, ℕ, ◌+◌, ◌-◌, ◌/◌, [], ◌∷◌, ◌++◌, length, take, drop, Option, arith, w32, to_be_bytes, block_with, laid_at, with_accesses, first_access}, Facts.missing_pair, Growing.{ends_of, mark_inside, stored_map, stored_root}, Rereading.map_ok}
 use Rattle.iso_tree.proofs.first.store_first.Goals as goal
 
-pub fill_map-requires-clause-rising : goal.fill_map-requires-clause-rising
-fill_map-requires-clause-rising g c = (ends_of c.args.area c.args.news.now c.ends-low.result c.requires.news.some c.requires.news.rising c.requires.news.inside c.ends-low.ensures).rising
+pub fill_map-requires-clause-bits : goal.fill_map-requires-clause-bits
+fill_map-requires-clause-bits g c =
+    let ends = ends_of c.args.area c.args.news.now c.ends-low.result c.requires.news.some c.requires.news.rising c.requires.news.inside c.ends-low.ensures in
+    record { rising = ends.rising; inside = omega (arith, ends.below, c.requires.buffers.within.area.most, c.requires.buffers.within.area.least_size, c.requires.buffers.long) }
 
-pub fill_map-requires-clause-inside : goal.fill_map-requires-clause-inside
-fill_map-requires-clause-inside g c =
-    omega (arith, (ends_of c.args.area c.args.news.now c.ends-low.result c.requires.news.some c.requires.news.rising c.requires.news.inside c.ends-low.ensures).below, c.requires.buffers.within.area.most, c.requires.buffers.within.area.least_size, c.requires.buffers.long)
-
-pub changed_mark-changed-requires-clause-rising : goal.changed_mark-changed-requires-clause-rising
-changed_mark-changed-requires-clause-rising g c = (ends_of c.args.area c.args.news.now c.ends-low.result c.requires.news.some c.requires.news.rising c.requires.news.inside c.ends-low.ensures).rising
-
-pub changed_mark-changed-requires-clause-inside : goal.changed_mark-changed-requires-clause-inside
-changed_mark-changed-requires-clause-inside g c =
-    omega (arith, (ends_of c.args.area c.args.news.now c.ends-low.result c.requires.news.some c.requires.news.rising c.requires.news.inside c.ends-low.ensures).below, c.requires.buffers.within.area.most, c.requires.buffers.within.area.least_size, (g.met.T.TxBlocks.limits c.args.tx.now).most, c.requires.buffers.within.size)
+pub changed_mark-changed-requires : goal.changed_mark-changed-requires
+changed_mark-changed-requires g c =
+    let ends = ends_of c.args.area c.args.news.now c.ends-low.result c.requires.news.some c.requires.news.rising c.requires.news.inside c.ends-low.ensures in
+    record { rising = ends.rising; inside = omega (arith, ends.below, c.requires.buffers.within.area.most, c.requires.buffers.within.area.least_size, (g.met.T.TxBlocks.limits c.args.tx.now).most, c.requires.buffers.within.size) }
 
 pub store-requires-clause-spans : goal.store-requires-clause-spans
 store-requires-clause-spans g c =
