@@ -1,5 +1,6 @@
 -- The end of a group leaves an entry that is legal at its place.
-use Rattle.iso_shared.proofs.{Words.{◌≡◌, ◌≢◌, ◌⊎◌, inl, inr, ⊎_elim, ℕ, ◌<◌, ◌≤◌, List, [], ◌∷◌, ◌++◌, Option, Some, None, Result, Ok, Err, IfErr, OnOk, length, map, refl, sym, ap, ◌∙◌, subst, arith, unwrap_or, append-nil, append_cancel_left, IsErrOf, AllByRecursion, AreDistinct, AreEach, AreHeld, Bool, IsJoined, Posted, Shared, Standing, View, Tx, cause_of, end_of, false, handed, held_after, is_down, members_in, numbers_in, returned, IsEnd, IsMember, MAX_GROUP, MayHaveMade, ShowsFrom, hit_same, is_live, member_numbers, numbers_handed, suc, times, true, BlamesDisk, Core, StandsFor, disk_of, up, down, ShowsEither, ShowsLast, DiskState, LeavesOnly, StaysTold, weakened, Commit, CoreError, GroupEnd, GroupReply, bare_end, reply_in, group, group_is, decided, leave_all, leave_all_is, made_by, member_reply, numbers_told, ahead, end_step, with_commits, History, World, Live, Entry, Answers, IsGroup, IsLegal, Member, Holds, faults_of, with_lost, Start, State, after_group, commits_made, group_answers, lost_commits, members_of, replies_of, state_at, txs_of, with_world, ends_at, group_entry, members_at, IsPrefix}, Cores.{Did, by_lost, holds_up, is_tx, refused_down, same_faults, same_told}, Ends.{may_have, work_of}, Giving.{Lends, live_lent, refused_holds}, Grouped.after_live, Growing.{from_after, from_last}, Mades.own_on, Standings.Moved}
+use Rattle.iso_shared.proofs.{Words.{◌≡◌, ◌≢◌, ◌⊎◌, inl, inr, ⊎_elim, ℕ, ◌<◌, ◌≤◌, List, [], ◌∷◌, ◌++◌, Option, Some, None, Result, Ok, Err, IfErr, OnOk, length, map, refl, sym, ap, ◌∙◌, subst, arith, unwrap_or, append-nil, append_cancel_left, IsErrOf, AllByRecursion, AreDistinct, AreEach, AreHeld, Bool, cond, view, IsJoined, Made, MemberEnd, Posted, answered, Shared, Standing, View, Tx, cause_of, end_of, false, handed, held_after, is_down, members_in, numbers_in, returned, IsEnd, IsMember, MAX_GROUP, MayHaveMade, ShowsFrom, hit_same, is_live, member_numbers, numbers_handed, suc, times, true, BlamesDisk, Core, StandsFor, disk_of, up, down, ShowsEither, ShowsLast, DiskState, LeavesOnly, StaysTold, weakened, Commit, CoreError, GroupEnd, GroupReply, bare_end, reply_in, group, group_is, decided, leave_all, leave_all_is, made_by, member_reply, numbers_told, ahead, end_step, with_commits, History, World, Live, Entry, Answers, IsGroup, IsLegal, Member, Holds, faults_of, with_lost, Start, State, after_group, commits_made, group_answers, lost_commits, members_of, replies_of, state_at, txs_of, with_world, ends_at, group_entry, members_at, IsPrefix}, Cores.{Did, by_lost, holds_up, is_tx, refused_down, same_faults, same_told}, Ends.{may_have, work_of}, Giving.{Lends, live_lent, refused_holds}, Grouped.after_live, HandedBack.{answered_is, as_many, same_many}, Growing.{from_after, from_last}, Mades.own_on, Standings.Moved}
+use Rattle.iso_shared.specs.{Groups.{AreEnds, AreJoined}, declared.shared.Port.Port}
 use Rattle.iso_model.specs.declared.access.GroupReply.TheVariants as member
 use Rattle.iso_model.specs.declared.core_error.CoreError.TheVariants as error
 use Rattle.iso_shared.specs.declared.entry.Call.TheVariants as call
@@ -278,9 +279,35 @@ pub many_end : {D O : Type 0} → (group : List (Tx D O)) → length (map end_of
 many_end [] = refl
 many_end (t ∷ group) = ap suc (many_end group)
 
+-- what the core hands back are the members that it was handed
+pub members_last : {D O : Type 0} → (group : List (Tx D O)) (last : List GroupEnd) → map bare_end last ≡ map bare_end (map end_of group) → members_at last ≡ members_in group
+members_last group last same = same_members last (map end_of group) same ∙ members_end group
+
+-- the entry of a group that has ended, told of its members and of the replies that were put out
+pub ended_so : {D O : Type 0} → (A : Start) (v w : View Entry) (group : List (Tx D O)) (last : List GroupEnd) (replies : List GroupReply) → map bare_end last ≡ map bare_end (map end_of group)
+    → replies ≡ replies_of (ends_at last) → Made A v v (entry.EndGroup (ends_at last)) w → (length replies ≡ length group) × Made A v v (entry.EndGroup (answered (members_in group) replies)) w
+ended_so A v w group last replies same are made =
+    let members : members_at last ≡ members_in group = members_last group last same in
+    let entries : ends_at last ≡ answered (members_in group) replies = sym (answered_is last) ∙ (λ i. answered (members i) (sym are i)) in (
+      ap (λ (l : List GroupReply). length l) are ∙ as_many last ∙ members_many last ∙ same_many last (map end_of group) same ∙ many_end group,
+      subst (λ (es : List MemberEnd). Made A v v (entry.EndGroup es) w) entries made,
+    )
+
 pub numbers_member : {D O : Type 0} → (group : List (Tx D O)) → member_numbers (members_in group) ≡ numbers_in group
 numbers_member [] = refl
 numbers_member (t ∷ group) = ap (λ (ns : List ℕ). t.number ∷ ns) (numbers_member group)
+
+-- members whose passes were joined, as the core is handed them
+pub joined_ends : {D O : Type 0} → (s : Shared D O) (A : Start) (p : Port D O) (group : List (Tx D O)) (ends : List GroupEnd) → ends ≡ map end_of group → AreJoined s A p group → AreEnds s A p ends
+joined_ends s A p group ends are j =
+    let many = many_end group in
+    subst (AreEnds s A p) (sym are) (record {
+      port = j.port;
+      each = ends_of_joined s A (view p.pass).seen group j.each;
+      some = omega (arith, many, j.some);
+      most = omega (arith, many, j.most);
+      held = subst (λ (ns : List ℕ). AreHeld ns (view p.pass).holds × AreDistinct ns) (sym (numbers_end group)) j.held;
+    })
 
 pub joined_args : {D O : Type 0} → (s : Shared D O) (A : Start) (es seen : List Entry) (group : List (Tx D O)) → IsPrefix seen es → AllByRecursion (IsJoined s A seen) group → 0 < length group → length group ≤ MAX_GROUP
     → AreDistinct (numbers_in group) → IsGroup (state_at A es).world (members_in group)
@@ -290,9 +317,19 @@ joined_args s A es seen group p all some most distinct =
     (group_args A es seen (map end_of group) p (ends_of_joined s A seen group all) (omega (arith, many, some)) (omega (arith, many, most)) (subst AreDistinct (sym (numbers_end group)) distinct))
 
 pub did_wanting : {D : Type 0} → (disk : D → DiskState) (S : State) (core : Core D) (members : List Member) (e : CoreError) (fell : Bool) → Holds disk core S → IsGroup S.world members
-    → ((W : World) (standing : Standing) → StandsFor disk core W standing → fell ≡ is_down standing) → (fell ≡ true → e ≡ error.Down) → (fell ≡ false → e ≡ error.Memory)
+    → ((W : World) (standing : Standing) → StandsFor disk core W standing → fell ≡ is_down standing) → e ≡ cond fell error.Down error.Memory
     → Did disk S core (entry.Refused (call.EndGroup members) (cause_of 0 0 e))
-did_wanting disk S core members e fell h args told as_down as_wanting = grind (arith, by_lost)
+did_wanting disk S core members e fell h args told why =
+    let as_down : fell ≡ true → e ≡ error.Down = λ is. why ∙ ap (λ (b : Bool). cond b error.Down error.Memory) is in
+    let as_wanting : fell ≡ false → e ≡ error.Memory = λ is. why ∙ ap (λ (b : Bool). cond b error.Down error.Memory) is in
+    grind (arith, by_lost)
+
+pub wants_only : (e : CoreError) (fell : Bool) → e ≡ cond fell error.Down error.Memory → (e ≡ error.Down) ⊎ (e ≡ error.Memory)
+wants_only e true why = inl why
+wants_only e false why = inr why
+
+pub not_disk : (e : CoreError) → e ≢ error.Disk → (e ≡ error.Down) ⊎ (e ≡ error.Disk) ⊎ (e ≡ error.Memory) → (e ≡ error.Down) ⊎ (e ≡ error.Memory)
+not_disk e other only = ⊎_elim (λ (d : e ≡ error.Down). inl d) (⊎_elim (λ (x : e ≡ error.Disk). absurd (other x)) (λ (m : e ≡ error.Memory). inr m)) only
 
 pub wanting_holds : (members : List Member) (e : CoreError) (holds : List ℕ) → (e ≡ error.Down) ⊎ (e ≡ error.Memory) → held_after handed returned (entry.Refused (call.EndGroup members) (cause_of 0 0 e)) holds ≡ holds
 wanting_holds members e holds only = refused_holds 0 0 (call.EndGroup members) e holds (λ is. absurd (⊎_elim (λ (x : e ≡ error.Down). cc (x, is)) (λ (x : e ≡ error.Memory). cc (x, is)) only))

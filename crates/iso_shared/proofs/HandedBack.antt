@@ -115,6 +115,22 @@ module _ {D O : Type 0} (s : Shared D O) (A : Start) where
     group = (note_of_on (view q.pass).seen (view r.pass).seen t u more.seen one.group.0, more.group);
   }
 
+-- numbers that others hold, once one of another number is split off
+still_one : (m n : ℕ) (ns : List ℕ) → (n == m) ≡ false → 0 < times m ns → 0 < times m (without (n ∷ []) ns)
+still_one m n ns other held =
+    let not_it : is_among m (n ∷ []) ≡ false = ap (λ (b : Bool). b || false) other in
+    omega (arith, times_without m (n ∷ []) ns, ap (λ (b : Bool). cond b 0 (times m ns)) not_it, held)
+
+not_first : (m n : ℕ) (b : Bool) → (m == n) ≡ b → cond {A = ℕ} b 1 0 ≡ 0 → (n == m) ≡ false
+not_first m n true is none = absurd (omega (arith, none))
+not_first m n false is none = grind (arith, nat_tests)
+
+still_held : (n : ℕ) (ms holds : List ℕ) → times n ms ≡ 0 → AreHeld ms holds → AreHeld ms (without (n ∷ []) holds)
+still_held n [] holds none held = tt
+still_held n (m ∷ ms) holds none held =
+    let first : hit m n ≡ 0 = omega (arith, none) in
+    (still_one m n holds (not_first m n (m == n) refl first) held.0, still_held n ms holds (omega (arith, none)) held.1)
+
 module _ {D O : Type 0} (s : Shared D O) where
   -- a port takes in the note of a member, and a pass that it gave before takes its place
   pub parts_one : (t : Tx D O) (mid note part left : PassOf (Guarded D O) Stamped) (old new : Port D O) → IsSplit s.lock (Some t.number) 1 old.pass mid part → HasJoined mid new.pass note → note ≡ t.pass → left ≡ part
@@ -148,12 +164,11 @@ module _ {D O : Type 0} (s : Shared D O) where
   pub part_first : (t : Tx D O) (ts : List (Tx D O)) (p : Port D O) → MayPart s (t ∷ ts) p → MayPart s (t ∷ []) p
   part_first t ts p may = record { port = may.port; units = (let a = may.units in omega (arith, a)); held = (may.held.0, tt); distinct = (refl, tt); group = (may.group.0, tt) }
 
-  pub part_rest : (t u : Tx D O) (ts : List (Tx D O)) (p q : Port D O) → PartsWith s (t ∷ []) (u ∷ []) p q → ((ns : List ℕ) → times t.number ns ≡ 0 → AreHeld ns (view p.pass).holds → AreHeld ns (view q.pass).holds)
-      → MayPart s (t ∷ ts) p → MayPart s ts q
-  part_rest t u ts p q parts others may = record {
+  pub part_rest : (t u : Tx D O) (ts : List (Tx D O)) (p q : Port D O) → PartsWith s (t ∷ []) (u ∷ []) p q → (view q.pass).holds ≡ without (t.number ∷ []) (view p.pass).holds → MayPart s (t ∷ ts) p → MayPart s ts q
+  part_rest t u ts p q parts holds may = record {
     port = parts.port;
     units = let a = parts.units in let b = may.units in omega (arith, a, b);
-    held = others (numbers_in ts) may.distinct.0 may.held.1;
+    held = subst (λ (hs : List ℕ). AreHeld (numbers_in ts) hs) (sym holds) (still_held t.number (numbers_in ts) (view p.pass).holds may.distinct.0 may.held.1);
     distinct = may.distinct.1;
     group = subst (λ (l : List Entry). AllByRecursion (IsNote s l) ts) (sym parts.seen) may.group.1;
   }
@@ -166,22 +181,6 @@ module _ {D O : Type 0} (s : Shared D O) where
     mine = more.mine ∙ one.mine;
     group = (one.group.0, subst (λ (l : List Entry). ArePaired (IsPartOf s l) ts us) one.seen more.group);
   }
-
--- numbers that others hold, once one of another number is split off
-still_one : (m n : ℕ) (ns : List ℕ) → (n == m) ≡ false → 0 < times m ns → 0 < times m (without (n ∷ []) ns)
-still_one m n ns other held =
-    let not_it : is_among m (n ∷ []) ≡ false = ap (λ (b : Bool). b || false) other in
-    omega (arith, times_without m (n ∷ []) ns, ap (λ (b : Bool). cond b 0 (times m ns)) not_it, held)
-
-not_first : (m n : ℕ) (b : Bool) → (m == n) ≡ b → cond {A = ℕ} b 1 0 ≡ 0 → (n == m) ≡ false
-not_first m n true is none = absurd (omega (arith, none))
-not_first m n false is none = grind (arith, nat_tests)
-
-pub still_held : (n : ℕ) (ms holds : List ℕ) → times n ms ≡ 0 → AreHeld ms holds → AreHeld ms (without (n ∷ []) holds)
-still_held n [] holds none held = tt
-still_held n (m ∷ ms) holds none held =
-    let first : hit m n ≡ 0 = omega (arith, none) in
-    (still_one m n holds (not_first m n (m == n) refl first) held.0, still_held n ms holds (omega (arith, none)) held.1)
 
 pub split_holds : (n : ℕ) (old kept other new : View Entry) → kept ≡ kept_part (Some n) 1 old → other.holds ≡ [] → new ≡ both kept other → new.holds ≡ without (n ∷ []) old.holds
 split_holds n old kept other new is none joined = grind arith
@@ -213,6 +212,11 @@ module _ {D O : Type 0} where
   pub joined_notes : (s : Shared D O) (A : Start) (xs ys : List Entry) (ts : List (Tx D O)) → IsPrefix xs ys → AllByRecursion (IsJoined s A xs) ts → AllByRecursion (IsNote s ys) ts
   joined_notes s A xs ys [] p all = tt
   joined_notes s A xs ys (t ∷ ts) p all = (note_on s A xs ys t p all.0.note, joined_notes s A xs ys ts p all.1)
+
+  -- the first ones are notes where all are, and the last one
+  pub front_notes : (s : Shared D O) (xs : List Entry) (front : List (Tx D O)) (t : Tx D O) → AllByRecursion (IsNote s xs) (front ++ t ∷ []) → AllByRecursion (IsNote s xs) front × IsNote s xs t
+  front_notes s xs [] t all = (tt, all.0)
+  front_notes s xs (u ∷ front) t all = let rest = front_notes s xs front t all.1 in ((all.0, rest.0), rest.1)
 
   pub taken_notes : (s : Shared D O) (xs : List Entry) (ts us : List (Tx D O)) → ArePaired IsTaken ts us → AllByRecursion (IsNote s xs) ts → AllByRecursion (IsNote s xs) us
   taken_notes s xs [] [] pairs all = tt

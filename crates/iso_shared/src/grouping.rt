@@ -1,10 +1,9 @@
 // The end of a group of transactions, in one turn.
-ghost use Rattle.std.specs.{Prelude.{◌≡◌, ◌≢◌, ◌⊎◌, ℕ, ◌+◌, ◌<◌, ◌≤◌, List, [], IfErr, IfOk, IfSome, IfNone, MatchResult, OnOk, length, map, true, false, vec_capacity, vec_len}, List.AllByRecursion};
+ghost use Rattle.std.specs.{Prelude.{◌≡◌, ◌≢◌, ◌⊎◌, ℕ, ◌+◌, ◌<◌, ◌≤◌, IfErr, IfOk, IfSome, IfNone, cond, length, map, vec_capacity, vec_len}, List.AllByRecursion};
 ghost use Rattle.iso_core.specs.{declared.group_end.TheConstants.MAX_GROUP, Planned.bare_end};
 ghost use Rattle.iso_model.specs.declared.core_error.CoreError.TheVariants.{Disk as OfDisk, Down as OfDown, Memory as OfMemory};
 ghost use Rattle.iso_shared.specs.declared.entry.Call.TheVariants as TheCall;
-ghost use Rattle.iso_shared.specs.{declared.entry.Entry.TheVariants.{EndGroup, Refused}, Groups.{AreEnds, AreJoined, ArePaired, HasRefused, HasTurned, IsBack, IsNote, IsRoom, IsTaken, MadeAt, MadeRefusal, answered, end_of, units_of}, Passes.{IsGiven, MayGive}, Ports.{IsPort, IsSameTx, IsTx, MadeAll, port_view, tx_view}, Told.{cause_of, group_entry, members_at, members_in, wanting_entry}, Stamps.stamped};
-ghost use Rattle.turn_lock.specs.Lock.{turn_value};
+ghost use Rattle.iso_shared.specs.{declared.entry.Entry.TheVariants.{EndGroup, Refused}, Groups.{AreEnds, AreJoined, ArePaired, HasRefused, HasTurned, IsBack, IsNote, IsRoom, MadeAt, MadeRefusal, answered, units_of}, Passes.{IsGiven, MayGive}, Ports.{IsPort, IsSameTx, IsTx, MadeAll, port_view, tx_view}, Told.{cause_of, group_entry, members_in, wanting_entry}};
 
 use crate::guarded::{Guarded, Origin, Stamped};
 use crate::shared::{Port, Shared};
@@ -22,9 +21,7 @@ use turn_lock::{Names, Pass, Turn};
 
 // Why a group is refused for whose works or replies memory is wanting.
 fn wanting(down: bool) -> CoreError
-    ensures down { down ≡ true → result ≡ OfDown }
-    ensures up { down ≡ false → result ≡ OfMemory }
-    ensures only { (result ≡ OfDown) ⊎ (result ≡ OfMemory) }
+    ensures { result ≡ cond down OfDown OfMemory }
 {
     if down {
         CoreError::Down
@@ -75,8 +72,7 @@ impl<D: Disk + Drop, O: Origin> Shared<D, O> {
         group: &[Tx<D, O>],
         error: CoreError,
     )
-        requires named { N.entry ≡ stamped D.state (turn_value turn).core (wanting_entry group.now error) }
-        requires may { MayGive D.state O.start O.disk self.now.lock pass.old turn N.entry }
+        requires { MayGive D.state O.start O.disk self.now.lock pass.old turn N.entry }
         ensures { IsGiven O.start self.now.lock pass.old pass.new N.entry }
     {
         let _ = group;
@@ -102,37 +98,6 @@ impl<D: Disk + Drop, O: Origin> Shared<D, O> {
         error
     }
 
-    // The end of members whose works were taken. Their replies are put out, or their works are given back.
-    fn end_works<R: Wait>(
-        &self,
-        rt: &R,
-        port: &mut Port<D, O>,
-        group: &mut [Tx<D, O>],
-        ends: &mut [GroupEnd],
-        replies: &mut Vec<GroupReply>,
-    ) -> Result<(), CoreError>
-        requires group { AreEnds self.now O.start port.old ends.old }
-        requires each { length group.old ≡ length ends.old }
-        requires none { replies.old.items ≡ [] }
-        requires room { vec_len replies.old + length ends.old ≤ vec_capacity replies.old }
-        ensures turn { HasTurned self.now port.old port.new result }
-        ensures ok { OnOk result ((length replies.new.items ≡ length ends.old) × MadeAt O.start port.old (EndGroup (answered (members_at ends.old) replies.new.items)) port.new) }
-        ensures err { IfErr result (λ e. MadeRefusal O.start port.old (members_at ends.old) e port.new) }
-        ensures taken { (ts : List (Tx D O)) → ArePaired IsTaken ts group.old → ArePaired IsTaken ts group.new }
-        ensures back { IfErr result (λ _. (ts : List (Tx D O)) → ends.old ≡ map end_of ts → ArePaired IsTaken ts group.old → ArePaired IsSameTx ts group.new) }
-    {
-        match self.end_at_turn(rt, port, ends) {
-            Ok(()) => {
-                put_replies(ends, replies);
-                Ok(())
-            }
-            Err(error) => {
-                give_works(group, ends);
-                Err(error)
-            }
-        }
-    }
-
     // The end of members whose passes were joined into the port. Where it is refused, their works are back.
     fn end_joined<R: Wait>(
         &self,
@@ -152,44 +117,16 @@ impl<D: Disk + Drop, O: Origin> Shared<D, O> {
             return Err(self.refuse_at_turn(rt, port, group));
         };
         take_works(self.alloc, &self.geometry(), group, &mut ends);
-        match self.end_works(rt, port, group, ends.as_mut_slice(), &mut replies) {
-            Ok(()) => Ok(ReplyList::of(replies)),
-            Err(error) => Err(error),
-        }
-    }
-
-    // The end of members, whose passes go to the port. Where it is refused they are split off again.
-    fn end_members<R: Wait>(
-        &self,
-        rt: &R,
-        port: &mut Port<D, O>,
-        group: &mut [Tx<D, O>],
-    ) -> Result<ReplyList, CoreError>
-        requires port { IsPort self.now port.old }
-        requires group { AllByRecursion (IsTx self.now O.start) group.old }
-        requires some { 0 < length group.old }
-        requires most { length group.old ≤ MAX_GROUP }
-        ensures port { IsPort self.now port.new }
-        ensures only { IfErr result (λ e. (e ≡ OfDown) ⊎ (e ≡ OfDisk) ⊎ (e ≡ OfMemory)) }
-        ensures ok { IfOk result (λ replies. (length replies ≡ length group.old) × ((port_view port.new).units ≡ (port_view port.old).units + units_of group.old)
-            × MadeAll O.start (port_view port.old) (map tx_view group.old) (EndGroup (answered (members_in group.old) replies)) (port_view port.new)) }
-        ensures err { IfErr result (λ e. (before : ℕ) × (now : ℕ) × MadeAll O.start (port_view port.old) (map tx_view group.old) (Refused (TheCall.EndGroup (members_in group.old)) (cause_of before now e)) (port_view port.new)) }
-        ensures gone { IfErr result (λ e. e ≡ OfDisk → (port_view port.new).units ≡ (port_view port.old).units + units_of group.old) }
-        ensures many { length group.new ≡ length group.old }
-        ensures notes { MatchResult result (λ _. AllByRecursion (IsNote self.now (port_view port.new).seen) group.new) (λ e. e ≡ OfDisk → AllByRecursion (IsNote self.now (port_view port.new).seen) group.new) }
-        ensures back { IfErr result (λ e. e ≢ OfDisk → ((port_view port.new).units + length group.old ≡ (port_view port.old).units + units_of group.old)
-            × ArePaired (IsBack self.now O.start (port_view port.new).seen) group.old group.new) }
-    {
-        self.join_members(port, group);
-        match self.end_joined(rt, port, group) {
-            Ok(replies) => Ok(replies),
-            Err(error) => match error {
-                CoreError::Disk => Err(CoreError::Disk),
-                other => {
-                    self.split_members(port, group);
-                    Err(other)
-                }
-            },
+        let handed = ends.as_mut_slice();
+        match self.end_at_turn(rt, port, handed) {
+            Ok(()) => {
+                put_replies(handed, &mut replies);
+                Ok(ReplyList::of(replies))
+            }
+            Err(error) => {
+                give_works(group, handed);
+                Err(error)
+            }
         }
     }
 
@@ -222,7 +159,9 @@ impl<D: Disk + Drop, O: Origin> Shared<D, O> {
             × ((before : ℕ) × (now : ℕ) × MadeAll O.start (port_view port.old) (map tx_view group.items) (Refused (TheCall.EndGroup (members_in group.items)) (cause_of before now e.0)) (port_view port.new)))) }
         ensures again { IfErr result (λ e. IfSome e.1 (λ back. AllByRecursion (IsTx self.now O.start) back.items × (units_of back.items ≡ length group.items) × (length back.items ≡ length group.items))) }
     {
-        match self.end_members(rt, port, group.as_mut_slice()) {
+        let members = group.as_mut_slice();
+        self.join_members(port, members);
+        match self.end_joined(rt, port, members) {
             Ok(replies) => {
                 self.spend_members(port, group);
                 Ok(replies)
@@ -232,7 +171,10 @@ impl<D: Disk + Drop, O: Origin> Shared<D, O> {
                     self.spend_members(port, group);
                     Err((CoreError::Disk, None))
                 }
-                other => Err((other, Some(group))),
+                other => {
+                    self.split_members(port, members);
+                    Err((other, Some(group)))
+                }
             },
         }
     }

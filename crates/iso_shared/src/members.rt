@@ -1,8 +1,8 @@
 // The passes of the members of a group: they are joined into a port, and split off again.
-ghost use Rattle.std.specs.{Prelude.{◌≡◌, ℕ, ◌+◌, ◌<◌, List, [], ◌∷◌, IfNone, IfSome, length, vec_len}, List.AllByRecursion};
-ghost use Rattle.iso_shared.specs.{declared.entry.Entry.Entry, Groups.{Gathers, IsBack, IsNote, MayPart, PartsWith, TakesNotes}, Ports.{IsPort, IsTx, number_of, port_view, tx_view}};
+ghost use Rattle.std.specs.{Prelude.{◌≡◌, ℕ, ◌+◌, [], ◌∷◌}, List.AllByRecursion};
+ghost use Rattle.iso_shared.specs.{Groups.{Gathers, IsBack, IsNote, MayPart, PartsWith, TakesNotes}, Ports.{IsPort, IsTx, number_of, port_view, tx_view}};
 ghost use mathlib.Core.List.{IsPrefix};
-ghost use Rattle.turn_lock.specs.{Lists.times, Numbers.AreHeld};
+ghost use Rattle.turn_lock.specs.{Lists.times, Numbers.without};
 
 use crate::guarded::Origin;
 use crate::shared::{Port, Shared};
@@ -41,7 +41,7 @@ impl<D: Disk + Drop, O: Origin> Shared<D, O> {
     fn split_member(&self, port: &mut Port<D, O>, tx: &mut Tx<D, O>)
         requires { MayPart self.now (tx.old ∷ []) port.old }
         ensures parts { PartsWith self.now (tx.old ∷ []) (tx.new ∷ []) port.old port.new }
-        ensures others { (ns : List ℕ) → times (number_of tx.old) ns ≡ 0 → AreHeld ns (port_view port.old).holds → AreHeld ns (port_view port.new).holds }
+        ensures holds { (port_view port.new).holds ≡ without (number_of tx.old ∷ []) (port_view port.old).holds }
     {
         let pass = self.lock.split(&mut port.pass, Some(tx.number), 1);
         let note = mem::replace(&mut tx.pass, pass);
@@ -75,16 +75,6 @@ impl<D: Disk + Drop, O: Origin> Shared<D, O> {
         self.split_members(port, rest);
     }
 
-    // Takes the last of several notes off.
-    fn pop_note(&self, group: &mut Vec<Tx<D, O>>) -> Option<Tx<D, O>>
-        ensures rest { (seen : List Entry) → AllByRecursion (IsNote self.now seen) group.old.items → AllByRecursion (IsNote self.now seen) group.new.items }
-        ensures note { (seen : List Entry) → AllByRecursion (IsNote self.now seen) group.old.items → IfSome result (IsNote self.now seen) }
-        ensures fewer { IfSome result (λ _. length group.new.items < length group.old.items) }
-        ensures empty { IfNone result (vec_len group.new ≡ 0) }
-    {
-        group.pop()
-    }
-
     // Joins a note into the port.
     fn spend_note(&self, port: &mut Port<D, O>, tx: Tx<D, O>)
         requires port { IsPort self.now port.old }
@@ -106,7 +96,7 @@ impl<D: Disk + Drop, O: Origin> Shared<D, O> {
         requires group { AllByRecursion (IsNote self.now (port_view port.old).seen) group.items }
         ensures { TakesNotes self.now port.old port.new }
     {
-        let Some(tx) = self.pop_note(&mut group) else {
+        let Some(tx) = group.pop() else {
             group.destroy_empty();
             return;
         };

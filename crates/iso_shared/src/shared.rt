@@ -93,8 +93,7 @@ impl<D: Disk + Drop, O: Origin> Shared<D, O> {
         before: Snapshot<Core<D>>,
         told: Told,
     )
-        requires named { N.entry ≡ told_turn D.state before.value (turn_value turn).core told }
-        requires may { MayGive D.state O.start O.disk self.now.lock pass.old turn N.entry }
+        requires { MayGive D.state O.start O.disk self.now.lock pass.old turn N.entry }
         ensures { IsGiven O.start self.now.lock pass.old pass.new N.entry }
     {
         let _ = before;

@@ -11,7 +11,7 @@ pub split_members-requires : goal.split_members-requires
 split_members-requires g t c κs within =
     let s = c.args.self.now in
     let may = subst (λ ts. MayPart s ts c.args.port.now) c.in-Some.ensures.cases.0 c.requires in
-    let rest = part_rest s c.in-Some.tx.now c.split_member.new.tx c.in-Some.rest.now c.args.port.now c.split_member.new.port c.split_member.ensures.parts c.split_member.ensures.others may in
+    let rest = part_rest s c.in-Some.tx.now c.split_member.new.tx c.in-Some.rest.now c.args.port.now c.split_member.new.port c.split_member.ensures.parts c.split_member.ensures.holds may in
     (first_of (search rules, grind (arith, common_steps)), (search rules, (search rules, rest)))
 
 pub returns : goal.returns

@@ -1,12 +1,12 @@
-use Rattle.iso_shared.proofs.{Words.{view, arith, inl, inr, [], ap, refl, rules, sym, ◌≡◌, ◌∙◌, ⊎_elim, subst, Err, ℕ, List, AreHeld, members_in, numbers_in, state_at, wanting_entry}, Giving.{entry_keeps, entry_may, lends, stands_call}, Groupings.{did_wanting, joined_args, numbers_member, wanting_holds}, Mades.{turn_made, turn_seen}}
+use Rattle.iso_shared.proofs.{Words.{view, arith, inl, inr, [], ap, refl, rules, sym, ◌≡◌, ◌∙◌, ⊎_elim, subst, Err, ℕ, List, AreHeld, members_in, numbers_in, state_at, wanting_entry}, Giving.{entry_keeps, entry_may, lends, stands_call}, Groupings.{did_wanting, joined_args, numbers_member, wanting_holds, wants_only}, Mades.{turn_made, turn_seen}}
 use Rattle.std.proofs.lemmas.Grind.{common_steps}
 use Rattle.iso_model.specs.declared.core_error.CoreError.TheVariants as error
 use Rattle.iso_shared.specs.declared.entry.Call.TheVariants as call
 use Rattle.iso_shared.specs.declared.entry.Entry.TheVariants as entry
 use Rattle.iso_shared.proofs.shared.Shared.refuse_at_turn.Goals as goal
 
-pub give_wanting-requires-clause-may : goal.give_wanting-requires-clause-may
-give_wanting-requires-clause-may g c =
+pub give_wanting-requires : goal.give_wanting-requires
+give_wanting-requires g c =
     let d = g.D.Disk.state in
     let A = g.O.Origin.start in
     let es = (view c.take-turn.new.pass).seen in
@@ -26,7 +26,7 @@ give_wanting-requires-clause-may g c =
       turn = search rules;
       value =
           stands_call l lent e e may refl (inl refl)
-          (did_wanting d S lent members why c.stat.result.down l.at.core args (λ W standing stands. ap (λ t. t.down) (c.stat.ensures W standing stands)) c.wanting-error.ensures.down c.wanting-error.ensures.up)
+          (did_wanting d S lent members why c.stat.result.down l.at.core args (λ W standing stands. ap (λ t. t.down) (c.stat.ensures W standing stands)) c.wanting-error.ensures)
           (entry_keeps 0 0 (call.EndGroup members) (λ (done : Unit {0}). entry.EndGroup []) (λ x T. refl) (Err why));
       held = may;
     }
@@ -34,7 +34,7 @@ give_wanting-requires-clause-may g c =
 pub returns-clause-turn : goal.returns-clause-turn
 returns-clause-turn g c =
     let why = c.wanting-error.result in
-    let only = c.wanting-error.ensures.only in
+    let only = wants_only why c.stat.result.down c.wanting-error.ensures in
     record {
       port = first_of (search rules, grind (arith, common_steps));
       units = first_of (search rules, grind (arith, common_steps));
