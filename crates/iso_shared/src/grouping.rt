@@ -64,7 +64,7 @@ impl<D: Disk + Drop, O: Origin> Shared<D, O> {
         result
     }
 
-    // Gives the turn back, with the entry of a group that is refused before the core was asked.
+    // Gives the turn back, with the entry that `N` names by a group and why it is refused before the core was asked.
     fn give_wanting<N: Names<Stamped>>(
         &self,
         pass: &mut Pass<Guarded<D, O>>,

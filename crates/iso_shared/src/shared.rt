@@ -85,7 +85,7 @@ impl<D: Disk + Drop, O: Origin> Shared<D, O> {
         self.geometry
     }
 
-    // Gives the turn back, with an entry that says what the call did, and the moment of now.
+    // Gives the turn back, with the entry and the moment that `N` names by the core `before` and by what is `told`.
     fn give_as<N: Names<Stamped>>(
         &self,
         pass: &mut Pass<Guarded<D, O>>,
