@@ -18,6 +18,7 @@ pub mod Left
 pub mod Meets
 pub mod Naming
 pub mod Mirrored
+pub mod Putting
 pub mod Raises
 pub mod Rows
 pub mod Settled

@@ -1,5 +1,5 @@
 -- A side while its epoch is raised.
-use Rattle.mirror_disk.proofs.{Words.{◌≡◌, inl, inr, ⊎_elim, ℕ, ◌+◌, ◌<◌, ◌≤◌, List, length, take, drop, get_or, Option, Some, None, Result, Ok, Err, OnOk, OnErr, refl, sym, ◌∙◌, ap, arith, option_map, same_Some, drop-drop, drop-take, get_or-take, take-take, slice_index, ◌^◌, w64, from_be_bytes, from_be_bytes-to_be_bytes_8, DiskState, IsLawful, IsSettled, LeavesOnly, Splices, TellsTorn, TornFrom, spliced, spliced_torn, length-contents, at_end, IsClosed, IsOpen, Slot, body, number_at, slot_body, last_epoch, HasEpoch, KeepsBody, Raising, Still, HoldsEpoch, IsLaid, place, other}, Epochs.{body-torn, body_stays, body_written, gate_written, open_raises, shut_stays}}
+use Rattle.mirror_disk.proofs.{Words.{◌≡◌, inl, inr, ⊎_elim, ℕ, ◌+◌, ◌<◌, ◌≤◌, List, length, take, drop, get_or, Option, Some, None, Result, Ok, Err, OnOk, OnErr, refl, sym, ◌∙◌, ap, arith, option_map, same_Some, drop-drop, drop-take, get_or-take, take-take, slice_index, ◌^◌, w64, from_be_bytes, from_be_bytes-to_be_bytes_8, DiskState, IsLawful, IsSettled, LeavesOnly, Splices, TellsTorn, TornFrom, spliced, spliced_torn, length-contents, at_end, IsClosed, IsOpen, Slot, body, number_at, slot_body, last_epoch, HasEpoch, KeepsBody, Raising, Still, HoldsEpoch, place, other}, Epochs.{body-torn, body_stays, body_written, gate_written, open_raises, shut_stays}}
 
 -- nothing is written
 pub keeps_same : {old new : DiskState} → new.contents ≡ old.contents → KeepsBody old new
@@ -112,8 +112,3 @@ holds_body gate next x fits is = record {
   zeros = sym (take-take 7 15 (drop (gate + 1) x) (omega arith)) ∙ ap (take 7) is;
   number = number_of_body gate next x fits is;
 }
-
--- what a body that was put leaves
-pub laid_so : {T E : Type 0} (d : DiskState) (gate e : ℕ) (r : Result T E) → ((x : List ℕ) → d.now x → IsClosed gate x) → OnOk r ((x : List ℕ) → d.now x → HoldsEpoch gate e x) → OnOk r (IsSettled d) → OnOk r (IsLaid gate e d)
-laid_so d gate e (Ok x) closed holds settled = record { closed = closed; holds = holds; settled = settled }
-laid_so d gate e (Err x) closed holds settled = tt

@@ -1,5 +1,5 @@
 -- The other side while it is made as the one that was chosen.
-use Rattle.mirror_disk.proofs.{Words.{◌≡◌, inl, inr, ⊎_elim, ℕ, ◌+◌, ◌≤◌, List, Some, None, sym, ◌∙◌, ap, arith, same_Some, DiskState, IsLawful, IsSettled, LeavesOnly, TellsTorn, TornFrom, WritesNothing, at_end, joined, weakened, Slot, AreAlike, OfChosen, OfOther, body, epoch, HasEpoch, IsMarked, KeepsBody, Raising, TellsOn}, Ended.{keeps_on, marked_on, tells_on}, Epochs.epoch-torn, Headers.header_behind, Raises.told_before}
+use Rattle.mirror_disk.proofs.{Words.{◌≡◌, ◌≢◌, inl, inr, ⊎_elim, ℕ, ◌+◌, ◌≤◌, Bool, List, Ok, Option, IfSome, Some, None, Rose, sym, ◌∙◌, ap, arith, same_Some, DiskState, IsLawful, IsSettled, LeavesOnly, TellsTorn, TornFrom, WritesNothing, at_end, joined, weakened, Mark, Slot, AreAlike, AreChosen, Copies, IsCopied, MakesAlike, OfChosen, OfOther, body, epoch, HasEpoch, IsMarked, KeepsBody, Raising, TellsOn}, Ended.{keeps_on, marked_on, tells_on}, Epochs.epoch-torn, Handed.later_twice, Headers.header_behind, Raises.told_before}
 
 -- the other side goes on telling its bytes while they are copied, and while its epoch is raised
 pub tells_copied : {old new : DiskState} {k n : ℕ} → TellsTorn k n old new → TellsOn old new
@@ -54,6 +54,26 @@ alike_raised from new_from mid new one slot next laws still chosen raised settle
   second = raised;
   settled = settled;
   agree = λ x y told told'. let c = told_before keeps y told' in sym (c.2 ∙ copied x c.0 (sym still.same_contents ∙ told) c.1);
+}
+
+-- two sides of which one was chosen, once its bytes were copied: the other one is marked
+pub mark_behind : {E : Type 0} {from to new_from mid : DiskState} {count : ℕ} {done : Bool} (one two : Mark) → IsLawful to → IsLawful mid → AreChosen from to count one two → Copies {E = E} from to new_from mid 64 count (IsCopied from) (Ok done) → IsMarked two.slot two.epoch mid
+mark_behind {from = from} {to = to} {mid = mid} {count = count} one two law_to law_mid are copies = copied_mark from to mid count two.slot two.epoch one.epoch law_to law_mid are.settled.1 are.behind copies.moments copies.torn
+
+-- what was made of both, where its epoch was raised then, or was not
+pub made_raised : {E F : Type 0} {from to new_from mid new : DiskState} {count : ℕ} {done : Bool} (one two : Mark) (answer : Option Slot) → IsLawful to → IsLawful mid → AreChosen from to count one two → Copies {E = E} from to new_from mid 64 count (IsCopied from) (Ok done) → IsCopied from mid
+    → (two.epoch ≢ one.epoch) → LeavesOnly mid new (Raising two.epoch one.epoch mid) → KeepsBody mid new → mid.faults ≤ new.faults → IfSome answer (λ s. AreAlike new_from new one.epoch one.slot s) → (answer ≡ None → Rose to.faults new.faults) → MakesAlike {E = F} from to new_from new one two (Ok answer)
+made_raised {from = from} {to = to} {mid = mid} {new = new} {count = count} one two answer law_to law_mid are copies copied other raise keeps later alike left = record {
+  made = record {
+    moments = raised_moments from to mid count two.slot two.epoch one.epoch law_to law_mid are.settled.1 are.behind copies.moments new copies.torn raise copied.alike;
+    tells = tells_raised copies.torn keeps;
+    alike = alike;
+    left = left;
+  };
+  unwritten = copies.unwritten;
+  still = λ same. absurd (other same);
+  cause = record { later = copies.cause.later; failed = λ is. absurd (cc is); passed = copies.cause.passed };
+  later = later_twice _ _ _ copies.later later;
 }
 
 -- the side that was chosen, as it was settled

@@ -1,5 +1,5 @@
 -- What an adopt makes of the side that it chose, and of the other one.
-use Rattle.std.specs.{Prelude.{◌≡◌, ◌≢◌, ◌⊎◌, ℕ, ◌+◌, ◌<◌, ◌≤◌, List, [], length, Bool, false, Option, Some, None, Result, IfOk, IfSome, OnErr, OnOk}, Option.ForSome}
+use Rattle.std.specs.{Prelude.{◌≡◌, ◌≢◌, ◌⊎◌, ℕ, ◌+◌, ◌<◌, ◌≤◌, List, [], length, take, drop, Bool, true, false, Option, Some, None, Result, IfOk, IfSome, OnErr, OnOk}, Option.ForSome}
 use Rattle.counts.specs.Count.{HasCause, Rose}
 use Rattle.iso_disk.specs.Disk.{DiskState, IsSettled, LeavesOnly, TellsTorn, TornFrom, WritesNothing}
 use Rattle.mirror_disk.specs.{declared.marks.Marks.Marks, declared.slot.{Mark.Mark, Slot.Slot}, declared.used.Used.TheVariants.{Broken, OnlyFirst, OnlySecond}, Header.{IsHeader, body, chosen, epoch, last_epoch}, Pairs.{ChosenOf, chosen_told, mirrored}, Raised.{EachNow, HasEpoch, HasMark, KeepsBody}, Slots.other, Standing.{IsPair, StandsBy}}
@@ -79,8 +79,9 @@ pub record TakesOver {E : Type 0} (from to new_from new_to : DiskState) (chosen 
   pub cause : OnErr result (Rose from.faults new_from.faults ⊎ ((last_epoch ≤ chosen.epoch) × Rose to.faults new_to.faults))
   pub later : (from.faults ≤ new_from.faults) × (to.faults ≤ new_to.faults)
 
--- what a copy of n bytes from `at` on makes of the other side, where it writes what differs: false where that side failed
-pub record Copies {E : Type 0} (from to new_from new_to : DiskState) (at n : ℕ) (result : Result Bool E) : Type 0 where
+-- What a copy of n bytes from `at` on makes of the other side, where it writes what differs: false where that side failed. `Has` is so of
+-- that side where it was done.
+pub record Copies {E : Type 0} (from to new_from new_to : DiskState) (at n : ℕ) (Has : DiskState → Type 0) (result : Result Bool E) : Type 0 where
   pub unwritten : WritesNothing from new_from
   pub moments : LeavesOnly to new_to (TornFrom at n to.now)
   pub torn : TellsTorn at n to new_to
@@ -88,11 +89,17 @@ pub record Copies {E : Type 0} (from to new_from new_to : DiskState) (at n : ℕ
   pub cause : HasCause from.faults new_from.faults result
   pub later : to.faults ≤ new_to.faults
   pub failed : IfOk result (λ done. done ≡ false → Rose to.faults new_to.faults)
+  pub copied : IfOk result (λ done. done ≡ true → Has new_to)
 
 -- a side, once the mirrored bytes of the other one were copied to it: it has them, and they are stable
 pub record IsCopied (from to : DiskState) : Type 0 where
   pub settled : IsSettled to
   pub alike : (x y : List ℕ) → from.contents ≡ Some x → to.contents ≡ Some y → body y ≡ body x
+
+-- a side, once n of them from `at` on were: what comes before those it told at the start
+abbrev pub IsCopiedIn : (from to : DiskState) → (at n : ℕ) → DiskState → Type 0
+IsCopiedIn from to at n new_to = (x y : List ℕ) → from.contents ≡ Some x → new_to.contents ≡ Some y
+    → (z : List ℕ) × (to.contents ≡ Some z) × (take at (body y) ≡ take at (body z)) × (take n (drop at (body y)) ≡ take n (drop at (body x)))
 
 -- a side with room for a piece from a place of the mirrored bytes on, and a buffer of the piece's length
 pub record HasPiece (d : DiskState) (at : ℕ) (piece buffer : List ℕ) : Type 0 where

@@ -25,10 +25,14 @@ EitherFailed first second old new = Rose (first old.0).faults (first new.0).faul
 abbrev pub RefusesBound : {A B : Type 0} → (A → DiskState) → (B → DiskState) → (old : A × B) → List ℕ → Type 0
 RefusesBound {A = A} {B = B} first second old name = (x : A) × (y : B) × WasBound (first old.0) (first x) (first_name name) × WasBound (second old.1) (second y) (second_name name) × AdoptRefuses (first x) (second y)
 
--- why a name of a mirror is not bound, with a size or with none: what is seen of the two names is said by the sides
+-- why a name of a mirror is not bound though no side failed, with a size or with none: what is seen of the two names is said by the sides
+abbrev pub RefusesName : {A B : Type 0} → (A → DiskState) → (B → DiskState) → (A → List ℕ → Bool → Type 0) → (B → List ℕ → Bool → Type 0) → Option ℕ → (old : A × B) → List ℕ → Type 0
+RefusesName first second sees sees' want old name =
+    (IsTooLarge name want ⊎ IsTaken sees sees' want old.0 old.1 name) ⊎ ((want ≡ None) × RefusesBound first second old name)
+
+-- and why it is not bound at all
 abbrev pub BindFails : {A B : Type 0} → (A → DiskState) → (B → DiskState) → (A → List ℕ → Bool → Type 0) → (B → List ℕ → Bool → Type 0) → Option ℕ → (old new : A × B) → List ℕ → Type 0
-BindFails first second sees sees' want old new name =
-    EitherFailed first second old new ⊎ ((IsTooLarge name want ⊎ IsTaken sees sees' want old.0 old.1 name) ⊎ ((want ≡ None) × RefusesBound first second old name))
+BindFails first second sees sees' want old new name = EitherFailed first second old new ⊎ RefusesName first second sees sees' want old name
 
 -- what a bind makes of a disk, or of a mirror: zeros with a size, and what had the name with none; nothing is bound where it fails
 pub record BindsTo {T E : Type 0} (old new : DiskState) (name : List ℕ) (want : Option ℕ) (result : Result T E) : Type 0 where
@@ -55,17 +59,18 @@ pub record BindsSides {T E A B : Type 0} (first : A → DiskState) (second : B �
   pub fails : OnErr result (names_mirror name ≡ true → BindFails first second sees sees' want old new name)
 
 -- What becomes of two sides that are bound to be a mirror: with a size both are in use and tell zeros, with none they tell what is chosen
--- of what both names had.
-pub record BecomePair {E : Type 0} (a b new_a new_b : DiskState) (name : List ℕ) (want : Option ℕ) (result : Result Marks E) : Type 0 where
-  pub adopted : IfOk result (AreAdopted a b new_a new_b)
-  pub bound : OnOk result ((t : ℕ) × (new_a.bound ≡ Some (t, first_name name)))
-  pub later : (a.faults ≤ new_a.faults) × (b.faults ≤ new_b.faults)
+-- of what both names had. Where that fails a side did, or they are refused for such a cause.
+pub record BecomePair {E A B : Type 0} (first : A → DiskState) (second : B → DiskState) (old new : A × B) (name : List ℕ) (want : Option ℕ) (Refused : Type 0) (result : Result Marks E) : Type 0 where
+  pub adopted : IfOk result (AreAdopted (first old.0) (second old.1) (first new.0) (second new.1))
+  pub bound : OnOk result ((t : ℕ) × ((first new.0).bound ≡ Some (t, first_name name)))
+  pub later : ((first old.0).faults ≤ (first new.0).faults) × ((second old.1).faults ≤ (second new.1).faults)
   pub made : IfOk result (λ m. IfSome want (λ w. m.used ≡ Both))
-  pub size : OnOk result (IfSome want (λ w. new_a.size ≡ w + 64))
-  pub blank : OnOk result (IfSome want (λ w. ForSome (chosen_told new_a.contents new_b.contents) (λ c. c ≡ replicate w 0)))
-  pub blank_after_crash : OnOk result (IfSome want (λ w. (c : List ℕ) → (mirrored new_a new_b [] 0 0).now c → c ≡ replicate w 0))
-  pub existing : OnOk result (IfNone want (ForSome (chosen_told (a.named (first_name name)) (b.named (second_name name))) (λ c. chosen_told new_a.contents new_b.contents ≡ Some c)))
-  pub told : OnOk result (IsSome (chosen_told (a.named (first_name name)) (b.named (second_name name))) → IsSome (chosen_told new_a.contents new_b.contents))
+  pub size : OnOk result (IfSome want (λ w. (first new.0).size ≡ w + 64))
+  pub blank : OnOk result (IfSome want (λ w. ForSome (chosen_told (first new.0).contents (second new.1).contents) (λ c. c ≡ replicate w 0)))
+  pub blank_after_crash : OnOk result (IfSome want (λ w. (c : List ℕ) → (mirrored (first new.0) (second new.1) [] 0 0).now c → c ≡ replicate w 0))
+  pub existing : OnOk result (IfNone want (ForSome (chosen_told ((first old.0).named (first_name name)) ((second old.1).named (second_name name))) (λ c. chosen_told (first new.0).contents (second new.1).contents ≡ Some c)))
+  pub told : OnOk result (IsSome (chosen_told ((first old.0).named (first_name name)) ((second old.1).named (second_name name))) → IsSome (chosen_told (first new.0).contents (second new.1).contents))
+  pub cause : OnErr result (EitherFailed first second old new ⊎ Refused)
 
 -- what a side is once it has the header of a blank one, which is stable
 pub record LaysHeader {T E : Type 0} (old new : DiskState) (result : Result T E) : Type 0 where

@@ -48,18 +48,19 @@ pub record Still (slot : Slot) (e : ℕ) (old : DiskState) (image : List ℕ) : 
   pub is_old : old.now was
   pub same : body image ≡ body was
 
--- Of a call that puts the next epoch into the slot that does not hold the one so far, of which `Was` is known: each image has the one
--- or the other, and what is told of the mirrored bytes stays.
-pub record RaisesTo {T E : Type 0} (Was : ℕ → Type 0) (slot : Slot) (next : ℕ) (old new : DiskState) (result : Result T E) : Type 0 where
-  pub moments : (e : ℕ) → Was e → e ≤ next → LeavesOnly old new (Raising e next old)
+-- Of a call that puts the next epoch into the slot that does not hold the one so far: each image has the one or the other, and what is
+-- told of the mirrored bytes stays.
+pub record RaisesTo {T E : Type 0} (slot : Slot) (next : ℕ) (old new : DiskState) (result : Result T E) : Type 0 where
+  pub moments : (e : ℕ) → IsMarked slot e old → e ≤ next → LeavesOnly old new (Raising e next old)
   pub raised : OnOk result (EachNow new (HasEpoch (other slot) next))
   pub settled : OnOk result (IsSettled new)
   pub body : KeepsBody old new
   pub cause : HasCause old.faults new.faults result
 
--- and of one that leaves the epoch as it is
-pub record KeepsEpoch {T E : Type 0} (Was : ℕ → Type 0) (slot : Slot) (old new : DiskState) (result : Result T E) : Type 0 where
-  pub moments : (e : ℕ) → Was e → LeavesOnly old new (Still slot e old)
+-- and of one that shuts the gate of that slot, and leaves the epoch as it is
+pub record ShutsGate {T E : Type 0} (slot : Slot) (gate : ℕ) (old new : DiskState) (result : Result T E) : Type 0 where
+  pub moments : (e : ℕ) → IsMarked slot e old → LeavesOnly old new (Still slot e old)
+  pub shut : (e : ℕ) → IsMarked slot e old → OnOk result (EachNow new (IsClosed gate))
   pub body : KeepsBody old new
   pub cause : HasCause old.faults new.faults result
 
@@ -77,13 +78,8 @@ pub record HasGate (d : DiskState) (slot : Slot) (at : ℕ) : Type 0 where
   pub size : 64 ≤ d.size
   pub gate : at ≡ place (other slot)
 
--- an epoch that may come next: it is none above the last one, and none below the one so far, of which `Was` is known
-pub record Follows (Was : ℕ → Type 0) (next : ℕ) : Type 0 where
+-- a disk with room for a header, and an epoch that may come next: it is none above the last one, and none below the one so far
+pub record Follows (slot : Slot) (next : ℕ) (d : DiskState) : Type 0 where
+  pub size : 64 ≤ d.size
   pub last : next ≤ last_epoch
-  pub marked : (e : ℕ) × Was e × (e ≤ next)
-
--- the gate is closed and the epoch is after it, which is stable
-pub record IsLaid (gate e : ℕ) (d : DiskState) : Type 0 where
-  pub closed : EachNow d (IsClosed gate)
-  pub holds : EachNow d (HoldsEpoch gate e)
-  pub settled : IsSettled d
+  pub marked : (e : ℕ) × IsMarked slot e d × (e ≤ next)

@@ -1,7 +1,7 @@
 // Binding a mirror to a name.
-ghost use Rattle.std.specs.Prelude.{◌≡◌, ◌⊎◌, ◌+◌, ◌^◌, ◌<◌, ◌≤◌, ℕ, Some, None, true, false, length, OnErr};
+ghost use Rattle.std.specs.Prelude.{◌≡◌, ◌+◌, ◌^◌, ◌<◌, ◌≤◌, Some, None, length};
 ghost use Rattle.counts.specs.Count.{HasCause, faults_after, one_more};
-ghost use Rattle.mirror_disk.specs.{Binding.{BecomePair, BindFails, BindsSides, BindsTo, EitherFailed, MakesOnFreeNames, RefusesBound}, Pairs.{first_name, second_name}, Standing.{StandsBy, state_by}};
+ghost use Rattle.mirror_disk.specs.Binding.{BecomePair, BindsSides, BindsTo, MakesOnFreeNames, RefusesBound, RefusesName};
 
 use crate::adopt::adopt_sides;
 use crate::disk::count;
@@ -49,15 +49,22 @@ impl<A: Lookup, B: Lookup> Image for Mirror<A, B> {
         ensures sides { BindsSides A.state B.state A.seen B.seen want (self.old.first, self.old.second) (self.new.first, self.new.second) name.now self.new.marks.used result }
     {
         raise(&mut self.binds);
-        bind_parts(
-            &mut self.first,
-            &mut self.second,
-            &mut self.marks,
-            &mut self.past,
-            &mut self.faults,
-            name,
-            want,
-        )
+        if !is_mirror(name.as_bytes()) {
+            self.marks.used = Used::Plain;
+            let done = self.first.bind(name, want).is_ok();
+            return count(&mut self.faults, done);
+        }
+        match bind_sides(&mut self.first, &mut self.second, name, want) {
+            Ok(made) => {
+                self.past = Past::start();
+                self.marks = made;
+                Ok(())
+            }
+            Err(_) => {
+                self.marks.used = Used::Unbound;
+                count(&mut self.faults, false)
+            }
+        }
     }
 }
 
@@ -70,8 +77,7 @@ fn make_sides<A: Image, B: Image>(
 ) -> Result<Marks, DiskFault>
     requires short { length name.now ≤ 4095 }
     requires room { size + 64 < 2 ^ 64 }
-    ensures pair { BecomePair (A.state first.old) (B.state second.old) (A.state first.new) (B.state second.new) name.now (Some size) result }
-    ensures cause { OnErr result (EitherFailed A.state B.state (first.old, second.old) (first.new, second.new)) }
+    ensures { BecomePair A.state B.state (first.old, second.old) (first.new, second.new) name.now (Some size) ⊥ result }
 {
     bind_side(first, name, FIRST, Some(size + HEADER))?;
     bind_side(second, name, SECOND, Some(size + HEADER))?;
@@ -87,8 +93,7 @@ fn take_sides<A: Image, B: Image>(
     name: &str,
 ) -> Result<Marks, DiskFault>
     requires { length name.now ≤ 4095 }
-    ensures pair { BecomePair (A.state first.old) (B.state second.old) (A.state first.new) (B.state second.new) name.now None result }
-    ensures cause { OnErr result (EitherFailed A.state B.state (first.old, second.old) (first.new, second.new) ⊎ RefusesBound A.state B.state (first.old, second.old) name.now) }
+    ensures { BecomePair A.state B.state (first.old, second.old) (first.new, second.new) name.now None (RefusesBound A.state B.state (first.old, second.old) name.now) result }
 {
     bind_side(first, name, FIRST, None)?;
     bind_side(second, name, SECOND, None)?;
@@ -98,15 +103,6 @@ fn take_sides<A: Image, B: Image>(
     }
 }
 
-/// Whether both sides see that their names under this one are free.
-fn are_free<A: Lookup, B: Lookup>(first: &A, second: &B, name: &str) -> bool
-    requires { length name.now ≤ 4095 }
-    ensures free { result ≡ true → A.seen first.now (first_name name.now) true × B.seen second.now (second_name name.now) true }
-    ensures taken { result ≡ false → A.seen first.now (first_name name.now) false ⊎ B.seen second.now (second_name name.now) false }
-{
-    is_side_free(first, name, FIRST) && is_side_free(second, name, SECOND)
-}
-
 /// Binds both sides under a name of a mirror.
 fn bind_sides<A: Lookup, B: Lookup>(
     first: &mut A,
@@ -114,9 +110,8 @@ fn bind_sides<A: Lookup, B: Lookup>(
     name: &str,
     want: Option<u64>,
 ) -> Result<Marks, DiskFault>
-    ensures pair { BecomePair (A.state first.old) (B.state second.old) (A.state first.new) (B.state second.new) name.now want result }
+    ensures pair { BecomePair A.state B.state (first.old, second.old) (first.new, second.new) name.now want (RefusesName A.state B.state A.seen B.seen want (first.old, second.old) name.now) result }
     ensures made_free { MakesOnFreeNames A.seen B.seen want first.old first.new second.old second.new name.now }
-    ensures cause { OnErr result (BindFails A.state B.state A.seen B.seen want (first.old, second.old) (first.new, second.new) name.now) }
 {
     if name.len() > LONGEST {
         return Err(DiskFault);
@@ -126,45 +121,11 @@ fn bind_sides<A: Lookup, B: Lookup>(
             if size > LARGEST {
                 return Err(DiskFault);
             }
-            if !are_free(first, second, name) {
+            if !(is_side_free(first, name, FIRST) && is_side_free(second, name, SECOND)) {
                 return Err(DiskFault);
             }
             make_sides(first, second, name, size)
         }
         None => take_sides(first, second, name),
-    }
-}
-
-/// Binds the first side alone, or both under a name of a mirror, and says which sides are in use then.
-fn bind_parts<A: Lookup, B: Lookup>(
-    first: &mut A,
-    second: &mut B,
-    marks: &mut Marks,
-    past: &mut Past<A, B>,
-    faults: &mut u64,
-    name: &str,
-    want: Option<u64>,
-) -> Result<(), DiskFault>
-    ensures stands { StandsBy (A.state first.new) (B.state second.new) marks.new past.new }
-    ensures state { (was binds : ℕ) → BindsTo (state_by marks.old (A.state first.old) (B.state second.old) past.old faults.old was) (state_by marks.new (A.state first.new) (B.state second.new) past.new faults.new binds) name.now want result }
-    ensures cause { HasCause faults.old faults.new result }
-    ensures exact { faults.new ≡ faults_after faults.old result }
-    ensures sides { BindsSides A.state B.state A.seen B.seen want (first.old, second.old) (first.new, second.new) name.now marks.new.used result }
-{
-    if !is_mirror(name.as_bytes()) {
-        marks.used = Used::Plain;
-        let done = first.bind(name, want).is_ok();
-        return count(faults, done);
-    }
-    match bind_sides(first, second, name, want) {
-        Ok(made) => {
-            *past = Past::start();
-            *marks = made;
-            Ok(())
-        }
-        Err(_) => {
-            marks.used = Used::Unbound;
-            count(faults, false)
-        }
     }
 }

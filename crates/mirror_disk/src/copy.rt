@@ -1,7 +1,6 @@
 // Copying the mirrored bytes of one side to the other.
-ghost use Rattle.std.specs.Prelude.{◌≡◌, ◌≢◌, ◌+◌, ◌≤◌, ℕ, List, Some, length, take, drop, true, false, IfOk};
-ghost use Rattle.iso_disk.specs.Disk.{WritesNothing, spliced};
-ghost use Rattle.mirror_disk.specs.{Adopting.{AreSized, Copies, HasPiece, IsCopied}, Called.SideCalled, Header.body};
+ghost use Rattle.std.specs.Prelude.{◌≡◌, ◌↔◌, ◌+◌, ◌≤◌, length, IsTrue};
+ghost use Rattle.mirror_disk.specs.Adopting.{AreSized, Copies, HasPiece, IsCopied, IsCopiedIn};
 
 use crate::sides::HEADER;
 use iso_disk::{Disk, DiskFault};
@@ -17,8 +16,7 @@ pub(crate) fn copy_body<C: Disk, O: Disk>(
     count: u64,
 ) -> Result<bool, DiskFault>
     requires { AreSized (C.state from.old) (O.state to.old) count }
-    ensures copies { Copies (C.state from.old) (O.state to.old) (C.state from.new) (O.state to.new) 64 count result }
-    ensures copied { IfOk result (λ done. done ≡ true → IsCopied (C.state from.old) (O.state to.new)) }
+    ensures { Copies (C.state from.old) (O.state to.old) (C.state from.new) (O.state to.new) 64 count (IsCopied (C.state from.old)) result }
 {
     let mut piece = [0; PIECE];
     let mut there = [0; PIECE];
@@ -39,7 +37,8 @@ pub(crate) fn copy_body<C: Disk, O: Disk>(
     Ok(to.sync().is_ok())
 }
 
-/// Copies as many bytes as the piece has, from a place of the mirrored bytes on, if they differ.
+/// Copies as many bytes as the piece has, from a place of the mirrored bytes on, if others are there. False where the other side
+/// fails.
 fn copy_piece<C: Disk, O: Disk>(
     from: &mut C,
     to: &mut O,
@@ -49,33 +48,21 @@ fn copy_piece<C: Disk, O: Disk>(
 ) -> Result<bool, DiskFault>
     requires from { 64 + at + length piece.old ≤ (C.state from.old).size }
     requires to { HasPiece (O.state to.old) at piece.old there.old }
-    ensures copies { Copies (C.state from.old) (O.state to.old) (C.state from.new) (O.state to.new) (64 + at) (length piece.old) result }
-    ensures copied { IfOk result (λ done. done ≡ true → (x y : List ℕ) → (C.state from.old).contents ≡ Some x → (O.state to.new).contents ≡ Some y
-        → (z : List ℕ) × ((O.state to.old).contents ≡ Some z) × (take at (body y) ≡ take at (body z)) × (take (length piece.old) (drop at (body y)) ≡ take (length piece.old) (drop at (body x)))) }
+    ensures { Copies (C.state from.old) (O.state to.old) (C.state from.new) (O.state to.new) (64 + at) (length piece.old) (IsCopiedIn (C.state from.old) (O.state to.old) at (length piece.old)) result }
 {
     from.read(HEADER + at, piece)?;
-    Ok(lay_piece(to, at, piece, there))
-}
-
-/// Writes a piece from a place of the mirrored bytes on, if others are there. False where the side fails.
-fn lay_piece<O: Disk>(to: &mut O, at: u64, piece: &[u8], there: &mut [u8]) -> bool
-    requires { HasPiece (O.state to.old) at piece.now there.old }
-    ensures called { SideCalled at (length piece.now) (λ c. spliced c at piece.now) (O.state to.old) (O.state to.new) result }
-    ensures still { (y : List ℕ) → (O.state to.old).contents ≡ Some y → take (length piece.now) (drop at (body y)) ≡ piece.now → WritesNothing (O.state to.old) (O.state to.new) }
-{
     let Ok(()) = to.read(HEADER + at, there) else {
-        return false;
+        return Ok(false);
     };
     if are_same(piece, there) {
-        return true;
+        return Ok(true);
     }
-    to.write(HEADER + at, piece).is_ok()
+    Ok(to.write(HEADER + at, piece).is_ok())
 }
 
 /// Whether two pieces have the same bytes.
 fn are_same(one: &[u8], two: &[u8]) -> bool
-    ensures same { result ≡ true → one.now ≡ two.now }
-    ensures differ { result ≡ false → one.now ≢ two.now }
+    ensures { IsTrue result ↔ (one.now ≡ two.now) }
 {
     one == two
 }

@@ -1,5 +1,5 @@
 // The names of a mirror and of its sides.
-ghost use Rattle.std.specs.{Prelude.{◌≡◌, ◌+◌, ◌≤◌, [], ◌∷◌, ◌++◌, length, take}, Str.IsUtf8};
+ghost use Rattle.std.specs.Prelude.{◌≡◌, [], ◌∷◌, ◌++◌};
 ghost use Rattle.counts.specs.Count.{HasCause};
 ghost use Rattle.mirror_disk.specs.{Binding.{BindsTo, HasRoomFor}, Pairs.names_mirror};
 
@@ -34,8 +34,7 @@ pub(crate) fn bind_side<I: Image>(
     ensures cause { HasCause (I.state side.old).faults (I.state side.new).faults result }
 {
     let mut buffer = [0; LONGEST + 1];
-    lay_name(&mut buffer, name.as_bytes(), digit);
-    side.bind(head_text(&buffer, name.len() + 1), want)
+    side.bind(lay_name(&mut buffer, name, digit), want)
 }
 
 /// Whether a side sees that a name with one byte more is free.
@@ -44,28 +43,19 @@ pub(crate) fn is_side_free<I: Lookup>(side: &I, name: &str, digit: u8) -> bool
     ensures { I.seen side.now (name.now ++ digit ∷ []) result }
 {
     let mut buffer = [0; LONGEST + 1];
-    lay_name(&mut buffer, name.as_bytes(), digit);
-    side.is_free(head_text(&buffer, name.len() + 1))
+    side.is_free(lay_name(&mut buffer, name, digit))
 }
 
-/// The text at the head of a buffer.
-fn head_text(buffer: &[u8; 4096], len: usize) -> &str
-    requires inside { len ≤ 4096 }
-    requires text { IsUtf8 (take len buffer.now) }
-    ensures { result.now ≡ take len buffer.now }
+/// Lays a name and one byte more at the head of a buffer, and gives the text that stands there then.
+fn lay_name<'a>(buffer: &'a mut [u8; 4096], name: &str, digit: u8) -> &'a str
+    requires { HasRoomFor name.now digit }
+    ensures { result.now ≡ name.now ++ digit ∷ [] }
 {
-    match str::from_utf8(&buffer[..len]) {
+    let len = name.len();
+    buffer[..len].copy_from_slice(name.as_bytes());
+    buffer[len] = digit;
+    match str::from_utf8(&buffer[..len + 1]) {
         Ok(text) => text,
         Err(_) => unreachable!(),
     }
-}
-
-/// Lays a name and one byte more at the head of a buffer.
-fn lay_name(buffer: &mut [u8; 4096], name: &[u8], digit: u8)
-    requires { length name.now ≤ 4095 }
-    ensures { take (length name.now + 1) buffer.new ≡ name.now ++ digit ∷ [] }
-{
-    let len = name.len();
-    buffer[..len].copy_from_slice(name);
-    buffer[len] = digit;
 }

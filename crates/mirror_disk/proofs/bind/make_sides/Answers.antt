@@ -2,8 +2,8 @@ use Rattle.mirror_disk.proofs.{Words.{[], ◌∙◌, ap, arith, sym, subst, Mark
 use Rattle.mirror_disk.proofs.bind.make_sides.Goals as goal
 use Rattle.std.proofs.{Common.rules, lemmas.Grind.common_steps}
 
-pub returns-clause-pair : goal.returns-clause-pair
-returns-clause-pair g c =
+pub returns : goal.returns
+returns g c =
     let new_a = g.A.Disk.state c.lay_header.new.disk in
     let new_b = g.B.Disk.state c.lay_header-2.new.disk in
     let law_a = g.met.A.Disk.lawful c.lay_header.new.disk in
@@ -31,4 +31,5 @@ returns-clause-pair g c =
       blank_after_crash = blank_now new_a new_b c.args.size law_a law_b settled_a settled_b size_a size_b image_a image_b;
       existing = tt;
       told = first_of (search rules, grind (arith, common_steps));
+      cause = tt;
     }

@@ -11,8 +11,8 @@ returns-then-epoch-ge-LAST g c = record {
   cause = λ _. inl (omega (arith, c.if-epoch-ge-LAST.true));
 }
 
-pub raise_epoch-requires-clause-follows : goal.raise_epoch-requires-clause-follows
-raise_epoch-requires-clause-follows g c = record { last = omega (arith, c.if-epoch-ge-LAST.false); marked = (c.args.epoch, c.requires.marked, omega arith) }
+pub raise_epoch-requires : goal.raise_epoch-requires
+raise_epoch-requires g c = record { size = c.requires.size; last = omega (arith, c.if-epoch-ge-LAST.false); marked = (c.args.epoch, c.requires.marked, omega arith) }
 
 pub returns-in-Ok : goal.returns-in-Ok
 returns-in-Ok g c = record {
