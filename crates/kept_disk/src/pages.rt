@@ -1,5 +1,5 @@
 // Pages: bytes of a disk that are kept in memory, and which of its pages these are.
-ghost use Rattle.std.specs.{Prelude.{◌≡◌, ◌+◌, ◌-◌, ◌%◌, ◌<◌, ◌≤◌, ◌^◌, ◌++◌, ◌↔◌, ℕ, List, Some, None, true, length, replicate, IsTrue, IfOk, IsOk, slice_index, vec_capacity}};
+ghost use Rattle.std.specs.{Prelude.{◌≡◌, ◌+◌, ◌-◌, ◌%◌, ◌<◌, ◌≤◌, ◌^◌, ◌↔◌, ℕ, List, Some, None, true, length, replicate, IsTrue, IfOk, IsOk, slice_index, vec_capacity}};
 ghost use Rattle.iso_disk.specs.Disk.{spliced};
 ghost use Rattle.kept_disk.specs.Pages.{AreHeld, AreLaid, AreWhole, Follow, HasAdded, HasFilled, HasPlace, HoldsNone, IsHeld, ReadsInto, Shows, byte_at, end_of, page_at, start_of};
 
@@ -55,9 +55,12 @@ impl Pages {
     {
         let mut bytes = Vec::new(alloc);
         bytes.reserve_exact(PAGES * PAGE)?;
-        let numbers = blank_numbers(alloc)?;
-        let ends = blank_ends(alloc)?;
-        let page = blank_page(alloc)?;
+        let mut numbers = Vec::new(alloc);
+        numbers.resize(PAGES, None)?;
+        let mut ends = Vec::new(alloc);
+        ends.resize(PAGES, 0)?;
+        let mut page = Vec::new(alloc);
+        page.resize(PAGE, 0)?;
         Ok(Pages {
             numbers,
             ends,
@@ -190,35 +193,6 @@ fn place_of(number: u64) -> usize
     ensures is { result ≡ number % 2053 }
 {
     (number % PAGES as u64) as usize
-}
-
-// The numbers of places in which no page is held.
-fn blank_numbers(alloc: Global) -> Result<Vec<Option<u64>>, AllocError>
-    ensures none { IfOk result (λ numbers. HoldsNone numbers.items) }
-    ensures count { IfOk result (λ numbers. length numbers.items ≡ 2053) }
-{
-    let mut numbers = Vec::new(alloc);
-    numbers.resize(PAGES, None)?;
-    Ok(numbers)
-}
-
-// No place that has bytes.
-fn blank_ends(alloc: Global) -> Result<Vec<usize>, AllocError>
-    ensures none { IfOk result (λ ends. (i : ℕ) → slice_index ends.items i ≡ 0) }
-    ensures count { IfOk result (λ ends. length ends.items ≡ 2053) }
-{
-    let mut ends = Vec::new(alloc);
-    ends.resize(PAGES, 0)?;
-    Ok(ends)
-}
-
-// The bytes of a page.
-fn blank_page(alloc: Global) -> Result<Vec<u8>, AllocError>
-    ensures { IfOk result (λ page. length page.items ≡ 4096) }
-{
-    let mut page = Vec::new(alloc);
-    page.resize(PAGE, 0)?;
-    Ok(page)
 }
 
 // Lets go of each page.
@@ -373,17 +347,8 @@ fn add_page(ends: &mut Vec<usize>, bytes: &mut Vec<u8>, place: usize, page: &[u8
     requires page { length page.now ≡ 4096 }
     ensures { HasAdded ends.old.items bytes.old.items ends.new.items bytes.new.items (vec_capacity bytes.new) place page.now }
 {
-    append(bytes, page);
+    let _ = bytes.extend_from_slice(page);
     ends[place] = bytes.len();
-}
-
-// Appends bytes, in memory that was taken for them.
-fn append(bytes: &mut Vec<u8>, more: &[u8])
-    requires { length bytes.old.items + length more.now ≤ vec_capacity bytes.old }
-    ensures bytes { bytes.new.items ≡ bytes.old.items ++ more.now }
-    ensures room { vec_capacity bytes.old ≤ vec_capacity bytes.new }
-{
-    let _ = bytes.extend_from_slice(more);
 }
 
 // Reads `len` bytes of the disk from `at` on into these, from `from` on.
