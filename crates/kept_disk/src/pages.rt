@@ -1,5 +1,5 @@
 // Pages: bytes of a disk that are kept in memory, and which of its pages these are.
-ghost use Rattle.std.specs.{Prelude.{◌≡◌, ◌+◌, ◌-◌, ◌%◌, ◌<◌, ◌≤◌, ◌^◌, ◌↔◌, ℕ, List, Some, None, true, length, replicate, IsTrue, IfOk, IsOk, slice_index, vec_capacity}};
+ghost use Rattle.std.specs.{Prelude.{◌≡◌, ◌+◌, ◌-◌, ◌%◌, ◌<◌, ◌≤◌, ◌^◌, ◌↔◌, Some, None, true, length, replicate, IsTrue, IfOk, IsOk, slice_index, vec_capacity}};
 ghost use Rattle.iso_disk.specs.Disk.{spliced};
 ghost use Rattle.kept_disk.specs.Pages.{AreHeld, AreLaid, AreWhole, Follow, HasAdded, HasFilled, HasPlace, HoldsNone, IsHeld, ReadsInto, Shows, byte_at, end_of, page_at, start_of};
 
