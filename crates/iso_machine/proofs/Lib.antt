@@ -5,6 +5,7 @@ pub mod Words
 pub mod Lists
 pub mod Besides
 pub mod Accesses
+pub mod Acts
 pub mod Asked
 pub mod Quiet
 pub mod Whereabouts

@@ -6,6 +6,8 @@ pub use Rattle.script_model.specs.CoreReplies.{refused as answer_to}
 use Rattle.script_model.specs.{declared.script.Reply.Reply, declared.stop.Stop.Stop}
 use Rattle.script_model.specs.declared.stop.Stop.TheVariants as stop
 use Rattle.script_runner.specs.{Counts.BlamesDisk, Stopped.StandsStill, Told.{IfTold, SameButShown, StandsSo}}
+use Rattle.iso_core.specs.Core.{disk_of}
+use Rattle.iso_machine.specs.{declared.machine.Machine.Machine, Standing.{IsMachineOf, core_of}}
 
 -- why a call may stop such that the machine goes on: for each cause, for want of memory, for none
 abbrev pub Always : Stop → Type 0
@@ -42,3 +44,12 @@ pub record AnswersTold (goes_on : Stop → Type 0) (stands : World → Type 0) (
   pub up : ¬ IsErrOf result stop.Down
   pub cause : BlamesDisk old.faults new.faults result
   pub stopped : IfErr result (λ why. goes_on why → StandsStill stands plain W)
+
+-- so, of a machine, from each world that it represents
+abbrev pub AnswersFrom : {D : Type 0} → (goes_on : Stop → Type 0) → (state : D → DiskState) → (old new : Machine D) → (given : World → Reply × World) → Result Reply Stop → Type 0
+AnswersFrom goes_on state old new given result =
+    (W : World) → IsMachineOf state old W → Answers goes_on (IsMachineOf state new) (state (disk_of (core_of old))) (state (disk_of (core_of new))) W (given W) result
+
+abbrev pub AnswersToldFrom : {D : Type 0} → (goes_on : Stop → Type 0) → (state : D → DiskState) → (old new : Machine D) → (given : World → Reply × World) → (plain : Type 0) → Result Reply Stop → Type 0
+AnswersToldFrom goes_on state old new given plain result =
+    (W : World) → IsMachineOf state old W → AnswersTold goes_on (IsMachineOf state new) (state (disk_of (core_of old))) (state (disk_of (core_of new))) W (given W) plain result

@@ -1,5 +1,5 @@
 -- What a machine represents.
-use Rattle.std.specs.{Prelude.{◌≡◌, ◌<◌, ℕ, Bool, false, IsTrue, List, Option, None, map, nat_eq, slice_index_or}, List.AllByRecursion}
+use Rattle.std.specs.{Prelude.{◌≡◌, ◌<◌, ℕ, Bool, false, IsTrue, List, Option, Some, None, MatchOption, find, length, map, nat_eq, slice_index_or}, List.{AllByRecursion, HoldsAt}}
 use Rattle.iso_disk.specs.Disk.{DiskState}
 use Rattle.iso_model.specs.{declared.access.Geometry.Geometry, World.{World, Live, Place, client, is_at_client, is_under_label, label}, Labels.{is_label, key_of}, Worlds.AreDistinct}
 use Rattle.indexmap.specs.IndexMap.{get}
@@ -32,6 +32,11 @@ number_under text finder = get nat_eq finder.labels (key_of text)
 abbrev pub IsOff : (Place → Bool) → Attached → Type 0
 IsOff test a = test (place_of a.spot) ≡ false
 
+-- where in the list the transaction at such a place is, if one is there
+abbrev pub IsFound : (Place → Bool) → List Attached → Option ℕ → Type 0
+IsFound test live found = MatchOption found (find (λ t. test t.place) (map live_of live) ≡ None)
+    (λ i. (i < length live) × HoldsAt (λ a. find (λ t. test t.place) (map live_of live) ≡ Some (live_of a)) live i)
+
 -- no transaction is at a client or under a label of which no number is noted
 pub record AreListed (finder : Finder) (live : List Attached) : Type 0 where
   pub clients : (c : ℕ) → c < 256 → number_at c finder ≡ None → AllByRecursion (IsOff (is_at_client c)) live
@@ -51,6 +56,10 @@ pub record AreOf {D : Type 0} (state : D → DiskState) (core : Core D) (finder 
 
 abbrev pub IsMachineOf : {D : Type 0} → (state : D → DiskState) → Machine D → World → Type 0
 IsMachineOf state m W = AreOf state m.core m.finder m.live.items W
+
+-- it represents some world
+abbrev pub IsMachine : {D : Type 0} → (state : D → DiskState) → Machine D → Type 0
+IsMachine state m = (W : World) × IsMachineOf state m W
 
 abbrev pub core_of : {D : Type 0} → Machine D → Core D
 core_of m = m.core

@@ -1,10 +1,10 @@
 // Writes and marks of one transaction.
-ghost use Rattle.std.specs.Prelude.{◌≡◌, None, ◌+◌, ◌<◌, ◌≤◌, IfOk, OnErr, length, IfSome, false};
+ghost use Rattle.std.specs.Prelude.{◌≡◌, None, ◌+◌, ◌≤◌, IfOk, OnErr, length, IfSome};
 ghost use Rattle.iso_model.specs.{declared.access.Access.Access, Marks.{mark_fault, marked}, World.{World, Live}};
 ghost use Rattle.script_model.specs.{declared.script.Reply.Reply, Step.{access_step, fill_step, mark_refused, mark_step, put_step, write_step}};
 ghost use Rattle.iso_core.specs.Calls.{IsWorkOf};
 ghost use Rattle.tx_table.specs.Work.{span_at};
-ghost use Rattle.iso_machine.specs.Accessing.{IsActive, IsGiven, IsRefusal};
+ghost use Rattle.iso_machine.specs.Accessing.{Accesses, IsActive, IsAllowed, IsGiven, IsRefusal};
 
 use iso_model::{MarkError, Memory};
 use script_model::{Reply, fill_up, is_outside};
@@ -12,7 +12,7 @@ use tx_table::Work;
 
 /// Why an access is refused, if it is: its block is outside, its bytes are wrong, or there are as many accesses as there may be.
 pub(crate) fn refusal(work: &Work, block: u32, is_wrong: bool) -> Option<Reply>
-    ensures allowed { result ≡ None → (block < work.now.blocks) × (is_wrong ≡ false) × (length work.now.accesses < 4096) }
+    ensures allowed { result ≡ None → IsAllowed work.now block is_wrong }
     ensures plain { IfSome result IsRefusal }
     ensures refused { (W : World) (t : Live) → IsWorkOf W t work.now → IfSome result (λ r. (answer : Reply) (a : Access) → access_step W t block is_wrong answer a ≡ (r, W)) }
 {
@@ -49,8 +49,7 @@ pub fn put(work: &mut Work, block: u32, off: u32, bytes: &[u8]) -> Result<Reply,
 
 /// A write of a whole block.
 pub(crate) fn write(work: &mut Work, block: u32, bytes: &[u8]) -> Result<Reply, Memory>
-    ensures given { (W : World) (t : Live) → IsActive W t work.old → IfOk result (IsGiven W t (write_step W t block bytes.now) work.new) }
-    ensures kept { OnErr result (work.new ≡ record work.old { ready = work.new.ready }) }
+    ensures { Accesses work.old work.new (λ W t. write_step W t block bytes.now) result }
 {
     let size = work.block_size();
     if let Some(reply) = refusal(work, block, bytes.len() != size as usize) {
@@ -68,8 +67,7 @@ pub(crate) fn fill(
     block: u32,
     bytes: &[u8],
 ) -> Result<Reply, Memory>
-    ensures given { (W : World) (t : Live) → IsActive W t work.old → IfOk result (IsGiven W t (fill_step W t block bytes.now) work.new) }
-    ensures kept { OnErr result (work.new ≡ record work.old { ready = work.new.ready }) }
+    ensures { Accesses work.old work.new (λ W t. fill_step W t block bytes.now) result }
 {
     let size = work.block_size();
     if let Some(reply) = refusal(work, block, bytes.len() != 1) {

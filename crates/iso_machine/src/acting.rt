@@ -4,7 +4,7 @@ ghost use Rattle.iso_disk.specs.Disk.{WritesNothing};
 ghost use Rattle.iso_model.specs.World.{World, Live};
 ghost use Rattle.iso_core.specs.{Calls.IsTx, Core.{StandsFor, disk_of}, Standing.up};
 ghost use Rattle.script_runner.specs.Counts.{BlamesDisk};
-ghost use Rattle.iso_machine.specs.Accessing.{IsActive, IsShown, act_step, or_stop};
+ghost use Rattle.iso_machine.specs.Accessing.{Acts, IsActive, IsActiveIn, IsShown, act_step, or_stop};
 
 use crate::accessing::{fill, mark, put, write};
 use crate::reading::{BlockRange, get, read};
@@ -36,14 +36,8 @@ pub(crate) fn act_reusing<D: Disk>(
     spare: &mut Vec<u8>,
     op: &Op,
 ) -> Result<Reply, Stop>
-    requires { (W : World) × (t : Live) × StandsFor D.state core.old W up × IsTx W tx t × IsActive W t work.old }
-    ensures given { (W : World) (t : Live) → StandsFor D.state core.old W up → IsTx W tx t → IsActive W t work.old
-        → IfOk result (IsShown (D.state (disk_of core.old)) W t (act_step W t op.now) work.new) }
-    ensures kept { OnErr result (work.new ≡ record work.old { ready = work.new.ready }) }
-    ensures same { (W : World) → StandsFor D.state core.old W up → StandsFor D.state core.new W up }
-    ensures unwritten { WritesNothing (D.state (disk_of core.old)) (D.state (disk_of core.new)) }
-    ensures up { ¬ IsErrOf result Stop.Down }
-    ensures cause { BlamesDisk (D.state (disk_of core.old)).faults (D.state (disk_of core.new)).faults result }
+    requires { IsActiveIn D.state core.old tx work.old }
+    ensures { Acts D.state core.old core.new tx work.old work.new (λ W t. act_step W t op.now) result }
 {
     match op {
         Op::Put { block, off, bytes } => { or_stop(put(work, *block, *off, bytes.as_slice())) }

@@ -10,15 +10,13 @@ use iso_disk::Disk;
 use script_model::{Op, Reply, Stop};
 
 impl<D: Disk> Machine<D> {
-    ghost use Rattle.iso_core.specs.Core.{disk_of};
-    ghost use Rattle.iso_machine.specs.{Accessing.act_step, Answering.{Always, Answers, AnswersTold}, Standing.{IsMachineOf, core_of}, Storing.store_act};
+    ghost use Rattle.iso_machine.specs.{Accessing.act_step, Answering.{Always, AnswersFrom, AnswersToldFrom}, Standing.{IsMachine, IsMachineOf}, Storing.store_act};
     ghost use Rattle.script_runner.specs.{Stopped.GoesOn, Told.IsPlain};
 
     /// An access or a mark of a client's transaction.
     fn access(&mut self, client: u8, op: &Op, spare: &mut Vec<u8>) -> Result<Reply, Stop>
-        requires { (W : World) × IsMachineOf D.state self.old W }
-        ensures { (W : World) → IsMachineOf D.state self.old W → IsOp op.now
-            → Answers Always (IsMachineOf D.state self.new) (D.state (disk_of (core_of self.old))) (D.state (disk_of (core_of self.new))) W (in_transaction W (attached W client) (λ t. act_step W t op.now)) result }
+        requires { IsMachine D.state self.old }
+        ensures { IsOp op.now → AnswersFrom Always D.state self.old self.new (λ W. in_transaction W (attached W client) (λ t. act_step W t op.now)) result }
     {
         let Some(i) = self.place_at(client) else {
             return Ok(Reply::NotInTx);
@@ -37,9 +35,8 @@ impl<D: Disk> Machine<D> {
 
     /// Lets the versions go that no transaction can be shown any more.
     fn trim(&mut self) -> Result<Reply, Stop>
-        requires { (W : World) × IsMachineOf D.state self.old W }
-        ensures { (W : World) → IsMachineOf D.state self.old W
-            → Answers Always (IsMachineOf D.state self.new) (D.state (disk_of (core_of self.old))) (D.state (disk_of (core_of self.new))) W (step W 1 Trim) result }
+        requires { IsMachine D.state self.old }
+        ensures { AnswersFrom Always D.state self.old self.new (λ W. step W 1 Trim) result }
     {
         match self.core.trim() {
             Ok(at) => Ok(Reply::Trimmed(at)),
@@ -64,9 +61,8 @@ impl<D: Disk> Machine<D> {
 
     /// An operation on a store by a client's transaction.
     fn stored(&mut self, client: u8, op: &Op) -> Result<Reply, Stop>
-        requires { (W : World) × IsMachineOf D.state self.old W }
-        ensures { (W : World) → IsMachineOf D.state self.old W
-            → AnswersTold Always (IsMachineOf D.state self.new) (D.state (disk_of (core_of self.old))) (D.state (disk_of (core_of self.new))) W (in_transaction W (attached W client) (λ t. store_act W t op.now)) ⊥ result }
+        requires { IsMachine D.state self.old }
+        ensures { AnswersToldFrom Always D.state self.old self.new (λ W. in_transaction W (attached W client) (λ t. store_act W t op.now)) ⊥ result }
     {
         let Some(i) = self.place_at(client) else {
             return Ok(Reply::NotInTx);
@@ -84,10 +80,9 @@ impl<D: Disk> Machine<D> {
     /// Does what a client asks for, and answers it. The bytes that a get shows take the spare memory.
     #[inline(always)]
     pub(crate) fn answer(&mut self, client: u8, op: &Op, spare: &mut Vec<u8>) -> Result<Reply, Stop>
-        requires stands { (W : World) × IsMachineOf D.state self.old W }
+        requires stands { IsMachine D.state self.old }
         requires op { IsOp op.now }
-        ensures { (W : World) → IsMachineOf D.state self.old W → IsOp op.now
-            → AnswersTold (GoesOn op.now) (IsMachineOf D.state self.new) (D.state (disk_of (core_of self.old))) (D.state (disk_of (core_of self.new))) W (step W client op.now) (IsPlain op.now) result }
+        ensures { AnswersToldFrom (GoesOn op.now) D.state self.old self.new (λ W. step W client op.now) (IsPlain op.now) result }
     {
         match op {
             Op::Put { .. }

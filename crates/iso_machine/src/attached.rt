@@ -1,7 +1,7 @@
 // A live transaction and where it is.
-ghost use Rattle.std.specs.{Prelude.{◌≡◌, ◌==◌, ◌<◌, Some, None, IfOk, MatchOption, find, length, map}, List.{AllByRecursion, HoldsAt}};
+ghost use Rattle.std.specs.{Prelude.{◌≡◌, ◌==◌, ◌<◌, Some, None, IfOk, length, map}, List.AllByRecursion};
 ghost use Rattle.iso_model.specs.{World.{is_at_client, is_under_label}, Worlds.AreDistinct};
-ghost use Rattle.iso_machine.specs.Standing.{AreKnown, AreListed, IsOff, live_of, number_under, place_of};
+ghost use Rattle.iso_machine.specs.Standing.{AreKnown, AreListed, IsFound, IsOff, live_of, number_under, place_of};
 
 use crate::finder::Finder;
 use iso_model::{Label, Memory};
@@ -44,8 +44,7 @@ fn is_under_label(label: &Label, spot: &Spot) -> bool
 
 /// Where in the list the transaction of a client is. The list is gone over from its front.
 fn walk_to_client(live: &[Attached], client: u8) -> Option<usize>
-    ensures { MatchOption result (find (λ t. is_at_client client t.place) (map live_of live.now) ≡ None)
-        (λ i. (i < length live.now) × HoldsAt (λ a. find (λ t. is_at_client client t.place) (map live_of live.now) ≡ Some (live_of a)) live.now i) }
+    ensures { IsFound (is_at_client client) live.now result }
 {
     for (i, attached) in live.iter().enumerate() {
         if is_at_client(client, &attached.spot) {
@@ -57,8 +56,7 @@ fn walk_to_client(live: &[Attached], client: u8) -> Option<usize>
 
 /// Where in the list the transaction under a label is. The list is gone over from its front.
 fn walk_to_label(live: &[Attached], label: &Label) -> Option<usize>
-    ensures { MatchOption result (find (λ t. is_under_label label.now t.place) (map live_of live.now) ≡ None)
-        (λ i. (i < length live.now) × HoldsAt (λ a. find (λ t. is_under_label label.now t.place) (map live_of live.now) ≡ Some (live_of a)) live.now i) }
+    ensures { IsFound (is_under_label label.now) live.now result }
 {
     for (i, attached) in live.iter().enumerate() {
         if is_under_label(label, &attached.spot) {
@@ -85,8 +83,7 @@ fn place_of_number(live: &[Attached], number: u64) -> usize {
 pub(crate) fn index_at_client(number: Option<u64>, live: &[Attached], client: u8) -> Option<usize>
     requires distinct { AreDistinct (map live_of live.now) }
     requires nobody { number ≡ None → AllByRecursion (IsOff (is_at_client client)) live.now }
-    ensures { MatchOption result (find (λ t. is_at_client client t.place) (map live_of live.now) ≡ None)
-        (λ i. (i < length live.now) × HoldsAt (λ a. find (λ t. is_at_client client t.place) (map live_of live.now) ≡ Some (live_of a)) live.now i) }
+    ensures { IsFound (is_at_client client) live.now result }
 {
     let Some(tx) = number else {
         return None;
@@ -106,8 +103,7 @@ pub(crate) fn index_under_label(
 ) -> Option<usize>
     requires distinct { AreDistinct (map live_of live.now) }
     requires nobody { number ≡ None → AllByRecursion (IsOff (is_under_label label.now)) live.now }
-    ensures { MatchOption result (find (λ t. is_under_label label.now t.place) (map live_of live.now) ≡ None)
-        (λ i. (i < length live.now) × HoldsAt (λ a. find (λ t. is_under_label label.now t.place) (map live_of live.now) ≡ Some (live_of a)) live.now i) }
+    ensures { IsFound (is_under_label label.now) live.now result }
 {
     let Some(tx) = number else {
         return None;
@@ -128,8 +124,7 @@ pub(crate) fn claim(
     tx: u64,
 ) -> Result<Option<usize>, Memory>
     requires { AreKnown finder.old live.now }
-    ensures found { IfOk result (λ found. MatchOption found (find (λ t. is_under_label label.now t.place) (map live_of live.now) ≡ None)
-        (λ i. (i < length live.now) × HoldsAt (λ a. find (λ t. is_under_label label.now t.place) (map live_of live.now) ≡ Some (live_of a)) live.now i)) }
+    ensures found { IfOk result (IsFound (is_under_label label.now) live.now) }
     ensures own { IfOk result (λ found. found ≡ None → number_under label.now finder.new ≡ Some tx) }
     ensures listed { AreListed finder.new live.now }
 {

@@ -35,14 +35,12 @@ pub fn take_work(
 }
 
 impl<D: Disk> Machine<D> {
-    ghost use Rattle.iso_core.specs.Core.{disk_of};
-    ghost use Rattle.iso_machine.specs.{Answering.{Always, Answers}, Standing.{IsMachineOf, core_of}};
+    ghost use Rattle.iso_machine.specs.{Answering.{Always, AnswersFrom}, Standing.IsMachine};
 
     /// A client without a transaction begins one, in the mode that is named, or else in the image's.
     pub(crate) fn begin(&mut self, client: u8, mode: Option<Mode>) -> Result<Reply, Stop>
-        requires { (W : World) × IsMachineOf D.state self.old W }
-        ensures { (W : World) → IsMachineOf D.state self.old W
-            → Answers Always (IsMachineOf D.state self.new) (D.state (disk_of (core_of self.old))) (D.state (disk_of (core_of self.new))) W (step W client (Begin mode)) result }
+        requires { IsMachine D.state self.old }
+        ensures { AnswersFrom Always D.state self.old self.new (λ W. step W client (Begin mode)) result }
     {
         if let Some(_) = self.place_at(client) {
             return Ok(Reply::InTx);

@@ -74,15 +74,13 @@ pub fn keep_spare(spare: &mut Vec<Box<Work>>, work: Box<Work>) {
 }
 
 impl<D: Disk> Machine<D> {
-    ghost use Rattle.iso_core.specs.Core.{disk_of};
-    ghost use Rattle.iso_machine.specs.{Answering.{Always, Answers, Wanting}, Standing.{IsMachineOf, core_of}};
+    ghost use Rattle.iso_machine.specs.{Answering.{Always, AnswersFrom, Wanting}, Standing.IsMachine};
 
     /// A client's transaction ends: it is gone, and a commit where it has a write and no conflict. Where its commit has no
     /// room or no number it stays.
     pub(crate) fn end(&mut self, client: u8) -> Result<Reply, Stop>
-        requires { (W : World) × IsMachineOf D.state self.old W }
-        ensures { (W : World) → IsMachineOf D.state self.old W
-            → Answers Wanting (IsMachineOf D.state self.new) (D.state (disk_of (core_of self.old))) (D.state (disk_of (core_of self.new))) W (step W client End) result }
+        requires { IsMachine D.state self.old }
+        ensures { AnswersFrom Wanting D.state self.old self.new (λ W. step W client End) result }
     {
         let Some(i) = self.place_at(client) else {
             return Ok(Reply::NotInTx);
@@ -105,9 +103,8 @@ impl<D: Disk> Machine<D> {
 
     /// A client's transaction is gone, with all that it did.
     pub(crate) fn abort(&mut self, client: u8) -> Result<Reply, Stop>
-        requires { (W : World) × IsMachineOf D.state self.old W }
-        ensures { (W : World) → IsMachineOf D.state self.old W
-            → Answers Always (IsMachineOf D.state self.new) (D.state (disk_of (core_of self.old))) (D.state (disk_of (core_of self.new))) W (step W client Abort) result }
+        requires { IsMachine D.state self.old }
+        ensures { AnswersFrom Always D.state self.old self.new (λ W. step W client Abort) result }
     {
         let Some(i) = self.place_at(client) else {
             return Ok(Reply::NotInTx);

@@ -191,15 +191,13 @@ fn put_back(
 }
 
 impl<D: Disk> Machine<D> {
-    ghost use Rattle.iso_core.specs.Core.{disk_of};
-    ghost use Rattle.iso_machine.specs.{Answering.{Answers, Never}, Standing.{IsMachineOf, core_of}};
+    ghost use Rattle.iso_machine.specs.{Answering.{AnswersFrom, Never}, Standing.IsMachine};
 
     /// The transactions under the labels end as a group, in the order of the labels. Without memory none of them has ended.
     pub(crate) fn group(&mut self, client: u8, labels: &[Label]) -> Result<Reply, Stop>
-        requires stands { (W : World) × IsMachineOf D.state self.old W }
+        requires stands { IsMachine D.state self.old }
         requires op { IsOp (Group labels.now) }
-        ensures { (W : World) → IsMachineOf D.state self.old W
-            → Answers Never (IsMachineOf D.state self.new) (D.state (disk_of (core_of self.old))) (D.state (disk_of (core_of self.new))) W (step W client (Group labels.now)) result }
+        ensures { AnswersFrom Never D.state self.old self.new (λ W. step W client (Group labels.now)) result }
     {
         let _ = client;
         let geometry = self.core.geometry();

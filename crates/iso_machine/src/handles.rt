@@ -10,14 +10,12 @@ use iso_model::Label;
 use script_model::{Reply, Stop};
 
 impl<D: Disk> Machine<D> {
-    ghost use Rattle.iso_core.specs.Core.{disk_of};
-    ghost use Rattle.iso_machine.specs.{Answering.{Always, Answers}, Standing.{IsMachineOf, core_of}};
+    ghost use Rattle.iso_machine.specs.{Answering.{Always, AnswersFrom}, Standing.IsMachine};
 
     /// A client's transaction goes under a label, if no other is there. Without memory it stays where it is.
     pub(crate) fn release(&mut self, client: u8, label: &Label) -> Result<Reply, Stop>
-        requires { (W : World) × IsMachineOf D.state self.old W }
-        ensures { (W : World) → IsMachineOf D.state self.old W → IsTrue (is_label label.now)
-            → Answers Always (IsMachineOf D.state self.new) (D.state (disk_of (core_of self.old))) (D.state (disk_of (core_of self.new))) W (step W client (Release label.now)) result }
+        requires { IsMachine D.state self.old }
+        ensures { IsTrue (is_label label.now) → AnswersFrom Always D.state self.old self.new (λ W. step W client (Release label.now)) result }
     {
         let Some(i) = self.place_at(client) else {
             return Ok(Reply::NotInTx);
@@ -36,9 +34,8 @@ impl<D: Disk> Machine<D> {
 
     /// A client without a transaction gets the one under a label.
     pub(crate) fn takeover(&mut self, client: u8, label: &Label) -> Result<Reply, Stop>
-        requires { (W : World) × IsMachineOf D.state self.old W }
-        ensures { (W : World) → IsMachineOf D.state self.old W
-            → Answers Always (IsMachineOf D.state self.new) (D.state (disk_of (core_of self.old))) (D.state (disk_of (core_of self.new))) W (step W client (Takeover label.now)) result }
+        requires { IsMachine D.state self.old }
+        ensures { AnswersFrom Always D.state self.old self.new (λ W. step W client (Takeover label.now)) result }
     {
         if let Some(_) = self.place_at(client) {
             return Ok(Reply::InTx);

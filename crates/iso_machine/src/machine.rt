@@ -29,7 +29,7 @@ pub struct Machine<D: Disk> {
 
 impl<D: Disk> Machine<D> {
     ghost use Rattle.iso_core.specs.{Core.{StandsFor, disk_of}, Standing.up};
-    ghost use Rattle.iso_machine.specs.{Accessing.IsHere, Standing.{IsMachineOf, core_of}};
+    ghost use Rattle.iso_machine.specs.{Accessing.IsHere, Standing.{IsMachine, IsMachineOf, core_of}};
 
     /// A machine over a core that is up and has no live transaction. It takes no memory.
     pub fn over(alloc: Global, core: Core<D>) -> Machine<D>
@@ -49,7 +49,7 @@ impl<D: Disk> Machine<D> {
 
     /// Where in the list the transaction of a client is.
     pub(crate) fn place_at(&self, client: u8) -> Option<usize>
-        requires { (W : World) × IsMachineOf D.state self.now W }
+        requires { IsMachine D.state self.now }
         ensures within { IfSome result (λ i. i < length self.now.live.items) }
         ensures here { (W : World) → IsMachineOf D.state self.now W → MatchOption result (attached W client ≡ None) (HoldsAt (IsHere W client) self.now.live.items) }
     {

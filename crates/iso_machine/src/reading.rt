@@ -1,12 +1,11 @@
 // Reads of one transaction.
-ghost use Rattle.std.specs.Prelude.{◌≡◌, ◌∷◌, ◌++◌, [], ◌+◌, ◌<◌, ◌≤◌, Some, None, false, IfOk, IsErrOf, OnErr, OnOk, drop, length, take};
-ghost use Rattle.counts.specs.Count.{HasCause, Rose};
+ghost use Rattle.std.specs.Prelude.{◌≡◌, ◌+◌, ◌<◌, ◌≤◌, IfOk, IsErrOf, OnErr, drop, length, take};
 ghost use Rattle.iso_disk.specs.Disk.{WritesNothing};
-ghost use Rattle.script_model.specs.Step.{get_step, read_step, with_access};
-ghost use Rattle.iso_model.specs.{Marks.is_outside, Step.{get_access, read_access, shown_to}, World.{World, Live}};
-ghost use Rattle.iso_core.specs.{Calls.{IsTx, IsWorkOf}, Core.{StandsFor, disk_of}, Standing.up};
-ghost use Rattle.script_runner.specs.{Counts.BlamesDisk, Told.IfTold};
-ghost use Rattle.iso_machine.specs.Accessing.{IsActive, IsFilled, IsShown, IsWorkedTo, with_bytes};
+ghost use Rattle.script_model.specs.Step.{get_step, read_step};
+ghost use Rattle.iso_model.specs.{Marks.is_outside, Step.{get_access, read_access}, World.{World, Live}};
+ghost use Rattle.iso_core.specs.{Calls.IsTx, Core.{StandsFor, disk_of}, Standing.up};
+ghost use Rattle.script_runner.specs.Counts.{BlamesDisk};
+ghost use Rattle.iso_machine.specs.Accessing.{Acts, IsActive, IsActiveIn, IsAllowed, IsFilled, IsShown, IsWorkIn, MayRead, Reads, as_shown, with_bytes};
 
 use crate::accessing::refusal;
 use iso_core::Core;
@@ -28,20 +27,9 @@ fn read_into<D: Disk>(
     len: usize,
     into: &mut [u8],
 ) -> Result<(), DiskFault>
-    requires stands { (W : World) × (t : Live) × StandsFor D.state core.old W up × IsTx W tx t × IsWorkOf W t work.old }
-    requires ready { work.old.ready ≡ Some block }
-    requires block { block < work.old.blocks }
-    requires room { length work.old.accesses < 4096 }
-    requires bytes { length into.old ≡ work.old.size }
-    requires fits { off + len ≤ length into.old }
-    ensures shown { (W : World) (t : Live) → StandsFor D.state core.old W up → IsTx W tx t → IsWorkOf W t work.old
-        → OnOk result (IfTold (D.state (disk_of core.old)) (take len (drop off into.new) ≡ take len (drop off (shown_to W t block)))) }
-    ensures work { OnOk result (work.new ≡ record work.old { accesses = work.old.accesses ++ read_access block ∷ []; ready = None; settled = false }) }
-    ensures kept { OnErr result (work.new ≡ record work.old { ready = work.new.ready }) }
-    ensures same { (W : World) → StandsFor D.state core.old W up → StandsFor D.state core.new W up }
-    ensures length { length into.new ≡ length into.old }
-    ensures unwritten { WritesNothing (D.state (disk_of core.old)) (D.state (disk_of core.new)) }
-    ensures cause { HasCause (D.state (disk_of core.old)).faults (D.state (disk_of core.new)).faults result }
+    requires stands { IsWorkIn D.state core.old tx work.old }
+    requires range { MayRead work.old block off len (length into.old) }
+    ensures { Reads D.state core.old core.new tx work.old work.new block off len (read_access block) into.old into.new result }
 {
     match core.fetch_range(tx, block, off, len, into) {
         Ok(()) => {
@@ -63,22 +51,11 @@ fn read_range<D: Disk>(
     len: usize,
     into: &mut [u8],
 ) -> Result<(), DiskFault>
-    requires stands { (W : World) × (t : Live) × StandsFor D.state core.old W up × IsTx W tx t × IsWorkOf W t work.old }
-    requires ready { work.old.ready ≡ Some block }
-    requires block { block < work.old.blocks }
-    requires room { length work.old.accesses < 4096 }
-    requires bytes { length into.old ≡ work.old.size }
+    requires stands { IsWorkIn D.state core.old tx work.old }
+    requires range { MayRead work.old block off len (length into.old) }
     requires some { 0 < len }
     requires small { off + len ≤ 4096 }
-    requires fits { off + len ≤ length into.old }
-    ensures shown { (W : World) (t : Live) → StandsFor D.state core.old W up → IsTx W tx t → IsWorkOf W t work.old
-        → OnOk result (IfTold (D.state (disk_of core.old)) (take len (drop off into.new) ≡ take len (drop off (shown_to W t block)))) }
-    ensures work { OnOk result (work.new ≡ record work.old { accesses = work.old.accesses ++ get_access block off len ∷ []; ready = None; settled = false }) }
-    ensures kept { OnErr result (work.new ≡ record work.old { ready = work.new.ready }) }
-    ensures same { (W : World) → StandsFor D.state core.old W up → StandsFor D.state core.new W up }
-    ensures length { length into.new ≡ length into.old }
-    ensures unwritten { WritesNothing (D.state (disk_of core.old)) (D.state (disk_of core.new)) }
-    ensures cause { HasCause (D.state (disk_of core.old)).faults (D.state (disk_of core.new)).faults result }
+    ensures { Reads D.state core.old core.new tx work.old work.new block off len (get_access block off len) into.old into.new result }
 {
     match core.fetch_range(tx, block, off, len, into) {
         Ok(()) => {
@@ -97,14 +74,8 @@ pub(crate) fn read<D: Disk>(
     work: &mut Work,
     block: u32,
 ) -> Result<Reply, Stop>
-    requires { (W : World) × (t : Live) × StandsFor D.state core.old W up × IsTx W tx t × IsActive W t work.old }
-    ensures given { (W : World) (t : Live) → StandsFor D.state core.old W up → IsTx W tx t → IsActive W t work.old
-        → IfOk result (IsShown (D.state (disk_of core.old)) W t (read_step W t block) work.new) }
-    ensures kept { OnErr result (work.new ≡ record work.old { ready = work.new.ready }) }
-    ensures same { (W : World) → StandsFor D.state core.old W up → StandsFor D.state core.new W up }
-    ensures unwritten { WritesNothing (D.state (disk_of core.old)) (D.state (disk_of core.new)) }
-    ensures up { ¬ IsErrOf result Stop.Down }
-    ensures cause { BlamesDisk (D.state (disk_of core.old)).faults (D.state (disk_of core.new)).faults result }
+    requires { IsActiveIn D.state core.old tx work.old }
+    ensures { Acts D.state core.old core.new tx work.old work.new (λ W t. read_step W t block) result }
 {
     if let Some(reply) = refusal(work, block, false) {
         return Ok(reply);
@@ -150,23 +121,11 @@ fn get_within<D: Disk>(
     off: u32,
     into: &mut [u8],
 ) -> Result<(), Stop>
-    requires stands { (W : World) × (t : Live) × StandsFor D.state core.old W up × IsTx W tx t × IsActive W t work.old }
-    requires block { block < work.old.blocks }
-    requires range { is_outside work.old.size off (length into.old) ≡ false }
-    requires room { length work.old.accesses < 4096 }
-    ensures told { (W : World) (t : Live) → StandsFor D.state core.old W up → IsTx W tx t → IsActive W t work.old
-        → OnOk result (IfTold (D.state (disk_of core.old)) (into.new ≡ take (length into.old) (drop off (shown_to W t block)))) }
-    ensures worked { (W : World) (t : Live) → IsActive W t work.old → OnOk result (IsWorkedTo W t (with_access W t (get_access block off (length into.old))) work.new) }
+    requires stands { IsActiveIn D.state core.old tx work.old }
+    requires allowed { IsAllowed work.old block (is_outside work.old.size off (length into.old)) }
+    ensures acts { Acts D.state core.old core.new tx work.old work.new (λ W t. get_step W t block off (length into.old)) (as_shown result into.new) }
     ensures length { length into.new ≡ length into.old }
     ensures stays { OnErr result (into.new ≡ into.old) }
-    ensures kept { OnErr result (work.new ≡ record work.old { ready = work.new.ready }) }
-    ensures same { (W : World) → StandsFor D.state core.old W up → StandsFor D.state core.new W up }
-    ensures unwritten { WritesNothing (D.state (disk_of core.old)) (D.state (disk_of core.new)) }
-    ensures up { ¬ IsErrOf result Stop.Down }
-    ensures later { (D.state (disk_of core.old)).faults ≤ (D.state (disk_of core.new)).faults }
-    ensures failed { IsErrOf result Stop.Disk → Rose (D.state (disk_of core.old)).faults (D.state (disk_of core.new)).faults }
-    ensures passed { OnOk result ((D.state (disk_of core.new)).faults ≡ (D.state (disk_of core.old)).faults) }
-    ensures memory { IsErrOf result Stop.Memory → (D.state (disk_of core.new)).faults ≡ (D.state (disk_of core.old)).faults }
 {
     if let Err(_) = fit(buffer, work.block_size()) {
         return Err(Stop::Memory);
@@ -232,14 +191,8 @@ pub(crate) fn get<D: Disk>(
     spare: &mut Vec<u8>,
     range: BlockRange,
 ) -> Result<Reply, Stop>
-    requires { (W : World) × (t : Live) × StandsFor D.state core.old W up × IsTx W tx t × IsActive W t work.old }
-    ensures given { (W : World) (t : Live) → StandsFor D.state core.old W up → IsTx W tx t → IsActive W t work.old
-        → IfOk result (IsShown (D.state (disk_of core.old)) W t (get_step W t range.block range.off range.len) work.new) }
-    ensures kept { OnErr result (work.new ≡ record work.old { ready = work.new.ready }) }
-    ensures same { (W : World) → StandsFor D.state core.old W up → StandsFor D.state core.new W up }
-    ensures unwritten { WritesNothing (D.state (disk_of core.old)) (D.state (disk_of core.new)) }
-    ensures up { ¬ IsErrOf result Stop.Down }
-    ensures cause { BlamesDisk (D.state (disk_of core.old)).faults (D.state (disk_of core.new)).faults result }
+    requires { IsActiveIn D.state core.old tx work.old }
+    ensures { Acts D.state core.old core.new tx work.old work.new (λ W t. get_step W t range.block range.off range.len) result }
 {
     let BlockRange { block, off, len } = range;
     let size = work.block_size();

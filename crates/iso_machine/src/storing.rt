@@ -1,13 +1,11 @@
 // Calls of the stores on a transaction of the core.
-ghost use Rattle.std.specs.Prelude.{◌≡◌, ◌+◌, ◌≤◌, ℕ, IfOk, IsErrOf, false, length};
+ghost use Rattle.std.specs.Prelude.{◌≡◌, ◌≤◌, ℕ, IfOk, IsErrOf, length};
 ghost use Rattle.iso_disk.specs.Disk.{WritesNothing};
 ghost use Rattle.iso_model.specs.World.{Live, World};
-ghost use Rattle.iso_core.specs.{Calls.{IsTx, IsWorkOf}, Core.{StandsFor, disk_of}, Standing.up};
-ghost use Rattle.iso_machine.specs.{Accessing.IsActive, Guests.{IsGuest, IsSameWork, tx_of}, ShownArrays.array_told, Storing.{IsStored, store_act}};
-ghost use Rattle.iso_fs.specs.Ends.{areas_of};
+ghost use Rattle.iso_core.specs.{Calls.IsTx, Core.{StandsFor, disk_of}, Standing.up};
+ghost use Rattle.iso_machine.specs.{Accessing.{IsActive, IsWorkIn}, Guests.{IsGuest, IsSameWork}, ShownArrays.array_told, Storing.{CallsStore, IsStored, MayCall, store_act}};
 ghost use Rattle.tx_table.specs.Work.{AreWithin};
 ghost use Rattle.script_runner.specs.Counts.{BlamesDisk};
-ghost use Rattle.store_calls.specs.Calls.{AreStoreAreas, HasCalled, is_empty_scan, store_ended};
 
 use crate::core_blocks::{CoreBlocks, Lent};
 use crate::origin::Origin;
@@ -41,13 +39,11 @@ fn call_from<'a, D: Disk, K: Origin>(
     requires core { core.ghost_name ≡ K.core_name }
     requires work { work.ghost_name ≡ K.work_name }
     requires guest { IsGuest D.state K.stood K.disk K.doing K.array core.old tx work.old 0 }
-    requires areas { AreStoreAreas op.now (areas_of (tx_of K.array work.old) at) }
-    requires fits { at.files.start + at.files.size ≤ work.old.blocks }
-    requires some { is_empty_scan op.now ≡ false }
+    requires call { MayCall K.array at op.now work.old }
     ensures same_core { result.core.ghost_name ≡ core.entry.ghost_name }
     ensures same_work { result.work.ghost_name ≡ work.entry.ghost_name }
     ensures guest { (number : ℕ) × (failures : ℕ) × IsGuest D.state K.stood K.disk K.doing K.array result.core.now number result.work.now failures }
-    ensures called { HasCalled (store_ended (areas_of (tx_of K.array work.old) at) op.now) (tx_of K.array work.old) (tx_of K.array result.work.now) answer.new }
+    ensures called { CallsStore K.array at op.now work.old result.work.now answer.new }
     ensures within { AreWithin result.work.now.size result.work.now.blocks result.work.now.accesses }
     ensures up { ¬ IsErrOf answer.new Stop.Down }
     ensures cause { BlamesDisk K.disk.faults (D.state (disk_of result.core.now)).faults answer.new }
@@ -73,17 +69,14 @@ fn call_on<D: Disk>(
     at: FsRegion,
     op: &Op,
 ) -> Result<Reply, Stop>
-    requires live { (W : World) × (t : Live) × StandsFor D.state core.old W up × IsTx W tx t × IsWorkOf W t work.old }
+    requires live { IsWorkIn D.state core.old tx work.old }
     requires few { length work.old.accesses ≤ 4096 }
-    requires areas { AreStoreAreas op.now (areas_of (tx_of (array_told D.state core.old work.old.begin) work.old) at) }
-    requires fits { at.files.start + at.files.size ≤ work.old.blocks }
-    requires some { is_empty_scan op.now ≡ false }
+    requires call { MayCall (array_told D.state core.old work.old.begin) at op.now work.old }
     ensures same { (W : World) → StandsFor D.state core.old W up → StandsFor D.state core.new W up }
     ensures unwritten { WritesNothing (D.state (disk_of core.old)) (D.state (disk_of core.new)) }
     ensures work { IsSameWork work.old work.new }
     ensures few { length work.new.accesses ≤ 4096 }
-    ensures called { HasCalled (store_ended (areas_of (tx_of (array_told D.state core.old work.old.begin) work.old) at) op.now)
-        (tx_of (array_told D.state core.old work.old.begin) work.old) (tx_of (array_told D.state core.old work.old.begin) work.new) result }
+    ensures called { CallsStore (array_told D.state core.old work.old.begin) at op.now work.old work.new result }
     ensures up { ¬ IsErrOf result Stop.Down }
     ensures cause { BlamesDisk (D.state (disk_of core.old)).faults (D.state (disk_of core.new)).faults result }
 {

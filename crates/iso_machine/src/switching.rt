@@ -7,14 +7,12 @@ use iso_disk::Disk;
 use script_model::{Reply, Stop, refused};
 
 impl<D: Disk> Machine<D> {
-    ghost use Rattle.iso_core.specs.Core.{disk_of};
-    ghost use Rattle.iso_machine.specs.{Answering.{Answers, Wanting}, Standing.{IsMachineOf, core_of}};
+    ghost use Rattle.iso_machine.specs.{Answering.{AnswersFrom, Wanting}, Standing.IsMachine};
 
     /// The base moves to the floor, in the other half.
     pub(crate) fn compact(&mut self) -> Result<Reply, Stop>
-        requires { (W : World) × IsMachineOf D.state self.old W }
-        ensures { (W : World) → IsMachineOf D.state self.old W
-            → Answers Wanting (IsMachineOf D.state self.new) (D.state (disk_of (core_of self.old))) (D.state (disk_of (core_of self.new))) W (step W 1 Compact) result }
+        requires { IsMachine D.state self.old }
+        ensures { AnswersFrom Wanting D.state self.old self.new (λ W. step W 1 Compact) result }
     {
         match self.core.compact() {
             Ok(floor) => Ok(Reply::Compacted(floor)),
@@ -24,9 +22,8 @@ impl<D: Disk> Machine<D> {
 
     /// So too, and the image gets form 2.
     pub(crate) fn upgrade(&mut self) -> Result<Reply, Stop>
-        requires { (W : World) × IsMachineOf D.state self.old W }
-        ensures { (W : World) → IsMachineOf D.state self.old W
-            → Answers Wanting (IsMachineOf D.state self.new) (D.state (disk_of (core_of self.old))) (D.state (disk_of (core_of self.new))) W (step W 1 Upgrade) result }
+        requires { IsMachine D.state self.old }
+        ensures { AnswersFrom Wanting D.state self.old self.new (λ W. step W 1 Upgrade) result }
     {
         match self.core.upgrade() {
             Ok(floor) => Ok(Reply::Upgraded(floor)),

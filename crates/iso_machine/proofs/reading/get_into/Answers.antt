@@ -32,13 +32,4 @@ pub returns-in-Some-clause-filled : goal.returns-in-Some-clause-filled
 returns-in-Some-clause-filled g c = unfilled c.in-Some.reply c.args.into.now c.in-Some.ensures.plain
 
 pub returns-in-Ok-clause-given : goal.returns-in-Ok-clause-given
-returns-in-Ok-clause-given g c W t of tx active =
-    let n = length c.args.into.now in
-    let may = c.in_default.ensures.allowed refl in
-    let right : is_outside W.geometry.block c.args.off n ≡ false =
-    ap (λ (m : ℕ). is_outside m c.args.off n) (sym (c.block_size-size.ensures.size ∙ active.is_work.size)) ∙ sym c.is_outside.ensures ∙ may.1 in
-    let shown : List ℕ = take n (drop c.args.off (shown_to W t c.args.block)) in
-    let access : Access = get_access c.args.block c.args.off n in
-    shown_bytes (g.D.Disk.state (disk_of c.args.core.now)) W t (get_step W t c.args.block c.args.off n) c.get_within.new.into shown (with_access W t access) c.get_within.new.work
-    (get_is W t c.args.block c.args.off n ∙ step_is W t c.args.work.now active c.args.block (is_outside W.geometry.block c.args.off n) (reply.Shown shown) access right may.0 may.2)
-    (c.in-Ok.ensures.told W t of tx active) (c.in-Ok.ensures.worked W t active)
+returns-in-Ok-clause-given g c W t of tx active = c.in-Ok.ensures.acts.given W t of tx active

@@ -13,20 +13,15 @@ returns-then-at-eq0-clause-given g c W t of here active =
     without_store g.D.Disk.state c.args.core.now c.args.tx c.args.work.now c.args.op.now W t (g.met.D.Disk.lawful (disk_of c.args.core.now)) of here active few
     c.store_region-at.result at (omega (arith, c.if-at-eq0.true))
 
-pub call_on-answer-requires-clause-areas : goal.call_on-answer-requires-clause-areas
-call_on-answer-requires-clause-areas g c =
+pub call_on-answer-requires-clause-call : goal.call_on-answer-requires-clause-call
+call_on-answer-requires-clause-call g c =
     let (W, t, of, here, active, few) = c.requires in
     let at = at_geometry c.geometry-geometry.result W.geometry c.store_region-at.result c.args.op.now (c.geometry-geometry.ensures W up of) c.store_region-at.ensures in
-    let some : c.store_region-at.result.files.size ≢ 0 = λ e. omega (arith, e, c.if-at-eq0.false) in
-    may_store g.D.Disk.state c.args.core.now c.args.tx c.args.work.now c.args.op.now W t (g.met.D.Disk.lawful (disk_of c.args.core.now)) of here active few
-    c.store_region-at.result at some
-
-pub call_on-answer-requires-clause-fits : goal.call_on-answer-requires-clause-fits
-call_on-answer-requires-clause-fits g c =
-    let (W, t, of, here, active, few) = c.requires in
-    let at = at_geometry c.geometry-geometry.result W.geometry c.store_region-at.result c.args.op.now (c.geometry-geometry.ensures W up of) c.store_region-at.ensures in
-    store_fits g.D.Disk.state c.args.core.now c.args.tx c.args.work.now c.args.op.now W t (g.met.D.Disk.lawful (disk_of c.args.core.now)) of here active few
-    c.store_region-at.result at
+    let some : c.store_region-at.result.files.size ≢ 0 = λ e. omega (arith, e, c.if-at-eq0.false) in (
+      may_store g.D.Disk.state c.args.core.now c.args.tx c.args.work.now c.args.op.now W t (g.met.D.Disk.lawful (disk_of c.args.core.now)) of here active few c.store_region-at.result at some,
+      store_fits g.D.Disk.state c.args.core.now c.args.tx c.args.work.now c.args.op.now W t (g.met.D.Disk.lawful (disk_of c.args.core.now)) of here active few c.store_region-at.result at,
+      sym c.is_empty_scan.ensures ∙ c.if-is_empty_scan.false,
+    )
 
 pub returns-then-is_empty_scan-clause-given : goal.returns-then-is_empty_scan-clause-given
 returns-then-is_empty_scan-clause-given g c W t of here active =

@@ -1,7 +1,7 @@
 use Rattle.iso_machine.proofs.{Words.{refl, sym, ap, Option, in_transaction, Live, disk_of, act_step, live_of, shows}, Machines.{act_leads, at_place, worked_on}, Accesses.readied, Quiet.{acted, answers_as, kept_for, stays_with}}
 
 pub returns-in_default : Rattle.iso_machine.proofs.machine.Machine.access.Goals.returns-in_default
-returns-in_default g c W of isop =
+returns-in_default g c isop W of =
     stays_with (g.met.D.Disk.lawful (disk_of c.args.self.now.core)) of refl (ap (λ (o : Option Live). in_transaction W o (λ t. act_step W t c.args.op.now)) (c.in_default.ensures.here W of)) of
 
 pub act_reusing-requires : Rattle.iso_machine.proofs.machine.Machine.access.Goals.act_reusing-requires
@@ -11,7 +11,7 @@ act_reusing-requires g c =
     (W, live_of c.index_mut-attached.result.now, of.core_of, h.tx, active)
 
 pub returns : Rattle.iso_machine.proofs.machine.Machine.access.Goals.returns
-returns g c W of isop =
+returns g c isop W of =
     let d = c.index_mut-attached.result.now in
     let same = c.index_mut-attached.ensures.value in
     let (h, active) = at_place W c.args.client c.args.self.now.live.items c.in-Some.i (c.in-Some.ensures.here W of) same c.deref_mut.ensures.value in

@@ -5,18 +5,18 @@ use Rattle.iso_machine.specs.declared.attached.Spot.TheVariants as spot
 use Rattle.iso_machine.proofs.machine.Machine.release.Goals as goal
 
 pub returns-in_default : goal.returns-in_default
-returns-in_default g c W of is =
+returns-in_default g c is W of =
     stays_with (g.met.D.Disk.lawful (disk_of c.args.self.now.core)) of refl (release_is W c.args.client c.args.label.now None (held W c.args.label.now) (c.in_default.ensures.here W of) refl) of
 
 pub claim-requires : goal.claim-requires
 claim-requires g c = known c.requires.1 c.deref.result.now c.deref.ensures.value
 
 pub returns-in_default-claim : goal.returns-in_default-claim
-returns-in_default-claim g c W of is =
+returns-in_default-claim g c is W of =
     wants_memory (g.met.D.Disk.lawful (disk_of c.args.self.now.core)) of refl (λ may. relisted of c.claim.new.finder (subst (AreListed c.claim.new.finder) c.deref.ensures.value c.claim.ensures.listed))
 
 pub returns-in-Some-found : goal.returns-in-Some-found
-returns-in-Some-found g c W of is =
+returns-in-Some-found g c is W of =
     let m = c.args.self.now in
     let text = c.args.label.now in
     let d = pick m.live.items c.in-Some.i c.in-Some.ensures.within in
@@ -28,7 +28,7 @@ returns-in-Some-found g c W of is =
     (relisted of c.claim.new.finder (subst (AreListed c.claim.new.finder) c.deref.ensures.value c.claim.ensures.listed))
 
 pub returns : goal.returns
-returns g c W of is =
+returns g c is W of =
     let m = c.args.self.now in
     let i = c.in-Some.i in
     let d = c.index_mut.result.now in
