@@ -1,5 +1,5 @@
 -- Calls on one transaction of a core that write nothing.
-use Rattle.iso_machine.proofs.{Words.{◌≡◌, ◌∙◌, sym, refl, ap, subst, IfOk, ℕ, ◌+◌, ◌<◌, ◌≤◌, Bool, List, length, Option, Some, Result, Ok, Err, arith, DiskState, IsLawful, starts_unwritten, Access, Reply, get_step, World, Live, Doing, Core, StandsFor, disk_of, up, IsTx, Accesses, Acts, IsActive, IsAllowed, IsShown, MayRead, Reads, or_stop}, Accesses.shown_given}
+use Rattle.iso_machine.proofs.{Words.{◌≡◌, ◌∙◌, sym, refl, ap, subst, IfOk, ℕ, ◌+◌, ◌≤◌, Bool, List, length, Some, Result, Ok, Err, arith, DiskState, IsLawful, starts_unwritten, Access, Reply, get_step, World, Live, Doing, Core, StandsFor, disk_of, up, IsTx, Accesses, Acts, IsActive, IsAllowed, IsShown, MayRead, Reads, or_stop}, Accesses.shown_given}
 use Rattle.iso_model.specs.declared.memory.Memory.{Memory}
 use Rattle.script_model.specs.declared.script.Reply.TheVariants as reply
 use Rattle.script_model.specs.declared.stop.Stop.{Stop}
@@ -54,16 +54,6 @@ module _ {D : Type 0} {state : D → DiskState} {core : Core D} {tx : ℕ} {old 
       unwritten = reads.unwritten;
       up = λ e. absurd (cc e);
       cause = record { later = reads.cause.later; failed = λ e. absurd (cc e); passed = reads.cause.passed; memory = λ e. absurd (cc e) };
-    }
-
-    pub acts_failed : (e : E) → Reads {R = R} state core after tx mid new block off len access slice into (Err e) → mid ≡ record old { ready = Some block } → Acts state core after tx old new step (Err stop.Disk)
-    acts_failed e reads is = record {
-      given = λ W t of here active. tt;
-      kept = reads.kept ∙ ap (λ (w : Doing). record w { ready = new.ready }) is;
-      same = reads.same;
-      unwritten = reads.unwritten;
-      up = λ e. absurd (cc e);
-      cause = record { later = reads.cause.later; failed = λ is. reads.cause.failed refl; passed = tt; memory = λ e. absurd (cc e) };
     }
 
 -- the same call, of which the step is written in another way

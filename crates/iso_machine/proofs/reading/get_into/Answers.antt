@@ -1,4 +1,4 @@
-use Rattle.iso_machine.proofs.{Words.{ℕ, List, take, drop, length, ◌≡◌, ◌∙◌, sym, refl, ap, subst, Ok, false, Reply, Access, is_outside, get_access, shown_to, get_step, with_access, disk_of}, Accesses.{get_is, shown_bytes, shown_given, step_is, step_refused}}
+use Rattle.iso_machine.proofs.{Words.{ℕ, List, take, drop, length, ◌≡◌, ◌∙◌, sym, refl, ap, subst, Ok, Reply, is_outside, get_access, shown_to, get_step, disk_of}, Accesses.{get_is, shown_given, step_refused}}
 use Rattle.iso_machine.specs.Accessing.{IsFilled, IsRefusal, IsShown, bytes_shown}
 use Rattle.script_model.specs.declared.script.Reply.TheVariants as reply
 use Rattle.iso_machine.proofs.reading.get_into.Goals as goal

@@ -1,4 +1,4 @@
-use Rattle.iso_machine.proofs.{Words.{arith, ℕ, List, take, drop, length, ◌≡◌, ◌∙◌, sym, ap, ◌++◌, ◌∷◌, [], None, Some, false, Access, get_access, is_outside, shown_to, get_step, with_access, disk_of, Doing}, Accesses.{get_is, one_more, shown_bytes, small_block, step_is, still_work, take_front, within}, Acts.{acts_failed, acts_memory, acts_read, may_read}}
+use Rattle.iso_machine.proofs.{Words.{arith, ℕ, List, take, drop, length, ◌≡◌, ◌∙◌, sym, ap, ◌++◌, ◌∷◌, [], None, Some, false, Access, get_access, is_outside, shown_to, get_step, with_access, disk_of, Doing}, Accesses.{get_is, one_more, shown_bytes, small_block, step_is, still_work, take_front, within}, Acts.{acts_read, may_read}}
 use Rattle.script_model.specs.declared.script.Reply.TheVariants as reply
 use Rattle.iso_machine.proofs.reading.get_within.Goals as goal
 

@@ -1,4 +1,4 @@
-use Rattle.iso_machine.proofs.{Words.{arith, ℕ, List, drop, length, ◌∙◌, ◌≡◌, sym, whole_range, refl, ap, ◌++◌, ◌∷◌, [], None, Some, false, read_access, shown_to, read_step, with_access, disk_of, Doing}, Accesses.{one_more, read_is, shown_bytes, shown_given, step_is, step_refused, still_work, take_front}, Acts.{acts_alone, acts_failed, acts_memory, acts_read, may_read}, Ranges.length-shown}
+use Rattle.iso_machine.proofs.{Words.{arith, ℕ, List, drop, length, ◌∙◌, ◌≡◌, sym, whole_range, refl, ap, ◌++◌, ◌∷◌, [], None, Some, false, read_access, shown_to, read_step, with_access, disk_of, Doing}, Accesses.{one_more, read_is, shown_bytes, shown_given, step_is, step_refused, still_work, take_front}, Acts.{acts_alone, acts_read, may_read}, Ranges.length-shown}
 use Rattle.iso_machine.proofs.reading.read.Goals as goal
 use Rattle.script_model.specs.declared.script.Reply.TheVariants as reply
 
