@@ -1,7 +1,7 @@
 // Transactions that begin.
 ghost use Rattle.std.specs.Prelude.{◌≡◌, IsTrue, IfOk};
 ghost use Rattle.script_model.specs.{declared.script.Op.TheVariants.Begin, Step.step};
-ghost use Rattle.iso_model.specs.{Geometry.is_block_size, World.World};
+ghost use Rattle.iso_model.specs.Geometry.{is_block_size};
 
 use crate::attached::{Attached, Spot};
 use crate::ending::keep_spare;

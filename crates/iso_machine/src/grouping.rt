@@ -1,6 +1,6 @@
 // Transactions that end as a group.
 ghost use Rattle.std.specs.Prelude.{◌≡◌, ◌+◌, ◌<◌, ◌≤◌, ◌∷◌, ◌++◌, [], IsTrue, OnOk, length, map, take};
-ghost use Rattle.iso_model.specs.{Geometry.is_block_size, World.World};
+ghost use Rattle.iso_model.specs.Geometry.{is_block_size};
 ghost use Rattle.script_model.specs.{declared.script.Op.TheVariants.Group, Operations.IsOp, Step.step};
 ghost use Rattle.iso_machine.specs.{Grouping.{HasTaken, filled, member_of}, Standing.{AreKnown, AreListed}};
 ghost use Rattle.iso_core.specs.Planned.{reply_in};

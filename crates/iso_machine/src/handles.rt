@@ -1,7 +1,7 @@
 // Transactions that go from client to client.
 ghost use Rattle.std.specs.Prelude.{IsTrue};
 ghost use Rattle.script_model.specs.{declared.script.Op.TheVariants.{Release, Takeover}, Step.step};
-ghost use Rattle.iso_model.specs.{Labels.is_label, World.World};
+ghost use Rattle.iso_model.specs.Labels.{is_label};
 
 use crate::attached::{Spot, claim, index_under_label};
 use crate::machine::Machine;

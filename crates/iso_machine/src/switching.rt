@@ -1,6 +1,5 @@
 // The base of the image, moved to the floor.
 ghost use Rattle.script_model.specs.{declared.script.Op.TheVariants.{Compact, Upgrade}, Step.step};
-ghost use Rattle.iso_model.specs.World.{World};
 
 use crate::machine::Machine;
 use iso_disk::Disk;
