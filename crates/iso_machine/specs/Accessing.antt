@@ -1,5 +1,5 @@
 -- What an access or a mark of one transaction is answered, and what its work is then.
-use Rattle.std.specs.Prelude.{◌≡◌, ◌∷◌, ◌++◌, [], ◌+◌, ◌<◌, ◌≤◌, ℕ, Bool, false, List, Result, Option, Some, None, Ok, Err, IfOk, IsErrOf, OnErr, OnOk, drop, length, take}
+use Rattle.std.specs.Prelude.{◌≡◌, ◌∷◌, ◌++◌, [], ◌+◌, ◌<◌, ◌≤◌, ℕ, Bool, false, List, Result, Some, None, Ok, Err, IfOk, IsErrOf, OnErr, OnOk, drop, length, take}
 use Rattle.counts.specs.Count.{HasCause}
 use Rattle.iso_disk.specs.Disk.{DiskState, WritesNothing}
 use Rattle.script_model.specs.{declared.script.Op.Op, declared.script.Op.TheVariants.{Put, Read, Get, Write, Fill, Mark}, declared.script.Reply.Reply, Step.{fill_step, get_step, mark_step, put_step, read_step, write_step}, declared.stop.Stop.Stop}
