@@ -12,6 +12,6 @@ always (Ok x) p = tt
 always (Err e) p = p
 
 -- two texts, one after the other, where the second could be added
-pub on_two : {T E : Type 0} (r : Result T E) (old mid new a m b n : List ℕ) → mid ≡ old ++ a ++ m → OnOk r (new ≡ mid ++ b ++ n) → OnOk r (new ≡ old ++ (a ++ m ++ b ++ n))
-on_two (Ok x) old mid new a m b n first second = second ∙ ap (λ (text : List ℕ). text ++ b ++ n) first ∙ simp append_assoc
+pub on_two : {T E : Type 0} (r : Result T E) (old mid new a m b n : List ℕ) → mid ≡ old ++ (a ++ m) → OnOk r (new ≡ mid ++ (b ++ n)) → OnOk r (new ≡ old ++ (a ++ m ++ b ++ n))
+on_two (Ok x) old mid new a m b n first second = second ∙ ap (λ (text : List ℕ). text ++ (b ++ n)) first ∙ simp append_assoc
 on_two (Err e) old mid new a m b n first second = tt

@@ -4,4 +4,5 @@ pub mod Said
 pub mod Spelling
 pub mod Parsing
 pub mod Printing
+pub mod Adding
 pub mod Numbers

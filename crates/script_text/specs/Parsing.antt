@@ -1,6 +1,6 @@
 -- What a step of the parser answers.
 use Rattle.std.specs.Prelude.{◌≡◌, ℕ, List, [], ◌∷◌, ◌++◌, Result, Ok, Err}
-use Rattle.script_model.specs.{Script.{◌>>=◌, operation_of}, declared.script.Op.Op, declared.script.Parsed.Parsed, declared.script.Parsed.TheVariants.{Line as Says}, declared.script.LineError.LineError, declared.script.LineError.TheVariants.{Cause, Memory}}
+use Rattle.script_model.specs.{Script.{◌>>=◌, operation_of}, Text.words_of, declared.script.Op.Op, declared.script.Parsed.Parsed, declared.script.Parsed.TheVariants.{Line as Says}, declared.script.LineError.LineError, declared.script.LineError.TheVariants.{Cause, Memory}}
 
 -- the definition fails by that cause, or memory ran out
 abbrev pub Fails : {X : Type 0} → LineError → Result X ℕ → Type 0
@@ -27,6 +27,10 @@ abbrev pub said_by : (client : ℕ) → Result Op ℕ → Result Parsed ℕ
 said_by client defined = do
   op ← defined
   Ok (Says (record { client = client; op = op }))
+
+-- a line of this client is put in a place, with the operation that the words of a text are the arguments of
+abbrev pub Places : Result (Unit {0}) LineError → (place : Parsed) → (client : ℕ) → (List (List ℕ) → Result Op ℕ) → (text : List ℕ) → Type 0
+Places result place client arguments text = Gives (placed result place) (said_by client (arguments (words_of text)))
 
 -- what the words after this client say
 abbrev pub said_behind : (client : ℕ) → List (List ℕ) → Result Parsed ℕ

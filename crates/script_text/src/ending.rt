@@ -1,6 +1,6 @@
 // A text that grows at its front, in place: the last part of a line is put first.
-ghost use Rattle.std.specs.Prelude.{◌≡◌, ◌+◌, ◌-◌, ◌*◌, ◌≤◌, [], ◌++◌, decimal, length};
-ghost use Rattle.script_text.specs.declared.ending.TheConstants.{MOST_BYTES};
+ghost use Rattle.std.specs.Prelude.{◌≡◌, ◌+◌, ◌-◌, ◌*◌, ◌≤◌, ◌++◌, decimal, length};
+ghost use Rattle.script_text.specs.Ending.{no_text};
 ghost use Rattle.script_model.specs.Text.{hex_text};
 
 use crate::push::write_hex;
@@ -31,7 +31,7 @@ impl Model for Ending {
 impl Ending {
     /// No text.
     pub(crate) fn new() -> Self
-        ensures { result ≡ record { text = []; room = MOST_BYTES } }
+        ensures { result ≡ no_text }
     {
         Ending {
             bytes: [0; MOST_BYTES],
@@ -41,7 +41,7 @@ impl Ending {
 
     /// Drops the text.
     pub(crate) fn clear(&mut self)
-        ensures { self.new ≡ record { text = []; room = MOST_BYTES } }
+        ensures { self.new ≡ no_text }
     {
         self.start = MOST_BYTES;
     }

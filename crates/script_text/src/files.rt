@@ -1,7 +1,7 @@
 // The operations on files.
-ghost use Rattle.script_model.specs.{Script.{file_operation, key_and_value, one_key, read_arguments, write_arguments}, Text.words_of};
+ghost use Rattle.script_model.specs.Script.{file_operation, key_and_value, one_key, read_arguments, write_arguments};
 ghost use Rattle.script_model.specs.declared.script.Op.TheVariants as ops;
-ghost use Rattle.script_text.specs.Parsing.{Gives, placed, said_by};
+ghost use Rattle.script_text.specs.Parsing.{Places};
 
 use crate::argument::{hex, number, stored};
 use crate::operation::say_line;
@@ -18,7 +18,7 @@ pub(crate) fn file_operation(
     arguments: &[u8],
     into: &mut Parsed,
 ) -> Result<(), LineError>
-    ensures { Gives (placed result into.new) (said_by client (file_operation name.now (words_of arguments.now))) }
+    ensures { Places result into.new client (file_operation name.now) arguments.now }
 {
     if name == b"fnew".as_slice() {
         return file_new(alloc, client, arguments, into);
@@ -39,11 +39,9 @@ pub(crate) fn file_operation(
 }
 
 fn file_new(alloc: Global, client: u8, arguments: &[u8], into: &mut Parsed) -> Result<(), LineError>
-    ensures { Gives (placed result into.new) (said_by client (one_key ops.FileNew (words_of arguments.now))) }
+    ensures { Places result into.new client (one_key ops.FileNew) arguments.now }
 {
-    let Some(name) = one_word(arguments) else {
-        return Err(LineError::Cause(3));
-    };
+    let name = one_word(arguments).ok_or(LineError::Cause(3))?;
     let name = stored(alloc, name)?;
     say_line(into, client, Op::FileNew { name });
     Ok(())
@@ -55,11 +53,9 @@ fn file_write(
     arguments: &[u8],
     into: &mut Parsed,
 ) -> Result<(), LineError>
-    ensures { Gives (placed result into.new) (said_by client (write_arguments (words_of arguments.now))) }
+    ensures { Places result into.new client write_arguments arguments.now }
 {
-    let Some((name, off, bytes)) = three_words(arguments) else {
-        return Err(LineError::Cause(3));
-    };
+    let (name, off, bytes) = three_words(arguments).ok_or(LineError::Cause(3))?;
     let name = stored(alloc, name)?;
     let off = number(off)?;
     let bytes = hex(alloc, bytes)?;
@@ -73,11 +69,9 @@ fn file_read(
     arguments: &[u8],
     into: &mut Parsed,
 ) -> Result<(), LineError>
-    ensures { Gives (placed result into.new) (said_by client (read_arguments (words_of arguments.now))) }
+    ensures { Places result into.new client read_arguments arguments.now }
 {
-    let Some((name, off, len)) = three_words(arguments) else {
-        return Err(LineError::Cause(3));
-    };
+    let (name, off, len) = three_words(arguments).ok_or(LineError::Cause(3))?;
     let name = stored(alloc, name)?;
     let off = number(off)?;
     let len = number(len)?;
@@ -91,11 +85,9 @@ fn file_move(
     arguments: &[u8],
     into: &mut Parsed,
 ) -> Result<(), LineError>
-    ensures { Gives (placed result into.new) (said_by client (key_and_value ops.FileMove (words_of arguments.now))) }
+    ensures { Places result into.new client (key_and_value ops.FileMove) arguments.now }
 {
-    let Some((from, to)) = two_words(arguments) else {
-        return Err(LineError::Cause(3));
-    };
+    let (from, to) = two_words(arguments).ok_or(LineError::Cause(3))?;
     let from = stored(alloc, from)?;
     let to = stored(alloc, to)?;
     say_line(into, client, Op::FileMove { from, to });
@@ -108,11 +100,9 @@ fn file_delete(
     arguments: &[u8],
     into: &mut Parsed,
 ) -> Result<(), LineError>
-    ensures { Gives (placed result into.new) (said_by client (one_key ops.FileDelete (words_of arguments.now))) }
+    ensures { Places result into.new client (one_key ops.FileDelete) arguments.now }
 {
-    let Some(name) = one_word(arguments) else {
-        return Err(LineError::Cause(3));
-    };
+    let name = one_word(arguments).ok_or(LineError::Cause(3))?;
     let name = stored(alloc, name)?;
     say_line(into, client, Op::FileDelete { name });
     Ok(())

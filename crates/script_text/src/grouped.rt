@@ -1,7 +1,7 @@
 // The line of the reply to a group.
-ghost use Rattle.std.specs.Prelude.{◌≡◌, ◌++◌, OnErr, OnOk, codes, decimal, flat_map};
+ghost use Rattle.std.specs.Prelude.{◌++◌, codes, decimal, flat_map};
 ghost use Rattle.script_model.specs.{declared.script.Reply.TheVariants.Grouped, Text.{clash_text, full_text, label_text, labels_text, reply_line}};
-ghost use Rattle.script_text.specs.Printing.{Extends};
+ghost use Rattle.script_text.specs.Adding.{Adds, AddsAll};
 
 use crate::push::{push_bytes, push_number};
 use iso_model::{Clash, GroupReply, Memory};
@@ -12,8 +12,7 @@ pub(crate) fn push_grouped(
     client: u8,
     answers: &[Option<GroupReply>],
 ) -> Result<(), Memory>
-    ensures ok { OnOk result (out.new.items ≡ out.old.items ++ reply_line client (Grouped answers.now)) }
-    ensures err { OnErr result (out.new.items ≡ out.old.items) }
+    ensures { AddsAll result out.old.items out.new.items (reply_line client (Grouped answers.now)) }
 {
     let start = out.len();
     let pushed = push_line(out, client, answers);
@@ -25,8 +24,7 @@ pub(crate) fn push_grouped(
 
 #[tactic(auto, unfolding(script_model::specs::Text::reply_text))]
 fn push_line(out: &mut Vec<u8>, client: u8, answers: &[Option<GroupReply>]) -> Result<(), Memory>
-    ensures ok { OnOk result (out.new.items ≡ out.old.items ++ reply_line client (Grouped answers.now)) }
-    ensures err { OnErr result (Extends out.old.items out.new.items) }
+    ensures { Adds result out.old.items out.new.items (reply_line client (Grouped answers.now)) }
 {
     push_number(out, u64::from(client))?;
     push_bytes(out, b" ok")?;
@@ -36,8 +34,7 @@ fn push_line(out: &mut Vec<u8>, client: u8, answers: &[Option<GroupReply>]) -> R
 
 /// Adds the answers, the first one after a space.
 fn push_answers(out: &mut Vec<u8>, answers: &[Option<GroupReply>]) -> Result<(), Memory>
-    ensures ok { OnOk result (out.new.items ≡ out.old.items ++ labels_text answers.now) }
-    ensures err { OnErr result (Extends out.old.items out.new.items) }
+    ensures { Adds result out.old.items out.new.items (labels_text answers.now) }
 {
     let Some((first, others)) = answers.split_first() else {
         return Ok(());
@@ -49,8 +46,7 @@ fn push_answers(out: &mut Vec<u8>, answers: &[Option<GroupReply>]) -> Result<(),
 
 /// Adds the answers after the first one, each after a semicolon and a space.
 fn push_others(out: &mut Vec<u8>, answers: &[Option<GroupReply>]) -> Result<(), Memory>
-    ensures ok { OnOk result (out.new.items ≡ out.old.items ++ flat_map (λ a. codes "; " ++ label_text a) answers.now) }
-    ensures err { OnErr result (Extends out.old.items out.new.items) }
+    ensures { Adds result out.old.items out.new.items (flat_map (λ a. codes "; " ++ label_text a) answers.now) }
 {
     for answer in answers {
         push_other(out, answer)?;
@@ -59,8 +55,7 @@ fn push_others(out: &mut Vec<u8>, answers: &[Option<GroupReply>]) -> Result<(), 
 }
 
 fn push_other(out: &mut Vec<u8>, answer: &Option<GroupReply>) -> Result<(), Memory>
-    ensures ok { OnOk result (out.new.items ≡ out.old.items ++ codes "; " ++ label_text answer.now) }
-    ensures err { OnErr result (Extends out.old.items out.new.items) }
+    ensures { Adds result out.old.items out.new.items (codes "; " ++ label_text answer.now) }
 {
     push_bytes(out, b"; ")?;
     push_answer(out, answer)
@@ -69,8 +64,7 @@ fn push_other(out: &mut Vec<u8>, answer: &Option<GroupReply>) -> Result<(), Memo
 /// Adds what a label is answered.
 #[tactic(auto, unfolding(script_model::specs::Text::label_text))]
 fn push_answer(out: &mut Vec<u8>, answer: &Option<GroupReply>) -> Result<(), Memory>
-    ensures ok { OnOk result (out.new.items ≡ out.old.items ++ label_text answer.now) }
-    ensures err { OnErr result (Extends out.old.items out.new.items) }
+    ensures { Adds result out.old.items out.new.items (label_text answer.now) }
 {
     match answer {
         Some(GroupReply::Committed(number)) => push_numbered(out, b"commit ", *number),
@@ -83,8 +77,7 @@ fn push_answer(out: &mut Vec<u8>, answer: &Option<GroupReply>) -> Result<(), Mem
 }
 
 fn push_clash(out: &mut Vec<u8>, clash: &Clash) -> Result<(), Memory>
-    ensures ok { OnOk result (out.new.items ≡ out.old.items ++ clash_text clash.now) }
-    ensures err { OnErr result (Extends out.old.items out.new.items) }
+    ensures { Adds result out.old.items out.new.items (clash_text clash.now) }
 {
     push_numbered(out, b"conflict with ", clash.commit)?;
     push_numbered(out, b" block ", u64::from(clash.block))?;
@@ -92,8 +85,7 @@ fn push_clash(out: &mut Vec<u8>, clash: &Clash) -> Result<(), Memory>
 }
 
 fn push_full(out: &mut Vec<u8>, need: u64, free: u64) -> Result<(), Memory>
-    ensures ok { OnOk result (out.new.items ≡ out.old.items ++ full_text need free) }
-    ensures err { OnErr result (Extends out.old.items out.new.items) }
+    ensures { Adds result out.old.items out.new.items (full_text need free) }
 {
     push_numbered(out, b"log full need ", need)?;
     push_numbered(out, b" free ", free)
@@ -101,16 +93,14 @@ fn push_full(out: &mut Vec<u8>, need: u64, free: u64) -> Result<(), Memory>
 
 /// Adds a text and a number in decimal. Without memory a part of that may be added.
 fn push_numbered(out: &mut Vec<u8>, text: &[u8], number: u64) -> Result<(), Memory>
-    ensures ok { OnOk result (out.new.items ≡ out.old.items ++ text.now ++ decimal number) }
-    ensures err { OnErr result (Extends out.old.items out.new.items) }
+    ensures { Adds result out.old.items out.new.items (text.now ++ decimal number) }
 {
     push_bytes(out, text)?;
     push_number(out, number)
 }
 
 fn push_text(out: &mut Vec<u8>, text: &[u8]) -> Result<(), Memory>
-    ensures ok { OnOk result (out.new.items ≡ out.old.items ++ text.now) }
-    ensures err { OnErr result (Extends out.old.items out.new.items) }
+    ensures { Adds result out.old.items out.new.items text.now }
 {
     push_bytes(out, text)
 }

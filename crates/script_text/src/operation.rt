@@ -2,7 +2,7 @@
 ghost use Rattle.std.specs.Prelude.{◌≡◌};
 ghost use Rattle.script_model.specs.{declared.script.Parsed.TheVariants.{Line as Says}, Script.{bare, begin_arguments, group_arguments, key_and_value, number_and_bytes, one_key, one_label, one_number, operation_of, other_operation, put_arguments, scan_arguments, store_operation, three_numbers, tree_operation, two_numbers}, Text.words_of};
 ghost use Rattle.script_model.specs.declared.script.Op.TheVariants as ops;
-ghost use Rattle.script_text.specs.Parsing.{Gives, placed, said_behind, said_by};
+ghost use Rattle.script_text.specs.Parsing.{Gives, Places, placed, said_behind};
 
 use crate::argument::{hex, hex_within, label, labels, mode, number, numbers_and_word, stored};
 use crate::files::file_operation;
@@ -23,7 +23,7 @@ fn operation_of(
     into: &mut Parsed,
     spare: &mut Vec<u8>,
 ) -> Result<(), LineError>
-    ensures { Gives (placed result into.new) (said_by client (operation_of name.now (words_of arguments.now))) }
+    ensures { Places result into.new client (operation_of name.now) arguments.now }
 {
     if name == b"begin".as_slice() {
         return begin(client, arguments, into);
@@ -95,7 +95,7 @@ fn other_operation(
     arguments: &[u8],
     into: &mut Parsed,
 ) -> Result<(), LineError>
-    ensures { Gives (placed result into.new) (said_by client (other_operation name.now (words_of arguments.now))) }
+    ensures { Places result into.new client (other_operation name.now) arguments.now }
 {
     if name == b"release".as_slice() {
         return release(client, arguments, into);
@@ -132,7 +132,7 @@ fn store_operation(
     arguments: &[u8],
     into: &mut Parsed,
 ) -> Result<(), LineError>
-    ensures { Gives (placed result into.new) (said_by client (store_operation name.now (words_of arguments.now))) }
+    ensures { Places result into.new client (store_operation name.now) arguments.now }
 {
     if name == b"hput".as_slice() {
         return hash_put(alloc, client, arguments, into);
@@ -154,7 +154,7 @@ fn tree_operation(
     arguments: &[u8],
     into: &mut Parsed,
 ) -> Result<(), LineError>
-    ensures { Gives (placed result into.new) (said_by client (tree_operation name.now (words_of arguments.now))) }
+    ensures { Places result into.new client (tree_operation name.now) arguments.now }
 {
     if name == b"tput".as_slice() {
         return tree_put(alloc, client, arguments, into);
@@ -182,7 +182,7 @@ pub(crate) fn say_line(into: &mut Parsed, client: u8, op: Op)
 /// An operation that has no arguments.
 #[inline(always)]
 fn bare(client: u8, op: Op, arguments: &[u8], into: &mut Parsed) -> Result<(), LineError>
-    ensures { Gives (placed result into.new) (said_by client (bare op (words_of arguments.now))) }
+    ensures { Places result into.new client (bare op) arguments.now }
 {
     match next_word(arguments) {
         None => {
@@ -194,7 +194,7 @@ fn bare(client: u8, op: Op, arguments: &[u8], into: &mut Parsed) -> Result<(), L
 }
 
 fn begin(client: u8, arguments: &[u8], into: &mut Parsed) -> Result<(), LineError>
-    ensures { Gives (placed result into.new) (said_by client (begin_arguments (words_of arguments.now))) }
+    ensures { Places result into.new client begin_arguments arguments.now }
 {
     let Some((word, more)) = next_word(arguments) else {
         say_line(into, client, Op::Begin { mode: None });
@@ -216,7 +216,7 @@ fn put(
     into: &mut Parsed,
     spare: &mut Vec<u8>,
 ) -> Result<(), LineError>
-    ensures { Gives (placed result into.new) (said_by client (put_arguments (words_of arguments.now))) }
+    ensures { Places result into.new client put_arguments arguments.now }
 {
     let (block, off, text) = match numbers_and_word(arguments) {
         Ok(found) => found,
@@ -231,11 +231,9 @@ fn put(
 }
 
 fn read(client: u8, arguments: &[u8], into: &mut Parsed) -> Result<(), LineError>
-    ensures { Gives (placed result into.new) (said_by client (one_number ops.Read (words_of arguments.now))) }
+    ensures { Places result into.new client (one_number ops.Read) arguments.now }
 {
-    let Some(block) = one_word(arguments) else {
-        return Err(LineError::Cause(3));
-    };
+    let block = one_word(arguments).ok_or(LineError::Cause(3))?;
     let block = number(block)?;
     say_line(into, client, Op::Read { block });
     Ok(())
@@ -243,7 +241,7 @@ fn read(client: u8, arguments: &[u8], into: &mut Parsed) -> Result<(), LineError
 
 #[inline(always)]
 fn get(client: u8, arguments: &[u8], into: &mut Parsed) -> Result<(), LineError>
-    ensures { Gives (placed result into.new) (said_by client (three_numbers ops.Get (words_of arguments.now))) }
+    ensures { Places result into.new client (three_numbers ops.Get) arguments.now }
 {
     let (block, off, word) = match numbers_and_word(arguments) {
         Ok(found) => found,
@@ -258,11 +256,9 @@ fn get(client: u8, arguments: &[u8], into: &mut Parsed) -> Result<(), LineError>
 }
 
 fn write(alloc: Global, client: u8, arguments: &[u8], into: &mut Parsed) -> Result<(), LineError>
-    ensures { Gives (placed result into.new) (said_by client (number_and_bytes ops.Write (words_of arguments.now))) }
+    ensures { Places result into.new client (number_and_bytes ops.Write) arguments.now }
 {
-    let Some((block, bytes)) = two_words(arguments) else {
-        return Err(LineError::Cause(3));
-    };
+    let (block, bytes) = two_words(arguments).ok_or(LineError::Cause(3))?;
     let block = number(block)?;
     let bytes = hex(alloc, bytes)?;
     say_line(into, client, Op::Write { block, bytes });
@@ -270,11 +266,9 @@ fn write(alloc: Global, client: u8, arguments: &[u8], into: &mut Parsed) -> Resu
 }
 
 fn fill(alloc: Global, client: u8, arguments: &[u8], into: &mut Parsed) -> Result<(), LineError>
-    ensures { Gives (placed result into.new) (said_by client (number_and_bytes ops.Fill (words_of arguments.now))) }
+    ensures { Places result into.new client (number_and_bytes ops.Fill) arguments.now }
 {
-    let Some((block, bytes)) = two_words(arguments) else {
-        return Err(LineError::Cause(3));
-    };
+    let (block, bytes) = two_words(arguments).ok_or(LineError::Cause(3))?;
     let block = number(block)?;
     let bytes = hex(alloc, bytes)?;
     say_line(into, client, Op::Fill { block, bytes });
@@ -282,11 +276,9 @@ fn fill(alloc: Global, client: u8, arguments: &[u8], into: &mut Parsed) -> Resul
 }
 
 fn mark(client: u8, arguments: &[u8], into: &mut Parsed) -> Result<(), LineError>
-    ensures { Gives (placed result into.new) (said_by client (two_numbers ops.Mark (words_of arguments.now))) }
+    ensures { Places result into.new client (two_numbers ops.Mark) arguments.now }
 {
-    let Some((off, len)) = two_words(arguments) else {
-        return Err(LineError::Cause(3));
-    };
+    let (off, len) = two_words(arguments).ok_or(LineError::Cause(3))?;
     let off = number(off)?;
     let len = number(len)?;
     say_line(into, client, Op::Mark { off, len });
@@ -294,40 +286,34 @@ fn mark(client: u8, arguments: &[u8], into: &mut Parsed) -> Result<(), LineError
 }
 
 fn release(client: u8, arguments: &[u8], into: &mut Parsed) -> Result<(), LineError>
-    ensures { Gives (placed result into.new) (said_by client (one_label ops.Release (words_of arguments.now))) }
+    ensures { Places result into.new client (one_label ops.Release) arguments.now }
 {
-    let Some(text) = one_word(arguments) else {
-        return Err(LineError::Cause(3));
-    };
+    let text = one_word(arguments).ok_or(LineError::Cause(3))?;
     let label = label(text)?;
     say_line(into, client, Op::Release { label });
     Ok(())
 }
 
 fn takeover(client: u8, arguments: &[u8], into: &mut Parsed) -> Result<(), LineError>
-    ensures { Gives (placed result into.new) (said_by client (one_label ops.Takeover (words_of arguments.now))) }
+    ensures { Places result into.new client (one_label ops.Takeover) arguments.now }
 {
-    let Some(text) = one_word(arguments) else {
-        return Err(LineError::Cause(3));
-    };
+    let text = one_word(arguments).ok_or(LineError::Cause(3))?;
     let label = label(text)?;
     say_line(into, client, Op::Takeover { label });
     Ok(())
 }
 
 fn await_label(client: u8, arguments: &[u8], into: &mut Parsed) -> Result<(), LineError>
-    ensures { Gives (placed result into.new) (said_by client (one_label ops.Await (words_of arguments.now))) }
+    ensures { Places result into.new client (one_label ops.Await) arguments.now }
 {
-    let Some(text) = one_word(arguments) else {
-        return Err(LineError::Cause(3));
-    };
+    let text = one_word(arguments).ok_or(LineError::Cause(3))?;
     let label = label(text)?;
     say_line(into, client, Op::Await { label });
     Ok(())
 }
 
 fn group(alloc: Global, client: u8, arguments: &[u8], into: &mut Parsed) -> Result<(), LineError>
-    ensures { Gives (placed result into.new) (said_by client (group_arguments (words_of arguments.now))) }
+    ensures { Places result into.new client group_arguments arguments.now }
 {
     let count = count_words(arguments);
     if count == 0 || count > MAX_LABELS {
@@ -339,11 +325,9 @@ fn group(alloc: Global, client: u8, arguments: &[u8], into: &mut Parsed) -> Resu
 }
 
 fn hash_put(alloc: Global, client: u8, arguments: &[u8], into: &mut Parsed) -> Result<(), LineError>
-    ensures { Gives (placed result into.new) (said_by client (key_and_value ops.HashPut (words_of arguments.now))) }
+    ensures { Places result into.new client (key_and_value ops.HashPut) arguments.now }
 {
-    let Some((key, value)) = two_words(arguments) else {
-        return Err(LineError::Cause(3));
-    };
+    let (key, value) = two_words(arguments).ok_or(LineError::Cause(3))?;
     let key = stored(alloc, key)?;
     let value = stored(alloc, value)?;
     say_line(into, client, Op::HashPut { key, value });
@@ -351,11 +335,9 @@ fn hash_put(alloc: Global, client: u8, arguments: &[u8], into: &mut Parsed) -> R
 }
 
 fn hash_get(alloc: Global, client: u8, arguments: &[u8], into: &mut Parsed) -> Result<(), LineError>
-    ensures { Gives (placed result into.new) (said_by client (one_key ops.HashGet (words_of arguments.now))) }
+    ensures { Places result into.new client (one_key ops.HashGet) arguments.now }
 {
-    let Some(key) = one_word(arguments) else {
-        return Err(LineError::Cause(3));
-    };
+    let key = one_word(arguments).ok_or(LineError::Cause(3))?;
     let key = stored(alloc, key)?;
     say_line(into, client, Op::HashGet { key });
     Ok(())
@@ -367,22 +349,18 @@ fn hash_delete(
     arguments: &[u8],
     into: &mut Parsed,
 ) -> Result<(), LineError>
-    ensures { Gives (placed result into.new) (said_by client (one_key ops.HashDelete (words_of arguments.now))) }
+    ensures { Places result into.new client (one_key ops.HashDelete) arguments.now }
 {
-    let Some(key) = one_word(arguments) else {
-        return Err(LineError::Cause(3));
-    };
+    let key = one_word(arguments).ok_or(LineError::Cause(3))?;
     let key = stored(alloc, key)?;
     say_line(into, client, Op::HashDelete { key });
     Ok(())
 }
 
 fn tree_put(alloc: Global, client: u8, arguments: &[u8], into: &mut Parsed) -> Result<(), LineError>
-    ensures { Gives (placed result into.new) (said_by client (key_and_value ops.TreePut (words_of arguments.now))) }
+    ensures { Places result into.new client (key_and_value ops.TreePut) arguments.now }
 {
-    let Some((key, value)) = two_words(arguments) else {
-        return Err(LineError::Cause(3));
-    };
+    let (key, value) = two_words(arguments).ok_or(LineError::Cause(3))?;
     let key = stored(alloc, key)?;
     let value = stored(alloc, value)?;
     say_line(into, client, Op::TreePut { key, value });
@@ -390,11 +368,9 @@ fn tree_put(alloc: Global, client: u8, arguments: &[u8], into: &mut Parsed) -> R
 }
 
 fn tree_get(alloc: Global, client: u8, arguments: &[u8], into: &mut Parsed) -> Result<(), LineError>
-    ensures { Gives (placed result into.new) (said_by client (one_key ops.TreeGet (words_of arguments.now))) }
+    ensures { Places result into.new client (one_key ops.TreeGet) arguments.now }
 {
-    let Some(key) = one_word(arguments) else {
-        return Err(LineError::Cause(3));
-    };
+    let key = one_word(arguments).ok_or(LineError::Cause(3))?;
     let key = stored(alloc, key)?;
     say_line(into, client, Op::TreeGet { key });
     Ok(())
@@ -406,11 +382,9 @@ fn tree_delete(
     arguments: &[u8],
     into: &mut Parsed,
 ) -> Result<(), LineError>
-    ensures { Gives (placed result into.new) (said_by client (one_key ops.TreeDelete (words_of arguments.now))) }
+    ensures { Places result into.new client (one_key ops.TreeDelete) arguments.now }
 {
-    let Some(key) = one_word(arguments) else {
-        return Err(LineError::Cause(3));
-    };
+    let key = one_word(arguments).ok_or(LineError::Cause(3))?;
     let key = stored(alloc, key)?;
     say_line(into, client, Op::TreeDelete { key });
     Ok(())
@@ -422,11 +396,9 @@ fn tree_scan(
     arguments: &[u8],
     into: &mut Parsed,
 ) -> Result<(), LineError>
-    ensures { Gives (placed result into.new) (said_by client (scan_arguments (words_of arguments.now))) }
+    ensures { Places result into.new client scan_arguments arguments.now }
 {
-    let Some((from, to, most)) = three_words(arguments) else {
-        return Err(LineError::Cause(3));
-    };
+    let (from, to, most) = three_words(arguments).ok_or(LineError::Cause(3))?;
     let from = stored(alloc, from)?;
     let to = stored(alloc, to)?;
     let most = number(most)?;

@@ -1,7 +1,7 @@
 // The line of a reply with pairs of a store.
-ghost use Rattle.std.specs.Prelude.{◌≡◌, ◌++◌, OnErr, OnOk, flat_map};
+ghost use Rattle.std.specs.Prelude.{flat_map};
 ghost use Rattle.script_model.specs.{declared.script.Reply.TheVariants.Pairs, Text.{pair_text, reply_line}};
-ghost use Rattle.script_text.specs.Printing.{Extends};
+ghost use Rattle.script_text.specs.Adding.{Adds, AddsAll};
 
 use crate::push::{push_bytes, push_dashed, push_number};
 use iso_model::{Bytes, Memory};
@@ -12,8 +12,7 @@ pub(crate) fn push_pairs(
     client: u8,
     pairs: &[(Bytes, Bytes)],
 ) -> Result<(), Memory>
-    ensures ok { OnOk result (out.new.items ≡ out.old.items ++ reply_line client (Pairs pairs.now)) }
-    ensures err { OnErr result (out.new.items ≡ out.old.items) }
+    ensures { AddsAll result out.old.items out.new.items (reply_line client (Pairs pairs.now)) }
 {
     let start = out.len();
     let pushed = push_line(out, client, pairs);
@@ -25,8 +24,7 @@ pub(crate) fn push_pairs(
 
 #[tactic(auto, unfolding(script_model::specs::Text::reply_text))]
 fn push_line(out: &mut Vec<u8>, client: u8, pairs: &[(Bytes, Bytes)]) -> Result<(), Memory>
-    ensures ok { OnOk result (out.new.items ≡ out.old.items ++ reply_line client (Pairs pairs.now)) }
-    ensures err { OnErr result (Extends out.old.items out.new.items) }
+    ensures { Adds result out.old.items out.new.items (reply_line client (Pairs pairs.now)) }
 {
     push_number(out, u64::from(client))?;
     push_bytes(out, b" ok")?;
@@ -36,8 +34,7 @@ fn push_line(out: &mut Vec<u8>, client: u8, pairs: &[(Bytes, Bytes)]) -> Result<
 
 /// Adds the pairs, each after a space.
 fn push_all(out: &mut Vec<u8>, pairs: &[(Bytes, Bytes)]) -> Result<(), Memory>
-    ensures ok { OnOk result (out.new.items ≡ out.old.items ++ flat_map pair_text pairs.now) }
-    ensures err { OnErr result (Extends out.old.items out.new.items) }
+    ensures { Adds result out.old.items out.new.items (flat_map pair_text pairs.now) }
 {
     for pair in pairs {
         push_pair(out, pair)?;
@@ -46,8 +43,7 @@ fn push_all(out: &mut Vec<u8>, pairs: &[(Bytes, Bytes)]) -> Result<(), Memory>
 }
 
 fn push_pair(out: &mut Vec<u8>, pair: &(Bytes, Bytes)) -> Result<(), Memory>
-    ensures ok { OnOk result (out.new.items ≡ out.old.items ++ pair_text pair.now) }
-    ensures err { OnErr result (Extends out.old.items out.new.items) }
+    ensures { Adds result out.old.items out.new.items (pair_text pair.now) }
 {
     push_dashed(out, b" ", pair.0.as_slice())?;
     push_dashed(out, b"=", pair.1.as_slice())

@@ -1,23 +1,21 @@
 // Texts that grow at their end.
-ghost use Rattle.std.specs.Prelude.{◌≡◌, ◌+◌, ◌*◌, ◌++◌, OnOk, OnErr, decimal, length, take};
+ghost use Rattle.std.specs.Prelude.{◌≡◌, ◌+◌, ◌*◌, ◌++◌, decimal, length, take};
 ghost use Rattle.script_model.specs.Text.{dashed, hex_text};
-ghost use Rattle.script_text.specs.Printing.{Extends};
+ghost use Rattle.script_text.specs.Adding.{Adds, AddsAll};
 
 use iso_model::Memory;
 use itoa::Buffer;
 
 /// Adds bytes.
 pub(crate) fn push_bytes(out: &mut Vec<u8>, bytes: &[u8]) -> Result<(), Memory>
-    ensures ok { OnOk result (out.new.items ≡ out.old.items ++ bytes.now) }
-    ensures err { OnErr result (out.new.items ≡ out.old.items) }
+    ensures { AddsAll result out.old.items out.new.items bytes.now }
 {
     Ok(out.extend_from_slice(bytes)?)
 }
 
 /// Adds a number in decimal.
 pub(crate) fn push_number(out: &mut Vec<u8>, number: u64) -> Result<(), Memory>
-    ensures ok { OnOk result (out.new.items ≡ out.old.items ++ decimal number) }
-    ensures err { OnErr result (out.new.items ≡ out.old.items) }
+    ensures { AddsAll result out.old.items out.new.items (decimal number) }
 {
     let mut buffer = Buffer::new();
     push_bytes(out, buffer.format(number).as_bytes())
@@ -25,8 +23,7 @@ pub(crate) fn push_number(out: &mut Vec<u8>, number: u64) -> Result<(), Memory>
 
 /// Adds bytes in hexadecimal.
 pub(crate) fn push_hex(out: &mut Vec<u8>, bytes: &[u8]) -> Result<(), Memory>
-    ensures ok { OnOk result (out.new.items ≡ out.old.items ++ hex_text bytes.now) }
-    ensures err { OnErr result (out.new.items ≡ out.old.items) }
+    ensures { AddsAll result out.old.items out.new.items (hex_text bytes.now) }
 {
     let start = out.len();
     let size = 2 * bytes.len();
@@ -56,8 +53,7 @@ pub fn write_hex(bytes: &[u8], room: &mut [u8])
 
 /// Adds a text and a key or a value of a store. Without memory a part of that may be added.
 pub(crate) fn push_dashed(out: &mut Vec<u8>, text: &[u8], bytes: &[u8]) -> Result<(), Memory>
-    ensures ok { OnOk result (out.new.items ≡ out.old.items ++ text.now ++ dashed bytes.now) }
-    ensures err { OnErr result (Extends out.old.items out.new.items) }
+    ensures { Adds result out.old.items out.new.items (text.now ++ dashed bytes.now) }
 {
     push_bytes(out, text)?;
     if bytes.is_empty() {

@@ -1,7 +1,7 @@
 // The line of a reply.
 ghost use Rattle.std.specs.Prelude.{◌≡◌, ◌+◌, ◌*◌, ◌<◌, ◌≤◌, ◌++◌, IfOk, MatchOption, OnOk, OnErr, codes, decimal, length};
 ghost use Rattle.script_model.specs.{declared.script.Reply.TheVariants.Shown, Text.{dashed, reply_line, reply_text}};
-ghost use Rattle.script_text.specs.{Printing.{Extends, IsLong, IsOther, IsShort}, declared.reply.TheConstants.MOST_SHOWN};
+ghost use Rattle.script_text.specs.{Adding.{Adds, AddsAll, Puts}, Printing.{IsLong, IsOther, IsShort}, declared.reply.TheConstants.MOST_SHOWN};
 
 use crate::ending::Ending;
 use crate::grouped::push_grouped;
@@ -48,8 +48,7 @@ pub fn push_reply(out: &mut Vec<u8>, client: u8, reply: &Reply) -> Result<(), Me
 
 fn push_other(out: &mut Vec<u8>, client: u8, reply: &Reply) -> Result<(), Memory>
     requires { IsOther reply.now }
-    ensures ok { OnOk result (out.new.items ≡ out.old.items ++ reply_line client reply.now) }
-    ensures err { OnErr result (out.new.items ≡ out.old.items) }
+    ensures { AddsAll result out.old.items out.new.items (reply_line client reply.now) }
 {
     match many_shown(reply) {
         Some(bytes) => push_shown(out, client, bytes),
@@ -76,8 +75,7 @@ pub(crate) fn many_shown(reply: &Reply) -> Option<&[u8]>
 
 fn push_short(out: &mut Vec<u8>, client: u8, reply: &Reply) -> Result<(), Memory>
     requires { IsShort reply.now }
-    ensures ok { OnOk result (out.new.items ≡ out.old.items ++ reply_line client reply.now) }
-    ensures err { OnErr result (out.new.items ≡ out.old.items) }
+    ensures { AddsAll result out.old.items out.new.items (reply_line client reply.now) }
 {
     let mut line = Ending::new();
     put_reply(&mut line, client, reply);
@@ -98,8 +96,7 @@ pub(crate) fn put_reply(line: &mut Ending, client: u8, reply: &Reply)
 
 /// Adds the line that shows a client these bytes. Without memory nothing is added.
 pub(crate) fn push_shown(out: &mut Vec<u8>, client: u8, bytes: &[u8]) -> Result<(), Memory>
-    ensures ok { OnOk result (out.new.items ≡ out.old.items ++ reply_line client (Shown bytes.now)) }
-    ensures err { OnErr result (out.new.items ≡ out.old.items) }
+    ensures { AddsAll result out.old.items out.new.items (reply_line client (Shown bytes.now)) }
 {
     let start = out.len();
     let pushed = push_parts(out, client, bytes);
@@ -111,8 +108,7 @@ pub(crate) fn push_shown(out: &mut Vec<u8>, client: u8, bytes: &[u8]) -> Result<
 
 #[tactic(auto, unfolding(script_model::specs::Text::reply_text))]
 fn push_parts(out: &mut Vec<u8>, client: u8, bytes: &[u8]) -> Result<(), Memory>
-    ensures ok { OnOk result (out.new.items ≡ out.old.items ++ reply_line client (Shown bytes.now)) }
-    ensures err { OnErr result (Extends out.old.items out.new.items) }
+    ensures { Adds result out.old.items out.new.items (reply_line client (Shown bytes.now)) }
 {
     push_number(out, u64::from(client))?;
     push_bytes(out, b" ok ")?;
@@ -125,8 +121,7 @@ fn push_parts(out: &mut Vec<u8>, client: u8, bytes: &[u8]) -> Result<(), Memory>
 fn put_text(line: &mut Ending, reply: &Reply)
     requires room { 162 ≤ line.old.room }
     requires shown { IsShort reply.now }
-    ensures text { line.new.text ≡ reply_text reply.now ++ line.old.text }
-    ensures room { line.old.room ≤ line.new.room + 162 }
+    ensures { Puts line.old line.new 162 (reply_text reply.now) }
 {
     match reply {
         Reply::Done => line.put(b"ok"),
@@ -198,8 +193,7 @@ fn put_text(line: &mut Ending, reply: &Reply)
 fn put_found(line: &mut Ending, value: &[u8])
     requires room { 131 ≤ line.old.room }
     requires few { length value.now ≤ MOST_SHOWN }
-    ensures text { line.new.text ≡ codes "ok " ++ dashed value.now ++ line.old.text }
-    ensures room { line.old.room ≤ line.new.room + 131 }
+    ensures { Puts line.old line.new 131 (codes "ok " ++ dashed value.now) }
 {
     if value.is_empty() {
         line.put(b"ok -");
@@ -213,8 +207,7 @@ fn put_found(line: &mut Ending, value: &[u8])
 #[inline(always)]
 fn put_numbered(line: &mut Ending, text: &[u8], number: u64)
     requires { length text.now + 20 ≤ line.old.room }
-    ensures text { line.new.text ≡ text.now ++ decimal number ++ line.old.text }
-    ensures room { line.old.room ≤ line.new.room + length text.now + 20 }
+    ensures { Puts line.old line.new (length text.now + 20) (text.now ++ decimal number) }
 {
     line.put_number(number);
     line.put(text);
@@ -223,8 +216,7 @@ fn put_numbered(line: &mut Ending, text: &[u8], number: u64)
 /// Puts two texts, each with a number in decimal after it, before the text.
 fn put_two(line: &mut Ending, text: &[u8], number: u64, next_text: &[u8], next_number: u64)
     requires { length text.now + length next_text.now + 40 ≤ line.old.room }
-    ensures text { line.new.text ≡ text.now ++ decimal number ++ next_text.now ++ decimal next_number ++ line.old.text }
-    ensures room { line.old.room ≤ line.new.room + length text.now + length next_text.now + 40 }
+    ensures { Puts line.old line.new (length text.now + length next_text.now + 40) (text.now ++ decimal number ++ next_text.now ++ decimal next_number) }
 {
     put_numbered(line, next_text, next_number);
     put_numbered(line, text, number);
