@@ -1,5 +1,5 @@
 -- A line of the input, between those before it and what follows.
-use Rattle.script_runner.proofs.{Words.{◌≡◌, ◌≤◌, ℕ, ◌+◌, Bool, List, [], ◌∷◌, ◌++◌, Some, Result, Ok, Err, IfErr, OnOk, inr, length, refl, sym, ap, subst, ◌∙◌, append_assoc, append-nil, length-append, arith, Rose, DiskState, Broke, SinkState, BadLine, Line, LineError, Parsed, Script, before_script, parse_whole, script_from, pieces, World, Gives, Halt, RunEnd, AnswersParsed, EndsAt, IsByStep, Ran, Reads, SaysFirst, behind, end_of, lines_of, AreFirst, AreLinesOf, Answered, HasNoFeed, Cause, NoMemory, Skip, Says}, Feeds.{no_feed-append, no_feed-nil}, Fronts.{before-parsed, says-more, script-line}, Steps.{ended_here, halted_more, held_here, ran_more}}
+use Rattle.script_runner.proofs.{Words.{◌≡◌, ◌≤◌, ℕ, ◌+◌, Bool, List, [], ◌∷◌, ◌++◌, Some, Result, Ok, Err, OnOk, inr, length, refl, sym, ap, subst, ◌∙◌, append_assoc, append-nil, length-append, arith, Rose, DiskState, Broke, SinkState, BadLine, Line, LineError, Parsed, Script, before_script, parse_whole, script_from, pieces, World, Gives, Halt, RunEnd, AnswersParsed, EndsAt, IsByStep, Ran, Reads, SaysFirst, behind, end_of, lines_of, AreFirst, AreLinesOf, Answered, HasNoFeed, Cause, NoMemory, Skip, Says}, Feeds.{no_feed-append, no_feed-nil}, Fronts.{before-parsed, says-more, script-line}, Steps.{ended_here, halted_more, held_here, ran_more}}
 use Rattle.script_runner.specs.declared.run_end.Halt.TheVariants as halt
 use Rattle.script_runner.specs.declared.run_end.RunEnd.TheVariants as end
 
@@ -173,14 +173,15 @@ held_ends W bytes number held r broke rose = record {
 
 -- what answering a line does
 pub answered_line : (stands : World → Type 0) (d e : DiskState) (k l : SinkState) (W : World) (number : ℕ) (said : Line) (result : Result (Unit {0}) Halt)
-    → OnOk result (Ran stands d e k l W ((number, said) ∷ [])) → IfErr result (λ halt. IsByStep halt × Answered stands d e k l W (end_of halt) [] ((number, said) ∷ []))
-    → (parsed : Result Parsed LineError) → parsed ≡ Ok (Says said) → AnswersParsed stands d e k l W number parsed result
-answered_line stands d e k l W number said result ran halted parsed is = subst (λ p. AnswersParsed stands d e k l W number p result) (sym is) (go result ran halted)
-  where
-    go : (result : Result (Unit {0}) Halt) → OnOk result (Ran stands d e k l W ((number, said) ∷ []))
-        → IfErr result (λ halt. IsByStep halt × Answered stands d e k l W (end_of halt) [] ((number, said) ∷ [])) → AnswersParsed stands d e k l W number (Ok (Says said)) result
-    go (Ok _) ran halted = ran
-    go (Err halt) ran halted = halted
+    → AnswersParsed stands d e k l W number (Ok (Says said)) result → (parsed : Result Parsed LineError) → parsed ≡ Ok (Says said) → AnswersParsed stands d e k l W number parsed result
+answered_line stands d e k l W number said result answers parsed is = subst (λ p. AnswersParsed stands d e k l W number p result) (sym is) answers
+
+-- the machine stands for a world once a text was answered
+pub stands_on : (stands : World → Type 0) (d e : DiskState) (k l : SinkState) (W : World) (number : ℕ) (parsed : Result Parsed LineError) (ok : Unit {0})
+    → AnswersParsed stands d e k l W number parsed (Ok ok) → (V : World) × stands V
+stands_on stands d e k l W number (Ok Skip) ok ran = (ran.reached, ran.world)
+stands_on stands d e k l W number (Ok (Says line)) ok ran = (ran.reached, ran.world)
+stands_on stands d e k l W number (Err error) ok none = absurd none
 
 -- a line in the midst of a piece
 pub in_piece : (bytes taken line next piece rest : List ℕ) → piece ≡ taken ++ rest → rest ≡ line ++ 10 ∷ next → ((bytes ++ taken) ++ (line ++ 10 ∷ [])) ++ next ≡ bytes ++ piece

@@ -1,5 +1,5 @@
 -- How the lines of a run are answered, one after the other.
-use Rattle.std.specs.Prelude.{◌≡◌, ℕ, ◌+◌, ◌≤◌, List, [], ◌∷◌, ◌++◌, Bool, Result, Ok, Err, IsSome, length}
+use Rattle.std.specs.Prelude.{◌≡◌, ℕ, ◌+◌, ◌≤◌, List, [], ◌∷◌, ◌++◌, Bool, Result, Ok, Err, IfErr, IsSome, OnOk, length}
 use Rattle.iso_disk.specs.Disk.{DiskState, LeavesOnly}
 use Rattle.iso_io.specs.{Source.{SourceState, Took}, Sink.{SinkState, CountsStand, Wrote}}
 use Rattle.script_model.specs.{declared.script.Line.Line, declared.script.LineError.LineError, declared.script.LineError.TheVariants.{Cause, Memory as NoMemory}, declared.script.Parsed.Parsed, declared.script.Parsed.TheVariants.{Skip, Line as Says}, Script.{Script, replies, script_from}, Text.pieces, Operations.{AreLines, IsOp}}
@@ -76,6 +76,11 @@ AnswersParsed stands disk_old disk_new output_old output_new W number (Err error
     (halt ≡ halt_of number error) × Ran stands disk_old disk_new output_old output_new W []
 AnswersParsed stands disk_old disk_new output_old output_new W number parsed result = ⊥
 
+-- a text is a line, its line feed, and what follows that
+pub record IsSplit (text line rest : List ℕ) : Type 0 where
+  pub split : text ≡ line ++ 10 ∷ rest
+  pub no_feed : HasNoFeed line
+
 -- bytes before the first piece
 abbrev pub in_front : List ℕ → List (List ℕ) → List (List ℕ)
 in_front front [] = front ∷ []
@@ -109,6 +114,16 @@ pub record EndsAt (stands : World → Type 0) (disk_old disk_new : DiskState) (o
   pub next : List (ℕ × Line)
   pub lines : (cut : Bool) (more : List ℕ) → AreLinesOf end (script_from cut 1 (pieces 10 (bytes ++ more))) done next
   pub answered : Answered stands disk_old disk_new output_old output_new W end done next
+
+-- What answering more bytes does, wherever a run was: those before them and they are read, and the machine stands for a world; or
+-- the run ends among them.
+pub record AnswersBytes {A : Type 0} (stands : A → World → Type 0) (disk : A → DiskState) (machine_old machine_new : A) (output_old output_new : SinkState)
+    (number_old number_new : ℕ) (held_old held_new more : List ℕ) (result : Result (Unit {0}) Halt) : Type 0 where
+  pub world : OnOk result ((W : World) × stands machine_new W)
+  pub reads : (W : World) (m : A) (k : SinkState) (bytes : List ℕ) → Reads (stands machine_old) (disk m) (disk machine_old) k output_old W bytes number_old held_old
+      → OnOk result (Reads (stands machine_new) (disk m) (disk machine_new) k output_new W (bytes ++ more) number_new held_new)
+  pub ends : (W : World) (m : A) (k : SinkState) (bytes : List ℕ) → Reads (stands machine_old) (disk m) (disk machine_old) k output_old W bytes number_old held_old
+      → IfErr result (λ halt. EndsAt (stands machine_new) (disk m) (disk machine_new) k output_new W (bytes ++ more) (end_of halt))
 
 -- The bytes are those that the source gave, in order, and it did not fail.
 pub record Gave (old new : SourceState) (bytes : List ℕ) : Type 0 where

@@ -1,8 +1,8 @@
 // One line after the other.
-ghost use Rattle.std.specs.Prelude.{◌≡◌, ℕ, [], ◌∷◌, IfErr, IfOk, OnOk};
+ghost use Rattle.std.specs.Prelude.{◌≡◌, ℕ, IfOk};
 ghost use Rattle.iso_model.specs.World.{World};
 ghost use Rattle.script_text.specs.Parsing.{placed};
-ghost use Rattle.script_runner.specs.{Lines.{AnswersParsed, IsByStep, IsLine, Ran, SaysLine, end_of, halt_of, stopped}, Run.Answered};
+ghost use Rattle.script_runner.specs.Lines.{AnswersParsed, IsLine, SaysLine, halt_of, stopped};
 
 use crate::machine::ScriptMachine;
 use crate::run_end::Halt;
@@ -40,10 +40,8 @@ fn answer_line<M: ScriptMachine, K: Sink>(
 ) -> Result<(), Halt>
     requires stands { (W : World) × M.stands machine.old W }
     requires line { IsLine line.now }
-    ensures ran { (W : World) (number : ℕ) → M.stands machine.old W → OnOk result
-        (Ran (M.stands machine.new) (M.disk machine.old) (M.disk machine.new) (K.state output.old) (K.state output.new) W ((number, line.now) ∷ [])) }
-    ensures halted { (W : World) (number : ℕ) → M.stands machine.old W → IfErr result (λ halt. IsByStep halt
-        × Answered (M.stands machine.new) (M.disk machine.old) (M.disk machine.new) (K.state output.old) (K.state output.new) W (end_of halt) [] ((number, line.now) ∷ [])) }
+    ensures { (W : World) (number : ℕ) → M.stands machine.old W
+        → AnswersParsed (M.stands machine.new) (M.disk machine.old) (M.disk machine.new) (K.state output.old) (K.state output.new) W number (Ok (Parsed.Line line.now)) result }
 {
     // what was answered stays where the machine has put it
     let answered = machine.step(line.client, &line.op, spare);

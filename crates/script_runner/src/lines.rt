@@ -1,7 +1,7 @@
 // The lines of a whole script.
-ghost use Rattle.std.specs.Prelude.{◌≡◌, ◌<◌, ◌≤◌, ◌∷◌, ◌++◌, if◌then◌else◌, false, nat_le, List, ℕ, None, length, IfErr, IfNone, IfOk, IfSome, OnOk};
+ghost use Rattle.std.specs.Prelude.{◌≡◌, ◌<◌, ◌≤◌, ◌++◌, if◌then◌else◌, false, nat_le, List, ℕ, None, length, IfErr, IfOk, MatchOption, OnOk};
 ghost use Rattle.script_model.specs.{declared.script.Line.Line, Script.{last_piece, script}};
-ghost use Rattle.script_runner.specs.{Parts.{Adds, IsWhyOf, Stops}, Run.HasNoFeed};
+ghost use Rattle.script_runner.specs.{Lines.IsSplit, Parts.{Adds, IsWhyOf, Stops}, Run.HasNoFeed};
 
 use iso_model::{MAX_INPUT, MAX_LINE};
 use memchr::memchr;
@@ -22,9 +22,7 @@ pub enum ScriptError {
 
 /// The bytes before the first line feed, and what follows it. None where there is no line feed.
 fn split_line(text: &[u8]) -> Option<(&[u8], &[u8])>
-    ensures split { IfSome result (λ found. text.now ≡ found.0.now ++ 10 ∷ found.1.now) }
-    ensures line { IfSome result (λ found. HasNoFeed found.0.now) }
-    ensures none { IfNone result (HasNoFeed text.now) }
+    ensures { MatchOption result (HasNoFeed text.now) (λ found. IsSplit text.now found.0.now found.1.now) }
 {
     let end = memchr(b'\n', text)?;
     let (line, rest) = text.split_at(end);

@@ -1,10 +1,9 @@
 // A piece of the input, and the lines in it.
-ghost use Rattle.std.specs.Prelude.{◌≡◌, ℕ, ◌+◌, ◌^◌, ◌<◌, ◌≤◌, [], ◌∷◌, ◌++◌, List, length, IfErr, IfNone, IfSome, OnOk};
-ghost use Rattle.iso_io.specs.Sink.{SinkState};
+ghost use Rattle.std.specs.Prelude.{◌≡◌, ◌+◌, ◌^◌, ◌<◌, ◌≤◌, [], ◌∷◌, ◌++◌, length, MatchOption, OnOk};
 ghost use Rattle.script_model.specs.Script.{parse_whole};
 ghost use Rattle.iso_model.specs.World.{World};
 ghost use Rattle.script_text.specs.Parsing.{Gives, placed};
-ghost use Rattle.script_runner.specs.{Lines.{EndsAt, Reads, end_of}, Run.HasNoFeed};
+ghost use Rattle.script_runner.specs.{Lines.{AnswersBytes, IsSplit}, Run.HasNoFeed};
 
 use crate::feed::find_feed;
 use crate::line::answer_parsed;
@@ -34,9 +33,7 @@ pub(crate) struct Progress {
 
 /// The bytes before the first line feed, and what follows it. None where there is no line feed.
 fn split_line(text: &[u8]) -> Option<(&[u8], &[u8])>
-    ensures split { IfSome result (λ found. text.now ≡ found.0.now ++ 10 ∷ found.1.now) }
-    ensures line { IfSome result (λ found. HasNoFeed found.0.now) }
-    ensures none { IfNone result (HasNoFeed text.now) }
+    ensures { MatchOption result (HasNoFeed text.now) (λ found. IsSplit text.now found.0.now found.1.now) }
 {
     let end = find_feed(text)?;
     let (line, rest) = text.split_at(end);
@@ -78,15 +75,7 @@ fn answer_whole<M: ScriptMachine, K: Sink>(
     requires number { progress.old.number < 2 ^ 63 }
     requires line { HasNoFeed line.now }
     ensures number { OnOk result (progress.new.number ≡ progress.old.number + 1) }
-    ensures stands { OnOk result ((W : World) × M.stands machine.new W) }
-    ensures reads { (W : World) (m : _) (k : SinkState) (bytes : List ℕ)
-        → Reads (M.stands machine.old) (M.disk m) (M.disk machine.old) k (K.state output.old) W bytes progress.old.number progress.old.held.items
-        → OnOk result (Reads (M.stands machine.new) (M.disk m) (M.disk machine.new) k (K.state output.new) W (bytes ++ (line.now ++ 10 ∷ []))
-        progress.new.number progress.new.held.items) }
-    ensures ends { (W : World) (m : _) (k : SinkState) (bytes : List ℕ)
-        → Reads (M.stands machine.old) (M.disk m) (M.disk machine.old) k (K.state output.old) W bytes progress.old.number progress.old.held.items
-        → IfErr result (λ halt. EndsAt (M.stands machine.new) (M.disk m) (M.disk machine.new) k (K.state output.new) W (bytes ++ (line.now ++ 10 ∷ []))
-        (end_of halt)) }
+    ensures answers { AnswersBytes M.stands M.disk machine.old machine.new (K.state output.old) (K.state output.new) progress.old.number progress.new.number progress.old.held.items progress.new.held.items (line.now ++ 10 ∷ []) result }
 {
     let read = parse_held(
         alloc,
@@ -122,14 +111,7 @@ pub(crate) fn answer_piece<M: ScriptMachine, K: Sink>(
     requires stands { (W : World) × M.stands machine.old W }
     requires number { progress.old.number + length piece.now < 2 ^ 63 }
     ensures number { OnOk result (progress.new.number ≤ progress.old.number + length piece.now) }
-    ensures stands { OnOk result ((W : World) × M.stands machine.new W) }
-    ensures reads { (W : World) (m : _) (k : SinkState) (bytes : List ℕ)
-        → Reads (M.stands machine.old) (M.disk m) (M.disk machine.old) k (K.state output.old) W bytes progress.old.number progress.old.held.items
-        → OnOk result (Reads (M.stands machine.new) (M.disk m) (M.disk machine.new) k (K.state output.new) W (bytes ++ piece.now)
-        progress.new.number progress.new.held.items) }
-    ensures ends { (W : World) (m : _) (k : SinkState) (bytes : List ℕ)
-        → Reads (M.stands machine.old) (M.disk m) (M.disk machine.old) k (K.state output.old) W bytes progress.old.number progress.old.held.items
-        → IfErr result (λ halt. EndsAt (M.stands machine.new) (M.disk m) (M.disk machine.new) k (K.state output.new) W (bytes ++ piece.now) (end_of halt)) }
+    ensures answers { AnswersBytes M.stands M.disk machine.old machine.new (K.state output.old) (K.state output.new) progress.old.number progress.new.number progress.old.held.items progress.new.held.items piece.now result }
 {
     let mut rest = piece;
     while let Some((line, next)) = split_line(rest) {

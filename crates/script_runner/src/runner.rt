@@ -1,8 +1,8 @@
 // A whole run.
-ghost use Rattle.std.specs.Prelude.{◌≡◌, ℕ, ◌+◌, ◌-◌, ◌^◌, ◌<◌, ◌≤◌, ◌++◌, [], List, IsTrue, length, take, vec_len, IfErr, IfOk, OnOk};
+ghost use Rattle.std.specs.Prelude.{◌≡◌, ℕ, ◌+◌, ◌-◌, ◌^◌, ◌<◌, ◌≤◌, [], List, IsTrue, length, take, vec_len, IfErr, IfOk, OnOk};
 ghost use Rattle.iso_io.specs.{Sink.SinkState, Source.{MetEnd, SourceState}};
 ghost use Rattle.iso_model.specs.World.{World};
-ghost use Rattle.script_runner.specs.{Counts.{DiskCount, SinkCounts, SourceCount}, Lines.{Gave, Reads, end_of}, Run.HasRun};
+ghost use Rattle.script_runner.specs.{Counts.{DiskCount, SinkCounts, SourceCount}, Lines.{AnswersBytes, Gave, Reads, end_of}, Run.HasRun};
 
 use crate::line::answer_parsed;
 use crate::machine::ScriptMachine;
@@ -50,13 +50,9 @@ fn answer_next<M: ScriptMachine, S: Source, K: Sink>(
     ensures count { IfOk result (λ n. n ≤ length piece.new) }
     ensures number { IfOk result (λ n. progress.new.number ≤ progress.old.number + n) }
     ensures held { OnOk result (length progress.new.held.items ≤ MAX_LINE) }
-    ensures stands { OnOk result ((W : World) × M.stands machine.new W) }
     ensures gave { IfOk result (λ n. Gave (S.state input.old) (S.state input.new) (take n piece.new)) }
     ensures end { IfOk result (λ n. n ≡ 0 → MetEnd (S.state input.old) (S.state input.new) []) }
-    ensures reads { (W : World) (m : _) (k : SinkState) (bytes : List ℕ)
-        → Reads (M.stands machine.old) (M.disk m) (M.disk machine.old) k (K.state output.old) W bytes progress.old.number progress.old.held.items
-        → IfOk result (λ n. Reads (M.stands machine.new) (M.disk m) (M.disk machine.new) k (K.state output.new) W (bytes ++ take n piece.new)
-        progress.new.number progress.new.held.items) }
+    ensures answers { IfOk result (λ n. AnswersBytes M.stands M.disk machine.old machine.new (K.state output.old) (K.state output.new) progress.old.number progress.new.number progress.old.held.items progress.new.held.items (take n piece.new) (Ok tt)) }
     ensures ends { (W : World) (m : _) (i : SourceState) (k : SinkState) (bytes : List ℕ)
         → Gave i (S.state input.old) bytes → length bytes + length piece.old ≤ MAX_INPUT
         → Reads (M.stands machine.old) (M.disk m) (M.disk machine.old) k (K.state output.old) W bytes progress.old.number progress.old.held.items

@@ -10,8 +10,8 @@ ok {P = P} is known = subst (λ s. OnOk s P) is known
 if_ok : {X E : Type 0} {r : Result X E} {x : X} (P : X → Type 0) → r ≡ Ok x → IfOk r P → P x
 if_ok P is known = subst (λ s. IfOk s P) is known
 
-pub returns-in-Err-clause-halted : goal.returns-in-Err-clause-halted
-returns-in-Err-clause-halted g c W number stood =
+pub returns-in-Err : goal.returns-in-Err
+returns-in-Err g c W number stood =
     let law = g.met.M.ScriptMachine in
     let Ends : Halt → Type 0 =
     λ h. IsByStep h × Answered (g.M.ScriptMachine.stands c.step-answered.new.self) (g.M.ScriptMachine.disk c.args.machine.now) (g.M.ScriptMachine.disk c.step-answered.new.self) (g.K.Sink.state c.args.output.now) (g.K.Sink.state c.args.output.now) W (end_of h) [] ((number, c.args.line.now) ∷ []) in
@@ -31,8 +31,8 @@ returns-in-Err-clause-halted g c W number stood =
       )
     ] c.in-Err.is)
 
-pub returns-in-Err-set-clause-halted : goal.returns-in-Err-set-clause-halted
-returns-in-Err-set-clause-halted g c W number stood =
+pub returns-in-Err-set : goal.returns-in-Err-set
+returns-in-Err-set g c W number stood =
     let law = g.met.M.ScriptMachine in (
       tt,
       halted_one W (number, c.args.line.now) (law.sound c.args.machine.now W stood) c.requires.line.op (c.step-answered.ensures.moments W stood) Memory (ok c.in-Ok.is (c.step-answered.ensures.world W stood)) (law.sound c.step-answered.new.self (ok c.in-Ok.is (c.step-answered.ensures.world W stood)).world (ok c.in-Ok.is (c.step-answered.ensures.world W stood)).is)
@@ -40,8 +40,8 @@ returns-in-Err-set-clause-halted g c W number stood =
           (λ told. sym (append_known-nil _)) (put_silent Memory _ W _ (number, c.args.line.now) (λ P. tt) (sym (append_known-nil _))) tt (ok c.in-Ok.is c.step-answered.ensures.cause.passed) (counts_stand _) refl,
     )
 
-pub returns-in-Err-put_all-clause-halted : goal.returns-in-Err-put_all-clause-halted
-returns-in-Err-put_all-clause-halted g c W number stood =
+pub returns-in-Err-put_all : goal.returns-in-Err-put_all
+returns-in-Err-put_all g c W number stood =
     let law = g.met.M.ScriptMachine in
     let x : ℕ × Line = (number, c.args.line.now) in
     let text : IfTold (g.M.ScriptMachine.disk c.args.machine.now) (c.text.result.now ≡ replies W (x ∷ [])) =
@@ -71,8 +71,8 @@ returns-in-Err-put_all-clause-halted g c W number stood =
           so.is (ok c.in-Ok.is c.step-answered.ensures.cause.passed) failed put.whole,
     )
 
-pub returns-clause-ran : goal.returns-clause-ran
-returns-clause-ran g c W number stood =
+pub returns : goal.returns
+returns g c W number stood =
     let law = g.met.M.ScriptMachine in
     let x : ℕ × Line = (number, c.args.line.now) in
     let text : IfTold (g.M.ScriptMachine.disk c.args.machine.now) (c.text.result.now ≡ replies W (x ∷ [])) =

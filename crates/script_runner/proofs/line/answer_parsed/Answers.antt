@@ -7,7 +7,8 @@ returns-in-Skip g c W stood =
 
 pub returns-in-Line : Rattle.script_runner.proofs.line.answer_parsed.Goals.returns-in-Line
 returns-in-Line g c W stood =
-    answered_line _ _ _ _ _ W c.args.number c.in-Line.line c.answer_line.result (c.answer_line.ensures.ran W c.args.number stood) (c.answer_line.ensures.halted W c.args.number stood)
+    answered_line (g.M.ScriptMachine.stands c.answer_line.new.machine) (g.M.ScriptMachine.disk c.args.machine.now) (g.M.ScriptMachine.disk c.answer_line.new.machine) (g.K.Sink.state c.args.output.now) (g.K.Sink.state c.answer_line.new.output)
+    W c.args.number c.in-Line.line c.answer_line.result (c.answer_line.ensures W c.args.number stood)
     (placed c.args.read c.args.parsed.now) (ap (λ r. placed r c.args.parsed.now) c.in_default.is ∙ ap Ok c.in-Line.is)
 
 pub returns-in-Err : Rattle.script_runner.proofs.line.answer_parsed.Goals.returns-in-Err

@@ -29,7 +29,7 @@ returns-in-Ok-eq0 g c W stood =
     let none : take c.in-Ok-eq0.field-0 c.answer_next.new.piece ≡ [] = ap (λ n. take n c.answer_next.new.piece) c.in-Ok-eq0.field-0-test in
     let reads = subst (λ (xs : List ℕ). Reads (g.M.ScriptMachine.stands c.answer_next.new.machine) (g.M.ScriptMachine.disk c.args.machine.now) (g.M.ScriptMachine.disk c.answer_next.new.machine) (g.K.Sink.state c.args.output.now) (g.K.Sink.state c.answer_next.new.output) W xs c.answer_next.new.progress.number c.answer_next.new.progress.held.items)
     (ap (λ xs. v.bytes ++ xs) none ∙ append-nil v.bytes)
-    (c.in-Ok-eq0.ensures.reads W c.args.machine.now (g.K.Sink.state c.args.output.now) v.bytes (v.reads W stood)) in
+    (c.in-Ok-eq0.ensures.answers.reads W c.args.machine.now (g.K.Sink.state c.args.output.now) v.bytes (v.reads W stood)) in
     let given : Gave (g.S.Source.state c.args.input.now) (g.S.Source.state c.answer_next.new.input) v.bytes =
     subst (λ (xs : List ℕ). Gave (g.S.Source.state c.args.input.now) (g.S.Source.state c.answer_next.new.input) xs) (ap (λ xs. v.bytes ++ xs) none ∙ append-nil v.bytes)
     (gave_more (g.S.Source.state c.args.input.now) (g.S.Source.state c.loop-left.input) (g.S.Source.state c.answer_next.new.input) v.bytes (take c.in-Ok-eq0.field-0 c.answer_next.new.piece) v.gave c.in-Ok-eq0.ensures.gave) in
@@ -52,8 +52,8 @@ loop-left-preserved g c =
       room = v.room;
       number = omega (arith, v.number, c.in-Ok-answer_next.ensures.number, long, length-append v.bytes piece);
       held = c.in-Ok-answer_next.ensures.held;
-      stands = c.in-Ok-answer_next.ensures.stands;
-      reads = λ W stood. c.in-Ok-answer_next.ensures.reads W c.args.machine.now (g.K.Sink.state c.args.output.now) v.bytes (v.reads W stood);
+      stands = c.in-Ok-answer_next.ensures.answers.world;
+      reads = λ W stood. c.in-Ok-answer_next.ensures.answers.reads W c.args.machine.now (g.K.Sink.state c.args.output.now) v.bytes (v.reads W stood);
     }
 
 pub returns : goal.returns

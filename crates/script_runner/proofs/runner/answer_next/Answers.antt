@@ -20,7 +20,7 @@ returns-in-Err-answer_piece-clause-ends g c W m i k bytes gave few r =
     subst (λ (how : RunEnd). HasRun (g.M.ScriptMachine.stands c.answer_piece.new.machine) (g.M.ScriptMachine.disk m) (g.M.ScriptMachine.disk c.answer_piece.new.machine) i (g.S.Source.state c.take.new.self) k (g.K.Sink.state c.answer_piece.new.output) W how)
     (sym c.end_of.ensures)
     (halt_runs i (g.S.Source.state c.take.new.self) W (bytes ++ piece) (gave_more i (g.S.Source.state c.args.input.now) (g.S.Source.state c.take.new.self) bytes piece gave given)
-    (fits bytes c.args.piece.now c.take.new.into c.in-Ok.count c.take.auto.into few) c.in-Err-answer_piece.halt (c.in-Err-answer_piece.ensures.ends W m k bytes (rw (← c.in_default.ensures.stands) at r)))
+    (fits bytes c.args.piece.now c.take.new.into c.in-Ok.count c.take.auto.into few) c.in-Err-answer_piece.halt (c.in-Err-answer_piece.ensures.answers.ends W m k bytes (rw (← c.in_default.ensures.stands) at r)))
 
 pub returns-then-len-gt-MAX_LINE-clause-ends : Rattle.script_runner.proofs.runner.answer_next.Goals.returns-then-len-gt-MAX_LINE-clause-ends
 returns-then-len-gt-MAX_LINE-clause-ends g c W m i k bytes gave few r =
@@ -30,7 +30,11 @@ returns-then-len-gt-MAX_LINE-clause-ends g c W m i k bytes gave few r =
     let long : MAX_LINE < length held.items = omega (arith, c.if-len-gt-MAX_LINE.true, c.len.ensures, held.ok.0) in
     halt_runs i (g.S.Source.state c.take.new.self) W (bytes ++ piece) (gave_more i (g.S.Source.state c.args.input.now) (g.S.Source.state c.take.new.self) bytes piece gave given)
     (fits bytes c.args.piece.now c.take.new.into c.in-Ok.count c.take.auto.into few) (BadLine (record { line = c.answer_piece.new.progress.number; cause = 7 }))
-    (long_ends W (bytes ++ piece) c.answer_piece.new.progress.number held.items (c.in_default-answer_piece.ensures.reads W m k bytes (rw (← c.in_default.ensures.stands) at r)) long)
+    (long_ends W (bytes ++ piece) c.answer_piece.new.progress.number held.items (c.in_default-answer_piece.ensures.answers.reads W m k bytes (rw (← c.in_default.ensures.stands) at r)) long)
 
-pub returns-clause-reads : Rattle.script_runner.proofs.runner.answer_next.Goals.returns-clause-reads
-returns-clause-reads g c W m k bytes r = c.in_default-answer_piece.ensures.reads W m k bytes (rw (← c.in_default.ensures.stands) at r)
+pub returns-clause-answers : Rattle.script_runner.proofs.runner.answer_next.Goals.returns-clause-answers
+returns-clause-answers g c = record {
+  world = c.in_default-answer_piece.ensures.answers.world;
+  reads = λ W m k bytes r. c.in_default-answer_piece.ensures.answers.reads W m k bytes (rw (← c.in_default.ensures.stands) at r);
+  ends = λ W m k bytes r. tt;
+}
