@@ -68,11 +68,11 @@ fn push_answer(out: &mut Vec<u8>, answer: &Option<GroupReply>) -> Result<(), Mem
 {
     match answer {
         Some(GroupReply::Committed(number)) => push_numbered(out, b"commit ", *number),
-        Some(GroupReply::ReadOnly) => push_text(out, b"read-only"),
+        Some(GroupReply::ReadOnly) => push_bytes(out, b"read-only"),
         Some(GroupReply::Conflict(clash)) => push_clash(out, clash),
         Some(GroupReply::Full { need, free }) => push_full(out, *need, *free),
-        Some(GroupReply::Worn) => push_text(out, b"worn"),
-        None => push_text(out, b"none"),
+        Some(GroupReply::Worn) => push_bytes(out, b"worn"),
+        None => push_bytes(out, b"none"),
     }
 }
 
@@ -97,10 +97,4 @@ fn push_numbered(out: &mut Vec<u8>, text: &[u8], number: u64) -> Result<(), Memo
 {
     push_bytes(out, text)?;
     push_number(out, number)
-}
-
-fn push_text(out: &mut Vec<u8>, text: &[u8]) -> Result<(), Memory>
-    ensures { Adds result out.old.items out.new.items text.now }
-{
-    push_bytes(out, text)
 }
