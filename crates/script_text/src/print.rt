@@ -1,7 +1,7 @@
 // The printed spelling of a line.
-ghost use Rattle.std.specs.Prelude.{◌≡◌, ◌≤◌, ◌∷◌, ◌++◌, IfOk, Ok, OnOk, decimal, flat_map, length};
+ghost use Rattle.std.specs.Prelude.{◌≡◌, ◌≤◌, ◌∷◌, ◌++◌, IfOk, Ok, OnOk, flat_map, length};
 ghost use Rattle.iso_model.specs.declared.limits.TheConstants.{MAX_LINE};
-ghost use Rattle.script_model.specs.{declared.script.Parsed.TheVariants.{Line as Says}, Script.parse, Text.hex_text};
+ghost use Rattle.script_model.specs.{declared.script.Parsed.TheVariants.{Line as Says}, Script.parse};
 ghost use Rattle.script_text.specs.{Said.{behind_text, word_text}, Spelling.{arguments_of, line_text, name_of, spaced, IsLine}};
 
 use crate::push::{push_bytes, push_dashed, push_hex, push_number};
@@ -66,27 +66,17 @@ fn push_word(out: &mut Vec<u8>, word: &Word) -> Result<(), Memory>
     ensures { OnOk result (out.new.items ≡ out.old.items ++ word_text word.now) }
 {
     match word {
-        Word::Number(number) => push_number_behind(out, *number),
-        Word::Hex(bytes) => push_hex_behind(out, bytes.as_slice()),
+        Word::Number(number) => {
+            push_bytes(out, b" ")?;
+            push_number(out, u64::from(*number))
+        }
+        Word::Hex(bytes) => {
+            push_bytes(out, b" ")?;
+            push_hex(out, bytes.as_slice())
+        }
         Word::Dashed(bytes) => push_dashed(out, b" ", bytes.as_slice()),
         Word::Label(label) => push_both(out, b" ", label.text()),
     }
-}
-
-/// Adds a number in decimal after a space.
-fn push_number_behind(out: &mut Vec<u8>, number: u32) -> Result<(), Memory>
-    ensures { OnOk result (out.new.items ≡ out.old.items ++ 32 ∷ decimal number) }
-{
-    push_bytes(out, b" ")?;
-    push_number(out, u64::from(number))
-}
-
-/// Adds bytes in hexadecimal after a space.
-fn push_hex_behind(out: &mut Vec<u8>, bytes: &[u8]) -> Result<(), Memory>
-    ensures { OnOk result (out.new.items ≡ out.old.items ++ 32 ∷ hex_text bytes.now) }
-{
-    push_bytes(out, b" ")?;
-    push_hex(out, bytes)
 }
 
 /// Adds the labels, each after a space.
