@@ -1,5 +1,5 @@
 -- What calls of the hash store add to a transaction that calls the stores of an image.
-use Rattle.accounts.proofs.Words.{Bool, false, ◌≡◌, ◌≢◌, ◌∙◌, inl, sym, refl, ap, subst, ℕ, zero, suc, ◌+◌, ◌-◌, ◌<◌, ◌≤◌, List, [], ◌∷◌, ◌++◌, append_assoc, append-nil, arith, Option, Some, None, Result, Ok, Array, amount, disjoint_blocks, first_called, spare_where_apart, First, Get, Got, KeyCall, Put, StoreAnswer, WasPut, key_act, IsMadeOfBoth, hash_store, tree_store, WriteWithin, hash_area, tree_area, IsHashArea, IsHashRegion, get_op, hash_map, put_op, Program, Area, Region, StoreError, Accounts, IsOpening, more_first_answers, more_first_calls, IfAny, image_hash, image_tree, pairs_if_any, the_tree, HasEnded, IsLocalCall, area_of, Tx, added, Adds, Does, IsPut, IsTaken, SameBlocks, lt_of_le_of_lt, bytes_eq, from_be_bytes-to_be_bytes_8, to_be_bytes, w64, ◌^◌, IsOfAccounts, IsTransfer, got_local, put_local}
+use Rattle.accounts.proofs.Words.{Bool, false, ◌≡◌, ◌≢◌, ◌∙◌, inl, sym, refl, ap, subst, ℕ, zero, suc, ◌+◌, ◌-◌, ◌<◌, ◌≤◌, List, [], ◌∷◌, ◌++◌, append_assoc, append-nil, arith, Option, Some, None, Result, Ok, Array, amount, disjoint_blocks, first_called, spare_where_apart, First, Get, Got, KeyCall, Put, StoreAnswer, WasPut, key_act, IsMadeOfBoth, hash_store, tree_store, WriteWithin, hash_area, tree_area, IsHashArea, IsHashRegion, get_op, hash_map, put_op, Program, Area, Region, StoreError, Accounts, IsOpening, more_first_answers, more_first_calls, IfAny, image_hash, image_tree, pairs_if_any, the_tree, HasEnded, IsLocalCall, area_of, Tx, added, Adds, AddsIn, Does, DoesIn, FindsAmount, IsPut, IsTaken, SameBlocks, lt_of_le_of_lt, bytes_eq, from_be_bytes-to_be_bytes_8, to_be_bytes, w64, ◌^◌, IsOfAccounts, IsTransfer, got_local, put_local}
 use Rattle.store_laws.proofs.HashWrites as hash_writes
 use Rattle.store_model.specs.HashCalls as hash
 
@@ -63,56 +63,92 @@ adds_on t u v region c x same adds = subst (λ (a : Area). Adds a u v c x) (area
 pub same_on : (t u v : Tx) → SameBlocks t u → SameBlocks u v → SameBlocks t v
 same_on t u v one two = record { size = two.size ∙ one.size; blocks = two.blocks ∙ one.blocks }
 
--- an account that is opened, and further ones
-pub opened_one : (a : Area) (t u v : Tx) (name value : List ℕ) → Adds a t u (Get name ∷ []) (Got None ∷ []) → Adds a u v (Put name value ∷ []) (WasPut ∷ []) → Does a t v (IsOpening ((name, value) ∷ []))
-opened_one a t u v name value got put = record {
-  calls = Get name ∷ Put name value ∷ [];
-  answers = Got None ∷ WasPut ∷ [];
-  is = record { calls_are = refl; answers_are = refl };
-  adds = adds_then a t u v (Get name ∷ []) (Put name value ∷ []) (Got None ∷ []) (WasPut ∷ []) got put;
+-- a call of the hash store leaves the transaction on its blocks
+pub same_ended : {X : Type 0} (p : Program (Result X StoreError)) (t u : Tx) (r : X) → HasEnded p t u (Ok r) → SameBlocks t u
+same_ended p t u r ended = record { size = ap (λ (w : Tx). w.size) ended.is; blocks = ap (λ (w : Tx). w.blocks) ended.is }
+
+pub got_in : (region : Region) (key : List ℕ) (t u : Tx) (r : Option (List ℕ)) → let a = area_of t region in
+    IsHashArea a → HasEnded (hash.get_program a key) t u (Ok r) → IsLocalCall (IsHashRegion a) (hash_map a) (get_op key) t u r → AddsIn region t u (Get key ∷ []) (Got r ∷ [])
+got_in region key t u r area ended local =
+    record { same = same_ended (hash.get_program (area_of t region) key) t u r ended; adds = got_adds (area_of t region) key t u r area ended local }
+
+pub put_in : (region : Region) (key value : List ℕ) (t u : Tx) (r : Unit {0}) → let a = area_of t region in
+    IsHashArea a → HasEnded (hash.put_program a key value) t u (Ok r) → IsLocalCall (IsHashRegion a) (hash_map a) (put_op key value) t u r → AddsIn region t u (Put key value ∷ []) (WasPut ∷ [])
+put_in region key value t u r area ended local =
+    record { same = same_ended (hash.put_program (area_of t region) key value) t u r ended; adds = put_adds (area_of t region) key value t u r area ended local }
+
+-- one call, and calls of two kinds, one after the other
+pub does_one : (region : Region) (t u : Tx) (call : KeyCall) (answer : StoreAnswer) (Is : List KeyCall → List StoreAnswer → Type 0) → Is (call ∷ []) (answer ∷ []) → AddsIn region t u (call ∷ []) (answer ∷ []) → DoesIn region t u Is
+does_one region t u call answer Is is adds = record { same = adds.same; does = record { calls = call ∷ []; answers = answer ∷ []; is = is; adds = adds.adds } }
+
+pub does_then : (region : Region) (t u v : Tx) (Is Then Both : List KeyCall → List StoreAnswer → Type 0) → ((c d : List KeyCall) (x y : List StoreAnswer) → Is c x → Then d y → Both (c ++ d) (x ++ y))
+    → DoesIn region t u Is → DoesIn region u v Then → DoesIn region t v Both
+does_then region t u v Is Then Both both one two =
+    let first = one.does in
+    let rest = two.does in
+    record {
+      same = same_on t u v one.same two.same;
+      does = record {
+        calls = first.calls ++ rest.calls;
+        answers = first.answers ++ rest.answers;
+        is = both first.calls rest.calls first.answers rest.answers first.is rest.is;
+        adds = adds_then (area_of t region) t u v first.calls rest.calls first.answers rest.answers first.adds (adds_on t u v region rest.calls rest.answers one.same rest.adds);
+      };
+    }
+
+-- no account is opened, one is, and further ones
+pub opened_none : (region : Region) (t : Tx) → DoesIn region t t (IsOpening [])
+opened_none region t = record {
+  same = record { size = refl; blocks = refl };
+  does = record { calls = []; answers = []; is = record { calls_are = refl; answers_are = refl }; adds = adds_none (area_of t region) t };
 }
 
-pub opened_more : (a : Area) (t u v : Tx) (one : List ℕ × List ℕ) (others : Accounts) → Does a t u (IsOpening (one ∷ [])) → Does a u v (IsOpening others) → Does a t v (IsOpening (one ∷ others))
-opened_more a t u v one others first rest = record {
-  calls = first.calls ++ rest.calls;
-  answers = first.answers ++ rest.answers;
-  is = record {
-    calls_are = (λ i. first.is.calls_are i ++ rest.is.calls_are i);
-    answers_are = (λ i. first.is.answers_are i ++ rest.is.answers_are i);
+pub opened_one : (region : Region) (t u v : Tx) (name value : List ℕ) → AddsIn region t u (Get name ∷ []) (Got None ∷ []) → AddsIn region u v (Put name value ∷ []) (WasPut ∷ []) → DoesIn region t v (IsOpening ((name, value) ∷ []))
+opened_one region t u v name value got put = record {
+  same = same_on t u v got.same put.same;
+  does = record {
+    calls = Get name ∷ Put name value ∷ [];
+    answers = Got None ∷ WasPut ∷ [];
+    is = record { calls_are = refl; answers_are = refl };
+    adds = adds_then (area_of t region) t u v (Get name ∷ []) (Put name value ∷ []) (Got None ∷ []) (WasPut ∷ []) got.adds (adds_on t u v region (Put name value ∷ []) (WasPut ∷ []) got.same put.adds);
   };
-  adds = adds_then a t u v first.calls rest.calls first.answers rest.answers first.adds rest.adds;
 }
+
+pub opened_more : (region : Region) (t u v : Tx) (one : List ℕ × List ℕ) (others : Accounts) → DoesIn region t u (IsOpening (one ∷ [])) → DoesIn region u v (IsOpening others) → DoesIn region t v (IsOpening (one ∷ others))
+opened_more region t u v one others =
+    does_then region t u v (IsOpening (one ∷ [])) (IsOpening others) (IsOpening (one ∷ others))
+    (λ c d x y first rest. record { calls_are = (λ i. first.calls_are i ++ rest.calls_are i); answers_are = (λ i. first.answers_are i ++ rest.answers_are i) })
 
 -- the calls of the first half of a transfer
-pub taken : (region : Region) (from to : List ℕ) (n had other more : ℕ) (t u v w : Tx) → from ≢ to → n ≤ had → had < 2 ^ 64 → more ≡ other + n → more < 2 ^ 64 → SameBlocks t u → SameBlocks u v
-    → ((value : List ℕ) × (amount value ≡ had) × Adds (area_of t region) t u (Get from ∷ []) (Got (Some value) ∷ []))
-    → ((value : List ℕ) × (amount value ≡ other) × Adds (area_of u region) u v (Get to ∷ []) (Got (Some value) ∷ []))
-    → Adds (area_of v region) v w (Put from (to_be_bytes w64 (had - n)) ∷ []) (WasPut ∷ []) → Does (area_of t region) t w (IsTaken from to n more)
-taken region from to n had other more t u v w apart enough small sum fits one two got again left =
+pub taken : (region : Region) (from to : List ℕ) (n had other more : ℕ) (t u v w : Tx) → from ≢ to → n ≤ had → more ≡ other + n → more < 2 ^ 64 → FindsAmount region t u from had → FindsAmount region u v to other
+    → AddsIn region v w (Put from (to_be_bytes w64 (had - n)) ∷ []) (WasPut ∷ []) → DoesIn region t w (IsTaken from to n more)
+taken region from to n had other more t u v w apart enough sum fits found again left =
     let a : Area = area_of t region in
-    let value = got.0 in
-    let second = again.0 in
     let low = to_be_bytes w64 (had - n) in
-    let has : amount value ≡ had = got.1 in
-    let has_other : amount second ≡ other = again.1 in
-    let is_low : amount low ≡ had - n = from_be_bytes-to_be_bytes_8 (had - n) (lt_of_le_of_lt (let low : had - n ≤ had = omega arith in low) small) in
+    let has : amount found.value ≡ had = found.is in
+    let has_other : amount again.value ≡ other = again.is in
+    let same : SameBlocks t v = same_on t u v found.got.same again.got.same in
+    let is_low : amount low ≡ had - n = from_be_bytes-to_be_bytes_8 (had - n) (lt_of_le_of_lt (let low : had - n ≤ had = omega arith in low) found.small) in
     record {
-      calls = Get from ∷ Get to ∷ Put from low ∷ [];
-      answers = Got (Some value) ∷ Got (Some second) ∷ WasPut ∷ [];
-      is = record {
-        apart = apart;
-        had = value;
-        other_had = second;
-        left = low;
-        taken = omega arith;
-        given = omega arith;
-        small = fits;
-        calls_are = refl;
-        answers_are = refl;
+      same = same_on t v w same left.same;
+      does = record {
+        calls = Get from ∷ Get to ∷ Put from low ∷ [];
+        answers = Got (Some found.value) ∷ Got (Some again.value) ∷ WasPut ∷ [];
+        is = record {
+          apart = apart;
+          had = found.value;
+          other_had = again.value;
+          left = low;
+          taken = omega arith;
+          given = omega arith;
+          small = fits;
+          calls_are = refl;
+          answers_are = refl;
+        };
+        adds = adds_then a t u w (Get from ∷ []) _ (Got (Some found.value) ∷ []) _ found.got.adds
+            (adds_then a u v w (Get to ∷ []) _ (Got (Some again.value) ∷ []) _ (adds_on t u v region (Get to ∷ []) (Got (Some again.value) ∷ []) found.got.same again.got.adds)
+            (adds_on t v w region (Put from low ∷ []) (WasPut ∷ []) same left.adds));
       };
-      adds = adds_then a t u w (Get from ∷ []) _ (Got (Some value) ∷ []) _ got.2
-          (adds_then a u v w (Get to ∷ []) _ (Got (Some second) ∷ []) _ (adds_on t u v region (Get to ∷ []) (Got (Some second) ∷ []) one again.2)
-          (adds_on t v w region (Put from low ∷ []) (WasPut ∷ []) (same_on t u v one two) left));
     }
 
 -- a transfer whose second half is made
@@ -132,16 +168,6 @@ completed from to n more c d x y half put =
       taken = half.taken;
       given = is_high ∙ sum;
     }
-
--- calls of two kinds, one after the other
-pub does_then : (region : Region) (t u v : Tx) (Is Then Both : List KeyCall → List StoreAnswer → Type 0) → ((c d : List KeyCall) (x y : List StoreAnswer) → Is c x → Then d y → Both (c ++ d) (x ++ y)) → SameBlocks t u
-    → Does (area_of t region) t u Is → Does (area_of u region) u v Then → Does (area_of t region) t v Both
-does_then region t u v Is Then Both both same first rest = record {
-  calls = first.calls ++ rest.calls;
-  answers = first.answers ++ rest.answers;
-  is = both first.calls rest.calls first.answers rest.answers first.is rest.is;
-  adds = adds_then (area_of t region) t u v first.calls rest.calls first.answers rest.answers first.adds (adds_on t u v region rest.calls rest.answers same rest.adds);
-}
 
 pub does_put : (a : Area) (t u : Tx) (key value : List ℕ) → Adds a t u (Put key value ∷ []) (WasPut ∷ []) → Does a t u (IsPut key value)
 does_put a t u key value adds = record { calls = Put key value ∷ []; answers = WasPut ∷ []; is = record { calls_are = refl; answers_are = refl }; adds = adds }

@@ -1,5 +1,5 @@
 -- Calls on accounts fill the transaction that a session has begun.
-use Rattle.accounts.proofs.{Words.{◌≡◌, ◌∙◌, sym, refl, ap, subst, ℕ, ◌+◌, ◌<◌, ◌≤◌, true, cond, List, [], ◌∷◌, ◌++◌, Option, Some, None, Ok, arith, length, Accounts, Array, Geometry, firsts, KeyCall, StoreAnswer, IsOfAccounts, IsMadeOfBoth, answers_in, calls_in, hash_area, image_hash, image_tree, IsHashArea, Area, Region, area_of, Tx, Does, IsPut, IsTakenFor, more_first_answers, more_first_calls, the_tree, IsPrefix, option_map, ext_get_or, block_shaped, length-shaped, accesses_of, tx_on, HasBegun, Own, Visited, base_in, begin_array, shaped, with_list, array_shape, Mode, Serial, array_at, last, block_at, IsWorld, began_last, follows_all, follows_prefix, legal_last, Entry, IsLegal, Start, opened, world_at, hash_area_is, array_extends, prefix_trans, sound_at, to_be_bytes, w64, Cause, area_in, HashPuts, HasCalled, HasStore, IsFilled, HoldsCalls, OfCalls, OwnFilled, SessionState}, Adding.{completed, does_put, put_adds, transfers}}
+use Rattle.accounts.proofs.{Words.{◌≡◌, ◌∙◌, sym, refl, ap, subst, ℕ, ◌+◌, ◌<◌, ◌≤◌, true, cond, List, [], ◌∷◌, ◌++◌, Option, Some, None, Ok, arith, length, Accounts, Array, Geometry, firsts, KeyCall, StoreAnswer, IsOfAccounts, IsMadeOfBoth, answers_in, calls_in, hash_area, image_hash, image_tree, IsHashArea, Area, Region, area_of, Tx, Does, DoesIn, IsPut, IsTakenFor, more_first_answers, more_first_calls, the_tree, IsPrefix, option_map, ext_get_or, block_shaped, length-shaped, accesses_of, tx_on, HasBegun, Own, Visited, base_in, begin_array, shaped, with_list, array_shape, Mode, Serial, array_at, last, block_at, IsWorld, began_last, follows_all, follows_prefix, legal_last, Entry, IsLegal, Start, opened, world_at, hash_area_is, array_extends, prefix_trans, sound_at, to_be_bytes, w64, Cause, area_in, HashPuts, HasCalled, HasStore, IsFilled, HoldsCalls, OfCalls, OwnFilled, SessionState}, Adding.{completed, does_put, put_adds, transfers}}
 use Rattle.iso_shared.specs.declared.entry.Entry.TheVariants as entry
 
 -- an array that has the image's shape is not cut
@@ -103,10 +103,10 @@ module _ (accounts : Accounts) (A : Start) (region : Region) (store : HasStore A
     is = (refl, refl);
   }
 
-  pub fills : (r s t : SessionState) (at : ℕ) (Then : OfCalls) → HasBegun A r (Some Serial) (Ok at) s → HasCalled A s t (λ x y before now. Does (area_of x region) x y Then) → OwnFilled Then A t.seen t.own
+  pub fills : (r s t : SessionState) (at : ℕ) (Then : OfCalls) → HasBegun A r (Some Serial) (Ok at) s → HasCalled A s t (λ x y before now. DoesIn region x y Then) → OwnFilled Then A t.seen t.own
   fills r s t at Then begun did =
       continues s t NoCalls Then Then (λ c d x y none then. subst (λ (ks : List KeyCall). Then (ks ++ d) (x ++ y)) (sym none.0) (subst (λ (ys : List StoreAnswer). Then d (ys ++ y)) (sym none.1) then))
-      (record { number = begun.1; begin = at; mode = begun.2; accesses = [] }) begun.5 did.refused did.visited did.says (λ tells. begun_filled r s at begun)
+      (record { number = begun.1; begin = at; mode = begun.2; accesses = [] }) begun.5 did.refused did.visited did.says.does (λ tells. begun_filled r s at begun)
 
   -- the second half of a transfer comes to the first one
   pub completes : (s t : SessionState) (to : List ℕ) (more : ℕ) (o : Own) → s.own ≡ Some o → HasCalled A s t (λ x y before now. HashPuts (area_of x region) to (to_be_bytes w64 more) (Ok tt) x y before now)

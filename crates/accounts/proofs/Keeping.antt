@@ -1,5 +1,5 @@
 -- What calls leave of a session whose transactions are those of accounts.
-use Rattle.accounts.proofs.{Words.{◌≡◌, ◌∙◌, sym, refl, ap, subst, ℕ, true, List, [], ◌∷◌, ◌++◌, arith, Option, Some, None, Result, Ok, Err, Accounts, Access, IsPrefix, AllByRecursion, prefix_self, prefix_trans, View, times, BeginError, EndError, EndsWith, HasAborted, HasBegun, Next, Released, Made, Own, count, Visited, fetches, number_in, refusals, EndReply, Committed, Conflict, ReadOnly, Mode, CoreError, NotInTx, legal_last, loose_is, Cause, Entry, Start, opened, state_at, cause_of, commit_at, world_at, IsOfAccountsAt, CommitsAccounts, IsOfAccounts, TookOver, Covers, IsFilled, IsGiven, HoldsCalls, IsKept, BeginsIdle, OfCalls, Stays, DeviceId, HandleState, IsReleased, IsWhole, SessionState, held_state}, Committing.commits_well, Covering.{IsQuiet, covers_both, covers_less, covers_on, covers_one, covers_quiet, quiet_well}}
+use Rattle.accounts.proofs.{Words.{◌≡◌, ◌∙◌, sym, refl, ap, subst, ℕ, true, List, [], ◌∷◌, ◌++◌, arith, Option, Some, None, Result, Ok, Err, Accounts, Access, IsPrefix, AllByRecursion, prefix_self, prefix_trans, View, times, BeginError, EndError, EndsWith, HasAborted, HasBegun, Next, Released, Made, Own, count, Visited, fetches, number_in, refusals, EndReply, Committed, Conflict, ReadOnly, Mode, CoreError, NotInTx, legal_last, loose_is, Cause, Entry, Start, opened, state_at, cause_of, commit_at, world_at, IsOfAccountsAt, CommitsAccounts, IsOfAccounts, TookOver, Covers, Gains, IsFilled, IsGiven, HoldsCalls, IsKept, BeginsIdle, KeepsOn, OfCalls, Stays, DeviceId, HandleState, IsReleased, IsWhole, SessionState, held_state}, Committing.commits_well, Covering.{IsQuiet, covers_both, covers_less, covers_on, covers_one, covers_quiet, quiet_well}}
 use Rattle.handle_pass.specs.declared.errors.BeginError.TheVariants as begin
 use Rattle.handle_pass.specs.declared.errors.EndError.TheVariants as end
 use Rattle.handle_pass.specs.Calls.{HasEnded}
@@ -85,6 +85,9 @@ module _ (accounts : Accounts) (A : Start) where
 
   -- ---- an abort
 
+  pub stays_on : (s t u : SessionState) → Stays s t → KeepsOn accounts A t u → KeepsOn accounts A s u
+  stays_on s t u one two = (two.0, record { of = two.1.of ∙ one.of; units = two.1.units ∙ one.units })
+
   pub aborted : (s t : SessionState) (r : Result (Unit {0}) NotInTx) → HasAborted A s r t → Covers accounts A s.seen (count s) → IsKept accounts A t × Stays s t
   aborted s t (Ok done) did is = (
     record { covers = made_quiet s t (entry.Abort did.0.number) did.3 (λ W. refl) is; none = did.2 },
@@ -128,8 +131,8 @@ module _ (accounts : Accounts) (A : Start) where
       )
 
   -- a session whose transaction was ended
-  pub over : (s t : SessionState) (new : ℕ) (r : EndReply) → HasEnded A s 0 (Ok r) t new → BeginsIdle A → HoldsCalls accounts (IsOfAccounts accounts) A s → IsKept accounts A t
-  over s t new r did ready is = record { covers = (ended s t 0 new (Ok r) did ready is).0; none = did.2 }
+  pub over : (s t : SessionState) (new : ℕ) (r : EndReply) → HasEnded A s 0 (Ok r) t new → BeginsIdle A → HoldsCalls accounts (IsOfAccounts accounts) A s → KeepsOn accounts A s t
+  over s t new r did ready is = let end = ended s t 0 new (Ok r) did ready is in (record { covers = end.0; none = did.2 }, end.1)
 
   -- ---- a transaction that is given away, and one that is taken over
 
@@ -163,6 +166,14 @@ module _ (accounts : Accounts) (A : Start) where
         (covers_on accounts A h.seen t.seen (λ p. times p h.mine) is.told given.covers);
     filled = λ tells o now. filled_on Is A h.seen t.seen o is.told (given.filled tells o (sym is.is ∙ now));
   }
+
+  -- with its unit, once it is over
+  pub took_in : (s t u v : SessionState) (h : HandleState) (at : ℕ) → TookOver s h at t → Stays t u → KeepsOn accounts A u v → Gains accounts A s v 1
+  took_in s t u v h at took stays over =
+      let one = took.units in
+      let same = stays.units in
+      let still = over.1.units in
+      record { session = over.0; of = over.1.of ∙ stays.of ∙ took.of; units = omega (arith, one, same, still) }
 
   -- ---- the end of a session
 

@@ -1,7 +1,7 @@
 -- The words that the proofs of this crate cite from elsewhere.
 pub use Rattle.std.{proofs.Common.{Bool, Err, IfSome, List, None, Ok, Option, Result, Some, ap, append-nil, append_assoc, arith, cond, eq-eqb, eqb-true, false, inl, inr, length, length-append, lt_of_le_of_lt, option_map, refl, subst, suc, sym, true, zero, ℕ, [], ◌++◌, ◌+◌, ◌-◌, ◌<◌, ◌==◌, ◌∙◌, ◌∷◌, ◌≡◌, ◌≢◌, ◌≤◌, ◌⊎◌}, proofs.lemmas.Bool.cases_lt, proofs.lemmas.List.ext_get_or, proofs.lemmas.Nat.from_be_bytes-to_be_bytes_8, specs.Int.{to_be_bytes, w64}, specs.List.AllByRecursion, specs.Prelude.{bytes_eq, vec_capacity, ◌^◌}, specs.Vec.Iter.{into_iter_items, into_iter_len}}
 pub use Rattle.iso_model.{proofs.Recorded.array_shape, specs.Array.Array, specs.Group.made_by, specs.History.{array_at, last}, specs.Premises.block_at, specs.World.{Live, World}, specs.Worlds.IsWorld, specs.declared.access.Access.Access, specs.declared.access.Commit.Commit, specs.declared.access.EndReply.EndReply, specs.declared.access.EndReply.TheVariants.{Committed, Conflict, ReadOnly}, specs.declared.access.Geometry.Geometry, specs.declared.access.GroupReply.GroupReply, specs.declared.access.Mode.Mode, specs.declared.access.Mode.TheVariants.Serial, specs.declared.core_error.CoreError.CoreError, specs.declared.memory.NotInTx.NotInTx}
-pub use Rattle.accounts.{proofs.Images.opens_with_sum, proofs.SoundWorlds.sound_at, proofs.Walks.sum_kept, specs.Ends.{BeginsWithSum, SumStays}, specs.Jobs.planned, specs.Kept.{AreGiven, Covers, HasStore, IsFilled, IsGiven, HoldsCalls, IsKept, BeginsIdle, IsWhole, OfCalls, OwnFilled, Stays, given_units}, specs.Lists.{AreOfAccounts, IsOfAccountsAt, KeepsSumAt, commits_by}, specs.Made.{Adds, Does, IsPut, IsTaken, IsTakenFor, SameBlocks, calls_of, opening_of}, specs.Sums.{Accounts, amount}, specs.Transactions.{CommitsAccounts, IsOfAccounts, IsOpening, IsTransfer}, specs.declared.account.Account.Account}
+pub use Rattle.accounts.{proofs.Images.opens_with_sum, proofs.SoundWorlds.sound_at, proofs.Walks.sum_kept, specs.Ends.{BeginsWithSum, SumStays}, specs.Jobs.planned, specs.Kept.{AreGiven, Covers, Gains, Gives, HasStore, IsFilled, IsGiven, HoldsCalls, IsKept, BeginsIdle, IsWhole, KeepsOn, OfCalls, OwnFilled, Stays, half_units}, specs.Lists.{AreOfAccounts, IsOfAccountsAt, KeepsSumAt, commits_by}, specs.Made.{Adds, AddsIn, Does, DoesIn, FindsAmount, IsPut, IsTaken, IsTakenFor, SameBlocks, calls_of, opening_of}, specs.Sums.{Accounts, amount}, specs.Transactions.{CommitsAccounts, IsOfAccounts, IsOpening, IsTransfer}, specs.declared.account.Account.Account}
 pub use Rattle.store_laws.{proofs.BothCalls.disjoint_blocks, proofs.BothGrowth.first_called, proofs.KeyCalls.{got_local, put_local}, proofs.Programs.spare_where_apart, specs.Both.{AreMixed, First, firsts}, specs.Calls.{Get, Got, KeyCall, Put, StoreAnswer, WasPut, key_act}, specs.Growing.IsMadeOfBoth, specs.Hash.hash_store, specs.Parts.{answers_in, calls_in}, specs.Tree.tree_store, specs.Writes.WriteWithin}
 pub use Rattle.store_model.{proofs.HashAccesses.hash_area_is, specs.Areas.{hash_area, tree_area}, specs.HashRegion.{IsHashArea, IsHashRegion, get_op, hash_map, put_op}, specs.Stores.Program, specs.declared.stores.Area.Area, specs.declared.stores.Region.Region, specs.declared.stores.StoreError.StoreError}
 pub use Rattle.store_scripts.{proofs.Growing.{more_first_answers, more_first_calls}, proofs.Members.array_extends, specs.Stores.{IfAny, image_hash, image_tree, pairs_if_any, the_tree}}

@@ -1,15 +1,17 @@
 -- When all commits at the own places of a session, a handed-on transaction or a port are of accounts; contracts of this crate cite them.
-use Rattle.std.specs.{Prelude.{◌≡◌, ◌≢◌, ℕ, ◌<◌, true, List, [], ◌∷◌, ◌++◌, Option, Some, None, IfSome, length}, List.AllByRecursion}
+use Rattle.std.specs.{Prelude.{◌≡◌, ◌≢◌, ℕ, ◌+◌, ◌<◌, ◌≤◌, true, List, [], ◌∷◌, ◌++◌, Option, Some, None, IfSome, length}, List.AllByRecursion}
 use mathlib.Core.List.{IsPrefix}
 use Rattle.iso_model.specs.{declared.access.Mode.TheVariants.Serial, History.array_at, Worlds.IsWorld}
-use Rattle.iso_shared.specs.{declared.entry.Entry.Entry, declared.shared.Port.Port, declared.shared.Shared.Shared, declared.tx.Tx.Tx, Legal.IsLegal, Ports.{IsPort, port_view, tx_view}, States.Start}
+use Rattle.iso_shared.specs.{declared.entry.Entry.Entry, declared.shared.Port.Port, declared.shared.Shared.Shared, declared.tx.Tx.Tx, Groups.units_of, Legal.IsLegal, Ports.{IsPort, port_view, tx_view}, States.Start}
 use Rattle.iso_shared.specs.declared.entry.Entry.TheVariants as entry
 use Rattle.store_scripts.specs.EntriesInOrder.{world_at}
 use Rattle.store_laws.specs.{Both.{AreMixed, firsts}, BothStores.StorePart, Calls.{KeyCall, StoreAnswer}, Parts.{accesses_in, answers_in, calls_in}}
 use Rattle.store_model.specs.declared.stores.Region.{Region}
 use Rattle.store_scripts.specs.Stores.{image_hash, image_tree}
 use Rattle.turn_lock.specs.Lists.{times}
-use Rattle.handle_pass.specs.{Held.{HandleState, held_state}, Sessions.{DeviceId, IsTxAt, Own, SessionState, count}}
+use Rattle.group_commit.specs.Groups.{found_in}
+use Rattle.iso_core.specs.declared.group_end.TheConstants.{MAX_GROUP}
+use Rattle.handle_pass.specs.{Held.{HandleState, held_state}, Sessions.{DeviceId, IsTxAt, Own, SessionState, count, device_of}}
 use Rattle.accounts.specs.{Lists.IsOfAccountsAt, Made.IsTakenFor, Sums.Accounts, Transactions.IsOfAccounts, declared.half.Half.Half}
 
 -- a start on a sound world in which no transaction is live
@@ -75,9 +77,19 @@ pub record Stays (s t : SessionState) : Type 0 where
 abbrev pub MayBegin : Accounts → Start → Region → SessionState → Type 0
 MayBegin accounts A region s = IsKept accounts A s × (1 < s.units) × HasStore A region
 
+-- one that may give away the members of a group and a half, and go on
+abbrev pub MayGive : Accounts → Start → Region → SessionState → Type 0
+MayGive accounts A region s = IsKept accounts A s × (MAX_GROUP + 2 < s.units) × HasStore A region
+
 -- a session as before, behind transactions of accounts
 abbrev pub KeepsOn : Accounts → Start → (s t : SessionState) → Type 0
 KeepsOn accounts A s t = IsKept accounts A t × Stays s t
+
+-- a session on the device as before, without a transaction, which has taken these units in
+pub record Gains (accounts : Accounts) (A : Start) (s t : SessionState) (more : ℕ) : Type 0 where
+  pub session : IsKept accounts A t
+  pub of : t.device ≡ s.device
+  pub units : t.units ≡ s.units + more
 
 -- a transaction that was given away, as its holder knows it
 pub record IsGiven (accounts : Accounts) (Is : OfCalls) (A : Start) (h : HandleState) : Type 0 where
@@ -94,16 +106,21 @@ module _ {D O : Type 0} where
   abbrev pub IsHalf : Accounts → Start → DeviceId → Half D O → Type 0
   IsHalf accounts A d h = (h.handle.device ≡ d) × IsGiven accounts (IsTakenFor h.to h.more) A h.handle
 
-  abbrev pub given_units : Option (Tx D O) → ℕ
-  given_units None = 0
-  given_units (Some t) = (tx_view t).units
-
   abbrev pub half_units : Option (Half D O) → ℕ
   half_units None = 0
   half_units (Some h) = 1
 
   abbrev pub AreGiven : Accounts → Start → DeviceId → List (Option (Tx D O)) → Type 0
   AreGiven accounts A d members = AllByRecursion (λ m. IfSome m (IsWhole accounts A d)) members
+
+  -- What a session has given away: these transactions, and a half, with units of its own, at most so many. All is of its device.
+  pub record Gives (accounts : Accounts) (A : Start) (most : ℕ) (s t : SessionState) (members : List (Option (Tx D O))) (half : Option (Half D O)) : Type 0 where
+    pub session : IsKept accounts A t
+    pub of : t.device ≡ s.device
+    pub left : s.units ≤ t.units + most
+    pub units : t.units + units_of (found_in members) + half_units half ≡ s.units
+    pub given : AreGiven accounts A s.device members
+    pub taken : IfSome half (IsHalf accounts A s.device)
 
   -- the entries at a port's places are of accounts
   abbrev pub Hold : Accounts → Start → Port D O → Type 0
@@ -112,3 +129,7 @@ module _ {D O : Type 0} where
   -- a port of the device that is so
   abbrev pub IsKeptPort : Shared D O → Accounts → Start → Port D O → Type 0
   IsKeptPort shared accounts A p = IsPort shared p × Hold accounts A p
+
+  -- and a session of the device
+  abbrev pub IsKeptSession : Shared D O → Accounts → Start → SessionState → Type 0
+  IsKeptSession shared accounts A s = IsKept accounts A s × (s.device ≡ device_of shared)

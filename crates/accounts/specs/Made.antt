@@ -37,12 +37,21 @@ pub record Does (a : Area) (t u : Tx) (Is : List KeyCall → List StoreAnswer �
   pub is : Is calls answers
   pub adds : Adds a t u calls answers
 
--- so it is of the hash store in this region
-abbrev pub AddsIn : Region → (t u : Tx) → List KeyCall → List StoreAnswer → Type 0
-AddsIn region t u calls answers = Adds (area_of t region) t u calls answers
+-- so it is of the hash store in this region, on the same blocks
+pub record AddsIn (region : Region) (t u : Tx) (calls : List KeyCall) (answers : List StoreAnswer) : Type 0 where
+  pub same : SameBlocks t u
+  pub adds : Adds (area_of t region) t u calls answers
 
-abbrev pub DoesIn : Region → (t u : Tx) → (List KeyCall → List StoreAnswer → Type 0) → Type 0
-DoesIn region t u Is = Does (area_of t region) t u Is
+pub record DoesIn (region : Region) (t u : Tx) (Is : List KeyCall → List StoreAnswer → Type 0) : Type 0 where
+  pub same : SameBlocks t u
+  pub does : Does (area_of t region) t u Is
+
+-- this amount was found at the account
+pub record FindsAmount (region : Region) (t u : Tx) (name : List ℕ) (n : ℕ) : Type 0 where
+  pub value : List ℕ
+  pub is : amount value ≡ n
+  pub small : n < 18446744073709551616
+  pub got : AddsIn region t u (Get name ∷ []) (Got (Some value) ∷ [])
 
 -- the accounts with the values that they open with
 abbrev pub opening_of : List Account → Accounts

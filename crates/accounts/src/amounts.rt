@@ -1,6 +1,6 @@
 // One account in the hash store, by any transaction over blocks.
-ghost use Rattle.std.specs.{Prelude.{◌≡◌, ◌<◌, [], ◌∷◌, List, ℕ, IfOk, IfSome, None, OnOk, Some}, Int.{to_be_bytes, w64}};
-ghost use Rattle.accounts.specs.{Made.{AddsIn, HasHash, SameBlocks}, Sums.amount};
+ghost use Rattle.std.specs.{Prelude.{◌≡◌, ◌<◌, [], ◌∷◌, IfOk, IfSome, None, OnOk}, Int.{to_be_bytes, w64}};
+ghost use Rattle.accounts.specs.{Made.{AddsIn, FindsAmount, HasHash}, Sums.amount};
 ghost use Rattle.store_laws.specs.Calls.{Get, Got, Put, WasPut};
 
 use crate::account::AccountError;
@@ -16,10 +16,9 @@ pub(crate) struct Place {
     pub region: Region,
 }
 
-// The number that a value of eight bytes is.
-fn number_of(value: &[u8]) -> Option<u64>
-    ensures is { IfSome result (λ n. amount value.now ≡ n) }
-    ensures small { IfSome result (λ n. n < 18446744073709551616) }
+/// The number that a value of eight bytes is.
+pub(crate) fn number_of(value: &[u8]) -> Option<u64>
+    ensures { IfSome result (λ n. (amount value.now ≡ n) × (n < 18446744073709551616)) }
 {
     match value {
         [a, b, c, d, e, f, g, h] => Some(u64::from_be_bytes([*a, *b, *c, *d, *e, *f, *g, *h])),
@@ -34,9 +33,7 @@ pub(crate) fn amount_at<T: TxBlocks>(
     name: &[u8],
 ) -> Result<u64, AccountError>
     requires store { HasHash (T.state tx.old) place.region }
-    ensures same { OnOk result (SameBlocks (T.state tx.old) (T.state tx.new)) }
-    ensures small { IfOk result (λ n. n < 18446744073709551616) }
-    ensures got { IfOk result (λ n. (value : List ℕ) × (amount value ≡ n) × AddsIn place.region (T.state tx.old) (T.state tx.new) (Get name.now ∷ []) (Got (Some value) ∷ [])) }
+    ensures got { IfOk result (FindsAmount place.region (T.state tx.old) (T.state tx.new) name.now) }
 {
     match get(place.alloc, tx, place.region, name) {
         Ok(Some(value)) => match number_of(value.as_slice()) {
@@ -55,7 +52,6 @@ pub(crate) fn is_free<T: TxBlocks>(
     name: &[u8],
 ) -> Result<(), AccountError>
     requires store { HasHash (T.state tx.old) place.region }
-    ensures same { OnOk result (SameBlocks (T.state tx.old) (T.state tx.new)) }
     ensures got { OnOk result (AddsIn place.region (T.state tx.old) (T.state tx.new) (Get name.now ∷ []) (Got None ∷ [])) }
 {
     match get(place.alloc, tx, place.region, name) {
@@ -73,7 +69,6 @@ pub(crate) fn set_amount<T: TxBlocks>(
     amount: u64,
 ) -> Result<(), AccountError>
     requires store { HasHash (T.state tx.old) place.region }
-    ensures same { OnOk result (SameBlocks (T.state tx.old) (T.state tx.new)) }
     ensures put { OnOk result (AddsIn place.region (T.state tx.old) (T.state tx.new) (Put name.now (to_be_bytes w64 amount) ∷ []) (WasPut ∷ [])) }
 {
     match put(place.alloc, tx, place.region, name, &amount.to_be_bytes()) {

@@ -1,8 +1,7 @@
 // Sessions of a device, from its first port and back into it.
 ghost use Rattle.std.specs.Prelude.{◌≡◌, ◌+◌, ◌<◌};
-ghost use Rattle.handle_pass.specs.Sessions.{device_of};
 ghost use Rattle.iso_shared.specs.Ports.{first_geometry, port_view};
-ghost use Rattle.accounts.specs.{Kept.{IsKept, IsKeptPort}, Made.opening_of};
+ghost use Rattle.accounts.specs.{Kept.{IsKeptPort, IsKeptSession}, Made.opening_of};
 
 use crate::account::Account;
 use handle_pass::Session;
@@ -24,8 +23,7 @@ pub(crate) fn session_on<'a, D: Disk + Drop, O: Origin>(
     requires image { first_geometry shared.now ≡ O.start.world.geometry }
     ensures port { IsKeptPort shared.now (opening_of accounts.now) O.start port.new }
     ensures units { (port_view port.new).units + 4294967296 ≡ (port_view port.old).units }
-    ensures session { IsKept (opening_of accounts.now) O.start result }
-    ensures new { (result.device ≡ device_of shared.now) × (result.units ≡ 4294967296) }
+    ensures session { IsKeptSession shared.now (opening_of accounts.now) O.start result × (result.units ≡ 4294967296) }
 {
     Session::new(shared, shared.port(port, UNITS))
 }
@@ -39,8 +37,7 @@ pub(crate) fn gather<'a, D: Disk + Drop, O: Origin, R: Wait>(
     accounts: &[Account],
 )
     requires port { IsKeptPort shared.now (opening_of accounts.now) O.start port.old }
-    requires session { IsKept (opening_of accounts.now) O.start session }
-    requires of { session.device ≡ device_of shared.now }
+    requires session { IsKeptSession shared.now (opening_of accounts.now) O.start session }
     ensures port { IsKeptPort shared.now (opening_of accounts.now) O.start port.new }
     ensures units { (port_view port.new).units ≡ (port_view port.old).units + session.entry.units }
 {

@@ -1,9 +1,9 @@
 // What a thread learns of the transactions that it gave away, and how it goes on.
-ghost use Rattle.std.specs.{Prelude.{◌≡◌, ◌+◌, ◌<◌, List, length}, List.AllByRecursion};
+ghost use Rattle.std.specs.{Prelude.{◌≡◌, List, length}, List.AllByRecursion};
 ghost use Rattle.iso_shared.specs.declared.tx.Tx.{Tx};
 ghost use Rattle.handle_pass.specs.Sessions.{device_of};
 ghost use mathlib.Core.List.{IsPrefix};
-ghost use Rattle.accounts.specs.{Jobs.planned, Kept.{HasStore, IsKept}, Learned.{AreTold, IsEnded, IsLearned, told_units}, Made.opening_of};
+ghost use Rattle.accounts.specs.{Jobs.planned, Kept.{Gains, IsKeptSession, MayBegin}, Learned.{AreTold, IsEnded, IsLearned, told_units}, Made.opening_of};
 
 use crate::account::{Account, Members, Plan, Transfer};
 use crate::amounts::Place;
@@ -46,12 +46,9 @@ fn learn_one<'a, D: Disk + Drop, O: Origin>(
     accounts: &[Account],
     ended: Ended<D, O>,
 ) -> GroupReply
-    requires of { session.old.device ≡ device_of shared.now }
-    requires session { IsKept (opening_of accounts.now) O.start session.old }
+    requires session { IsKeptSession shared.now (opening_of accounts.now) O.start session.old }
     requires ended { IsEnded shared.now O.start ended }
-    ensures session { IsKept (opening_of accounts.now) O.start session.new }
-    ensures device { session.new.device ≡ session.old.device }
-    ensures units { session.new.units ≡ session.old.units + 1 }
+    ensures session { Gains (opening_of accounts.now) O.start session.old session.new 1 }
     ensures known { IsPrefix session.old.seen session.new.seen }
     ensures reply { result ≡ ended.reply }
     ensures learned { IsLearned shared.now O.start session.new.seen ended }
@@ -96,12 +93,9 @@ fn learn_all<'a, D: Disk + Drop, O: Origin>(
     clashed: &mut Vec<Transfer>,
     told: Vec<Ended<D, O>>,
 ) -> Members
-    requires of { session.old.device ≡ device_of shared.now }
-    requires session { IsKept (opening_of accounts.now) O.start session.old }
+    requires session { IsKeptSession shared.now (opening_of accounts.now) O.start session.old }
     requires told { AllByRecursion (IsEnded shared.now O.start) told.items }
-    ensures session { IsKept (opening_of accounts.now) O.start session.new }
-    ensures device { session.new.device ≡ session.old.device }
-    ensures units { session.new.units ≡ session.old.units + length told.items }
+    ensures session { Gains (opening_of accounts.now) O.start session.old session.new (length told.items) }
     ensures learned { AllByRecursion (IsLearned shared.now O.start session.new.seen) told.items }
 {
     let mut members = Members {
@@ -129,14 +123,10 @@ pub(crate) fn learn<'a, D: Disk + Drop, O: Origin, R: Wait>(
     given: Vec<Transfer>,
     told: Result<Vec<Ended<D, O>>, CoreError>,
 ) -> Result<Members, CoreError>
-    requires store { HasStore O.start place.region }
     requires of { session.old.device ≡ device_of shared.now }
-    requires session { IsKept (planned plan.now) O.start session.old }
-    requires units { 1 < session.old.units }
+    requires session { MayBegin (planned plan.now) O.start place.region session.old }
     requires told { (txs : List (Tx D O)) × AreTold shared.now O.start txs told }
-    ensures session { IsKept (planned plan.now) O.start session.new }
-    ensures device { session.new.device ≡ session.old.device }
-    ensures units { session.new.units ≡ session.old.units + told_units told }
+    ensures { Gains (planned plan.now) O.start session.old session.new (told_units told) }
 {
     match told {
         Err(error) => Err(error),

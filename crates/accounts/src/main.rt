@@ -5,11 +5,11 @@
 //! laws say it of lists (`history`, `images`). Without memory the core is handed back (`unrun`). What is printed is only tested.
 #![tactic(auto)]
 
-ghost use Rattle.std.specs.Prelude.{◌≡◌, ◌≢◌, ◌≤◌, [], IsTrue, length};
+ghost use Rattle.std.specs.Prelude.{◌≤◌, IsTrue, length};
+ghost use Rattle.accounts.specs.Ends.{StartsOn};
 ghost use Rattle.device_calls.specs.Beginnings.{BeginsAt};
-ghost use Rattle.iso_core.specs.{Core.disk_of, declared.group_end.TheConstants.MAX_GROUP};
+ghost use Rattle.iso_core.specs.declared.group_end.TheConstants.{MAX_GROUP};
 ghost use Rattle.iso_model.specs.{Geometry.is_valid, World.World};
-ghost use Rattle.iso_shared.specs.{Standing.{Came, Holds}, States.opened};
 
 mod account;
 mod amounts;
@@ -47,7 +47,7 @@ use std::marker::Brand;
 use std::sync::Wait;
 use std::thread::Threads;
 use told::Told;
-use totals::{Sum, sum_of};
+use totals::{Sum, sum_on};
 
 /// The name of the image.
 const NAME: &str = "accounts.img";
@@ -76,9 +76,7 @@ fn moved<D: Disk + Drop + Send, O: Origin + Send + Sync, R: Threads + Wait + Syn
     beginning: Beginning,
     plan: &Plan,
 ) -> (Option<Told>, D)
-    requires start { Holds D.state core (opened O.start) × (O.start.world.live ≡ []) }
-    requires came { Came O.start O.disk (D.state (disk_of core)) [] }
-    requires store { O.start.world.geometry.hash ≢ 0 }
+    requires start { StartsOn D.state O.start O.disk core }
     requires few { length plan.now.handed.now ≤ MAX_GROUP }
 {
     let _ = beginning;
@@ -149,14 +147,6 @@ fn moved_on<I: Image + Drop + Send, R: Threads + Wait + Sync>(
     }
 }
 
-/// The accounts in the image that these bytes are; none where it does not open.
-fn sum_in<R: Wait>(rt: &R, alloc: Global, bytes: Vec<u8>, accounts: &[Account]) -> Option<Sum> {
-    match open_image(alloc, MemDisk::new(alloc, bytes)) {
-        Ok(core) => sum_of(rt, alloc, core, accounts),
-        Err((_error, _disk)) => None,
-    }
-}
-
 /// Whether each of some images that a crash might leave now opens to no accounts, or to all of them with this sum.
 fn opens_to<R: Wait>(
     rt: &R,
@@ -169,7 +159,7 @@ fn opens_to<R: Wait>(
         let Ok(bytes) = disk.crash(alloc, pick) else {
             return false;
         };
-        match sum_in(rt, alloc, bytes, accounts) {
+        match sum_on(rt, alloc, MemDisk::new(alloc, bytes), accounts) {
             Some(found) if found.accounts == 0 => {}
             Some(found) if found.accounts == accounts.len() && found.sum == sum => {}
             _ => return false,
@@ -209,10 +199,7 @@ fn sum_on_image<I: Image + Drop, R: Wait>(
 ) -> Option<Sum> {
     let mut image = image;
     image.bind(name, None).ok()?;
-    match open_image(alloc, image) {
-        Ok(core) => sum_of(rt, alloc, core, accounts),
-        Err((_error, _image)) => None,
-    }
+    sum_on(rt, alloc, image, accounts)
 }
 
 /// How many accounts were found, and what they have together.

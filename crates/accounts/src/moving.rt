@@ -1,6 +1,6 @@
 // Accounts by any transaction over blocks: an amount is moved, and accounts are opened.
 ghost use Rattle.std.specs.Prelude.{[], ◌∷◌, IfOk, OnOk};
-ghost use Rattle.accounts.specs.{Made.{DoesIn, HasHash, IsTaken, SameBlocks, calls_of, opening_of}, Transactions.{IsOpening, IsTransfer}};
+ghost use Rattle.accounts.specs.{Made.{DoesIn, HasHash, IsTaken, calls_of, opening_of}, Transactions.{IsOpening, IsTransfer}};
 
 use crate::account::{Account, AccountError, Step, Transfer, Work};
 use crate::amounts::{Place, amount_at, is_free, set_amount};
@@ -15,7 +15,6 @@ fn take_amount<T: TxBlocks>(
     transfer: &Transfer,
 ) -> Result<u64, AccountError>
     requires store { HasHash (T.state tx.old) place.region }
-    ensures same { OnOk result (SameBlocks (T.state tx.old) (T.state tx.new)) }
     ensures taken { IfOk result (λ n. DoesIn place.region (T.state tx.old) (T.state tx.new) (IsTaken transfer.now.from transfer.now.to transfer.now.amount n)) }
 {
     if transfer.from == transfer.to {
@@ -50,7 +49,6 @@ fn move_amount<T: TxBlocks>(
 // Opens one account.
 fn open_one<T: TxBlocks>(tx: &mut T, place: Place, account: &Account) -> Result<(), AccountError>
     requires store { HasHash (T.state tx.old) place.region }
-    ensures same { OnOk result (SameBlocks (T.state tx.old) (T.state tx.new)) }
     ensures opened { OnOk result (DoesIn place.region (T.state tx.old) (T.state tx.new) (IsOpening (opening_of (account.now ∷ [])))) }
 {
     is_free(tx, place, &account.name)?;

@@ -1,10 +1,9 @@
 // Accounts on a device from its first entry to its last.
-ghost use Rattle.std.specs.Prelude.{◌≡◌, ◌≢◌, ◌+◌, ◌<◌, ◌≤◌, [], length, IfErr, IfOk, IfSome};
-ghost use Rattle.group_commit.specs.Groups.{found_in, units_all};
-ghost use Rattle.iso_core.specs.{Core.disk_of, declared.group_end.TheConstants.MAX_GROUP};
-ghost use Rattle.iso_shared.specs.{Groups.units_of, Ports.{IsPort, first_geometry, port_view}, Standing.{Came, Holds}, States.{opened as opened_at}};
+ghost use Rattle.std.specs.Prelude.{◌≡◌, ◌≤◌, length, IfErr, IfOk};
+ghost use Rattle.iso_core.specs.declared.group_end.TheConstants.{MAX_GROUP};
+ghost use Rattle.iso_shared.specs.Ports.{IsPort, first_geometry, port_view};
 ghost use Rattle.turn_lock.specs.Views.{fresh};
-ghost use Rattle.accounts.specs.{Ends.SumStays, Jobs.{IsEnder, IsMover, planned}, Kept.{AreGiven, HasStore, IsHalf, IsKept, IsKeptPort, Stays, half_units}, Learned.{AreTold, told_units}};
+ghost use Rattle.accounts.specs.{Ends.{StartsOn, SumStays}, Jobs.{HasEndedGift, HasGiven, IsEnder, IsMover, planned}, Kept.{HasStore, IsKeptPort, KeepsOn, MayBegin, MayGive}};
 
 use crate::account::{AccountError, Plan, Report, Work};
 use crate::amounts::Place;
@@ -40,17 +39,10 @@ fn give_beside<'a, D: Disk + Drop + Send, O: Origin + Send + Sync, R: Threads + 
     first: Session<'a, D, O>,
     second: Session<'a, D, O>,
 ) -> (Session<'a, D, O>, Session<'a, D, O>, Gift<D, O>, u32)
-    requires first { IsKept (planned plan) O.start first × (MAX_GROUP + 2 < first.units) }
-    requires second { IsKept (planned plan) O.start second × (1 < second.units) }
-    requires store { HasStore O.start region }
-    requires few { length plan.handed.now ≤ MAX_GROUP }
-    ensures first { IsKept (planned plan.entry) O.start result.0 × (result.0.device ≡ first.entry.device) }
-    ensures second { IsKept (planned plan.entry) O.start result.1 × (result.1.device ≡ second.entry.device) }
-    ensures units { (result.0.units + units_of (found_in result.2.members.items) + half_units result.2.half ≡ first.entry.units) × (result.1.units ≡ second.entry.units) }
-    ensures left { 1 < result.0.units }
-    ensures few { length result.2.members.items ≤ MAX_GROUP }
-    ensures given { AreGiven (planned plan.entry) O.start first.entry.device result.2.members.items }
-    ensures half { IfSome result.2.half (IsHalf (planned plan.entry) O.start first.entry.device) }
+    requires first { MayGive (planned plan) O.start region first × (length plan.handed.now ≤ MAX_GROUP) }
+    requires second { MayBegin (planned plan) O.start region second }
+    ensures first { HasGiven O.start (planned plan.entry) first.entry result.0 result.2.members.items result.2.half }
+    ensures second { KeepsOn (planned plan.entry) O.start second.entry result.1 }
 {
     let mut giver = Giver {
         alloc,
@@ -102,11 +94,8 @@ fn end_beside<'a, D: Disk + Drop + Send, O: Origin + Send + Sync, R: Threads + W
 )
     requires mover { IsMover O.start mover }
     requires ender { IsEnder O.start ender }
-    ensures first { IsKept (planned mover.entry.plan) O.start result.0 × Stays mover.entry.session result.0 }
-    ensures second { IsKept (planned ender.entry.plan) O.start result.1 × (result.1.device ≡ ender.entry.session.device) × (result.1.units ≡ ender.entry.session.units + half_units ender.entry.half) }
-    ensures port { IsKeptPort ender.entry.shared.now (planned ender.entry.plan) O.start result.2 }
-    ensures units { IfSome ender.entry.members (λ v. (port_view result.2).units + told_units result.4.group ≡ units_all (port_view ender.entry.port) (found_in v.items)) }
-    ensures told { IfSome ender.entry.members (λ v. AreTold ender.entry.shared.now O.start (found_in v.items) result.4.group) }
+    ensures moved { KeepsOn (planned mover.entry.plan) O.start mover.entry.session result.0 }
+    ensures ended { HasEndedGift O.start ender.entry result.1 result.2 result.4.group }
 {
     let (mut mover, mut ender) = (mover, ender);
     let (done, (halved, group)) = run_both(rt, &mut mover, &mut ender);
@@ -205,9 +194,7 @@ pub fn run_accounts<D: Disk + Drop + Send, O: Origin + Send + Sync, R: Threads +
     core: Core<D>,
     plan: &Plan,
 ) -> Result<(Report, Core<D>), (Memory, Core<D>)>
-    requires start { Holds D.state core (opened_at O.start) × (O.start.world.live ≡ []) }
-    requires came { Came O.start O.disk (D.state (disk_of core)) [] }
-    requires store { O.start.world.geometry.hash ≢ 0 }
+    requires start { StartsOn D.state O.start O.disk core }
     requires few { length plan.now.handed.now ≤ MAX_GROUP }
     ensures run { IfOk result (λ r. SumStays D.state O.start O.disk (planned plan.now) r.1) }
     ensures unrun { IfErr result (λ e. e.1 ≡ core) }

@@ -1,6 +1,6 @@
 // Transactions of accounts by a session: each is serial, and one of its own is tried again after a conflict.
-ghost use Rattle.std.specs.Prelude.{◌≡◌, ◌+◌, ◌≤◌, IfOk, IfSome, OnErr};
-ghost use Rattle.accounts.specs.{Kept.{HasStore, IsHalf, HoldsCalls, IsKept, BeginsIdle, IsWhole, KeepsOn, MayBegin, Stays, given_units, half_units}, Made.{calls_of, opening_of}, Transactions.IsOfAccounts};
+ghost use Rattle.std.specs.Prelude.{[], ◌∷◌, IfOk, None, OnErr};
+ghost use Rattle.accounts.specs.{Kept.{Gains, Gives, HasStore, IsHalf, HoldsCalls, IsKept, BeginsIdle, KeepsOn, MayBegin, Stays}, Made.{calls_of, opening_of}, Transactions.IsOfAccounts};
 
 use crate::account::{Account, AccountError, Step, Transfer, Work};
 use crate::call::AccountCall;
@@ -66,8 +66,7 @@ fn end<'a, D: Disk + Drop, O: Origin, R: Wait>(
 ) -> Result<u64, AccountError>
     requires session { HoldsCalls (opening_of accounts.now) (IsOfAccounts (opening_of accounts.now)) O.start session.old }
     requires ready { BeginsIdle O.start }
-    ensures session { IsKept (opening_of accounts.now) O.start session.new }
-    ensures stays { Stays session.old session.new }
+    ensures session { KeepsOn (opening_of accounts.now) O.start session.old session.new }
 {
     match end_now(rt, session) {
         Ok(reply) => commit_in(reply),
@@ -126,10 +125,7 @@ pub(crate) fn give<'a, D: Disk + Drop, O: Origin, R: Wait>(
     transfer: &Transfer,
 ) -> Option<Tx<D, O>>
     requires session { MayBegin (opening_of accounts.now) O.start region session.old }
-    ensures session { IsKept (opening_of accounts.now) O.start session.new }
-    ensures device { session.new.device ≡ session.old.device }
-    ensures units { session.new.units + given_units result ≡ session.old.units }
-    ensures given { IfSome result (IsWhole (opening_of accounts.now) O.start session.old.device) }
+    ensures given { Gives (opening_of accounts.now) O.start 1 session.old session.new (result ∷ []) None }
 {
     match fill(
         rt,
@@ -157,11 +153,7 @@ pub(crate) fn give_half<'a, D: Disk + Drop, O: Origin, R: Wait>(
     transfer: &Transfer,
 ) -> Option<Half<D, O>>
     requires session { MayBegin (opening_of accounts.now) O.start region session.old }
-    ensures session { IsKept (opening_of accounts.now) O.start session.new }
-    ensures device { session.new.device ≡ session.old.device }
-    ensures units { session.new.units + half_units result ≡ session.old.units }
-    ensures left { session.old.units ≤ session.new.units + 1 }
-    ensures half { IfSome result (IsHalf (opening_of accounts.now) O.start session.old.device) }
+    ensures given { Gives (opening_of accounts.now) O.start 1 session.old session.new [] result }
 {
     match fill(rt, alloc, session, region, accounts, Step::Take(*transfer)) {
         Ok(more) => match session.release_tx() {
@@ -188,9 +180,7 @@ pub(crate) fn end_half<'a, D: Disk + Drop, O: Origin, R: Wait>(
     requires session { IsKept (opening_of accounts.now) O.start session.old }
     requires store { HasStore O.start region }
     requires half { IsHalf (opening_of accounts.now) O.start session.old.device half }
-    ensures session { IsKept (opening_of accounts.now) O.start session.new }
-    ensures device { session.new.device ≡ session.old.device }
-    ensures units { session.new.units ≡ session.old.units + 1 }
+    ensures session { Gains (opening_of accounts.now) O.start session.old session.new 1 }
 {
     let Half { handle, to, more } = half;
     if let Err(_) = session.takeover_tx(handle) {

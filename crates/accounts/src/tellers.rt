@@ -23,13 +23,13 @@ pub(crate) struct Giver<'a, D: Disk + Drop, O: Origin> {
 }
 
 impl<'a, D: Disk + Drop + Send, O: Origin + Send + Sync> Job for Giver<'a, D, O> {
-    ghost use Rattle.accounts.specs.Jobs.{Gave, IsGiver};
+    ghost use Rattle.accounts.specs.Jobs.{HasGiven, IsGiver, planned};
 
     type Answer = (Vec<Option<Tx<D, O>>>, Option<Half<D, O>>);
 
     ghost fits = { λ c. IsGiver O.start c };
 
-    ghost does = { λ c d r. Gave O.start c d r.0.items r.1 };
+    ghost does = { λ c d r. HasGiven O.start (planned c.plan) c.session d.session r.0.items r.1 };
 
     fn run<R: Wait>(&mut self, rt: &R) -> (Vec<Option<Tx<D, O>>>, Option<Half<D, O>>) {
         let members = give_all(
@@ -62,13 +62,13 @@ pub(crate) struct Mover<'a, D: Disk + Drop, O: Origin> {
 }
 
 impl<'a, D: Disk + Drop + Send, O: Origin + Send + Sync> Job for Mover<'a, D, O> {
-    ghost use Rattle.accounts.specs.Jobs.{IsMover, Moved};
+    ghost use Rattle.accounts.specs.{Jobs.{IsMover, planned}, Kept.KeepsOn};
 
     type Answer = u32;
 
     ghost fits = { λ c. IsMover O.start c };
 
-    ghost does = { λ c d r. Moved O.start c d };
+    ghost does = { λ c d r. KeepsOn (planned c.plan) O.start c.session d.session };
 
     fn run<R: Wait>(&mut self, rt: &R) -> u32 {
         commit_all(
@@ -97,6 +97,7 @@ pub(crate) struct Ender<'a, D: Disk + Drop, O: Origin> {
 }
 
 impl<'a, D: Disk + Drop + Send, O: Origin + Send + Sync> Job for Ender<'a, D, O> {
+    ghost use Rattle.std.specs.Prelude.{◌≡◌, None};
     ghost use Rattle.accounts.specs.Jobs.{HasEndedGift, IsEnder};
 
     type Answer = (
@@ -106,7 +107,7 @@ impl<'a, D: Disk + Drop + Send, O: Origin + Send + Sync> Job for Ender<'a, D, O>
 
     ghost fits = { λ c. IsEnder O.start c };
 
-    ghost does = { λ c d r. HasEndedGift O.start c d r.1 };
+    ghost does = { λ c d r. HasEndedGift O.start c d.session d.port r.1 × (d.half ≡ None) × (d.members ≡ None) };
 
     fn run<R: Wait>(
         &mut self,

@@ -1,10 +1,10 @@
 // What threads do: transactions of their own, some that are given away, and a group of those.
-ghost use Rattle.std.specs.Prelude.{◌≡◌, ◌+◌, ◌<◌, ◌≤◌, IfSome, None, length};
+ghost use Rattle.std.specs.Prelude.{◌≡◌, ◌+◌, ◌≤◌, IfSome, None, length};
 ghost use Rattle.iso_core.specs.declared.group_end.TheConstants.{MAX_GROUP};
-ghost use Rattle.iso_shared.specs.{Ports.port_view, Groups.units_of};
+ghost use Rattle.iso_shared.specs.Ports.{port_view};
 ghost use Rattle.group_commit.specs.Groups.{found_in, units_all};
 ghost use Rattle.handle_pass.specs.Sessions.{device_of};
-ghost use Rattle.accounts.specs.{Kept.{AreGiven, HasStore, IsHalf, IsKept, IsKeptPort, BeginsIdle, KeepsOn, MayBegin, half_units}, Learned.{AreTold, told_units}, Made.opening_of};
+ghost use Rattle.accounts.specs.{Kept.{AreGiven, BeginsIdle, Gains, Gives, HasStore, IsHalf, IsKept, IsKeptPort, KeepsOn, MayBegin, MayGive, half_units}, Learned.{AreTold, told_units}, Made.opening_of};
 
 use crate::account::{Account, AccountError, Transfer, Work};
 use crate::half::Half;
@@ -50,16 +50,10 @@ pub(crate) fn give_all<'a, D: Disk + Drop, O: Origin, R: Wait>(
     accounts: &[Account],
     transfers: &[Transfer],
 ) -> Vec<Option<Tx<D, O>>>
-    requires session { IsKept (opening_of accounts.now) O.start session.old }
-    requires units { MAX_GROUP + 1 < session.old.units }
+    requires session { MayGive (opening_of accounts.now) O.start region session.old }
     requires few { length transfers.now ≤ MAX_GROUP }
-    requires store { HasStore O.start region }
-    ensures session { IsKept (opening_of accounts.now) O.start session.new }
-    ensures device { session.new.device ≡ session.old.device }
-    ensures units { session.new.units + units_of (found_in result.items) ≡ session.old.units }
-    ensures left { session.old.units ≤ session.new.units + MAX_GROUP }
     ensures few { length result.items ≤ MAX_GROUP }
-    ensures given { AreGiven (opening_of accounts.now) O.start session.old.device result.items }
+    ensures given { Gives (opening_of accounts.now) O.start MAX_GROUP session.old session.new result.items None }
 {
     let mut members = Vec::new(alloc);
     if let Err(_) = members.reserve(transfers.len()) {
@@ -131,9 +125,7 @@ pub(crate) fn end_taken<'a, D: Disk + Drop, O: Origin, R: Wait>(
     requires session { IsKept (opening_of accounts.now) O.start session.old }
     requires store { HasStore O.start region }
     requires half { IfSome place.old (IsHalf (opening_of accounts.now) O.start session.old.device) }
-    ensures session { IsKept (opening_of accounts.now) O.start session.new }
-    ensures device { session.new.device ≡ session.old.device }
-    ensures units { session.new.units ≡ session.old.units + half_units place.old }
+    ensures session { Gains (opening_of accounts.now) O.start session.old session.new (half_units place.old) }
     ensures place { place.new ≡ None }
 {
     match place.take() {

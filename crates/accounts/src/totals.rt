@@ -1,13 +1,12 @@
 // The accounts of an image, as a core shows them.
-ghost use Rattle.device_calls.specs.Beginnings.{BeginsAt};
-ghost use Rattle.iso_model.specs.World.{World};
 
 use crate::account::Account;
+use crate::amounts::number_of;
 use device_calls::{Job, end_now, hash_get, hash_region, with_device};
 use handle_pass::Session;
-use iso_core::Core;
 use iso_disk::Disk;
 use iso_model::Geometry;
+use iso_recover::open_image;
 use iso_shared::Origin;
 use std::alloc::Global;
 use std::sync::Wait;
@@ -17,14 +16,6 @@ use std::sync::Wait;
 pub(crate) struct Sum {
     pub(crate) accounts: usize,
     pub(crate) sum: u64,
-}
-
-// The amount that eight bytes are.
-fn amount_of(value: &[u8]) -> Option<u64> {
-    match value {
-        [a, b, c, d, e, f, g, h] => Some(u64::from_be_bytes([*a, *b, *c, *d, *e, *f, *g, *h])),
-        _ => None,
-    }
 }
 
 /// The sum by one transaction of a session.
@@ -52,7 +43,7 @@ impl<'k> Job for SumOf<'k> {
         for account in self.accounts {
             if let Some(value) = hash_get(rt, alloc, session, region, &account.name).ok()? {
                 found = found.checked_add(1)?;
-                sum = sum.checked_add(amount_of(value.as_slice())?)?;
+                sum = sum.checked_add(number_of(value.as_slice())?)?;
             }
         }
         end_now(rt, session).ok()?;
@@ -63,15 +54,18 @@ impl<'k> Job for SumOf<'k> {
     }
 }
 
-/// The accounts of these that there are, over a core that was just made or opened; none where a call is refused.
-pub(crate) fn sum_of<D: Disk + Drop, R: Wait>(
+/// The accounts of these that there are in the image on this disk; none where it does not open or a call is refused.
+pub(crate) fn sum_on<D: Disk + Drop, R: Wait>(
     rt: &R,
     alloc: Global,
-    core: Core<D>,
+    disk: D,
     accounts: &[Account],
-) -> Option<Sum>
-    requires { (W : World) × BeginsAt D.state core W }
-{
-    let (sum, _core) = with_device(rt, alloc, core, SumOf { accounts });
-    sum?
+) -> Option<Sum> {
+    match open_image(alloc, disk) {
+        Ok(core) => {
+            let (sum, _core) = with_device(rt, alloc, core, SumOf { accounts });
+            sum?
+        }
+        Err((_error, _disk)) => None,
+    }
 }

@@ -2,8 +2,8 @@ use Rattle.accounts.proofs.{Words.{◌≡◌, ◌∙◌, ◌∷◌, [], ap, arit
 use Rattle.group_commit.proofs.Grouping.{nothing_left}
 use Rattle.accounts.proofs.learning.learn_all.Goals as goal
 
-pub learn_one-reply-requires-clause-of : goal.learn_one-reply-requires-clause-of
-learn_one-reply-requires-clause-of g c = c.loop-ended.invariant.same ∙ c.requires.of
+pub learn_one-reply-requires-clause-session : goal.learn_one-reply-requires-clause-session
+learn_one-reply-requires-clause-session g c = (c.loop-ended.invariant.kept, c.loop-ended.invariant.same ∙ c.requires.session.1)
 
 pub learn_one-reply-requires-clause-ended : goal.learn_one-reply-requires-clause-ended
 learn_one-reply-requires-clause-ended g c =
@@ -21,22 +21,23 @@ loop-ended-preserved g c =
     let was = at.invariant.len in
     let gone = c.in-Some.ensures.len in
     let units = rw items at at.invariant.units in
-    let one = c.learn_one-reply.ensures.units in
+    let joined = c.learn_one-reply.ensures.session in
+    let one = joined.units in
     record {
-      kept = c.learn_one-reply.ensures.session;
-      same = c.learn_one-reply.ensures.device ∙ at.invariant.same;
+      kept = joined.session;
+      same = joined.of ∙ at.invariant.same;
       len = omega (arith, size, was, gone);
       told = (rw items at at.invariant.told).1;
       units = omega (arith, units, one);
       learned = learns_more c.args.shared.now g.O.Origin.start at.session.seen c.learn_one-reply.new.session.seen e rest c.args.told.items c.learn_one-reply.ensures.known c.learn_one-reply.ensures.learned (rw items at at.invariant.learned);
     }
 
-pub returns-clause-units : goal.returns-clause-units
-returns-clause-units g c =
+pub returns-clause-session : goal.returns-clause-session
+returns-clause-session g c =
     let at = c.loop-ended in
     let none : into_iter_items at.rest ≡ [] = nothing_left _ (sym at.invariant.len ∙ c.in_default.ensures.cases.0) in
     let units = rw none at at.invariant.units in
-    omega (arith, units)
+    record { session = at.invariant.kept; of = at.invariant.same; units = omega (arith, units) }
 
 pub returns-clause-learned : goal.returns-clause-learned
 returns-clause-learned g c =

@@ -1,16 +1,23 @@
-use Rattle.accounts.proofs.{Words.{List, subst, sym, Area, area_of, Does, IsOpening, opening_of, to_be_bytes, w64, Account}, Adding.{area_same, opened_more}}
+use Rattle.accounts.proofs.{Words.{◌≡◌, arith, length, List, [], ◌∷◌, subst, sym, Region, Tx, DoesIn, IsOpening, opening_of, to_be_bytes, w64, Account}, Adding.{opened_more, opened_none}}
+
+none_opened : (region : Region) (t : Tx) (accounts : List Account) → length accounts ≡ 0 → DoesIn region t t (IsOpening (opening_of accounts))
+none_opened region t [] none = opened_none region t
+none_opened region t (a ∷ rest) none = absurd (omega (arith, none))
+
+pub returns-in-None : Rattle.accounts.proofs.moving.+open_all.Goals.returns-in-None
+returns-in-None g k c =
+    let t = g.T.TxBlocks.state c.args.tx.now in
+    record { opened = none_opened c.args.place.region t c.args.accounts.now c.in-None.ensures.cases }
 
 pub returns-in_ok-open_all-in-Some : Rattle.accounts.proofs.moving.+open_all.Goals.returns-in_ok-open_all-in-Some
 returns-in_ok-open_all-in-Some g k c =
     let t = g.T.TxBlocks.state c.args.tx.now in
     let u = g.T.TxBlocks.state c.open_one.new.tx in
     let v = g.T.TxBlocks.state c.open_all.new.tx in
-    let a = area_of t c.args.place.region in
+    let region = c.args.place.region in
     let first : Account = c.in-Some.first.now in
     let rest : List Account = c.in-Some.rest.now in
-    let later : Does a u v (IsOpening (opening_of rest)) =
-    subst (λ (b : Area). Does b u v (IsOpening (opening_of rest))) (area_same t u c.args.place.region c.in_ok-open_one-in-Some.ensures.same) c.in_ok-open_all-in-Some.ensures.opened in
     record {
-      opened = subst (λ (xs : List Account). Does a t v (IsOpening (opening_of xs))) (sym c.in-Some.ensures.cases.0)
-          (opened_more a t u v (first.name, to_be_bytes w64 first.amount) (opening_of rest) c.in_ok-open_one-in-Some.ensures.opened later);
+      opened = subst (λ (xs : List Account). DoesIn region t v (IsOpening (opening_of xs))) (sym c.in-Some.ensures.cases.0)
+          (opened_more region t u v (first.name, to_be_bytes w64 first.amount) (opening_of rest) c.in_ok-open_one-in-Some.ensures.opened c.in_ok-open_all-in-Some.ensures.opened);
     }

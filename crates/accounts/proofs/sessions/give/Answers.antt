@@ -1,27 +1,21 @@
-use Rattle.accounts.proofs.{Words.{arith, ◌∙◌, IsOfAccounts, opening_of}, Keeping.{given, let_go, whole}}
+use Rattle.accounts.proofs.{Words.{IsOfAccounts, opening_of}, Giving.{gives_no_whole, gives_none, gives_nothing, gives_whole}}
 
-pub returns-in-Ok-release_tx-clause-session : Rattle.accounts.proofs.sessions.give.Goals.returns-in-Ok-release_tx-clause-session
-returns-in-Ok-release_tx-clause-session g c =
-    let accounts = opening_of c.args.accounts.now in
-    (given accounts g.O.Origin.start (IsOfAccounts accounts) c.fill.new.session c.release_tx.new.self c.in-Ok-release_tx.handle c.in-Ok-release_tx.ensures.did c.in-Ok.ensures.filled).0
+pub returns-in-Ok-release_tx : Rattle.accounts.proofs.sessions.give.Goals.returns-in-Ok-release_tx
+returns-in-Ok-release_tx g c = record {
+  given = gives_whole (opening_of c.args.accounts.now) g.O.Origin.start c.args.session.now c.fill.new.session c.release_tx.new.self c.fill.ensures.stays c.in-Ok-release_tx.handle c.into_tx.result c.in-Ok-release_tx.ensures.did c.in-Ok.ensures.filled
+      c.into_tx.ensures.tx c.into_tx.ensures.is;
+}
 
-pub returns-in-Ok-release_tx-clause-given : Rattle.accounts.proofs.sessions.give.Goals.returns-in-Ok-release_tx-clause-given
-returns-in-Ok-release_tx-clause-given g c =
-    let A = g.O.Origin.start in
-    let accounts = opening_of c.args.accounts.now in
-    let did = c.in-Ok-release_tx.ensures.did in
-    let is = (given accounts A (IsOfAccounts accounts) c.fill.new.session c.release_tx.new.self c.in-Ok-release_tx.handle did c.in-Ok.ensures.filled).1 in
-    whole accounts A c.args.session.now.device c.in-Ok-release_tx.handle c.into_tx.result c.into_tx.ensures.tx c.into_tx.ensures.is (did.of.1 ∙ c.fill.ensures.stays.of) is
-
-pub returns-in-Ok-release_tx-clause-units : Rattle.accounts.proofs.sessions.give.Goals.returns-in-Ok-release_tx-clause-units
-returns-in-Ok-release_tx-clause-units g c =
-    let one = c.into_tx.ensures.tx.one in
-    let sum = c.in-Ok-release_tx.ensures.did.units in
-    let same = c.fill.ensures.stays.units in
-    omega (arith, one, sum, same)
-
-pub returns-in-Err-release_tx-clause-session : Rattle.accounts.proofs.sessions.give.Goals.returns-in-Err-release_tx-clause-session
-returns-in-Err-release_tx-clause-session g c =
+pub returns-in-Err-release_tx : Rattle.accounts.proofs.sessions.give.Goals.returns-in-Err-release_tx
+returns-in-Err-release_tx g c =
     let accounts = opening_of c.args.accounts.now in
     let did = c.in-Err-release_tx.ensures.did in
-    let_go accounts g.O.Origin.start (IsOfAccounts accounts) c.fill.new.session c.release_tx.new.self did.0 did.1 c.in-Ok.ensures.filled
+    record {
+      given = gives_no_whole accounts g.O.Origin.start 1 c.args.session.now c.release_tx.new.self
+          (gives_nothing accounts g.O.Origin.start c.args.session.now c.fill.new.session c.release_tx.new.self c.fill.ensures.stays (IsOfAccounts accounts) did.0 did.1 c.in-Ok.ensures.filled);
+    }
+
+pub returns-in-Err : Rattle.accounts.proofs.sessions.give.Goals.returns-in-Err
+returns-in-Err g c =
+    let accounts = opening_of c.args.accounts.now in
+    record { given = gives_no_whole accounts g.O.Origin.start 1 c.args.session.now c.fill.new.session (gives_none accounts g.O.Origin.start 1 c.args.session.now c.fill.new.session c.in-Err.ensures.kept c.fill.ensures.stays) }

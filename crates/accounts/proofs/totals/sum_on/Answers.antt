@@ -1,7 +1,7 @@
 use Rattle.std.proofs.Common.{refl}
 use Rattle.iso_model.specs.World.{fresh}
 
-pub sum_of-requires : Rattle.accounts.proofs.sum_in.Goals.sum_of-requires
-sum_of-requires g c =
+pub with_device-sum-requires : Rattle.accounts.proofs.totals.sum_on.Goals.with_device-sum-requires
+with_device-sum-requires g c =
     let to = c.in-Ok.ensures.opened in
     (fresh to.geometry to.generation to.history, record { stands = to.stands; idle = refl })
