@@ -182,8 +182,9 @@ fn run_on<'a, D: Disk + Drop + Send, O: Origin + Send + Sync, R: Threads + Wait 
 }
 
 /// Opens accounts on a device over a core, has two threads move amounts between them, and gives the core back. The thread that gives
-/// transactions away learns how each of them has ended. The sum of all accounts is the same after every commit, and in every image
-/// that a crash might have left since the core was handed in. Without memory nothing is run.
+/// transactions away learns how each of them has ended. If the disk tells its bytes, the stores are well formed, and the hash store has no
+/// account or these with their sum, then the sum is the same after every commit once they are open, and every image that a crash might have
+/// left since the core was handed in has that sum or no account. Without memory nothing is run.
 ///
 /// # Errors
 ///

@@ -18,7 +18,7 @@ pub(crate) struct Sum {
     pub(crate) sum: u64,
 }
 
-/// The sum by one transaction of a session.
+/// The sum by one transaction of a session. No clause speaks of it: it is tested.
 #[derive(Drop)]
 struct SumOf<'k> {
     accounts: &'k [Account],
@@ -54,7 +54,7 @@ impl<'k> Job for SumOf<'k> {
     }
 }
 
-/// The accounts of these that there are in the image on this disk; none where it does not open or a call is refused.
+/// The accounts of these that there are in the image on this disk; none where it does not open, has no hash store, or a call is refused.
 pub(crate) fn sum_on<D: Disk + Drop, R: Wait>(
     rt: &R,
     alloc: Global,

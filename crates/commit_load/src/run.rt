@@ -23,7 +23,7 @@ use std::sync::Wait;
 use std::thread::Threads;
 use std::time::Clock;
 
-/// The numbers of the image: 4 blocks of 256 bytes for each of 64 threads.
+/// The geometry of the image: for each thread, of as many as there may be, the blocks of 256 bytes that it writes.
 #[tactic(auto, unfolding(iso_model::specs::Geometry::is_valid))]
 fn numbers() -> Geometry
     ensures { IsTrue (is_valid result) }
@@ -84,7 +84,7 @@ fn run_at_desks<
     if seated { Some(commits) } else { None }
 }
 
-// The same with a committer that is there for it alone.
+// The load on a device, with a committer that is there for it alone.
 fn run_on<
     D: Disk + Drop + Send,
     O: Origin + Send + Sync,
@@ -110,7 +110,7 @@ fn run_on<
     (commits, port)
 }
 
-// The same on a device over a core, which gives the disk back. With the commits comes the number of the last one.
+// The load on a device over a core, which gives the disk back. With the commits comes the number of the last one.
 fn run_over<D: Disk + Drop + Send, O: Origin + Send + Sync, R: Threads + Wait + Sync>(
     rt: &R,
     alloc: Global,
@@ -122,6 +122,7 @@ fn run_over<D: Disk + Drop + Send, O: Origin + Send + Sync, R: Threads + Wait + 
     requires came { Came O.start O.disk (D.state (disk_of core)) [] }
     requires size { O.start.world.geometry.block ≡ 256 }
 {
+    // Contracts alone read it.
     let _ = beginning;
     match Shared::<D, O>::new(alloc, core) {
         Err((_memory, core)) => (None, core.into_disk()),
@@ -137,7 +138,7 @@ fn run_over<D: Disk + Drop + Send, O: Origin + Send + Sync, R: Threads + Wait + 
     }
 }
 
-// The same over a core that was just made, of an image with blocks of 256 bytes.
+// The load over a core that was just made. Its blocks have 256 bytes, which is tested for the proof alone.
 fn run_core<D: Disk + Drop + Send, R: Threads + Wait + Sync>(
     rt: &R,
     alloc: Global,

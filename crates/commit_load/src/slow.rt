@@ -16,7 +16,7 @@ pub(crate) struct SlowDisk<D: Disk, C: Clock> {
 }
 
 impl<D: Disk, C: Clock> SlowDisk<D, C> {
-    /// Over this disk, with so long a wait.
+    /// Over this disk, with a wait of so many microseconds.
     pub(crate) fn new(disk: D, clock: C, pause: u64) -> Self
         ensures { result.disk ≡ disk }
     {

@@ -40,7 +40,7 @@ impl<D: Disk + Drop, O: Origin, P: OfDevice<D, O>> Leader<D, O, P> {
 /// moment whether those who ended last are back, so an end may wait for others, even where their syncs take nothing.
 pub struct Committer<D: Disk + Drop, O: Origin, P: OfDevice<D, O>> {
     leader: Mutex<Leader<D, O, P>>,
-    // Whether somebody serves.
+    // Whether a thread has taken the next service on. The others sleep until it leaves; who ends alone holds the leader without this.
     busy: Mutex<bool>,
     left: Condvar,
 }
@@ -56,6 +56,7 @@ impl<D: Disk + Drop, O: Origin, P: OfDevice<D, O>> Committer<D, O, P> {
             leader: Mutex::new(Leader {
                 port,
                 alloc,
+                // as if one alone had ended
                 last: 1,
                 device: PhantomData,
             }),
@@ -84,7 +85,7 @@ impl<D: Disk + Drop, O: Origin, P: OfDevice<D, O>> Committer<D, O, P> {
         port
     }
 
-    /// The place of who serves, where it is free, nothing is handed in at these desks, and at most one had when somebody last served.
+    /// The leader, where nobody holds it, nothing is handed in at these desks, and at most one had handed in when somebody last served.
     /// Whoever comes while it is held hands its own in, and serves once it is let go.
     pub(crate) fn free_place(
         &self,
@@ -100,8 +101,8 @@ impl<D: Disk + Drop, O: Origin, P: OfDevice<D, O>> Committer<D, O, P> {
         Some(leader)
     }
 
-    /// Ends a transaction together with those that other threads end or hand in at these desks, which the client's own is among: it is
-    /// handed in, and the outcome is waited for.
+    /// Ends a transaction together with those that other threads end or hand in at these desks: it is handed in, and the outcome is waited
+    /// for. The client's own desk is among them; else nobody may serve it, and this waits for ever.
     pub fn end<R: Wait>(
         &self,
         rt: &R,
@@ -121,9 +122,9 @@ impl<D: Disk + Drop, O: Origin, P: OfDevice<D, O>> Committer<D, O, P> {
         self.outcome(rt, shared, desks, desk, client)
     }
 
-    /// Waits for the outcome of the transaction that a client has handed in at its desk. While nobody serves these desks, which the
-    /// own one is among, it does so itself: all that is handed in there is ended as one group, and each alone where it is alone or
-    /// where memory is wanting for the group.
+    /// Waits for the outcome of the transaction that a client has handed in at its desk, which is among these; else it may wait for ever.
+    /// While nobody serves these desks it does so itself: what is handed in there, up to the most of a group, is ended as one group, and
+    /// each alone where it is alone, or where the log has no room for all of them or memory is wanting for the group.
     pub fn outcome<R: Wait>(
         &self,
         rt: &R,

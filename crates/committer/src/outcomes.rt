@@ -23,13 +23,13 @@ pub(crate) enum Outcomes<D: Disk + Drop, O: Origin> {
     Live(Vec<Tx<D, O>>),
 }
 
-// The bytes of a record's head with its gate, and of the head of a run in it.
+// The bytes of a record's head with its gate and the next one's, and of the head of a run in it.
 const RECORD_HEAD: u64 = 21;
 
 const RUN_HEAD: u64 = 8;
 
-// At least the bytes that the records of these take in the log: each access is counted as a write of a whole block, in as many runs as it
-// may have marks.
+// An upper bound of the bytes that the records of these take in the log: each access is counted as a write of a whole block, in as many
+// runs as it may have marks.
 fn most_bytes<D: Disk + Drop, O: Origin>(group: &[Tx<D, O>], block: u32) -> u64 {
     let an_access = (RUN_HEAD * MAX_SPANS as u64) + block as u64;
     let mut total: u64 = 0;
@@ -92,7 +92,7 @@ pub(crate) fn end_taken<D: Disk + Drop, O: Origin, R: Wait>(
     }
 }
 
-/// The outcome of the last of these, and those of the others.
+/// The outcome of the last of these, which is ended here if it still is to be, and those of the others.
 pub(crate) fn last_outcome<D: Disk + Drop, O: Origin, R: Wait>(
     rt: &R,
     shared: &Shared<D, O>,
@@ -133,7 +133,7 @@ pub(crate) fn last_outcome<D: Disk + Drop, O: Origin, R: Wait>(
     }
 }
 
-/// Lets go of the outcomes of no transaction.
+/// Drops the outcomes once each was told.
 pub(crate) fn finish<D: Disk + Drop, O: Origin>(outcomes: Outcomes<D, O>)
     requires { (shared : Shared D O) × (seen : List Entry) × AreTold shared O.start seen [] outcomes }
 {
