@@ -1,10 +1,12 @@
 // What is done with a desk, step by step, and what each step is answered.
 use crate::desks::{do_tape, new_desk, reopened};
+use crate::same::same;
 use device_desk::{Desk, Status, fail, status_of, tape};
 use iso_model::Memory;
 use queued_disk::QueuedDisk;
 use script_model::{Reply, Stop};
 use std::alloc::Global;
+use std::process::Abort;
 
 /// One thing that is done. Transactions are counted from 0 as they begin.
 #[derive(Clone, Copy)]
@@ -34,6 +36,11 @@ pub(crate) enum Step {
 
 /// What a step came to, and the byte or the count that it showed, else 0.
 pub(crate) type Answer = (Status, u8);
+
+pub(crate) const DONE: Answer = (Status::Done, 0);
+
+/// A step, and what it is answered.
+pub(crate) type Row = (Step, Answer);
 
 // The number of a transaction, or one that nobody was told.
 fn number_of(numbers: &[u64], who: usize) -> u64 {
@@ -114,24 +121,25 @@ fn play(
     Ok((Status::Done, 0))
 }
 
-// Does the steps in order.
+// Does the steps in order, and compares what each is answered. What fails is told with the number of its row.
 fn play_all(
+    rt: &impl Abort,
     alloc: Global,
     desk: &mut Desk<QueuedDisk>,
     file: &mut Vec<u8>,
-    steps: &[Step],
-) -> Result<Vec<Answer>, Memory> {
+    rows: &[Row],
+) -> Result<(), Memory> {
     let mut numbers = Vec::new(alloc);
-    let mut answers = Vec::new(alloc);
-    for step in steps {
-        answers.push(play(alloc, desk, file, &mut numbers, *step)?)?;
+    for (number, row) in rows.iter().enumerate() {
+        let answer = play(alloc, desk, file, &mut numbers, row.0)?;
+        same(rt, (number, answer), (number, row.1));
     }
-    Ok(answers)
+    Ok(())
 }
 
-/// What these steps are answered by a desk over a small new image, whose making was done to the file.
-pub(crate) fn played(alloc: Global, steps: &[Step]) -> Result<Vec<Answer>, Memory> {
+/// Plays these rows on a desk over a small new image, whose making was done to the file.
+pub(crate) fn played(rt: &impl Abort, alloc: Global, rows: &[Row]) -> Result<(), Memory> {
     let (mut desk, mut file) = new_desk(alloc)?;
     do_tape(&mut desk, &mut file);
-    play_all(alloc, &mut desk, &mut file, steps)
+    play_all(rt, alloc, &mut desk, &mut file, rows)
 }

@@ -3,7 +3,7 @@ use crate::desks::{do_front, do_tape, new_desk, reopened};
 use crate::steps::Step::{
     Begin, CountTape, DoTape, End, EndBoth, Fail as FailCall, Fill, Reopen, Show,
 };
-use crate::steps::played;
+use crate::steps::{DONE, played};
 use device_desk::Status::{Done, Down, NoTransaction};
 use device_desk::{Desk, tape};
 use iso_model::Memory;
@@ -14,134 +14,98 @@ use std::test::Fail;
 
 #[test]
 fn a_commit_is_in_the_file_once_its_tape_was_done(rt: HostRuntime) -> Result<(), Fail> {
-    let steps = [
-        Begin,
-        Fill(0, 2, 7),
-        End(0),
-        CountTape,
-        DoTape,
-        CountTape,
-        Reopen,
-        Begin,
-        Show(0, 2),
-        Show(0, 1),
+    let rows = [
+        (Begin, DONE),
+        (Fill(0, 2, 7), DONE),
+        (End(0), DONE),
+        (CountTape, (Done, 4)),
+        (DoTape, DONE),
+        (CountTape, DONE),
+        (Reopen, DONE),
+        (Begin, DONE),
+        (Show(0, 2), (Done, 7)),
+        (Show(0, 1), DONE),
     ];
-    let done = (Done, 0);
-    let wanted = [
-        done,
-        done,
-        done,
-        (Done, 4),
-        done,
-        done,
-        done,
-        done,
-        (Done, 7),
-        done,
-    ];
-    assert_eq!(rt; played(rt.alloc(), &steps)?.as_slice(), wanted.as_slice());
+    played(&rt, rt.alloc(), &rows)?;
     Ok(())
 }
 
 #[test]
 fn a_commit_whose_tape_was_not_done_is_not_in_the_file(rt: HostRuntime) -> Result<(), Fail> {
-    let steps = [Begin, Fill(0, 2, 7), End(0), Reopen, Begin, Show(0, 2)];
-    let wanted = [(Done, 0); 6];
-    assert_eq!(rt; played(rt.alloc(), &steps)?.as_slice(), wanted.as_slice());
+    let rows = [
+        (Begin, DONE),
+        (Fill(0, 2, 7), DONE),
+        (End(0), DONE),
+        (Reopen, DONE),
+        (Begin, DONE),
+        (Show(0, 2), DONE),
+    ];
+    played(&rt, rt.alloc(), &rows)?;
     Ok(())
 }
 
 #[test]
 fn a_desk_is_down_and_its_tape_empty_once_a_call_of_it_failed(rt: HostRuntime) -> Result<(), Fail> {
-    let steps = [
-        Begin,
-        Fill(0, 2, 7),
-        End(0),
-        FailCall,
-        CountTape,
-        Begin,
-        End(0),
-        CountTape,
+    let rows = [
+        (Begin, DONE),
+        (Fill(0, 2, 7), DONE),
+        (End(0), DONE),
+        (FailCall, DONE),
+        (CountTape, DONE),
+        (Begin, (Down, 0)),
+        (End(0), (Down, 0)),
+        (CountTape, DONE),
     ];
-    let done = (Done, 0);
-    let wanted = [done, done, done, done, done, (Down, 0), (Down, 0), done];
-    assert_eq!(rt; played(rt.alloc(), &steps)?.as_slice(), wanted.as_slice());
+    played(&rt, rt.alloc(), &rows)?;
     Ok(())
 }
 
 #[test]
 fn a_number_of_an_earlier_opening_is_nobodys(rt: HostRuntime) -> Result<(), Fail> {
-    let steps = [Begin, Reopen, End(0), Begin, End(0)];
-    let wanted = [
-        (Done, 0),
-        (Done, 0),
-        (NoTransaction, 0),
-        (Done, 0),
-        (Done, 0),
+    let rows = [
+        (Begin, DONE),
+        (Reopen, DONE),
+        (End(0), (NoTransaction, 0)),
+        (Begin, DONE),
+        (End(0), DONE),
     ];
-    assert_eq!(rt; played(rt.alloc(), &steps)?.as_slice(), wanted.as_slice());
+    played(&rt, rt.alloc(), &rows)?;
     Ok(())
 }
 
 #[test]
 fn ends_that_waited_share_the_calls_of_one_commit(rt: HostRuntime) -> Result<(), Fail> {
-    let steps = [
-        Begin,
-        Begin,
-        Fill(0, 1, 5),
-        Fill(1, 2, 6),
-        EndBoth(0, 1),
-        CountTape,
-        DoTape,
-        Reopen,
-        Begin,
-        Show(0, 1),
-        Show(0, 2),
+    let rows = [
+        (Begin, DONE),
+        (Begin, DONE),
+        (Fill(0, 1, 5), DONE),
+        (Fill(1, 2, 6), DONE),
+        (EndBoth(0, 1), (Done, 2)),
+        (CountTape, (Done, 4)),
+        (DoTape, DONE),
+        (Reopen, DONE),
+        (Begin, DONE),
+        (Show(0, 1), (Done, 5)),
+        (Show(0, 2), (Done, 6)),
     ];
-    let done = (Done, 0);
-    let wanted = [
-        done,
-        done,
-        done,
-        done,
-        (Done, 2),
-        (Done, 4),
-        done,
-        done,
-        done,
-        (Done, 5),
-        (Done, 6),
-    ];
-    assert_eq!(rt; played(rt.alloc(), &steps)?.as_slice(), wanted.as_slice());
+    played(&rt, rt.alloc(), &rows)?;
     Ok(())
 }
 
 #[test]
 fn of_ends_that_waited_the_later_one_conflicts_with_the_first(rt: HostRuntime) -> Result<(), Fail> {
-    let steps = [
-        Begin,
-        Begin,
-        Show(1, 1),
-        Fill(0, 1, 5),
-        Fill(1, 2, 6),
-        EndBoth(0, 1),
-        Begin,
-        Show(2, 1),
-        Show(2, 2),
+    let rows = [
+        (Begin, DONE),
+        (Begin, DONE),
+        (Show(1, 1), DONE),
+        (Fill(0, 1, 5), DONE),
+        (Fill(1, 2, 6), DONE),
+        (EndBoth(0, 1), (Done, 2)),
+        (Begin, DONE),
+        (Show(2, 1), (Done, 5)),
+        (Show(2, 2), DONE),
     ];
-    let done = (Done, 0);
-    let wanted = [
-        done,
-        done,
-        done,
-        done,
-        done,
-        (Done, 2),
-        done,
-        (Done, 5),
-        done,
-    ];
-    assert_eq!(rt; played(rt.alloc(), &steps)?.as_slice(), wanted.as_slice());
+    played(&rt, rt.alloc(), &rows)?;
     Ok(())
 }
 
