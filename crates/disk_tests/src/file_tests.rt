@@ -2,7 +2,7 @@
 // let go, one that was cut, a disk that was never bound, and which names are free.
 use crate::steps::Outcome::{self, Count, Done, Failed, Is};
 use crate::steps::Step::{self, Bind, Read, Size, Sync, TryRead, Write};
-use crate::steps::{MOST, Row, Steps, image_call, outcome_of, play};
+use crate::steps::{Came, Row, Shown, Steps, image_call, outcome_of, play};
 use file_disk::FileDisk;
 use iso_disk::{Image, Lookup};
 use std::alloc::{Allocator, Global};
@@ -112,12 +112,7 @@ struct OnFile<'a, F, R: Files<File = File>> {
 impl<F: Files<File = File>, R: Files<File = File>> Steps for OnFile<'_, F, R> {
     type Step = FileStep<'static>;
 
-    fn step(
-        &mut self,
-        _alloc: Global,
-        step: &FileStep<'static>,
-        shown: &mut [u8; MOST],
-    ) -> (Outcome, usize) {
+    fn step(&mut self, _alloc: Global, step: &FileStep<'static>, shown: &mut Shown) -> Came {
         let found = match *step {
             Disk(step) => return image_call(&mut self.disk, self.name, step, shown),
             BindNone => outcome_of(self.disk.bind(NONE, None).is_ok()),

@@ -4,7 +4,7 @@ ghost use Rattle.counts.specs.Count.{HasCause};
 ghost use Rattle.iso_disk.specs.Untold.{untold, untold_is_lawful};
 
 use crate::steps::Outcome::{self, Count, Done, Failed, Is};
-use crate::steps::{MOST, Row, Steps, outcome_of, play, show};
+use crate::steps::{Came, Row, Shown, Steps, outcome_of, play, show};
 use commit_gate::{open_gate, put_body, shut_gate, stands_closed};
 use counts::raise;
 use iso_disk::{Disk, DiskFault};
@@ -94,7 +94,7 @@ use Step::{Body, Bytes, IsClosed, Made, Open, Shut};
 impl Steps for Counting {
     type Step = Step;
 
-    fn step(&mut self, _alloc: Global, step: &Step, shown: &mut [u8; MOST]) -> (Outcome, usize) {
+    fn step(&mut self, _alloc: Global, step: &Step, shown: &mut Shown) -> Came {
         match *step {
             Body(gate) if gate < 6 => (outcome_of(put_body(self, gate, &[4, 5]).is_ok()), 0),
             Open(gate) if gate < 8 => (outcome_of(open_gate(self, gate).is_ok()), 0),

@@ -2,7 +2,7 @@
 use crate::count_tests::same;
 use crate::steps::Outcome::{self, Count, Done, Failed, Refused};
 use crate::steps::Step::{Bind, Calls, Read, Write};
-use crate::steps::{MOST, Row, Step, Steps, image_call, play, read, write};
+use crate::steps::{Came, Row, Shown, Step, Steps, image_call, play, read, write};
 use iso_disk::{Disk, Image};
 use iso_memdisk::{CallKind, MemDisk};
 use kept_disk::Kept;
@@ -11,12 +11,7 @@ use std::alloc::Global;
 impl Steps for Kept<MemDisk> {
     type Step = Step<'static>;
 
-    fn step(
-        &mut self,
-        _alloc: Global,
-        step: &Step<'static>,
-        shown: &mut [u8; MOST],
-    ) -> (Outcome, usize) {
+    fn step(&mut self, _alloc: Global, step: &Step<'static>, shown: &mut Shown) -> Came {
         match *step {
             Calls => (Count(self.disk().calls()), 0),
             other => image_call(self, "t.img", other, shown),

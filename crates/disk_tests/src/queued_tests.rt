@@ -1,13 +1,13 @@
 // A tape that is done to bytes of the caller's.
 use crate::steps::Outcome::{self, Count, Done, Failed};
 use crate::steps::Step::{FailTape, HandOn, OnTape, Read, Size, Sync, Tape, TryRead, Write};
-use crate::steps::{MOST, Step, Steps, Table, call, play, show};
+use crate::steps::{Came, Shown, Step, Steps, Table, call, play, show};
 use queued_disk::{Call, QueuedDisk};
 use std::alloc::Global;
 use std::test::Fail;
 
 /// A call of a tape: the offset and the bytes of a write, and nothing of a sync.
-fn on_tape(call: Option<&Call>, shown: &mut [u8; MOST]) -> (Outcome, usize) {
+fn on_tape(call: Option<&Call>, shown: &mut Shown) -> Came {
     match call {
         Some(Call::Write { at, bytes }) => (Count(*at as u64), show(bytes.as_slice(), shown)),
         Some(Call::Sync) => (Done, 0),
@@ -18,12 +18,7 @@ fn on_tape(call: Option<&Call>, shown: &mut [u8; MOST]) -> (Outcome, usize) {
 impl Steps for QueuedDisk {
     type Step = Step<'static>;
 
-    fn step(
-        &mut self,
-        _alloc: Global,
-        step: &Step<'static>,
-        shown: &mut [u8; MOST],
-    ) -> (Outcome, usize) {
+    fn step(&mut self, _alloc: Global, step: &Step<'static>, shown: &mut Shown) -> Came {
         match *step {
             Tape => return (Count(self.tape().len() as u64), 0),
             OnTape(number) => return on_tape(self.tape().get(number), shown),

@@ -22,6 +22,12 @@ pub(crate) enum Outcome {
     Is(bool),
 }
 
+/// What a step came to, and how many bytes it showed.
+pub(crate) type Came = (Outcome, usize);
+
+/// The bytes at whose front a step lays those that it shows.
+pub(crate) type Shown = [u8; MOST];
+
 /// A step, what it comes to, and the bytes that it shows.
 pub(crate) type Row<'a, S> = (S, Outcome, &'a [u8]);
 
@@ -31,12 +37,7 @@ pub(crate) trait Steps {
 
     /// Does a step, and says what it came to. The bytes that it shows are laid at the front of `shown`, whose bytes are 9; it says how
     /// many these are.
-    fn step(
-        &mut self,
-        alloc: Global,
-        step: &Self::Step,
-        shown: &mut [u8; MOST],
-    ) -> (Outcome, usize);
+    fn step(&mut self, alloc: Global, step: &Self::Step, shown: &mut Shown) -> Came;
 }
 
 /// Does these steps, and compares what each comes to. What fails is told with the name and the number of its row.
@@ -105,7 +106,7 @@ pub(crate) fn outcome_of(passed: bool) -> Outcome {
 }
 
 /// Lays bytes at the front, as many as there is room for, and says how many.
-pub(crate) fn show(bytes: &[u8], shown: &mut [u8; MOST]) -> usize {
+pub(crate) fn show(bytes: &[u8], shown: &mut Shown) -> usize {
     let len = bytes.len().min(MOST);
     shown[..len].copy_from_slice(&bytes[..len]);
     len
@@ -128,7 +129,7 @@ pub(crate) fn write<D: Disk>(disk: &mut D, at: u64, bytes: &[u8]) -> Outcome {
 }
 
 /// Reads so many bytes into the front.
-fn read_front<D: Disk>(disk: &mut D, at: u64, len: usize, shown: &mut [u8; MOST]) -> Outcome {
+fn read_front<D: Disk>(disk: &mut D, at: u64, len: usize, shown: &mut Shown) -> Outcome {
     match shown.get_mut(..len) {
         Some(into) => read(disk, at, into),
         None => Outcome::Refused,
@@ -136,11 +137,7 @@ fn read_front<D: Disk>(disk: &mut D, at: u64, len: usize, shown: &mut [u8; MOST]
 }
 
 /// Does a step that each disk knows.
-pub(crate) fn call<D: Disk>(
-    disk: &mut D,
-    step: Step<'_>,
-    shown: &mut [u8; MOST],
-) -> (Outcome, usize) {
+pub(crate) fn call<D: Disk>(disk: &mut D, step: Step<'_>, shown: &mut Shown) -> Came {
     match step {
         Step::Write(at, bytes) => (write(disk, at, bytes), 0),
         Step::Read(at, len) => (read_front(disk, at, len, shown), len),
@@ -156,8 +153,8 @@ pub(crate) fn image_call<D: Image>(
     disk: &mut D,
     name: &str,
     step: Step<'_>,
-    shown: &mut [u8; MOST],
-) -> (Outcome, usize) {
+    shown: &mut Shown,
+) -> Came {
     match step {
         Step::Bind(want) => (outcome_of(disk.bind(name, want).is_ok()), 0),
         _ => call(disk, step, shown),
@@ -165,7 +162,7 @@ pub(crate) fn image_call<D: Image>(
 }
 
 /// What a crash leaves.
-fn crash(alloc: Global, disk: &MemDisk, pick: u64, shown: &mut [u8; MOST]) -> (Outcome, usize) {
+fn crash(alloc: Global, disk: &MemDisk, pick: u64, shown: &mut Shown) -> Came {
     match disk.crash(alloc, pick) {
         Ok(image) => (Outcome::Done, show(image.as_slice(), shown)),
         Err(_) => (Outcome::Refused, 0),
@@ -175,12 +172,7 @@ fn crash(alloc: Global, disk: &MemDisk, pick: u64, shown: &mut [u8; MOST]) -> (O
 impl Steps for MemDisk {
     type Step = Step<'static>;
 
-    fn step(
-        &mut self,
-        alloc: Global,
-        step: &Step<'static>,
-        shown: &mut [u8; MOST],
-    ) -> (Outcome, usize) {
+    fn step(&mut self, alloc: Global, step: &Step<'static>, shown: &mut Shown) -> Came {
         match *step {
             Step::Crash(pick) => return crash(alloc, self, pick, shown),
             Step::Calls => return (Outcome::Count(self.calls()), 0),

@@ -1,7 +1,7 @@
 // Each form once: calls that fail, pieces, refusals, and the real streams' forms over fakes.
 use crate::count_tests::same;
-use crate::steps::Outcome::{self, Count, Done, Failed, Refused};
-use crate::steps::{MOST, Row, Steps, play, show};
+use crate::steps::Outcome::{Count, Done, Failed, Refused};
+use crate::steps::{Came, MOST, Row, Shown, Steps, play, show};
 use iso_io::{
     MemSink, MemSource, PutError, Sink, Source, StdSink, StdSource, TakeError, put_all, take_all,
 };
@@ -69,12 +69,7 @@ struct OfSource<'a, S> {
 }
 
 /// Takes all that is left.
-fn all_of<S: Source>(
-    alloc: Global,
-    source: &mut S,
-    limit: u64,
-    shown: &mut [u8; MOST],
-) -> (Outcome, usize) {
+fn all_of<S: Source>(alloc: Global, source: &mut S, limit: u64, shown: &mut Shown) -> Came {
     match take_all(alloc, source, limit) {
         Ok(bytes) => (Count(bytes.len() as u64), show(bytes.as_slice(), shown)),
         Err(TakeError::Failed) => (Failed, 0),
@@ -85,7 +80,7 @@ fn all_of<S: Source>(
 impl<S: Source> Steps for OfSource<'_, S> {
     type Step = Take;
 
-    fn step(&mut self, alloc: Global, step: &Take, shown: &mut [u8; MOST]) -> (Outcome, usize) {
+    fn step(&mut self, alloc: Global, step: &Take, shown: &mut Shown) -> Came {
         match *step {
             Take::Piece(len) if len <= MOST => match self.source.take(&mut shown[..len]) {
                 Ok(count) => (Count(count as u64), count),
@@ -216,12 +211,7 @@ struct OfSink<'a, S> {
 impl<S: Sink> Steps for OfSink<'_, S> {
     type Step = Put<'static>;
 
-    fn step(
-        &mut self,
-        _alloc: Global,
-        step: &Put<'static>,
-        _shown: &mut [u8; MOST],
-    ) -> (Outcome, usize) {
+    fn step(&mut self, _alloc: Global, step: &Put<'static>, _shown: &mut Shown) -> Came {
         let found = match *step {
             Put::Piece(bytes) => match self.sink.put(bytes) {
                 Ok(count) => Count(count as u64),

@@ -4,9 +4,9 @@ ghost use Rattle.counts.specs.Count.{HasCause};
 ghost use Rattle.iso_disk.specs.Untold.{untold, untold_is_lawful};
 
 use crate::count_tests::same;
-use crate::steps::Outcome::{self, Count, Done, Failed};
+use crate::steps::Outcome::{Count, Done, Failed};
 use crate::steps::Step::{Bind, Read, Size, Sync, Write};
-use crate::steps::{MOST, Row, Step, Steps, image_call, play};
+use crate::steps::{Came, Row, Shown, Step, Steps, image_call, play};
 use counts::raise;
 use iso_disk::{Disk, DiskFault, Image};
 use std::alloc::Global;
@@ -83,12 +83,7 @@ impl Image for Silent {
 impl Steps for Silent {
     type Step = Step<'static>;
 
-    fn step(
-        &mut self,
-        _alloc: Global,
-        step: &Step<'static>,
-        shown: &mut [u8; MOST],
-    ) -> (Outcome, usize) {
+    fn step(&mut self, _alloc: Global, step: &Step<'static>, shown: &mut Shown) -> Came {
         image_call(self, "t.img", *step, shown)
     }
 }
