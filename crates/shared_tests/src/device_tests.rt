@@ -141,62 +141,62 @@ fn as_many_transactions_as_may_be_live_are_under_labels(rt: HostRuntime) -> Resu
     Ok(())
 }
 
-#[test]
-fn a_fault_of_an_end_sets_the_device_down(rt: HostRuntime) -> Result<(), Fail> {
-    let rows: [Row<'_>; 12] = [
+// Client 1 ends beside client 2, upkeep follows, and client 2 ends. These are the answers from the first fetch on.
+fn beside(answers: [Answer; 8]) -> [Row<'static>; 12] {
+    let [fetch, end, other, trim, compact, upgrade, other_end, stat] = answers;
+    [
         (2, Step::Begin(None), number(0)),
         (1, Step::Begin(None), number(0)),
         (1, Step::Read(0), DONE),
         (1, Step::Write(2), DONE),
-        (1, Step::Fetch(1), DONE),
-        (1, Step::End, DISK),
-        (2, Step::Fetch(1), DOWN),
-        (1, Step::Trim, DOWN),
-        (1, Step::Compact, DOWN),
-        (1, Step::Upgrade, DOWN),
-        (2, Step::End, DOWN),
-        (1, Step::Stat, stat(0, 0, true)),
-    ];
+        (1, Step::Fetch(1), fetch),
+        (1, Step::End, end),
+        (2, Step::Fetch(1), other),
+        (1, Step::Trim, trim),
+        (1, Step::Compact, compact),
+        (1, Step::Upgrade, upgrade),
+        (2, Step::End, other_end),
+        (1, Step::Stat, stat),
+    ]
+}
+
+#[test]
+fn a_fault_of_an_end_sets_the_device_down(rt: HostRuntime) -> Result<(), Fail> {
+    let down = stat(0, 0, true);
+    let rows = beside([DONE, DISK, DOWN, DOWN, DOWN, DOWN, DOWN, down]);
     played(&rt, rt.alloc(), (CallKind::Sync, 3), 0, &rows);
     Ok(())
 }
 
 #[test]
 fn a_fault_of_a_fetch_leaves_the_device_up(rt: HostRuntime) -> Result<(), Fail> {
-    let rows: [Row<'_>; 12] = [
-        (2, Step::Begin(None), number(0)),
-        (1, Step::Begin(None), number(0)),
-        (1, Step::Read(0), DONE),
-        (1, Step::Write(2), DONE),
-        (1, Step::Fetch(1), DISK),
-        (1, Step::End, committed(1)),
-        (2, Step::Fetch(1), DONE),
-        (1, Step::Trim, number(0)),
-        (1, Step::Compact, number(0)),
-        (1, Step::Upgrade, number(0)),
-        (2, Step::End, Ok(Told::Ended(EndReply::ReadOnly))),
-        (1, Step::Stat, stat(1, 0, false)),
-    ];
+    let read_only = Ok(Told::Ended(EndReply::ReadOnly));
+    let rows = beside([
+        DISK,
+        committed(1),
+        DONE,
+        number(0),
+        number(0),
+        number(0),
+        read_only,
+        stat(1, 0, false),
+    ]);
     played(&rt, rt.alloc(), (CallKind::Read, 2), 0, &rows);
     Ok(())
 }
 
 #[test]
 fn a_fault_of_a_compaction_sets_the_device_down(rt: HostRuntime) -> Result<(), Fail> {
-    let rows: [Row<'_>; 12] = [
-        (2, Step::Begin(None), number(0)),
-        (1, Step::Begin(None), number(0)),
-        (1, Step::Read(0), DONE),
-        (1, Step::Write(2), DONE),
-        (1, Step::Fetch(1), DONE),
-        (1, Step::End, committed(1)),
-        (2, Step::Fetch(1), DONE),
-        (1, Step::Trim, number(0)),
-        (1, Step::Compact, DISK),
-        (1, Step::Upgrade, DOWN),
-        (2, Step::End, DOWN),
-        (1, Step::Stat, stat(1, 0, true)),
-    ];
+    let rows = beside([
+        DONE,
+        committed(1),
+        DONE,
+        number(0),
+        DISK,
+        DOWN,
+        DOWN,
+        stat(1, 0, true),
+    ]);
     played(&rt, rt.alloc(), (CallKind::Sync, 5), 0, &rows);
     Ok(())
 }
