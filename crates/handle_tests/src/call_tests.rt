@@ -1,10 +1,10 @@
 // The calls over an image in memory that has both stores: 8 blocks of 256 bytes, the first four a hash store, the others a tree store.
-ghost use Rattle.std.specs.Prelude.{◌≡◌, ◌+◌, ◌<◌, ◌≤◌, [], IsTrue};
+ghost use Rattle.std.specs.Prelude.{◌≡◌, ◌<◌, [], IsTrue};
 ghost use Rattle.iso_core.specs.Core.{disk_of};
 ghost use Rattle.iso_model.specs.{Geometry.is_valid, World.World};
 ghost use Rattle.iso_shared.specs.{Standing.{Came, Holds}, States.opened};
-ghost use Rattle.store_model.specs.{HashRegion.IsHashArea, TreeRegion.IsTreeArea};
-ghost use Rattle.device_calls.specs.{Beginnings.BeginsAt, Regions.area_in};
+ghost use Rattle.device_calls.specs.Beginnings.{BeginsAt};
+ghost use Rattle.handle_tests.specs.Regions.{IsHashOn, IsTreeOn};
 
 use crate::same::same;
 use device_calls::{
@@ -111,9 +111,8 @@ fn put_both<D: Disk + Drop, O: Origin, R: Wait>(
     tree: Region,
 ) -> Went
     requires units { 1 < session.old.units }
-    requires valid { IsTrue (is_valid O.start.world.geometry) }
-    requires hash { IsHashArea (area_in O.start.world.geometry hash) × (hash.start + hash.size ≤ O.start.world.geometry.blocks) }
-    requires tree { IsTreeArea (area_in O.start.world.geometry tree) × (tree.start + tree.size ≤ O.start.world.geometry.blocks) }
+    requires hash { IsHashOn O.start.world.geometry hash }
+    requires tree { IsTreeOn O.start.world.geometry tree }
     ensures units { session.new.units ≡ session.old.units }
 {
     let begun = begins(rt, session);
@@ -133,9 +132,8 @@ fn remove_both<D: Disk + Drop, O: Origin, R: Wait>(
     tree: Region,
 ) -> Went
     requires units { 1 < session.old.units }
-    requires valid { IsTrue (is_valid O.start.world.geometry) }
-    requires hash { IsHashArea (area_in O.start.world.geometry hash) × (hash.start + hash.size ≤ O.start.world.geometry.blocks) }
-    requires tree { IsTreeArea (area_in O.start.world.geometry tree) × (tree.start + tree.size ≤ O.start.world.geometry.blocks) }
+    requires hash { IsHashOn O.start.world.geometry hash }
+    requires tree { IsTreeOn O.start.world.geometry tree }
     ensures units { session.new.units ≡ session.old.units }
 {
     let begun = begins(rt, session);
@@ -157,8 +155,7 @@ fn put_again<D: Disk + Drop, O: Origin, R: Wait>(
 ) -> (Went, [Option<Retry>; 2])
     requires first { 1 < first.old.units }
     requires second { 1 < second.old.units }
-    requires valid { IsTrue (is_valid O.start.world.geometry) }
-    requires hash { IsHashArea (area_in O.start.world.geometry hash) × (hash.start + hash.size ≤ O.start.world.geometry.blocks) }
+    requires hash { IsHashOn O.start.world.geometry hash }
 {
     let begun = begins(rt, first);
     let none = is_none(hash_get(rt, alloc, first, hash, b"key"));

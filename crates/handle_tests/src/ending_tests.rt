@@ -15,7 +15,6 @@ use iso_shared::{Origin, Port, Shared};
 use std::process::Abort;
 use std::sync::Wait;
 use std::test::Fail;
-use std::thread::Threads;
 use test_cores::{small, with_long_logs};
 
 /// What an end with others is answered.
@@ -68,15 +67,10 @@ struct Alone;
 impl Play for Alone {
     type Told = (Answer, Answer, Option<(bool, Result<EndReply, EndError>)>);
 
-    fn play<
-        'a,
-        O: Origin + Send + Sync,
-        P: OfDevice<MemDisk, O> + Send + Sync,
-        R: Threads + Wait + Abort + Sync,
-    >(
+    fn play<O: Origin, P: OfDevice<MemDisk, O>, R: Wait + Abort>(
         &self,
         rt: &R,
-        hall: &Hall<'a, O, P>,
+        hall: &Hall<'_, O, P>,
         port: &mut Port<MemDisk, O>,
         clients: Clients<O, P>,
     ) -> (

@@ -17,7 +17,6 @@ use std::alloc::Global;
 use std::marker::Brand;
 use std::process::Abort;
 use std::sync::Wait;
-use std::thread::Threads;
 use test_cores::{blank, core_on};
 
 /// What all share who end their transactions together: the committer, all desks, and each of them.
@@ -48,15 +47,10 @@ pub(crate) trait Play {
     /// What it was told.
     type Told: Drop;
 
-    fn play<
-        'a,
-        O: Origin + Send + Sync,
-        P: OfDevice<MemDisk, O> + Send + Sync,
-        R: Threads + Wait + Abort + Sync,
-    >(
+    fn play<O: Origin, P: OfDevice<MemDisk, O>, R: Wait + Abort>(
         &self,
         rt: &R,
-        hall: &Hall<'a, O, P>,
+        hall: &Hall<'_, O, P>,
         port: &mut Port<MemDisk, O>,
         clients: Clients<O, P>,
     ) -> (Self::Told, Clients<O, P>)
@@ -84,12 +78,7 @@ fn made<Q: Protocol, R: Abort>(rt: &R, alloc: Global) -> (Desk<Q>, Client<Q>)
 }
 
 // The play at three desks of a device.
-fn played_at<
-    O: Origin + Send + Sync,
-    P: OfDevice<MemDisk, O> + Send + Sync,
-    S: Play,
-    R: Threads + Wait + Abort + Sync,
->(
+fn played_at<O: Origin, P: OfDevice<MemDisk, O>, S: Play, R: Wait + Abort>(
     rt: &R,
     alloc: Global,
     shared: &Shared<MemDisk, O>,
@@ -136,7 +125,7 @@ fn played_at<
 }
 
 // The same on a device over a core. The second answer is how many calls of the disk it took.
-fn played_over<O: Origin + Send + Sync, S: Play, R: Threads + Wait + Abort + Sync>(
+fn played_over<O: Origin, S: Play, R: Wait + Abort>(
     rt: &R,
     alloc: Global,
     core: Core<MemDisk>,
@@ -161,7 +150,7 @@ fn played_over<O: Origin + Send + Sync, S: Play, R: Threads + Wait + Abort + Syn
 }
 
 // The same over a core that was just made.
-fn played_on<S: Play, R: Threads + Wait + Abort + Sync>(
+fn played_on<S: Play, R: Wait + Abort>(
     rt: &R,
     alloc: Global,
     core: Core<MemDisk>,
@@ -179,7 +168,7 @@ fn played_on<S: Play, R: Threads + Wait + Abort + Sync>(
 
 /// What a play is told over a new image of these numbers, and how many calls of the disk it took. The disk fails after `calls` calls,
 /// of which the image takes five.
-pub(crate) fn played<S: Play, R: Threads + Wait + Abort + Sync>(
+pub(crate) fn played<S: Play, R: Wait + Abort>(
     rt: &R,
     alloc: Global,
     geometry: &Geometry,

@@ -10,7 +10,6 @@ use iso_shared::{Origin, Port};
 use std::process::Abort;
 use std::sync::Wait;
 use std::test::Fail;
-use std::thread::Threads;
 use test_cores::with_long_logs;
 
 /// Three transactions, of which the second may have read what the first one writes. They are asked for in another order.
@@ -22,15 +21,10 @@ struct Three {
 impl Play for Three {
     type Told = (Told, Told, Told);
 
-    fn play<
-        'a,
-        O: Origin + Send + Sync,
-        P: OfDevice<MemDisk, O> + Send + Sync,
-        R: Threads + Wait + Abort + Sync,
-    >(
+    fn play<O: Origin, P: OfDevice<MemDisk, O>, R: Wait + Abort>(
         &self,
         rt: &R,
-        hall: &Hall<'a, O, P>,
+        hall: &Hall<'_, O, P>,
         port: &mut Port<MemDisk, O>,
         clients: Clients<O, P>,
     ) -> ((Told, Told, Told), Clients<O, P>) {
@@ -44,35 +38,6 @@ impl Play for Three {
         let first = told(rt, shared, committer, desks, port, hall.a, &mut clients.a);
         let second = told(rt, shared, committer, desks, port, hall.b, &mut clients.b);
         ((first, second, third), clients)
-    }
-}
-
-/// Two transactions.
-#[derive(Drop)]
-struct Two;
-
-impl Play for Two {
-    type Told = (Told, Told);
-
-    fn play<
-        'a,
-        O: Origin + Send + Sync,
-        P: OfDevice<MemDisk, O> + Send + Sync,
-        R: Threads + Wait + Abort + Sync,
-    >(
-        &self,
-        rt: &R,
-        hall: &Hall<'a, O, P>,
-        port: &mut Port<MemDisk, O>,
-        clients: Clients<O, P>,
-    ) -> ((Told, Told), Clients<O, P>) {
-        let (shared, committer, desks) = (hall.shared, hall.committer, hall.desks);
-        let mut clients = clients;
-        hand(rt, shared, port, hall.a, &mut clients.a, false, 0);
-        hand(rt, shared, port, hall.c, &mut clients.c, false, 2);
-        let first = told(rt, shared, committer, desks, port, hall.a, &mut clients.a);
-        let second = told(rt, shared, committer, desks, port, hall.c, &mut clients.c);
-        ((first, second), clients)
     }
 }
 
@@ -107,8 +72,13 @@ fn a_member_is_told_its_conflict_and_the_others_commit(rt: HostRuntime) -> Resul
 
 // the image takes five calls
 #[test]
-fn a_fault_of_the_disk_ends_both(rt: HostRuntime) -> Result<(), Fail> {
-    let (told, _) = played(&rt, rt.alloc(), &with_long_logs(), 6, &Two);
-    same(&rt, told, (Err(CoreError::Disk), Err(CoreError::Disk)));
+fn a_fault_of_the_disk_ends_all(rt: HostRuntime) -> Result<(), Fail> {
+    let play = Three {
+        second_reads: false,
+    };
+    let (told, _) = played(&rt, rt.alloc(), &with_long_logs(), 6, &play);
+    let first = Err(CoreError::Disk);
+    let second = Err(CoreError::Disk);
+    same(&rt, told, (first, second, Err(CoreError::Disk)));
     Ok(())
 }
