@@ -201,15 +201,21 @@ pub(crate) fn new_image(alloc: Global) -> Result<Vec<u8>, Memory> {
     }
 }
 
-/// One thing that is done with an image, the calls of the disk, each with its number among those of its kind, what is answered, and what
-/// the image shows before and after.
+/// One thing that is done with an image: what the image shows before, the calls of the disk, each with its number among those of its
+/// kind, and what the image shows after, whose last number is answered.
+#[derive(Drop)]
 struct Row {
-    name: &'static str,
-    act: Act,
-    calls: &'static [(CallKind, u64)],
-    number: u64,
     before: Shown,
+    calls: &'static [(CallKind, u64)],
+    act: Act,
     after: Shown,
+}
+
+/// What an image shows, and what is done with it by the same calls of the disk: the name, the act, and what the image shows after it.
+struct Stage {
+    before: Shown,
+    calls: &'static [(CallKind, u64)],
+    acts: &'static [(&'static str, Act, Shown)],
 }
 
 /// How many of the calls open the image: it is made stable, and read as far as its records.
@@ -267,55 +273,40 @@ const SWITCH_WITH_A_CLOSE: &[(CallKind, u64)] = &[
     (Sync, 4),
 ];
 
-/// On an image whose commit 1 filled block 2 with sevens.
-const ON_ONE: &[Row] = &[Row {
-    name: "a commit",
-    act: Act::Fill(1, 9),
-    calls: COMMIT,
-    number: 2,
+/// An image whose commit 1 filled block 2 with sevens.
+const ON_ONE: Stage = Stage {
     before: (1, 0, 1, [0, 0, 7, 0]),
-    after: (2, 0, 1, [0, 9, 7, 0]),
-}];
+    calls: COMMIT,
+    acts: &[("a commit", Act::Fill(1, 9), (2, 0, 1, [0, 9, 7, 0]))],
+};
 
-/// On one that has this commit too.
-const ON_TWO: &[Row] = &[
-    Row {
-        name: "a compaction",
-        act: Act::Compact,
-        calls: SWITCH,
-        number: 2,
-        before: (2, 0, 1, [0, 9, 7, 0]),
-        after: (2, 2, 1, [0, 9, 7, 0]),
-    },
-    Row {
-        name: "an upgrade",
-        act: Act::Upgrade,
-        calls: SWITCH,
-        number: 2,
-        before: (2, 0, 1, [0, 9, 7, 0]),
-        after: (2, 2, 2, [0, 9, 7, 0]),
-    },
-];
+/// One that has a second commit too.
+const ON_TWO: Stage = Stage {
+    before: (2, 0, 1, [0, 9, 7, 0]),
+    calls: SWITCH,
+    acts: &[
+        ("a compaction", Act::Compact, (2, 2, 1, [0, 9, 7, 0])),
+        ("an upgrade", Act::Upgrade, (2, 2, 2, [0, 9, 7, 0])),
+    ],
+};
 
-/// On one whose other half is open: after a compaction.
-const ON_COMPACTED: &[Row] = &[
-    Row {
-        name: "a compaction to an open half",
-        act: Act::Compact,
-        calls: SWITCH_WITH_A_CLOSE,
-        number: 2,
-        before: (2, 2, 1, [0, 9, 7, 0]),
-        after: (2, 2, 1, [0, 9, 7, 0]),
-    },
-    Row {
-        name: "an upgrade to an open half",
-        act: Act::Upgrade,
-        calls: SWITCH_WITH_A_CLOSE,
-        number: 2,
-        before: (2, 2, 1, [0, 9, 7, 0]),
-        after: (2, 2, 2, [0, 9, 7, 0]),
-    },
-];
+/// One whose other half is open: after a compaction.
+const ON_COMPACTED: Stage = Stage {
+    before: (2, 2, 1, [0, 9, 7, 0]),
+    calls: SWITCH_WITH_A_CLOSE,
+    acts: &[
+        (
+            "a compaction to an open half",
+            Act::Compact,
+            (2, 2, 1, [0, 9, 7, 0]),
+        ),
+        (
+            "an upgrade to an open half",
+            Act::Upgrade,
+            (2, 2, 2, [0, 9, 7, 0]),
+        ),
+    ],
+};
 
 /// Whether it is answered with its number and makes its calls where nothing fails, and is stable then.
 fn is_done(alloc: Global, image: &[u8], row: &Row) -> bool {
@@ -323,7 +314,7 @@ fn is_done(alloc: Global, image: &[u8], row: &Row) -> bool {
         Some((answer, disk)) => {
             let made = disk.calls() == row.calls.len() as u64;
             let stable = leaves(alloc, &disk, 0, row.after);
-            answer == Ok(row.number) && made && stable && shows(alloc, disk, row.after)
+            answer == Ok(row.after.0) && made && stable && shows(alloc, disk, row.after)
         }
         None => false,
     }
@@ -380,11 +371,17 @@ fn harmless(alloc: Global, image: &[u8], row: &Row) -> (usize, usize) {
 }
 
 /// What is done with an image makes its calls, and loses nothing where one of them fails.
-fn holds(rt: &impl Abort, alloc: Global, image: &[u8], rows: &[Row]) {
-    for row in rows {
-        let calls = row.calls.len();
-        let found = (is_done(alloc, image, row), harmless(alloc, image, row));
-        same(rt, (row.name, found), (row.name, (true, (calls, calls))));
+fn holds(rt: &impl Abort, alloc: Global, image: &[u8], stage: &Stage) {
+    let calls = stage.calls.len();
+    for (name, act, after) in stage.acts {
+        let row = Row {
+            before: stage.before,
+            calls: stage.calls,
+            act: *act,
+            after: *after,
+        };
+        let found = (is_done(alloc, image, &row), harmless(alloc, image, &row));
+        same(rt, (*name, found), (*name, (true, (calls, calls))));
     }
 }
 
@@ -392,11 +389,11 @@ fn holds(rt: &impl Abort, alloc: Global, image: &[u8], rows: &[Row]) {
 fn no_failure_in_a_commit_or_a_switch_loses_anything(rt: HostRuntime) -> Result<(), Fail> {
     let alloc = rt.alloc();
     let image = image_after(alloc, &new_image(alloc)?, Act::Fill(2, 7))?;
-    holds(&rt, alloc, &image, ON_ONE);
+    holds(&rt, alloc, &image, &ON_ONE);
     let image = image_after(alloc, &image, Act::Fill(1, 9))?;
-    holds(&rt, alloc, &image, ON_TWO);
+    holds(&rt, alloc, &image, &ON_TWO);
     let image = image_after(alloc, &image, Act::Compact)?;
-    holds(&rt, alloc, &image, ON_COMPACTED);
+    holds(&rt, alloc, &image, &ON_COMPACTED);
     Ok(())
 }
 
